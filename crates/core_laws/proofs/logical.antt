@@ -1,3 +1,5 @@
+pub mod BareTrees
 pub mod LockLaws
 pub mod LogicalFacts
+pub mod PageFacts
 pub mod Releases

@@ -6,9 +6,11 @@ pub mod DeskOfTrace
 pub mod Growth
 pub mod HistoriesOfTrace
 pub mod MarksOfTrace
+pub mod PassesOfTrace
 pub mod PlacesOfTrace
 pub mod ReportOfTrace
 pub mod StopsOfTrace
 pub mod TurnsOfTrace
 pub mod Walks
 pub mod ZeroWrites
+pub mod StoppedPasses

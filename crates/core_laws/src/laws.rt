@@ -21,7 +21,8 @@ ghost use Rattle.core_model.specs.DeskData.{Desk as DeskData};
 ghost use Rattle.core_model.specs.declared.zones.DeviceZone.{DeviceZone};
 ghost use Rattle.core_model.specs.JournalData.{JournalZone};
 ghost use Rattle.core_model.specs.LogicalData.{LogicalZone};
-ghost use Rattle.data_vio.specs.declared.logged.Logged.{Logged};
+ghost use Rattle.data_vio.specs.declared.logged.Logged.TheVariants.{Remaps};
+ghost use Rattle.data_vio.specs.declared.logged.Remapping.{Remapping};
 ghost use Rattle.core_model.specs.declared.zones.Zone.{Zone};
 ghost use Rattle.core_model.specs.declared.zones.ZoneData.{ZoneData};
 ghost use Rattle.data_vio.specs.declared.items.Item.{Item};
@@ -32,7 +33,7 @@ ghost use Rattle.core_model.specs.RightTraces.{IsHeldBack, IsWrite, StopsAtFailu
 ghost use Rattle.core_model.specs.Sessions.{Session, IsFair, IsSession, said_by};
 ghost use Rattle.core_model.specs.Start.{IsFirst};
 ghost use Rattle.core_model.specs.Steps.{Act, CallsDevice, Core, HasAct, Leads, MayBegin, MoveOf, StepOf, ZoneStep};
-ghost use Rattle.core_model.specs.Trace.{Enters, Trace, aborted, calls, committed, entries_of, entry_of, is_ok, is_read, lines, marks, moments, places};
+ghost use Rattle.core_model.specs.Trace.{Enters, Trace, aborted, calls, durable, entries_of, entry_of, is_ok, is_read, lines, marks, moments, places};
 ghost use Rattle.core_model.specs.Views.{AreEmptyLanes, PostsBatch, ReceivesBatch, TakesBatch, View, core_of, zones_seen};
 ghost use Rattle.data_vio.specs.Vios.{Post};
 ghost use Rattle.data_vio.specs.Zones.{zone_number};
@@ -118,11 +119,11 @@ pub fn a_legal_core_stops_at_a_failure()
 /// top of the window; and it maps the address to what the request of the script asks: a write's to a block, or to zeros where
 /// its bytes are zeros, a discard's to nothing.
 pub fn an_entry_says_what_it_replaces()
-    ensures old { (s : Session) (core : Core) (newer older : Trace) (e : Logged) → Legal s core →
-        core.trace ≡ newer ++ Enters e ∷ older
-        → e.old ≡ mapping_of (entries_of s.window (committed older)) e.at.0 }
-    ensures new { (s : Session) (core : Core) (newer older : Trace) (e : Logged) → Legal s core →
-        core.trace ≡ newer ++ Enters e ∷ older
+    ensures old { (s : Session) (core : Core) (newer older : Trace) (e : Remapping) → Legal s core →
+        core.trace ≡ newer ++ Enters (Remaps e) ∷ older
+        → e.old ≡ mapping_of (entries_of s.window (durable older)) e.at.0 }
+    ensures new { (s : Session) (core : Core) (newer older : Trace) (e : Remapping) → Legal s core →
+        core.trace ≡ newer ++ Enters (Remaps e) ∷ older
         → IsWrite s older e }
 {}
 
@@ -131,8 +132,7 @@ pub fn an_entry_says_what_it_replaces()
 pub fn the_log_hands_out_what_is_committed()
     ensures handed { (s : Session) (core : Core) (n : ℕ) (z : Zone) (j : JournalZone) →
         Legal s core → slice_get core.zones n ≡ Some z → z.keeps ≡ Journal j
-        →
-        take j.log.handed (said_by j.log.entries) ≡ reverse (map entry_of (committed core.trace)) }
+        → take j.log.handed (said_by j.log.entries) ≡ reverse (map entry_of (durable core.trace)) }
     ensures head { (s : Session) (core : Core) (n : ℕ) (z : Zone) (j : JournalZone) → Legal s core →
         slice_get core.zones n ≡ Some z → z.keeps ≡ Journal j
         → head_of j.log ≡ s.sizes.start }

@@ -1,33 +1,34 @@
 -- How long the lists of a legal core get: its locks by the requests that are under way, its slots and retired addresses by the
 -- entries of the journal, and those by the journal's blocks.
-use Rattle.std.proofs.Common.{ℕ, ◌^◌, ◌≡◌, ◌<◌, ◌≤◌, Bool, true, false, Some, List, [], ◌∷◌, IsNone, length, length-append, slice_get, refl, ap, ◌∙◌, subst, inl, inr, arith}
-use Rattle.core_laws.proofs.Common.{bit, committed, DataOk, DeviceZone, ended_at, entered, entered_at, entry_token, every-map, given, held_at, holder_token, holds, IsSession, IsWrite, Item, journal_number, JournalZone, Logged, logged_of, LogicalZone, made_by, RightTrace, room_token, same_tells, sealed, Seals, Session, some_is, total, total-get, total_alone, Trace, Vio, weight, Writer, Zone, ZoneData}
+use Rattle.std.proofs.Common.{ℕ, ◌^◌, ◌≡◌, ◌<◌, ◌≤◌, Bool, true, false, Some, List, [], ◌∷◌, IsNone, length, slice_get, refl, ap, ◌∙◌, subst, inl, inr, arith}
+use Rattle.core_laws.proofs.Common.{bit, journaled, Logged, remappings, DataOk, DeviceZone, ended_at, entered, entered_at, entry_token, every-map, given, held_at, holder_token, holds, IsSession, IsWrite, Item, journal_number, JournalZone, Remapping, logged_of, LogicalZone, made_by, RightTrace, room_token, same_tells, sealed, Seals, Session, some_is, total, total-get, total_alone, Trace, Vio, weight, Writer, Zone, ZoneData}
 use Rattle.data_vio.specs.declared.items.Item.TheVariants as item
 use Rattle.core_model.specs.declared.zones.ZoneData.TheVariants as at
 use Rattle.core_model.specs.Legal.{Legal, share}
-use Rattle.core_model.specs.Limits.{most_requests, requests_in}
+use Rattle.core_model.specs.Limits.{most_entries, most_requests, requests_in}
 use Rattle.core_model.specs.Steps.{Core}
 use Rattle.core_model.specs.Tokens.{kept_items}
 use Rattle.core_laws.proofs.kept.FirstState.{total_at_most}
 use Rattle.core_laws.proofs.kept.ZoneKinds.{journal_sits}
 use Rattle.core_limits.proofs.Rooms.{all_requests, carried}
-use Rattle.core_laws.proofs.trace.DeskOfTrace.{AreApart, committed_part, entered_apart, entered_writes}
+use Rattle.core_laws.proofs.trace.DeskOfTrace.{AreApart, entered_apart, entered_writes}
 use Rattle.core_limits.proofs.DeskLimits.{asked_inside, requests_of}
+use Rattle.core_limits.proofs.PageLimits.{durable_few, kinds_of, pages_few, remappings_few}
 use Rattle.core_limits.proofs.StreamSums.{Apart, Inside, named, names_few, over_script}
 
 -- who handed in an entry
-abbrev enterer : Logged → Writer
+abbrev enterer : Remapping → Writer
 enterer e = e.request
 
 -- a request without an entry handed in none of these
-none_entered : (es : List Logged) (w : Writer) → IsNone (logged_of es w) → named enterer w es ≡ 0
+none_entered : (es : List Remapping) (w : Writer) → IsNone (logged_of es w) → named enterer w es ≡ 0
 none_entered [] w none = refl
 none_entered (e ∷ es) w none = elim (same_tells e.request w) [
   | inl same ↦ let one : IsNone (Some e) = rw same.0 at none in absurd cc
   | inr other ↦ let rest = none_entered es w (rw other.0 at none) in rw other.0 (omega (arith, rest))
 ]
 
-apart_entries : (es : List Logged) → AreApart es → Apart enterer es
+apart_entries : (es : List Remapping) → AreApart es → Apart enterer es
 apart_entries [] apart = tt
 apart_entries (e ∷ es) apart = (none_entered es e.request apart.0, apart_entries es apart.1)
 
@@ -43,10 +44,6 @@ pub blocks_few : (s : Session) (t : Trace) → RightTrace s t → length (sealed
 blocks_few s [] right = omega arith
 blocks_few s (Seals ∷ t) right = let left = right.0.left in omega (arith, left)
 blocks_few s (other ∷ t) right = blocks_few s t right.2
-
--- and no entry is committed that wasn't handed in
-committed_few : (s : Session) (t : Trace) → RightTrace s t → length (committed t) ≤ length (entered t)
-committed_few s t right = let part = committed_part s t right in let all = ap length part.1 in let both = length-append part.0 (committed t) in omega (arith, all, both)
 
 -- an item that holds a lock is a request that is under way
 bit_most : (b : Bool) → bit b ≤ 1
@@ -102,22 +99,25 @@ module _ (s : Session) (core : Core) (legal : Legal s core) (n : ℕ) (z : Zone)
     pub filling_within : (j : JournalZone) → z.keeps ≡ at.Journal j → length j.filling ≤ 192
     filling_within j keeps = (own_ok (at.Journal j) keeps).sound.0
 
-    pub entered_within : (j : JournalZone) → z.keeps ≡ at.Journal j → length j.entered ≤ most_requests
-    entered_within j keeps = let same = ap length (own_ok (at.Journal j) keeps).lists.entered_is in omega (arith, same, trace_few)
+    journal_few : length (journaled core.trace) ≤ most_entries
+    journal_few = omega (arith, kinds_of core.trace, trace_few, remappings_few core.trace, pages_few s core.trace session legal.right, session.limits.requests)
 
-    pub committed_within : (j : JournalZone) → z.keeps ≡ at.Journal j → length j.committed ≤ most_requests
+    pub entered_within : (j : JournalZone) → z.keeps ≡ at.Journal j → length j.entered ≤ most_entries
+    entered_within j keeps = let same = ap length (own_ok (at.Journal j) keeps).lists.entered_is in omega (arith, same, journal_few)
+
+    pub committed_within : (j : JournalZone) → z.keeps ≡ at.Journal j → length j.committed ≤ most_entries
     committed_within j keeps =
         let same = ap length (own_ok (at.Journal j) keeps).lists.committed_is in
-        let less = committed_few s core.trace legal.right in
-        omega (arith, same, less, trace_few)
+        let less = durable_few s core.trace legal.right in
+        omega (arith, same, less, journal_few)
 
     -- the journal alone gives out entries
-    all_entries : total (given entry_token) core.zones ≡ length (entered core.trace)
+    all_entries : total (given entry_token) core.zones ≡ length (remappings (journaled core.trace))
     all_entries =
         let journal = journal_sits s core.trace core.zones legal.each legal.count in
         let k = subst (λ (d : ZoneData). DataOk s core.trace (journal_number s.sizes) d) journal.keeps (legal.each (journal_number s.sizes) journal.zone journal.had).own in
         total_alone (given entry_token) core.zones (journal_number s.sizes) journal.zone journal.had (λ j y there ne. none_given j y.keeps ne (legal.each j y there).own)
-        ∙ ap entered_at journal.keeps ∙ ap length k.lists.entered_is
+        ∙ ap entered_at journal.keeps ∙ ap (λ (es : List Logged). length (remappings es)) k.lists.entered_is
       where
         none_given : (j : ℕ) (d : ZoneData) → (j ≡ journal_number s.sizes → ⊥) → DataOk s core.trace j d → entered_at d ≡ 0
         none_given j (at.Journal x) ne k = absurd (ne k.number_is)
@@ -127,7 +127,7 @@ module _ (s : Session) (core : Core) (legal : Legal s core) (n : ℕ) (z : Zone)
     ended_within =
         let here = total-get (weight entry_token) core.zones n z had in
         let balance = legal.entries in
-        omega (arith, here, balance, all_entries, trace_few)
+        omega (arith, here, balance, all_entries, trace_few, remappings_few core.trace)
 
     pub slots_within : (l : LogicalZone) → z.keeps ≡ at.Logical l → length l.slots ≤ most_requests
     slots_within l keeps = let same = ap ended_at keeps in omega (arith, same, ended_within)

@@ -8,3 +8,4 @@ pub mod Stillness
 pub mod StreamSums
 pub mod WholeZones
 pub mod ZoneLimits
+mod PageLimits

@@ -16,7 +16,7 @@ ghost use Rattle.core_model.specs.LogicalData.{LogicalZone};
 ghost use Rattle.core_model.specs.declared.zones.Zone.{Zone};
 ghost use Rattle.data_vio.specs.declared.items.Item.{Item};
 ghost use Rattle.core_model.specs.Legal.{Legal, share};
-ghost use Rattle.core_model.specs.Limits.{IsDeskWithin, IsShort, IsWithin, most_requests, requests_in};
+ghost use Rattle.core_model.specs.Limits.{IsDeskWithin, IsShort, IsWithin, most_entries, most_requests, requests_in};
 ghost use Rattle.core_model.specs.Tokens.{is_answer, is_begin, kept_by, queued};
 ghost use Rattle.core_model.specs.Sessions.{Session, IsSession};
 ghost use Rattle.core_model.specs.Steps.{Core, IsStill};
@@ -96,13 +96,13 @@ pub fn a_legal_core_counts_within_limits()
         slice_get core.zones n ≡ Some z → z.keeps ≡ Logical l → length l.held ≤ share s }
     ensures entered { (s : Session) (core : Core) (n : ℕ) (z : Zone) (j : JournalZone) →
         IsSession s → Legal s core → slice_get core.zones n ≡ Some z → z.keeps ≡ Journal j
-        → length j.entered ≤ most_requests }
+        → length j.entered ≤ most_entries }
     ensures sequence { (s : Session) (core : Core) (n : ℕ) (z : Zone) (j : JournalZone) →
         IsSession s → Legal s core → slice_get core.zones n ≡ Some z → z.keeps ≡ Journal j
         → j.log.sequence < 2 ^ 55 }
     ensures committed { (s : Session) (core : Core) (n : ℕ) (z : Zone) (j : JournalZone) →
         IsSession s → Legal s core → slice_get core.zones n ≡ Some z → z.keeps ≡ Journal j
-        → length j.committed ≤ most_requests }
+        → length j.committed ≤ most_entries }
     ensures slots { (s : Session) (core : Core) (n : ℕ) (z : Zone) (l : LogicalZone) → IsSession s →
         Legal s core → slice_get core.zones n ≡ Some z → z.keeps ≡ Logical l
         → length l.slots ≤ most_requests }

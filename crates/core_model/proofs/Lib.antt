@@ -5,3 +5,4 @@ pub mod SlotLaws
 pub mod LockLaws
 pub mod CountLaws
 pub mod FairLaws
+pub mod TreeLinks

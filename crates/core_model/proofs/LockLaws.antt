@@ -12,6 +12,7 @@ use Rattle.logical_locks.specs.Holders.{Holders, Takes, Waits, HasRoom, HoldsNex
 use Rattle.logical_locks.specs.Holders as locks
 use Rattle.logical_locks.specs.declared.waiter.Waiter.{Waiter}
 use Rattle.plain_laws.specs.Firsts.{but_first}
+use Rattle.block_map_tree.specs.Tree.{Tree}
 use Rattle.core_model.specs.LogicalData.{Lock, LogicalZone}
 use Rattle.core_model.specs.LogicalRules.{but_first_for, first_for, is_among, drawn_by, is_held, lock_of, passed_to, place_of_vio, placed, released, without}
 use Rattle.core_model.specs.Waiters.{AreFree, AreOwn, IsFree, vios}
@@ -20,7 +21,7 @@ use Rattle.core_model.specs.SessionLimits.{most_items}
 use Rattle.data_vio.specs.Vios.{turned}
 use Rattle.data_vio.specs.declared.items.Phase.TheVariants as phase
 use Rattle.data_vio.specs.declared.items.Vio.{Vio}
-use Rattle.data_vio.specs.declared.logged.Logged.{Logged}
+use Rattle.data_vio.specs.declared.logged.Remapping.{Remapping}
 use Rattle.vdo_model.specs.declared.report.Placed.{Placed}
 use Rattle.core_model.proofs.ListForms.{without_reverse}
 
@@ -168,7 +169,7 @@ free_retired at held vs retired free own = λ a among. elim (eqb_tells at.0 a) [
 ]
 
 -- The locks of a zone that has the rest.
-module _ (zone : ℕ) (notified : Bool) (retired : List Lba) (window : List Entry) (slots : List Logged) where
+module _ (zone : ℕ) (notified : Bool) (retired : List Lba) (tree : Tree) (window : List Entry) (slots : List Remapping) where
   abbrev pub shown : List Placed → Holders Vio → LogicalZone
   shown places h = record {
     zone = zone;
@@ -178,6 +179,7 @@ module _ (zone : ℕ) (notified : Bool) (retired : List Lba) (window : List Entr
     held = reverse h.held;
     waiting = vios h.waiting;
     retired = retired;
+    tree = tree;
     window = window;
     slots = slots;
   }

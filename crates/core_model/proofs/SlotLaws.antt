@@ -12,14 +12,14 @@ use Rattle.std.proofs.lemmas.List.Edits.{get_or-insert_at, get_or-insert_below, 
 use Rattle.std.proofs.lemmas.List.Sorted.{searchable_from_sorted}
 use Rattle.core_model.specs.SlotOrder.{AreInOrder, IsPlaceOf, IsGapFor}
 use Rattle.core_model.specs.Trace.{newest, of_address}
-use Rattle.data_vio.specs.declared.logged.Logged.{Logged}
+use Rattle.data_vio.specs.declared.logged.Remapping.{Remapping}
 
 -- what a search by addresses finds: the place of the address, or its gap
-pub searched : (ws : List Logged) (a : ℕ) (r : Result ℕ ℕ) → AreInOrder ws → IsSearchInRange r (length ws) → IsBinarySearchResult (λ w. nat_cmp w.at.0 a) ws r
+pub searched : (ws : List Remapping) (a : ℕ) (r : Result ℕ ℕ) → AreInOrder ws → IsSearchInRange r (length ws) → IsBinarySearchResult (λ w. nat_cmp w.at.0 a) ws r
     → record { found : IfOk r (IsPlaceOf ws a); gap : IfErr r (IsGapFor ws a) }
 searched ws a (Ok place) order inside equal = record { found = record { inside = inside; same = λ d. ranked _ _ Equal (sym (equal d)) }; gap = tt }
 searched ws a (Err place) order inside parted =
-    let sorted = searchable_from_sorted nat_cmp_total (λ (w : Logged). w.at.0) ws a (λ k d from within.
+    let sorted = searchable_from_sorted nat_cmp_total (λ (w : Remapping). w.at.0) ws a (λ k d from within.
     ap is_lt (sym (nat_cmp_is (get_or ws (k + 1) d).at.0 (get_or ws k d).at.0 Greater (order k (k + 1) d (omega arith) within)))) in
     record {
       found = tt;
@@ -31,19 +31,19 @@ searched ws a (Err place) order inside parted =
     }
 
 -- the first write of an address is its newest
-pub newest_at : (ws : List Logged) (a place : ℕ) (d : Logged) → place < length ws → ((k : ℕ) → k < place → (get_or ws k d).at.0 ≢ a) → (get_or ws place d).at.0 ≡ a
+pub newest_at : (ws : List Remapping) (a place : ℕ) (d : Remapping) → place < length ws → ((k : ℕ) → k < place → (get_or ws k d).at.0 ≢ a) → (get_or ws place d).at.0 ≡ a
     → newest (of_address a ws) ≡ Some (get_or ws place d)
 newest_at [] a place d inside before same = absurd (omega (arith, inside))
 newest_at (w ∷ ws) a zero d inside before same = rw (eq-eqb w.at.0 a same) refl
 newest_at (w ∷ ws) a (suc place) d inside before same =
     rw (ne_eqb w.at.0 a (before 0 (omega arith))) (newest_at ws a place d (omega (arith, inside)) (λ k below. before (suc k) (omega (arith, below))) same)
 
-none_at : (ws : List Logged) (a : ℕ) → ((k : ℕ) (d : Logged) → k < length ws → (get_or ws k d).at.0 ≢ a) → newest (of_address a ws) ≡ None
+none_at : (ws : List Remapping) (a : ℕ) → ((k : ℕ) (d : Remapping) → k < length ws → (get_or ws k d).at.0 ≢ a) → newest (of_address a ws) ≡ None
 none_at [] a others = refl
 none_at (w ∷ ws) a others = rw (ne_eqb w.at.0 a (others 0 w (omega arith))) (none_at ws a (λ k d below. others (suc k) d (omega (arith, below))))
 
-module _ (ws : List Logged) (a place : ℕ) where
-  pub newest_in_place : (d : Logged) → AreInOrder ws → IsPlaceOf ws a place → newest (of_address a ws) ≡ Some (get_or ws place d)
+module _ (ws : List Remapping) (a place : ℕ) where
+  pub newest_in_place : (d : Remapping) → AreInOrder ws → IsPlaceOf ws a place → newest (of_address a ws) ≡ Some (get_or ws place d)
   newest_in_place d order found = newest_at ws a place d found.inside (λ k below same. (let less = order k place d below found.inside in let is = found.same d in omega (arith, less, is, same))) (found.same d)
 
   pub none_in_gap : IsGapFor ws a place → newest (of_address a ws) ≡ None
@@ -53,19 +53,19 @@ module _ (ws : List Logged) (a place : ℕ) where
   ])
 
 -- A write in the place of the older one of its address.
-module _ (w : Logged) where
-  others_set : (ws : List Logged) (place a : ℕ) → w.at.0 ≢ a → place < length ws → (get_or ws place w).at.0 ≡ w.at.0 → of_address a (set ws place w) ≡ of_address a ws
+module _ (w : Remapping) where
+  others_set : (ws : List Remapping) (place a : ℕ) → w.at.0 ≢ a → place < length ws → (get_or ws place w).at.0 ≡ w.at.0 → of_address a (set ws place w) ≡ of_address a ws
   others_set [] place a other inside same = absurd (omega (arith, inside))
   others_set (v ∷ vs) zero a other inside same = rw (ne_eqb w.at.0 a other, ne_eqb v.at.0 a (λ is. other (sym same ∙ is))) refl
   others_set (v ∷ vs) (suc place) a other inside same =
-      ap (λ (k : List Logged). if v.at.0 == a then v ∷ k else k) (others_set vs place a other (omega (arith, inside)) same)
+      ap (λ (k : List Remapping). if v.at.0 == a then v ∷ k else k) (others_set vs place a other (omega (arith, inside)) same)
 
-  others_in : (before behind : List Logged) (a : ℕ) → w.at.0 ≢ a → of_address a (before ++ w ∷ behind) ≡ of_address a (before ++ behind)
+  others_in : (before behind : List Remapping) (a : ℕ) → w.at.0 ≢ a → of_address a (before ++ w ∷ behind) ≡ of_address a (before ++ behind)
   others_in [] behind a other = rw (ne_eqb w.at.0 a other) refl
-  others_in (v ∷ vs) behind a other = ap (λ (k : List Logged). if v.at.0 == a then v ∷ k else k) (others_in vs behind a other)
+  others_in (v ∷ vs) behind a other = ap (λ (k : List Remapping). if v.at.0 == a then v ∷ k else k) (others_in vs behind a other)
 
   -- it takes the place of the older write of its address
-  module _ (ws : List Logged) (place : ℕ) (order : AreInOrder ws) (found : IsPlaceOf ws w.at.0 place) where
+  module _ (ws : List Remapping) (place : ℕ) (order : AreInOrder ws) (found : IsPlaceOf ws w.at.0 place) where
     lower : (k : ℕ) → k < place → (get_or ws k w).at.0 ≢ w.at.0
     lower k below same = let less = order k place w below found.inside in omega (arith, less, found.same w, same)
 
@@ -79,23 +79,23 @@ module _ (w : Logged) where
         put_in_place a same =
             let here = get_or-set_same ws place w w found.inside in
             newest_at (set ws place w) a place w (omega (arith, length-set ws place w, found.inside))
-            (λ k below is. lower k below (sym (ap (λ (e : Logged). e.at.0) (get_or-set_other ws place k w w (omega arith))) ∙ is ∙ sym same))
-            (ap (λ (e : Logged). e.at.0) here ∙ same)
-            ∙ ap (λ (e : Logged). Some e) here
+            (λ k below is. lower k below (sym (ap (λ (e : Remapping). e.at.0) (get_or-set_other ws place k w w (omega arith))) ∙ is ∙ sym same))
+            (ap (λ (e : Remapping). e.at.0) here ∙ same)
+            ∙ ap (λ (e : Remapping). Some e) here
 
   -- it comes in where none of its address is
-  module _ (ws : List Logged) (place : ℕ) (order : AreInOrder ws) (gap : IsGapFor ws w.at.0 place) where
-    here : (k : ℕ) (d : Logged) → k ≡ place → get_or (insert ws place w) k d ≡ w
+  module _ (ws : List Remapping) (place : ℕ) (order : AreInOrder ws) (gap : IsGapFor ws w.at.0 place) where
+    here : (k : ℕ) (d : Remapping) → k ≡ place → get_or (insert ws place w) k d ≡ w
     here k d is = ap (λ (n : ℕ). get_or (insert ws place w) n d) is ∙ get_or-insert_at ws place w d gap.inside
 
-    below : (k : ℕ) (d : Logged) → k < place → get_or (insert ws place w) k d ≡ get_or ws k d
+    below : (k : ℕ) (d : Remapping) → k < place → get_or (insert ws place w) k d ≡ get_or ws k d
     below k d first = get_or-insert_below ws place w d k first gap.inside
 
-    above : (k : ℕ) (d : Logged) → place < k → get_or (insert ws place w) k d ≡ get_or ws (k - 1) d
+    above : (k : ℕ) (d : Remapping) → place < k → get_or (insert ws place w) k d ≡ get_or ws (k - 1) d
     above k d behind = ap (λ (n : ℕ). get_or (insert ws place w) n d) (omega arith) ∙ get_or-insert_above ws place w d (k - 1) (omega arith) gap.inside
 
-    address : (k : ℕ) (d e : Logged) → get_or (insert ws place w) k d ≡ e → (get_or (insert ws place w) k d).at.0 ≡ e.at.0
-    address k d e is = ap (λ (v : Logged). v.at.0) is
+    address : (k : ℕ) (d e : Remapping) → get_or (insert ws place w) k d ≡ e → (get_or (insert ws place w) k d).at.0 ≡ e.at.0
+    address k d e is = ap (λ (v : Remapping). v.at.0) is
 
     pub order-insert : AreInOrder (insert ws place w)
     order-insert = λ i j d rising within.
@@ -127,4 +127,4 @@ module _ (w : Logged) where
             newest_at (insert ws place w) a place w (omega (arith, size, inside))
             (λ k first is. let less = gap.before k w first in omega (arith, less, address k w _ (below k w first), is, same))
             (address place w w (here place w refl) ∙ same)
-            ∙ ap (λ (e : Logged). Some e) (here place w refl)
+            ∙ ap (λ (e : Remapping). Some e) (here place w refl)

@@ -16,3 +16,4 @@ pub mod PortRows
 pub mod SlotRows
 pub mod WaiterRows
 mod LegalRows
+mod PageRows

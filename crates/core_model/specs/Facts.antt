@@ -39,6 +39,7 @@ use Rattle.core_model.specs.declared.zones.DeviceZone.{DeviceZone}
 use Rattle.core_model.specs.JournalData.{JournalZone}
 use Rattle.core_model.specs.LogicalData.{Lock}
 use Rattle.data_vio.specs.declared.logged.Logged.{Logged}
+use Rattle.data_vio.specs.declared.logged.Remapping.{Remapping}
 use Rattle.core_model.specs.LogicalData.{LogicalZone}
 use Rattle.core_model.specs.declared.zones.PhysicalZone.{PhysicalZone}
 use Rattle.core_model.specs.declared.zones.Zone.{Zone}
@@ -50,10 +51,12 @@ use Rattle.data_vio.specs.Phases.{row, number_at, stage_row}
 use Rattle.data_vio.specs.Zones.{zone_number, zone_count, notified_zones}
 use Rattle.core_model.specs.RightTraces.{IsOpen, IsPending, MapsTo, NeedsBlock, Quiet, IsCommitted, AllBelow, HasPlace, HasBelow, HasCause}
 use Rattle.core_model.specs.Sessions.{Session, IsFair, IsFresh, OnBlock, NewReads, NewStands, ReadsAs, AtRest, OnItsWay, ReadsBlock, said_by, value_at}
+use Rattle.block_map_tree.specs.Tree.{Tree}
+use Rattle.core_model.specs.PageTrees.{IsMapTree}
 use Rattle.plain_laws.specs.Sums.{total, Each}
 use Rattle.core_model.specs.Tokens.{lock_weight}
-use Rattle.core_model.specs.Trace.{Trace, all_of, filled, sealed, moments, lines, calls, marks, places, entered, committed, done, aborted, taken, has_taken, has_stopped, of_address, newest, logged_of, entry_of, entries_of}
-use Rattle.data_vio.specs.Vios.{all_logged, asked, request_of, logged}
+use Rattle.core_model.specs.Trace.{Trace, all_of, filled, sealed, moments, lines, calls, marks, places, journaled, entered, durable, applied, done, remappings, aborted, taken, has_taken, has_stopped, of_address, newest, logged_of, entry_of, entries_of}
+use Rattle.data_vio.specs.Vios.{all_logged, asked, request_of, remapping}
 use Rattle.recovery_journal.specs.Log.{Log, head_of}
 
 -- the number of the zone where a phase, and a stage, is done
@@ -120,22 +123,22 @@ pub record HasLock (s : Session) (t : Trace) (w : Writer) (asks : Asks) (a place
   pub turn : HasTurn s t w asks a place
   pub old_held : HoldsMapping old
   -- it knows what its address is mapped to, by the slots that are set
-  pub old_is : old ≡ mapping_of (entries_of s.window (done t)) a
+  pub old_is : old ≡ mapping_of (entries_of s.window (applied t)) a
 
 abbrev pub Holds : Session → Trace → Vio → Type 0
 Holds s t v = HasLock s t v.request v.asks v.at.0 v.place v.old
 
 -- a read that holds it, and knows the last write of its address
-pub record HasLooked (s : Session) (t : Trace) (w : Writer) (asks : Asks) (a place : ℕ) (old : Mapping) (last : Option Logged) : Type 0 where
+pub record HasLooked (s : Session) (t : Trace) (w : Writer) (asks : Asks) (a place : ℕ) (old : Mapping) (last : Option Remapping) : Type 0 where
   pub held : HasLock s t w asks a place old
   pub is_read : asks ≡ Read
-  pub latest : last ≡ newest (of_address a (done t))
+  pub latest : last ≡ newest (of_address a (remappings (applied t)))
 
 abbrev pub Looks : Session → Trace → Vio → Type 0
 Looks s t v = HasLooked s t v.request v.asks v.at.0 v.place v.old v.latest
 
 -- a write or a discard whose entry was handed in
-pub record HasEntered (s : Session) (t : Trace) (asks : Asks) (e : Logged) : Type 0 where
+pub record HasEntered (s : Session) (t : Trace) (asks : Asks) (e : Remapping) : Type 0 where
   pub is_change : IsChange asks
   pub placed : HasPlace s t e.request e.at.0 e.place
   pub entry : logged_of (entered t) e.request ≡ Some e
@@ -143,17 +146,17 @@ pub record HasEntered (s : Session) (t : Trace) (asks : Asks) (e : Logged) : Typ
   pub unaborted : IsNone (logged_of (aborted t) e.request)
 
 abbrev pub IsEntered : Session → Trace → Vio → Type 0
-IsEntered s t v = HasEntered s t v.asks (logged v)
+IsEntered s t v = HasEntered s t v.asks (remapping v)
 
 -- and that is neither committed nor aborted
-pub record HasPendingEntry (s : Session) (t : Trace) (asks : Asks) (bytes : List ℕ) (e : Logged) : Type 0 where
+pub record HasPendingEntry (s : Session) (t : Trace) (asks : Asks) (bytes : List ℕ) (e : Remapping) : Type 0 where
   pub is_entered : HasEntered s t asks e
   pub pending : IsPending t e
   pub below : AllBelow t e.at.0 e.place
   pub maps : MapsTo asks bytes e.new
   pub fresh : OnBlock (IsFresh s) e.new
   pub old_held : HoldsMapping e.old
-  pub old_is : e.old ≡ mapping_of (entries_of s.window (done t)) e.at.0
+  pub old_is : e.old ≡ mapping_of (entries_of s.window (applied t)) e.at.0
 
 -- its answer is one that it may have: the mark of a flush that returned, or a cause
 abbrev pub IsEarned : Session → Trace → FlushMark → Request → Answer → Bool → Type 0
@@ -184,8 +187,8 @@ Carries s t v phase.Look = IsInTurn s t v × (has_taken t v.request ≡ false)
 Carries s t v phase.Claim = Holds s t v × (v.asks ≡ Write) × NeedsBlock t v.request v.bytes
 Carries s t v phase.Store = Holds s t v × (v.asks ≡ Write) × IsToFresh s v.new
 Carries s t v phase.Enter = Holds s t v × MapsTo v.asks v.bytes v.new × OnBlock (IsFresh s) v.new × (IsFair s t → OnBlock (λ x. ReadsAs s t x.0 v.bytes) v.new)
-Carries s t v phase.Pending = HasPendingEntry s t v.asks v.bytes (logged v)
-Carries s t v phase.Settle = IsEntered s t v × IsCommitted t (logged v) × AllBelow t v.at.0 v.place × OnBlock (IsFresh s) v.new
+Carries s t v phase.Pending = HasPendingEntry s t v.asks v.bytes (remapping v)
+Carries s t v phase.Settle = IsEntered s t v × IsCommitted t (remapping v) × AllBelow t v.at.0 v.place × OnBlock (IsFresh s) v.new
 Carries s t v phase.Load = Looks s t v × IsToInside s v.old
 Carries s t v phase.Loaded = Looks s t v × (IsFair s t → v.bytes ≡ value_at s t v.at.0)
 Carries s t v phase.AbortClaim = Holds s t v × MayReply s t v v.answer
@@ -199,7 +202,7 @@ Carries s t v phase.Reply = MayReply s t v v.answer
 pub record IsSealed (s : Session) (t : Trace) (vios : List Vio) (at : ℕ) : Type 0 where
   pub older : List (List Logged)
   pub sealed_is : sealed t ≡ all_logged vios ∷ older
-  pub committed_is : committed t ≡ all_of older
+  pub committed_is : durable t ≡ all_of older
   pub some : 0 < length vios
   pub few : length vios ≤ 192
   pub sequence : at ≡ s.sizes.start + (s.sizes.opened + length older)
@@ -211,7 +214,7 @@ abbrev pub StandsAt : Session → Trace → List Vio → ℕ → Stage → Type 
 StandsAt s t vios at stage.Cover = (k : IsSealed s t vios at) × (IsFair s t → AtRest s t k.older × NewReads s t (all_logged vios))
 StandsAt s t vios at stage.Write = (k : IsSealed s t vios at) × (IsFair s t → AtRest s t k.older × NewStands s t (all_logged vios))
 StandsAt s t vios at stage.Harden = (k : IsSealed s t vios at) × (IsFair s t → OnItsWay s t k.older (all_logged vios) × ReadsBlock s t k.older (all_logged vios))
-StandsAt s t vios at stage.Commit = (all_of (sealed t) ≡ all_logged vios ++ committed t) × (IsFair s t → AtRest s t (sealed t))
+StandsAt s t vios at stage.Commit = (all_of (sealed t) ≡ all_logged vios ++ durable t) × (IsFair s t → AtRest s t (sealed t))
 StandsAt s t vios at stage.Fail = (k : IsSealed s t vios at) × (IsFair s t → AtRest s t k.older ⊎ OnItsWay s t k.older (all_logged vios)) × (has_stopped t ≡ true)
 
 -- a request that a zone keeps, or that is in a block, is in one phase
@@ -253,12 +256,14 @@ pub record DeskLists (t : Trace) (desk : Desk) : Type 0 where
   pub log_is : desk.log ≡ lines t
   pub marks_is : desk.marks ≡ marks t
 
-pub record LogicalLists (s : Session) (t : Trace) (zone next : ℕ) (placed : List Placed) (slots : List Logged) : Type 0 where
+pub record LogicalLists (s : Session) (t : Trace) (zone next : ℕ) (placed : List Placed) (slots : List Remapping) (tree : Tree) : Type 0 where
   pub places_is : placed ≡ places_in zone (places t)
   pub next_is : next ≡ drawn zone (places t)
-  pub slots_are : (a : ℕ) → zone_of s.sizes.zones a ≡ zone → of_address a slots ≡ of_address a (done t)
+  pub slots_are : (a : ℕ) → zone_of s.sizes.zones a ≡ zone → of_address a slots ≡ of_address a (remappings (applied t))
   -- what was set or given at its addresses has a place that was drawn
   pub below : (a : ℕ) → zone_of s.sizes.zones a ≡ zone → AllBelow t a next
+  -- its trees have the pages that are linked
+  pub tree_is : IsMapTree s.sizes.geometry zone s.sizes.zones s.window (applied t) tree
 
 pub record PhysicalLists (s : Session) (t : Trace) (p : PhysicalZone) : Type 0 where
   -- those that weren't taken
@@ -273,12 +278,12 @@ pub record IsLogOf (s : Session) (t : Trace) (log : Log) : Type 0 where
   pub filling_is : log.filling ≡ reverse (map entry_of (filled t))
   pub entries_are : said_by log.entries ≡ reverse (map entry_of (all_of (sealed t)))
   -- those that are committed were handed out
-  pub handed_is : log.handed ≡ length (committed t)
-  pub durable_is : all_of (sealed t) ≡ committed t → log.committed ≡ log.sequence
+  pub handed_is : log.handed ≡ length (durable t)
+  pub durable_is : all_of (sealed t) ≡ durable t → log.committed ≡ log.sequence
 
 pub record JournalLists (s : Session) (t : Trace) (j : JournalZone) : Type 0 where
-  pub entered_is : j.entered ≡ entered t
-  pub committed_is : j.committed ≡ committed t
+  pub entered_is : j.entered ≡ journaled t
+  pub committed_is : j.committed ≡ durable t
   -- while none failed
   pub filled_is : j.broken ≡ false → all_logged j.filling ≡ filled t
   -- the entry of each request there stands in the log
@@ -291,7 +296,7 @@ pub record DeviceLists (t : Trace) (d : DeviceZone) : Type 0 where
 
 abbrev pub HasLists : Session → Trace → ZoneData → Type 0
 HasLists s t (at.Desk desk) = DeskLists t desk
-HasLists s t (at.Logical l) = LogicalLists s t l.zone l.next l.places l.slots
+HasLists s t (at.Logical l) = LogicalLists s t l.zone l.next l.places l.slots l.tree
 HasLists s t (at.Physical p) = PhysicalLists s t p
 HasLists s t (at.Journal j) = JournalLists s t j
 HasLists s t (at.Device d) = DeviceLists t d
@@ -310,11 +315,11 @@ pub record IsSoundDesk (s : Session) (desk : Desk) : Type 0 where
   pub parked_early : 0 < length desk.parked → desk.notices < notified_zones s.sizes
 
 -- where an address is mapped, by the last write of it or the window
-abbrev pub mapping_in : List Entry → List Logged → ℕ → Mapping
+abbrev pub mapping_in : List Entry → List Remapping → ℕ → Mapping
 mapping_in window slots a = mapped_by (newest (of_address a slots)) (mapping_of window a)
 
 -- it has the session's window; each address is mapped to a block that an entry can hold, inside the image
-pub record MapOk (s : Session) (window : List Entry) (slots : List Logged) : Type 0 where
+pub record MapOk (s : Session) (window : List Entry) (slots : List Remapping) : Type 0 where
   pub window_is : window ≡ s.window
   pub mapped : (a : ℕ) → HoldsMapping (mapping_in window slots a)
   pub inside : (a : ℕ) (x : Pbn) → mapping_in window slots a ≡ At x → IsInside s.sizes x
@@ -358,7 +363,7 @@ IsSound s other = Unit {0}
 -- While no block is under way all that was sealed is committed; and where the session is fair, it stands on the device.
 abbrev pub RestsAt : Session → Trace → (busy broken : Bool) → Type 0
 RestsAt s t true broken = broken ≡ false
-RestsAt s t false false = (all_of (sealed t) ≡ committed t) × (IsFair s t → AtRest s t (sealed t))
+RestsAt s t false false = (all_of (sealed t) ≡ durable t) × (IsFair s t → AtRest s t (sealed t))
 RestsAt s t false true = Unit {0}
 
 -- What it answers for: a logical zone for its addresses that are free (all entries of them are done), the journal for

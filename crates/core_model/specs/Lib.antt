@@ -2,6 +2,8 @@ pub mod SessionLimits
 pub mod DeskLines
 pub mod DeskData
 pub mod DeskCounts
+pub mod PageLinks
+pub mod PageTrees
 pub mod Trace
 pub mod LogicalData
 pub mod JournalData

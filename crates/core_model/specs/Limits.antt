@@ -2,7 +2,7 @@
 use Rattle.std.specs.Prelude.{ℕ, ◌+◌, ◌*◌, ◌^◌, ◌<◌, ◌≤◌, List, length}
 use Rattle.std.specs.List.{AllByRecursion}
 use Rattle.core_model.specs.DeskData.{Desk}
-pub use Rattle.core_model.specs.SessionLimits.{IsLimited, most_depth, most_items, most_notices, most_requests, most_streams, most_under_way, most_zones, requests_in}
+pub use Rattle.core_model.specs.SessionLimits.{IsLimited, most_depth, most_entries, most_items, most_notices, most_requests, most_streams, most_under_way, most_zones, requests_in}
 use Rattle.core_model.specs.DeskLines.{AreBegunFirst, is_answer, is_begin}
 use Rattle.core_model.specs.declared.zones.ZoneData.{ZoneData}
 use Rattle.core_model.specs.declared.zones.ZoneData.TheVariants as at
@@ -38,13 +38,13 @@ pub record IsLogicalWithin (steps : ℕ) (l : LogicalZone) : Type 0 where
   pub retired : length l.retired ≤ most_requests
   pub slots : length l.slots ≤ most_requests
 
--- Those of the journal: each request hands in one entry at most. The sequence of the block being filled can be spelled.
+-- Those of the journal: each request hands in one entry for its address at most, and one for each page of its path. The sequence of the block being filled can be spelled.
 pub record IsJournalWithin (j : JournalZone) : Type 0 where
   pub sequence : j.log.sequence < 2 ^ 55
   pub filling : length j.filling ≤ 192
   pub waiting : IsShort j.waiting
-  pub entered : length j.entered ≤ most_requests
-  pub committed : length j.committed ≤ most_requests
+  pub entered : length j.entered ≤ most_entries
+  pub committed : length j.committed ≤ most_entries
 
 -- The device's zone makes one call a step at most.
 abbrev pub IsDeviceWithin : ℕ → DeviceZone → Type 0

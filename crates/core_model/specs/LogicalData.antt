@@ -3,14 +3,15 @@ use Rattle.std.specs.Prelude.{ℕ, Bool, List}
 use Rattle.blk_base.specs.declared.journal_entry.Entry.{Entry}
 use Rattle.blk_base.specs.declared.place.Lba.{Lba}
 pub use Rattle.logical_locks.specs.declared.lock.Lock.{Lock}
+use Rattle.block_map_tree.specs.Tree.{Tree}
 use Rattle.vdo_model.specs.declared.report.Placed.{Placed}
 use Rattle.data_vio.specs.declared.items.Vio.{Vio}
-use Rattle.data_vio.specs.declared.logged.Logged.{Logged}
+use Rattle.data_vio.specs.declared.logged.Remapping.{Remapping}
 
 -- Its number among the logical zones, whether the stop notice has come, the place that is drawn next and those that were;
 -- the locks that are held, one for each address at most, and who waits for one, in the order of their places; the addresses
--- of aborted writes whose entry was handed in: their locks are never released; where an address is mapped that isn't set in
--- the session, and the slots that are.
+-- of aborted writes whose entry was handed in: their locks are never released; the pages of its trees that are no leaves; where
+-- an address is mapped that isn't set in the session, and the slots that are.
 pub record LogicalZone : Type 0 where
   pub zone : ℕ
   pub notified : Bool
@@ -19,5 +20,6 @@ pub record LogicalZone : Type 0 where
   pub held : List Lock
   pub waiting : List Vio
   pub retired : List Lba
+  pub tree : Tree
   pub window : List Entry
-  pub slots : List Logged
+  pub slots : List Remapping

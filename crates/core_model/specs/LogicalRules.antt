@@ -1,5 +1,5 @@
 -- What a logical zone does: places, locks, slots.
-use Rattle.std.specs.Prelude.{ℕ, ◌+◌, ◌≡◌, ◌==◌, Bool, true, false, ◌&&◌, ◌||◌, Option, None, Some, List, [], ◌∷◌, ◌++◌, if◌then◌else◌}
+use Rattle.std.specs.Prelude.{ℕ, ◌+◌, ◌≡◌, ◌==◌, Bool, true, false, not, ◌&&◌, ◌||◌, Option, None, Some, is_some, List, [], ◌∷◌, ◌++◌, if◌then◌else◌}
 use Rattle.blk_base.specs.Sectors.{zero_block}
 use Rattle.blk_base.specs.declared.place.Lba.{Lba}
 use Rattle.blk_base.specs.declared.place.Mapping.{Mapping}
@@ -15,9 +15,10 @@ use Rattle.data_vio.specs.declared.items.Phase.TheVariants as phase
 use Rattle.data_vio.specs.declared.items.Vio.{Vio}
 use Rattle.data_vio.specs.declared.sizes.Sizes.{Sizes}
 use Rattle.core_model.specs.LogicalData.{Lock, LogicalZone}
-use Rattle.data_vio.specs.declared.logged.Logged.{Logged}
-use Rattle.core_model.specs.Trace.{Trace, Draws, Sets, Gives, Aborts, of_address, newest}
-use Rattle.data_vio.specs.Vios.{Post, turned, ended, logged, gift}
+use Rattle.data_vio.specs.declared.logged.Remapping.{Remapping}
+use Rattle.core_model.specs.PageTrees.{HasPath, missing_at}
+use Rattle.core_model.specs.Trace.{Trace, Draws, Passes, Sets, Gives, Aborts, of_address, newest}
+use Rattle.data_vio.specs.Vios.{Post, turned, ended, remapping, logged, gift}
 
 -- whether an address is among these
 abbrev pub is_among : ℕ → List Lba → Bool
@@ -67,10 +68,10 @@ abbrev pub drawn_by : LogicalZone → Vio → LogicalZone
 drawn_by l v = record l { next = l.next + 1; places = place_of_vio l v ∷ l.places }
 
 -- the last write or discard that set an address in this session, and where the address is mapped
-abbrev pub latest_at : LogicalZone → ℕ → Option Logged
+abbrev pub latest_at : LogicalZone → ℕ → Option Remapping
 latest_at l a = newest (of_address a l.slots)
 
-abbrev pub mapped_by : Option Logged → Mapping → Mapping
+abbrev pub mapped_by : Option Remapping → Mapping → Mapping
 mapped_by None opening = opening
 mapped_by (Some e) opening = e.new
 
@@ -109,6 +110,26 @@ next_for sizes l v Flush = None
 abbrev pub goes_on : Sizes → LogicalZone → Vio → Option Post
 goes_on sizes l v = next_for sizes l v v.asks
 
+-- whether nothing is known of an address: no slot of it was set, and the window maps it to nothing
+abbrev pub is_unmapped : Mapping → Bool
+is_unmapped Unmapped = true
+is_unmapped other = false
+
+abbrev pub is_unknown : LogicalZone → ℕ → Bool
+is_unknown l a = not (is_some (latest_at l a)) && is_unmapped (mapping_of l.window a)
+
+-- whether a request passes: a discard of an address of which nothing is known, and that lacks a page of its path
+abbrev pub is_discard : Asks → Bool
+is_discard Discard = true
+is_discard other = false
+
+abbrev pub passes_by : LogicalZone → Vio → Bool
+passes_by l v = is_discard v.asks && (is_unknown l v.at.0 && is_some (missing_at l.tree v.at.0))
+
+-- what it would have handed in
+abbrev pub pass_of : Vio → Remapping
+pass_of v = record { request = v.request; at = v.at; place = v.place; old = Unmapped; new = Unmapped }
+
 -- The lock of an address goes to the first that waits for it, or is released.
 abbrev pub passed_to : ℕ → LogicalZone → Option Vio → LogicalZone
 passed_to a l None = record l { held = without a l.held }
@@ -139,7 +160,7 @@ all_stopped (v ∷ vs) = (id.Desk, item.Request (ended phase.Reply reply.Stopped
 
 -- with the slot that a write sets
 abbrev pub with_slot : LogicalZone → Vio → LogicalZone
-with_slot l v = record l { slots = logged v ∷ l.slots }
+with_slot l v = record l { slots = remapping v ∷ l.slots }
 
 pub data LogicalServes (sizes : Sizes) (old : LogicalZone) (v : Vio) (new : LogicalZone) (made : Trace) (posts : List Post) : Type 0 where
   -- it draws its place: its address is never released, or free, or held
@@ -156,8 +177,13 @@ pub data LogicalServes (sizes : Sizes) (old : LogicalZone) (v : Vio) (new : Logi
       → posts ≡ []
       → LogicalServes sizes old v new made posts
   -- it has the lock: what is mapped at its address says where it goes
-  looks : (post : Post) → v.phase ≡ phase.Look → goes_on sizes old v ≡ Some post
+  looks : (post : Post) → v.phase ≡ phase.Look → HasPath old.tree v.at.0 → passes_by old v ≡ false → goes_on sizes old v ≡ Some post
       → new ≡ old → made ≡ [] → posts ≡ post ∷ []
+      → LogicalServes sizes old v new made posts
+  -- or it passes: it is done, and enters nothing
+  passes : v.phase ≡ phase.Look → HasPath old.tree v.at.0 → passes_by old v ≡ true
+      → new ≡ released v.at.0 old → made ≡ Passes (pass_of v) ∷ []
+      → posts ≡ (id.Desk, item.Request (ended phase.Reply reply.Ok v)) ∷ granted v.at.0 old
       → LogicalServes sizes old v new made posts
   -- its slot is set
   settles : v.phase ≡ phase.Settle

@@ -8,14 +8,14 @@ use Rattle.vdo_model.specs.ZoneOrder.{by_zone}
 use Rattle.vdo_model.specs.declared.report.HistoryEntry.{HistoryEntry}
 use Rattle.vdo_model.specs.declared.report.Placed.{Placed}
 use Rattle.vdo_model.specs.declared.report.RunReport.{RunReport}
-use Rattle.data_vio.specs.declared.logged.Logged.{Logged}
+use Rattle.data_vio.specs.declared.logged.Remapping.{Remapping}
 use Rattle.core_model.specs.Sessions.{Session, said_by}
 use Rattle.core_model.specs.Trace.{Trace, lines, marks, places, entered, done, logged_of}
 use Rattle.image_model.specs.Windows.{IsWindow}
 use Rattle.blk_base.specs.declared.journal_entry.CommittedEntry.{CommittedEntry}
 use Rattle.blk_base.specs.declared.geometry.Geometry.{Geometry}
 
-abbrev pub is_there : Option Logged → Bool
+abbrev pub is_there : Option Remapping → Bool
 is_there None = false
 is_there (Some e) = true
 

@@ -1,5 +1,5 @@
 -- A right trace: each happening may follow those before it, and at each moment a stop leaves what it may.
-use Rattle.std.specs.Prelude.{ℕ, ◌+◌, ◌≡◌, ◌≢◌, ◌⊎◌, ◌<◌, ◌≤◌, true, false, Some, IsNone, IsSome, List, [], ◌∷◌, ◌++◌, length, slice_get}
+use Rattle.std.specs.Prelude.{ℕ, ◌+◌, ◌≡◌, ◌≢◌, ◌⊎◌, ◌<◌, ◌≤◌, true, false, None, Some, IsNone, IsSome, List, [], ◌∷◌, ◌++◌, length, slice_get, Contains}
 use Rattle.std.specs.List.{AllByRecursion}
 use Rattle.blk_base.specs.Regions.{IsDataBlock}
 use Rattle.blk_base.specs.declared.place.Lba.{Lba}
@@ -23,11 +23,16 @@ use Rattle.vdo_model.specs.declared.report.DeskLine.{DeskLine}
 use Rattle.vdo_model.specs.declared.report.DeskLine.TheVariants as line
 use Rattle.vdo_model.specs.declared.report.Placed.{Placed}
 use Rattle.data_vio.specs.declared.logged.Logged.{Logged}
+use Rattle.data_vio.specs.declared.logged.Logged.TheVariants.{Remaps, Makes}
+use Rattle.data_vio.specs.declared.logged.NewPage.{NewPage}
+use Rattle.data_vio.specs.declared.logged.Remapping.{Remapping}
+use Rattle.core_model.specs.PageLinks.{IsThere, Lacks, MayLack, page_in}
+use Rattle.blk_base.specs.Pages.{above}
 use Rattle.data_vio.specs.declared.items.Asks.{Asks}
 use Rattle.data_vio.specs.declared.items.Asks.TheVariants as asks
 use Rattle.core_model.specs.Sessions.{IsFair, OnBlock, Session, Shown, value_at}
 use Rattle.data_vio.specs.Vios.{asked}
-use Rattle.core_model.specs.Trace.{Happening, Says, Flushes, Draws, Enters, Seals, Commits, Sets, Gives, Takes, Aborts, Calls, Fails, Trace, Gift, moments, lines, places, entered, filled, sealed, all_of, committed, done, aborted, gifts, taken, has_taken, is_read, is_ok, has_stopped, has_read_fault, of_address, logged_of, gift_of, entries_of}
+use Rattle.core_model.specs.Trace.{Happening, Says, Flushes, Draws, Enters, Passes, Seals, Commits, Sets, Gives, Takes, Aborts, Calls, Fails, Trace, Gift, moments, lines, places, journaled, entered, remappings, filled, sealed, all_of, durable, committed, applied, done, dropped, aborted, gifts, taken, has_taken, is_read, is_ok, has_stopped, has_read_fault, of_address, logged_of, request_in, gift_of, entries_of}
 
 -- a request is begun and not answered
 pub record IsOpen (t : Trace) (w : Writer) : Type 0 where
@@ -40,17 +45,17 @@ pub record Quiet (t : Trace) (a : ℕ) : Type 0 where
   pub all_committed : of_address a (entered t) ≡ of_address a (committed t)
   pub all_done : of_address a (committed t) ≡ of_address a (done t)
 
-pub record IsPending (t : Trace) (e : Logged) : Type 0 where
+pub record IsPending (t : Trace) (e : Remapping) : Type 0 where
   pub last : of_address e.at.0 (entered t) ≡ e ∷ of_address e.at.0 (committed t)
   pub others : of_address e.at.0 (committed t) ≡ of_address e.at.0 (done t)
 
-pub record IsCommitted (t : Trace) (e : Logged) : Type 0 where
+pub record IsCommitted (t : Trace) (e : Remapping) : Type 0 where
   pub all_committed : of_address e.at.0 (entered t) ≡ of_address e.at.0 (committed t)
   pub last : of_address e.at.0 (committed t) ≡ e ∷ of_address e.at.0 (done t)
 
 -- whatever was done or given at an address has a lower place
 pub record AllBelow (t : Trace) (a place : ℕ) : Type 0 where
-  pub writes : AllByRecursion (λ (e : Logged). e.at.0 ≡ a → e.place < place) (done t)
+  pub writes : AllByRecursion (λ (e : Remapping). e.at.0 ≡ a → e.place < place) (done t)
   pub reads : AllByRecursion (λ (g : Gift). g.at.0 ≡ a → g.place < place) (gifts t)
 
 -- a request has this place at its address
@@ -65,7 +70,7 @@ MapsTo asks.Discard bytes Unmapped = Unit {0}
 MapsTo other bytes new = ⊥
 
 -- an entry is of a write or a discard of the script that has its place, and maps its address to what that maps it to
-pub record IsWrite (s : Session) (t : Trace) (e : Logged) : Type 0 where
+pub record IsWrite (s : Session) (t : Trace) (e : Remapping) : Type 0 where
   pub asks : Asks
   pub bytes : List ℕ
   pub asked : request_at s.script e.request ≡ Some (asked asks e.at bytes)
@@ -73,7 +78,7 @@ pub record IsWrite (s : Session) (t : Trace) (e : Logged) : Type 0 where
   pub placed : HasPlace s t e.request e.at.0 e.place
 
 -- one of these writes is of this address, with a lower place
-abbrev pub HasBelow : ℕ → ℕ → List Logged → Type 0
+abbrev pub HasBelow : ℕ → ℕ → List Remapping → Type 0
 HasBelow a place [] = ⊥
 HasBelow a place (e ∷ older) = ((e.at.0 ≡ a) × (e.place < place)) ⊎ HasBelow a place older
 
@@ -155,7 +160,7 @@ pub record PlaceMayFollow (s : Session) (p : Placed) (t : Trace) : Type 0 where
   pub not_entered : IsNone (logged_of (entered t) p.request)
 
 -- an entry may be handed in, be committed, and be done
-pub record EntryMayFollow (s : Session) (e : Logged) (t : Trace) : Type 0 where
+pub record EntryMayFollow (s : Session) (e : Remapping) (t : Trace) : Type 0 where
   pub is_open : IsOpen t e.request
   pub is_write : IsWrite s t e
   pub once : IsNone (logged_of (entered t) e.request)
@@ -167,29 +172,66 @@ pub record EntryMayFollow (s : Session) (e : Logged) (t : Trace) : Type 0 where
   -- it maps its address to a data block, or to none
   pub new_data : OnBlock (λ x. IsDataBlock s.sizes.geometry x.0) e.new
   -- it has what its address is mapped to by the committed entries
-  pub old_is : e.old ≡ mapping_of (entries_of s.window (committed t)) e.at.0
+  pub old_is : e.old ≡ mapping_of (entries_of s.window (durable t)) e.at.0
+
+-- the entry of a new page may be handed in: a write lacks the page, the one above it is there, and it isn't yet
+pub record PageMayFollow (s : Session) (p : NewPage) (t : Trace) : Type 0 where
+  pub is_open : IsOpen t p.request
+  pub lacked : (r : Request) × (request_at s.script p.request ≡ Some r) × MayLack s.sizes.geometry.height r p.page
+  pub above : IsThere s.sizes.geometry.height s.window (applied t) (above p.page)
+  pub once : page_in s.sizes.geometry.height s.window (journaled t) p.page ≡ None
+  -- a block of the journal is left for it, and that has room
+  pub left : s.sizes.opened + length (sealed t) + 1 < s.sizes.geometry.journal
+  pub room : length (filled t) < 192
+  pub new_data : IsDataBlock s.sizes.geometry p.at.0
 
 pub record CommitMayFollow (s : Session) (e : Logged) (t : Trace) : Type 0 where
-  pub is_open : IsOpen t e.request
+  pub is_open : IsOpen t (request_in e)
   -- it is the oldest that isn't committed, and it is in a sealed block
   pub rest : List Logged
-  pub next : all_of (sealed t) ≡ rest ++ e ∷ committed t
+  pub next : all_of (sealed t) ≡ rest ++ e ∷ durable t
 
 -- the block being filled may be sealed: it has an entry, all those of the others are committed, and a block of the journal is
 -- left for it
 pub record SealMayFollow (s : Session) (t : Trace) : Type 0 where
   pub some : 0 < length (filled t)
-  pub all_committed : all_of (sealed t) ≡ committed t
+  pub all_committed : all_of (sealed t) ≡ durable t
   pub left : s.sizes.opened + length (sealed t) + 1 < s.sizes.geometry.journal
 
-pub record SlotMayFollow (s : Session) (e : Logged) (t : Trace) : Type 0 where
+-- a discard may pass: a page of its path isn't there, no entry of its address was handed in, and its address is mapped to nothing
+pub record PassMayFollow (s : Session) (e : Remapping) (t : Trace) : Type 0 where
+  pub is_open : IsOpen t e.request
+  pub asked : request_at s.script e.request ≡ Some (request.Discard e.at)
+  pub placed : HasPlace s t e.request e.at.0 e.place
+  pub maps : (e.old ≡ Unmapped) × (e.new ≡ Unmapped)
+  pub once : IsNone (logged_of (entered t) e.request)
+  pub below : AllBelow t e.at.0 e.place
+  pub lacking : Lacks s.sizes.geometry.height s.window (applied t) e.at.0
+  pub first : of_address e.at.0 (remappings (journaled t)) ≡ []
+  pub unmapped : mapping_of s.window e.at.0 ≡ Unmapped
+
+pub record SlotMayFollow (s : Session) (e : Remapping) (t : Trace) : Type 0 where
   pub is_open : IsOpen t e.request
   pub is_committed : IsCommitted t e
   pub below : AllBelow t e.at.0 e.place
   pub unaborted : IsNone (logged_of (aborted t) e.request)
 
+-- a page whose entry is committed may be linked, once
+pub record LinkMayFollow (s : Session) (p : NewPage) (t : Trace) : Type 0 where
+  pub is_open : IsOpen t p.request
+  pub is_committed : Contains (durable t) (Makes p)
+  pub unlinked : page_in s.sizes.geometry.height s.window (applied t) p.page ≡ None
+  pub undropped : Contains (dropped t) (Makes p) → ⊥
+
+-- or be never linked, once the session is stopped
+pub record DropMayFollow (s : Session) (p : NewPage) (t : Trace) : Type 0 where
+  pub is_open : IsOpen t p.request
+  pub handed_in : Contains (journaled t) (Makes p)
+  pub unlinked : page_in s.sizes.geometry.height s.window (applied t) p.page ≡ None
+  pub stopped : has_stopped t ≡ true
+
 -- a write or a discard whose entry was handed in may be aborted, once the session is stopped
-pub record AbortMayFollow (s : Session) (e : Logged) (t : Trace) : Type 0 where
+pub record AbortMayFollow (s : Session) (e : Remapping) (t : Trace) : Type 0 where
   pub is_open : IsOpen t e.request
   pub handed_in : logged_of (entered t) e.request ≡ Some e
   pub unset : IsNone (logged_of (done t) e.request)
@@ -215,7 +257,7 @@ GoesOn t call = is_read call ≡ false → has_stopped t ≡ false
 
 -- a read of the device is made for a read of an address that is mapped to its block, by the slots that are set
 abbrev pub IsMadeFor : Session → Trace → Writer → Call → Type 0
-IsMadeFor s t w (call.Read x bytes ok) = (at : Lba) × (request_at s.script w ≡ Some (request.Read at)) × (mapping_of (entries_of s.window (done t)) at.0 ≡ At x)
+IsMadeFor s t w (call.Read x bytes ok) = (at : Lba) × (request_at s.script w ≡ Some (request.Read at)) × (mapping_of (entries_of s.window (applied t)) at.0 ≡ At x)
 IsMadeFor s t w other = Unit {0}
 
 -- a call may succeed, and one that was made for a request may fail
@@ -235,13 +277,17 @@ MayFollow s (Says desk_line) t = LineMayFollow s desk_line t
 MayFollow s (Flushes mark) t =
     IsNextLine s.sizes.depth s.script (line.Answer mark.request reply.Ok) (lines t) × (request_at s.script mark.request ≡ Some request.Flush) × IsMark (moments t) mark
 MayFollow s (Draws p) t = PlaceMayFollow s p t
-MayFollow s (Enters e) t = EntryMayFollow s e t
+MayFollow s (Enters (Remaps e)) t = EntryMayFollow s e t
+MayFollow s (Enters (Makes p)) t = PageMayFollow s p t
 MayFollow s (Commits e) t = CommitMayFollow s e t
 MayFollow s Seals t = SealMayFollow s t
-MayFollow s (Sets e) t = SlotMayFollow s e t
+MayFollow s (Passes e) t = PassMayFollow s e t
+MayFollow s (Sets (Remaps e)) t = SlotMayFollow s e t
+MayFollow s (Sets (Makes p)) t = LinkMayFollow s p t
 MayFollow s (Gives g) t = GiftMayFollow s g t
 MayFollow s (Takes w x) t = TakeMayFollow s w x t
-MayFollow s (Aborts e) t = AbortMayFollow s e t
+MayFollow s (Aborts (Remaps e)) t = AbortMayFollow s e t
+MayFollow s (Aborts (Makes p)) t = DropMayFollow s p t
 MayFollow s (Calls c) t = CallMayFollow c t
 MayFollow s (Fails w c kept) t = FailureMayFollow s w c t
 
@@ -257,7 +303,7 @@ GivesRight s (Gives g ∷ t) = (g.bytes ≡ value_at s t g.at.0) × GivesRight s
 GivesRight s (other ∷ t) = GivesRight s t
 
 -- a write was handed in, and its slot isn't set
-pub record IsHeldBack (t : Trace) (e : Logged) : Type 0 where
+pub record IsHeldBack (t : Trace) (e : Remapping) : Type 0 where
   pub handed_in : logged_of (entered t) e.request ≡ Some e
   pub unset : IsNone (logged_of (done t) e.request)
 

@@ -18,6 +18,11 @@ most_requests = 65536
 abbrev pub most_zones : ℕ
 most_zones = 4
 
+-- how many entries of the journal there are in all: each request has one for its address, and one for each level of pages below
+-- the roots
+abbrev pub most_entries : ℕ
+most_entries = 3 * most_requests
+
 -- how many requests are under way at most, how many zones are notified of a stop, and how many items there are: requests,
 -- stop notices, and a block of the journal
 abbrev pub most_under_way : ℕ

@@ -19,10 +19,13 @@ use Rattle.stop_laws.specs.Journals.{Surely, block_of_slot}
 use Rattle.vdo_model.specs.Scripts.{Script, request_at, value_written}
 use Rattle.data_vio.specs.declared.sizes.Sizes.{Sizes}
 use Rattle.data_vio.specs.declared.logged.Logged.{Logged}
+use Rattle.data_vio.specs.declared.logged.Logged.TheVariants.{Remaps, Makes}
+use Rattle.data_vio.specs.declared.logged.Remapping.{Remapping}
+use Rattle.core_model.specs.PageLinks.{empty_page}
 use Rattle.plain_laws.specs.Sums.{total}
 use Rattle.core_model.specs.SessionLimits.{IsLimited}
 use Rattle.core_model.specs.Tokens.{is_block}
-use Rattle.core_model.specs.Trace.{Calls, Trace, all_of, calls, committed, done, filled, sealed, of_address, newest, entry_of, entries_of}
+use Rattle.core_model.specs.Trace.{Calls, Trace, all_of, calls, durable, done, filled, sealed, of_address, newest, new_of, remappings, entry_of, entries_of}
 use Rattle.journal_stops.specs.Rings.{IsAtRest, IsUnderWay, IsWritten}
 use Rattle.journal_stops.specs.Sealed.{Sealed, head_of}
 use Rattle.image_model.specs.Windows.{IsOfImage, IsWindow}
@@ -126,8 +129,13 @@ abbrev pub ReadsAs : Session → Trace → ℕ → List ℕ → Type 0
 ReadsAs s t x bytes = AllByRecursion (λ content. content ≡ bytes) (device.settled s.blocks (log s t) x)
 
 -- what a write or a discard gives its address
-abbrev pub bytes_of : Session → Logged → List ℕ
+abbrev pub bytes_of : Session → Remapping → List ℕ
 bytes_of s e = value_written (request_at s.script e.request)
+
+-- what the block of an entry has: what its write gives its address, or an empty page
+abbrev pub content_of : Session → Logged → List ℕ
+content_of s (Remaps e) = bytes_of s e
+content_of s (Makes p) = empty_page s.sizes.geometry p
 
 -- what holds of the block of a mapping, where it has one
 abbrev pub OnBlock : (Pbn → Type 0) → Mapping → Type 0
@@ -135,13 +143,13 @@ OnBlock P (At x) = P x
 OnBlock P other = Unit {0}
 
 -- the value of an address: that of its last write, or the one that it had when the session began
-abbrev pub value_from : Session → ℕ → Option Logged → List ℕ
+abbrev pub value_from : Session → ℕ → Option Remapping → List ℕ
 value_from s a None = value_of s.image s.window a
 value_from s a (Some e) = bytes_of s e
 
 -- What these writes, on top of the window, map the addresses to stands: the block of each address that has one has its value.
 abbrev pub MapStands : Session → Trace → List Logged → Type 0
-MapStands s t es = (a : ℕ) → OnBlock (λ x. Stands s t x.0 (value_from s a (newest (of_address a es)))) (mapping_of (entries_of s.window es) a)
+MapStands s t es = (a : ℕ) → OnBlock (λ x. Stands s t x.0 (value_from s a (newest (of_address a (remappings es))))) (mapping_of (entries_of s.window es) a)
 
 -- the block of the journal that is sealed with the entries of these writes, the newest first; it names the first sequence as
 -- its head
@@ -169,10 +177,10 @@ AtRest s t blocks = HasBlocks s t blocks × MapStands s t (all_of blocks)
 
 -- what each of these writes maps its address to stands; and a read gives it
 abbrev pub NewStands : Session → Trace → List Logged → Type 0
-NewStands s t es = AllByRecursion (λ (e : Logged). OnBlock (λ x. Stands s t x.0 (bytes_of s e)) e.new) es
+NewStands s t es = AllByRecursion (λ (e : Logged). OnBlock (λ x. Stands s t x.0 (content_of s e)) (new_of e)) es
 
 abbrev pub NewReads : Session → Trace → List Logged → Type 0
-NewReads s t es = AllByRecursion (λ (e : Logged). OnBlock (λ x. ReadsAs s t x.0 (bytes_of s e)) e.new) es
+NewReads s t es = AllByRecursion (λ (e : Logged). OnBlock (λ x. ReadsAs s t x.0 (content_of s e)) (new_of e)) es
 
 -- besides, the block of these writes is under way, and what they map their addresses to stands
 abbrev pub OnItsWay : Session → Trace → List (List Logged) → List Logged → Type 0
@@ -186,7 +194,7 @@ ReadsBlock s t older es = IsWritten s.blocks (log s t) s.sizes.geometry s.sizes.
 -- All blocks that were sealed are there; of the last one some may not be committed.
 pub record AreAllThere (s : Session) (t : Trace) : Type 0 where
   pub rest : List Logged
-  pub all : all_of (sealed t) ≡ rest ++ committed t
+  pub all : all_of (sealed t) ≡ rest ++ durable t
   pub stands : AtRest s t (sealed t)
 
 -- The last one comes: the others are there and committed, and it wasn't written, or is under way.
@@ -194,7 +202,7 @@ pub record ComesLast (s : Session) (t : Trace) : Type 0 where
   pub block : List Logged
   pub older : List (List Logged)
   pub sealed_is : sealed t ≡ block ∷ older
-  pub committed_is : committed t ≡ all_of older
+  pub committed_is : durable t ≡ all_of older
   pub stands : AtRest s t older ⊎ OnItsWay s t older block
 
 -- What stands on the device: the superblock, the blocks that were sealed, of which the last may be coming, with the map of

@@ -10,6 +10,7 @@ use Rattle.core_model.specs.LogicalData.{LogicalZone}
 use Rattle.core_model.specs.declared.zones.PhysicalZone.{PhysicalZone}
 use Rattle.core_model.specs.declared.zones.Zone.{Zone}
 use Rattle.data_vio.specs.Zones.{desk_number, logical_number, physical_number, journal_number, device_number, zone_count}
+use Rattle.core_model.specs.PageTrees.{IsMapTree}
 use Rattle.core_model.specs.Sessions.{Session}
 use Rattle.core_model.specs.Steps.{Core}
 use Rattle.data_vio.specs.declared.sizes.Sizes.{Sizes}
@@ -25,7 +26,7 @@ pub record IsFirstDesk (s : Session) (number : ℕ) (desk : Desk) : Type 0 where
   pub notices : desk.notices ≡ 0
   pub parked : desk.parked ≡ []
 
--- a logical zone drew nothing, and has set nothing; it knows the window
+-- a logical zone drew nothing, and has set nothing; it knows the window, and has the pages that this links
 pub record IsFirstLogical (s : Session) (number : ℕ) (l : LogicalZone) : Type 0 where
   pub number_is : number ≡ logical_number l.zone
   pub among : l.zone < s.sizes.zones
@@ -35,6 +36,7 @@ pub record IsFirstLogical (s : Session) (number : ℕ) (l : LogicalZone) : Type 
   pub held : l.held ≡ []
   pub waiting : l.waiting ≡ []
   pub retired : l.retired ≡ []
+  pub tree : IsMapTree s.sizes.geometry l.zone s.sizes.zones s.window [] l.tree
   pub window : l.window ≡ s.window
   pub slots : l.slots ≡ []
 

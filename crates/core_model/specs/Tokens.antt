@@ -16,6 +16,7 @@ use Rattle.core_model.specs.declared.zones.ZoneData.{ZoneData}
 use Rattle.core_model.specs.declared.zones.ZoneData.TheVariants as at
 use Rattle.core_model.specs.LogicalData.{Lock}
 use Rattle.data_vio.specs.declared.logged.Logged.{Logged}
+use Rattle.core_model.specs.Trace.{new_of, remappings}
 use Rattle.core_model.specs.declared.zones.Zone.{Zone}
 pub use Rattle.core_model.specs.DeskLines.{is_answer, is_begin}
 use Rattle.data_vio.specs.Phases.{row}
@@ -110,7 +111,8 @@ held_at other = 0
 abbrev pub holder_token : Token
 holder_token = record { item = of_vio (λ v. bit (holds v.phase)); own = none; gave = held_at }
 
--- Entries: one that was handed in is in its block, or on its way to its slot, until the slot is set or the address retired.
+-- Entries: a remapping that was handed in is in its block, or on its way to its slot, until the slot is set or the address
+-- retired.
 abbrev pub has_entry : Phase → Bool
 has_entry p = (row p).entered
 
@@ -119,7 +121,7 @@ ended_at (at.Logical l) = length l.slots + length l.retired
 ended_at other = 0
 
 abbrev pub entered_at : ZoneData → ℕ
-entered_at (at.Journal j) = length j.entered
+entered_at (at.Journal j) = length (remappings j.entered)
 entered_at other = 0
 
 abbrev pub entry_token : Token
@@ -141,7 +143,7 @@ abbrev pub is_block : ℕ → Pbn → ℕ
 is_block x p = bit (p.0 == x)
 
 abbrev pub is_entry : ℕ → Logged → ℕ
-is_entry x e = bit (names x e.new)
+is_entry x e = bit (names x (new_of e))
 
 abbrev pub blocks_at : ℕ → ZoneData → ℕ
 blocks_at x (at.Physical p) = total (is_block x) p.free

@@ -2,8 +2,8 @@
 -- is a part of the trace.
 use Rattle.std.specs.Prelude.{ℕ, suc, ◌==◌, Bool, true, false, not, ◌&&◌, ◌||◌, Option, None, Some, List, [], ◌∷◌, ◌++◌, if◌then◌else◌}
 use Rattle.blk_base.specs.declared.journal_entry.Entry.{Entry}
-use Rattle.blk_base.specs.declared.journal_entry.Entry.TheVariants.{Remap}
-use Rattle.blk_base.specs.declared.place.Lba.{Lba}
+use Rattle.blk_base.specs.declared.place.Mapping.{Mapping}
+use Rattle.blk_base.specs.declared.place.Mapping.TheVariants.{At}
 use Rattle.blk_base.specs.declared.place.Pbn.{Pbn}
 use Rattle.blk_base.specs.declared.request.Answer.TheVariants.{Ok}
 use Rattle.blk_base.specs.declared.request.Writer.{Writer}
@@ -17,6 +17,9 @@ use Rattle.vdo_model.specs.FlushMarks.{Moment, Desk, Device, lines_of, calls_of}
 use Rattle.vdo_model.specs.Scripts.{same_writer}
 use Rattle.data_vio.specs.declared.logged.Logged.{Logged}
 pub use Rattle.data_vio.specs.Vios.{Gift, entry_of}
+use Rattle.data_vio.specs.declared.logged.Logged.TheVariants.{Remaps, Makes}
+use Rattle.data_vio.specs.declared.logged.NewPage.{NewPage}
+use Rattle.data_vio.specs.declared.logged.Remapping.{Remapping}
 
 pub data Happening : Type 0 where
   -- a line of the desk log, but the answer Ok of a flush
@@ -25,17 +28,19 @@ pub data Happening : Type 0 where
   Flushes : FlushMark → Happening
   -- a request draws its place
   Draws : Placed → Happening
-  -- the entry of a write or a discard is handed in, is committed, and its slot is set
+  -- an entry is handed in, is committed, and its slot is set: that of its address, or that which leads to its page
   Enters : Logged → Happening
   Commits : Logged → Happening
   Sets : Logged → Happening
+  -- a discard lacks a page of its path, and no entry of its address was handed in: it passes, and enters nothing
+  Passes : Remapping → Happening
   -- the block being filled is sealed, with the entries that were handed in since the one before
   Seals : Happening
   -- a read is given its bytes
   Gives : Gift → Happening
   -- a write takes a free data block
   Takes : Writer → Pbn → Happening
-  -- a write or a discard whose entry was handed in is aborted: its slot is never set
+  -- a request whose entry was handed in is aborted: the slot of that is never set
   Aborts : Logged → Happening
   -- the device is called, and the call succeeds
   Calls : Call → Happening
@@ -77,13 +82,33 @@ places [] = []
 places (Draws p ∷ t) = p ∷ places t
 places (other ∷ t) = places t
 
--- the writes and discards whose entry was handed in
-abbrev pub entered : Trace → List Logged
-entered [] = []
-entered (Enters e ∷ t) = e ∷ entered t
-entered (other ∷ t) = entered t
+-- the remappings of addresses among these, and the new pages
+abbrev pub remappings : List Logged → List Remapping
+remappings [] = []
+remappings (Remaps e ∷ older) = e ∷ remappings older
+remappings (Makes p ∷ older) = remappings older
 
--- those of them in the block being filled, which isn't sealed, and those of each sealed block, the newest block first
+abbrev pub new_pages : List Logged → List NewPage
+new_pages [] = []
+new_pages (Remaps e ∷ older) = new_pages older
+new_pages (Makes p ∷ older) = p ∷ new_pages older
+
+-- the discards that passed: each came before every entry of its address
+abbrev pub passed : Trace → List Remapping
+passed [] = []
+passed (Passes e ∷ t) = e ∷ passed t
+passed (other ∷ t) = passed t
+
+-- the entries that were handed in; the writes and discards of these, and before them those that passed
+abbrev pub journaled : Trace → List Logged
+journaled [] = []
+journaled (Enters e ∷ t) = e ∷ journaled t
+journaled (other ∷ t) = journaled t
+
+abbrev pub entered : Trace → List Remapping
+entered t = remappings (journaled t) ++ passed t
+
+-- those in the block being filled, which isn't sealed, and those of each sealed block, the newest block first
 abbrev pub filled : Trace → List Logged
 filled [] = []
 filled (Enters e ∷ t) = e ∷ filled t
@@ -100,23 +125,36 @@ abbrev pub all_of : List (List Logged) → List Logged
 all_of [] = []
 all_of (block ∷ older) = block ++ all_of older
 
--- those whose entry was committed
-abbrev pub committed : Trace → List Logged
-committed [] = []
-committed (Commits e ∷ t) = e ∷ committed t
-committed (other ∷ t) = committed t
+-- the entries that were committed; the writes and discards of these, and those that passed
+abbrev pub durable : Trace → List Logged
+durable [] = []
+durable (Commits e ∷ t) = e ∷ durable t
+durable (other ∷ t) = durable t
 
--- those that are done: their slot was set. A write is answered when it is done, and that it is answered is another line
-abbrev pub done : Trace → List Logged
-done [] = []
-done (Sets e ∷ t) = e ∷ done t
-done (other ∷ t) = done t
+abbrev pub committed : Trace → List Remapping
+committed t = remappings (durable t) ++ passed t
 
--- those that were aborted
-abbrev pub aborted : Trace → List Logged
-aborted [] = []
-aborted (Aborts e ∷ t) = e ∷ aborted t
-aborted (other ∷ t) = aborted t
+-- the entries whose slots were set; the writes and discards that are done, with those that passed, and the pages that are linked.
+-- A write is answered when it is done, and that it is answered is another line
+abbrev pub applied : Trace → List Logged
+applied [] = []
+applied (Sets e ∷ t) = e ∷ applied t
+applied (other ∷ t) = applied t
+
+abbrev pub done : Trace → List Remapping
+done t = remappings (applied t) ++ passed t
+
+abbrev pub linked : Trace → List NewPage
+linked t = new_pages (applied t)
+
+-- the entries whose requests were aborted; of these, the writes and discards
+abbrev pub dropped : Trace → List Logged
+dropped [] = []
+dropped (Aborts e ∷ t) = e ∷ dropped t
+dropped (other ∷ t) = dropped t
+
+abbrev pub aborted : Trace → List Remapping
+aborted t = remappings (dropped t)
 
 -- the reads that were given their bytes
 abbrev pub gifts : Trace → List Gift
@@ -159,17 +197,17 @@ has_read_fault (Fails v call kept ∷ t) w = (is_read call && same_writer v w) |
 has_read_fault (other ∷ t) w = has_read_fault t w
 
 -- those of one address
-abbrev pub of_address : ℕ → List Logged → List Logged
+abbrev pub of_address : ℕ → List Remapping → List Remapping
 of_address a [] = []
 of_address a (e ∷ older) = if e.at.0 == a then e ∷ of_address a older else of_address a older
 
 -- the newest one
-abbrev pub newest : List Logged → Option Logged
+abbrev pub newest : List Remapping → Option Remapping
 newest [] = None
 newest (e ∷ older) = Some e
 
 -- the one of a request
-abbrev pub logged_of : List Logged → Writer → Option Logged
+abbrev pub logged_of : List Remapping → Writer → Option Remapping
 logged_of [] w = None
 logged_of (e ∷ older) w = if same_writer e.request w then Some e else logged_of older w
 
@@ -178,7 +216,17 @@ abbrev pub gift_of : List Gift → Writer → Option Gift
 gift_of [] w = None
 gift_of (g ∷ older) w = if same_writer g.request w then Some g else gift_of older w
 
--- the entries of these writes, over those of the window
+-- what it maps its address to, or where its page stands
+abbrev pub new_of : Logged → Mapping
+new_of (Remaps e) = e.new
+new_of (Makes p) = At p.at
+
+-- whose entry it is
+abbrev pub request_in : Logged → Writer
+request_in (Remaps e) = e.request
+request_in (Makes p) = p.request
+
+-- these entries, over those of the window
 abbrev pub entries_of : List Entry → List Logged → List Entry
 entries_of window [] = window
 entries_of window (e ∷ older) = entry_of e ∷ entries_of window older

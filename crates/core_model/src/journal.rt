@@ -2,12 +2,12 @@ ghost use Rattle.std.specs.Prelude.{◌↔◌, IsTrue, ◌≡◌, ◌+◌, ◌<�
 ghost use Rattle.blk_base.specs.Limits.{IsGeometry};
 ghost use Rattle.core_model.specs.JournalRules as rows;
 ghost use Rattle.core_model.specs.JournalRules.{HasNext, IsSealable};
-ghost use Rattle.core_model.specs.SessionLimits.{most_items, most_requests};
+ghost use Rattle.core_model.specs.SessionLimits.{most_entries, most_items};
 ghost use Rattle.core_model.specs.Start.{first_log};
 ghost use Rattle.data_vio.specs.declared.items.Stage.TheVariants.{Commit, Cover};
 
 use data_vio::{
-    BLOCK_ENTRIES, BoxedVio, Fifo, LANE_ROOM, Logged, Phase, REQUEST_ROOM, Register, SealedBlock,
+    BLOCK_ENTRIES, BoxedVio, ENTRY_ROOM, Fifo, LANE_ROOM, Logged, Phase, Register, SealedBlock,
     Sizes, Stage,
 };
 use recovery_journal::Journal;
@@ -33,8 +33,8 @@ pub struct JournalZone {
     // Who waits until the next block is filled.
     waiting: Fifo<BoxedVio, LANE_ROOM>,
     // The entries that were handed in, and those that are committed.
-    entered: Register<Logged, REQUEST_ROOM>,
-    committed: Register<Logged, REQUEST_ROOM>,
+    entered: Register<Logged, ENTRY_ROOM>,
+    committed: Register<Logged, ENTRY_ROOM>,
 }
 
 impl Model for JournalZone {
@@ -168,7 +168,7 @@ impl JournalZone {
     /// no slot in the ring, or no room for one more entry.
     pub fn enter(&mut self, vio: BoxedVio) -> Result<(), BoxedVio>
         requires sequence { self.old.log.sequence < 2 ^ 55 }
-        requires few { length self.old.entered ≤ most_requests }
+        requires few { length self.old.entered ≤ most_entries }
         ensures entered { OnOk result (self.new ≡ rows.entered_by vio self.old) }
         ensures room { OnOk result
             ((rows.has_block self.old ≡ true) × (rows.has_room self.old ≡ true)) }
@@ -204,7 +204,7 @@ impl JournalZone {
 
     /// The entry of a request is committed, which is the next one of the log: the block that was sealed last is durable.
     pub fn commit(&mut self, vio: &BoxedVio)
-        requires room { length self.old.committed ≤ most_requests }
+        requires room { length self.old.committed ≤ most_entries }
         requires next { HasNext self.old.log }
         ensures { self.new ≡ rows.committed_by vio.now self.old }
     {

@@ -2,14 +2,15 @@ ghost use Rattle.std.specs.Prelude.{◌↔◌, IsTrue, ◌≡◌, ◌+◌, ◌-�
 ghost use Rattle.logical_locks.specs.Holders.{HasRoom};
 ghost use Rattle.core_model.specs.Limits.{IsLogicalWithin};
 ghost use Rattle.core_model.specs.LogicalRules as rows;
+ghost use Rattle.core_model.specs.PageTrees.{HasPath, missing_at};
 ghost use Rattle.core_model.specs.SessionLimits.{most_requests};
 ghost use Rattle.core_model.specs.Waiters.{AreOwn, IsFree, vios};
 ghost use Rattle.data_vio.specs.Vios.{turned};
 ghost use Rattle.data_vio.specs.declared.items.Phase.TheVariants as phase;
 
-use crate::Slots;
-use blk_base::{Entry, Lba};
-use data_vio::{BoxedVio, LOCK_ROOM, Logged, Phase, REQUEST_ROOM, Register};
+use crate::{MapTree, Slots};
+use blk_base::{Entry, Lba, PageId};
+use data_vio::{BoxedVio, LOCK_ROOM, Phase, REQUEST_ROOM, Register, Remapping};
 use logical_locks::Locks;
 use std::alloc::{AllocError, Global};
 use std::marker::Model;
@@ -26,6 +27,8 @@ pub struct LogicalZone {
     locks: Locks<BoxedVio>,
     // The addresses whose locks are never released. The parts hold none of these: that no request gets one is seen here.
     retired: Register<Lba, REQUEST_ROOM>,
+    // The pages of its trees that are no leaves.
+    tree: MapTree,
     // The entries of the journal when the session began.
     window: ReportList<Entry>,
     slots: Slots,
@@ -47,6 +50,7 @@ impl Model for LogicalZone {
       held = reverse l.locks.held;
       waiting = vios l.locks.waiting;
       retired = l.retired;
+      tree = l.tree;
       window = l.window;
       slots = l.slots;
     } };
@@ -60,10 +64,11 @@ impl Model for LogicalZone {
 
 impl LogicalZone {
     /// A logical zone at the start of a session, by its number among the logical ones: it drew nothing and has set nothing,
-    /// and knows these entries of the window. All its room is taken here.
+    /// has these trees, and knows these entries of the window. All its room is taken here.
     pub fn new(
         alloc: Global,
         zone: u8,
+        tree: MapTree,
         window: ReportList<Entry>,
     ) -> Result<LogicalZone, AllocError>
         ensures { IfOk result (λ logical. logical ≡ record {
@@ -74,6 +79,7 @@ impl LogicalZone {
           held = [];
           waiting = [];
           retired = [];
+          tree = tree;
           window = window;
           slots = [];
         }) }
@@ -88,6 +94,7 @@ impl LogicalZone {
             places,
             locks,
             retired,
+            tree,
             window,
             slots,
         })
@@ -115,10 +122,18 @@ impl LogicalZone {
     }
 
     /// The last write that set the slot of an address in this session.
-    pub fn latest(&self, at: Lba) -> Option<Logged>
+    pub fn latest(&self, at: Lba) -> Option<Remapping>
         ensures { result ≡ rows.latest_at self.now at.0 }
     {
         self.slots.latest(at)
+    }
+
+    /// The highest page of the path of an address that isn't there; `None` where each is.
+    pub fn missing(&self, at: Lba) -> Option<PageId>
+        requires { HasPath self.now.tree at.0 }
+        ensures { result ≡ missing_at self.now.tree at.0 }
+    {
+        self.tree.missing(at)
     }
 
     /// Whether the lock of an address is never released.
@@ -136,7 +151,7 @@ impl LogicalZone {
     }
 
     /// A write sets the slot of its address.
-    pub fn set(&mut self, write: Logged)
+    pub fn set(&mut self, write: Remapping)
         requires { length self.old.slots ≤ most_requests }
         ensures { self.new ≡ record self.old { slots = write ∷ self.old.slots } }
     {

@@ -3,7 +3,7 @@ ghost use Rattle.core_model.specs.SlotOrder.{AreInOrder, IsGapFor, IsPlaceOf};
 ghost use Rattle.core_model.specs.Trace.{newest, of_address};
 
 use blk_base::Lba;
-use data_vio::{Logged, REQUEST_ROOM, Register};
+use data_vio::{REQUEST_ROOM, Register, Remapping};
 use std::alloc::{AllocError, Global};
 use std::marker::Model;
 
@@ -11,9 +11,9 @@ use std::marker::Model;
 /// made. A contract sees the newest write first.
 #[derive(Drop)]
 pub struct Slots {
-    writes: Register<Logged, REQUEST_ROOM>,
+    writes: Register<Remapping, REQUEST_ROOM>,
     // The newest write of each address that was set, in the order of the addresses.
-    by_address: Vec<Logged>,
+    by_address: Vec<Remapping>,
 }
 
 impl Model for Slots {
@@ -21,9 +21,9 @@ impl Model for Slots {
     ghost use Rattle.core_model.specs.SessionLimits.{most_requests};
     ghost use Rattle.core_model.specs.SlotOrder.{AreInOrder};
     ghost use Rattle.core_model.specs.Trace.{newest, of_address};
-    ghost use Rattle.data_vio.specs.declared.logged.Logged.{Logged};
+    ghost use Rattle.data_vio.specs.declared.logged.Remapping.{Remapping};
 
-    ghost Value = { List Logged };
+    ghost Value = { List Remapping };
 
     ghost view = { λ s. s.writes };
 
@@ -46,7 +46,7 @@ impl Slots {
     }
 
     /// A write sets the slot of its address.
-    pub fn push(&mut self, write: Logged)
+    pub fn push(&mut self, write: Remapping)
         requires { length self.old < REQUEST_ROOM }
         ensures { self.new ≡ write ∷ self.old }
     {
@@ -62,7 +62,7 @@ impl Slots {
     }
 
     /// The last write that set the slot of an address; `None` exactly where none did.
-    pub fn latest(&self, at: Lba) -> Option<Logged>
+    pub fn latest(&self, at: Lba) -> Option<Remapping>
         ensures { result ≡ newest (of_address at.0 self.now) }
     {
         match place_of(&self.by_address, at) {
@@ -73,7 +73,7 @@ impl Slots {
 }
 
 // A write takes the place of the older one of its address, or comes in where it stands in order.
-fn put(writes: &mut Vec<Logged>, write: Logged)
+fn put(writes: &mut Vec<Remapping>, write: Remapping)
     requires order { AreInOrder writes.old.items }
     requires room { vec_len writes.old < vec_capacity writes.old }
     ensures order { AreInOrder writes.new.items }
@@ -93,7 +93,7 @@ fn put(writes: &mut Vec<Logged>, write: Logged)
 }
 
 // Where the write of an address stands, or would stand.
-fn place_of(writes: &[Logged], at: Lba) -> Result<usize, usize>
+fn place_of(writes: &[Remapping], at: Lba) -> Result<usize, usize>
     requires { AreInOrder writes.now }
     ensures found { IfOk result (IsPlaceOf writes.now at.0) }
     ensures gap { IfErr result (IsGapFor writes.now at.0) }

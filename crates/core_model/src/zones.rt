@@ -1,5 +1,4 @@
 use crate::{Desk, JournalZone, LogicalZone, Ports, Supply};
-
 /// The data blocks.
 #[derive(Drop)]
 pub struct PhysicalZone {

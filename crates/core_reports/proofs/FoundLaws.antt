@@ -4,6 +4,7 @@ use Rattle.std.proofs.Math.ListN.{get_or-map}
 use Rattle.std.proofs.lemmas.List.{get_or_default, length-reverse, reverse-append, take-append-drop}
 use Rattle.std.proofs.lemmas.Option.{same_Some, slice_get-get_or}
 use Rattle.std.specs.List.{AllByRecursion}
+use Rattle.blk_base.specs.declared.request.Answer.TheVariants as reply
 use Rattle.blk_base.specs.declared.place.Lba.{Lba}
 use Rattle.blk_base.specs.declared.request.Answer.{Answer as Reply}
 use Rattle.blk_base.specs.declared.request.Request.{Request}
@@ -35,15 +36,26 @@ noted_right lines notes w noted found =
     let room : get_or (map length notes) w.stream 0 ≡ length (get_or notes w.stream []) = get_or-map length notes w.stream [] in
     noted w.stream found.stream w.number (omega (arith, found.number, room))
 
+-- whether its entry was handed in tells of a write that is stopped alone
+mark_same : (answer : Reply) (is_set handed other : Bool) → (answer ≡ reply.Stopped → handed ≡ other) → mark_of (Some answer) is_set handed ≡ mark_of (Some answer) is_set other
+mark_same reply.Stopped is_set handed other same = ap (mark_of (Some reply.Stopped) is_set) (same refl)
+mark_same reply.Ok is_set handed other same = refl
+mark_same reply.Full is_set handed other same = refl
+mark_same reply.Range is_set handed other same = refl
+mark_same (reply.Bytes bytes) is_set handed other same = refl
+mark_same reply.NoSpace is_set handed other same = refl
+mark_same reply.ReadFault is_set handed other same = refl
+mark_same reply.Damaged is_set handed other same = refl
+
 -- the entry of a write or discard with its mark
 pub entry_added : (script : Script) (log : List DeskLine) (progress : Progress) (w : Writer) (at : Lba) (marked : Mark) (answer : Reply) (handed : Bool) (old new : List HistoryEntry)
-    → answer_of log w ≡ Some answer → progress.is_handed w ≡ handed → marked ≡ mark_of (Some answer) (progress.is_set w) handed
+    → answer_of log w ≡ Some answer → (answer_of log w ≡ Some reply.Stopped → progress.is_handed w ≡ handed) → marked ≡ mark_of (Some answer) (progress.is_set w) handed
     → ((mark : Mark) → entry_of (request_at script w) w mark ≡ record { at = at; request = w; mark = mark } ∷ [])
     → new ≡ record { at = at; request = w; mark = marked } ∷ old
     → new ≡ entry_of (request_at script w) w (mark_of (answer_of log w) (progress.is_set w) (progress.is_handed w)) ++ old
 entry_added script log progress w at marked answer handed old new answered handed_is is entry new_is =
     let mark : Mark = mark_of (answer_of log w) (progress.is_set w) (progress.is_handed w) in
-    let same : marked ≡ mark = is ∙ rw (answered, handed_is) refl in
+    let same : marked ≡ mark = is ∙ sym (rw answered (mark_same answer (progress.is_set w) (progress.is_handed w) handed (λ stopped. handed_is (answered ∙ ap Some stopped)))) in
     new_is
     ∙ ap (λ (m : Mark). record { at = at; request = w; mark = m } ∷ old) same
     ∙ ap (λ (es : List HistoryEntry). es ++ old) (sym (entry mark))

@@ -1,7 +1,7 @@
 -- The zones of a legal core have what its report says.
 use Rattle.std.proofs.Common.{ℕ, suc, ◌≡◌, ◌<◌, ◌≤◌, ◌+◌, ◌-◌, ◌++◌, Some, List, [], ◌∷◌, length, slice_get, refl, sym, ◌∙◌, ap, subst, append_assoc, inl, inr, arith}
 use Rattle.std.proofs.lemmas.List.{append-nil}
-use Rattle.core_laws.proofs.Common.{AllAnswered, AllByRecursion, AreDrawn, DataOk, DeskLine, HistoryEntry, IsSession, Placed, RunReport, Script, Session, Trace, Zone, ZoneData, desk_number, entered, journal_number, lines, marks, places, some_is, cases_lt}
+use Rattle.core_laws.proofs.Common.{AllAnswered, AllByRecursion, AreDrawn, DataOk, DeskLine, HistoryEntry, IsSession, Placed, RunReport, Script, Session, Trace, Zone, ZoneData, desk_number, journal_number, journaled, lines, marks, places, some_is, cases_lt}
 use Rattle.core_laws.proofs.kept.ZoneKinds.{desk_sits, journal_sits}
 use Rattle.core_laws.proofs.trace.PlacesOfTrace.{places_drawn}
 use Rattle.core_limits.proofs.DeskLimits.{asked_inside}
@@ -12,6 +12,7 @@ use Rattle.vdo_model.specs.ZoneOrder.{by_zone}
 use Rattle.core_model.specs.DeskData.{Desk}
 use Rattle.core_model.specs.declared.desk.DeskReport.{DeskReport}
 use Rattle.core_model.specs.Legal.{Legal}
+use Rattle.core_laws.proofs.trace.StoppedPasses.{handed_journaled}
 use Rattle.core_model.specs.Reports.{listed_places, progress_of, report_of}
 use Rattle.core_model.specs.SessionLimits.{most_requests, most_streams}
 use Rattle.core_model.specs.declared.zones.ZoneData.TheVariants as at
@@ -109,10 +110,10 @@ module _ (s : Session) (t : Trace) (zones : List Zone) (session : IsSession s) (
       (here, all_found room ps for answered drawn.1)
 
   pub places_found : (room : List ℕ) (ps : List Placed) → IsRoomFor room s.script → AllAnswered s.script (lines t) → ps ≡ places_of_all zones
-      → AreFound (lines t) room (entered t) (progress_of t) ps
+      → AreFound (lines t) room (journaled t) (progress_of t) ps
   places_found room ps for answered is =
-      subst (λ (qs : List Placed). AreFound (lines t) room (entered t) (progress_of t) qs) (sym (is ∙ places_listed))
-      (record { few = few; handed = λ w. refl; found = all_found room (listed_places s t) for answered listed_drawn })
+      subst (λ (qs : List Placed). AreFound (lines t) room (journaled t) (progress_of t) qs) (sym (is ∙ places_listed))
+      (record { few = few; handed = λ w stopped. handed_journaled s t w legal.right stopped; found = all_found room (listed_places s t) for answered listed_drawn })
     where
       few : length (listed_places s t) ≤ most_requests
       few = let same = ap (λ (qs : List Placed). length qs) places_listed in omega (arith, same, places_few_enough)
@@ -137,7 +138,7 @@ module _ (s : Session) (t : Trace) (zones : List Zone) (session : IsSession s) (
         marks_is = is.lists.marks_is;
       }
 
-  pub its_entries : HasEntered (entered t) zones
+  pub its_entries : HasEntered (journaled t) zones
   its_entries =
       let sits = journal_sits s t zones legal.each legal.count in
       record {

@@ -12,11 +12,13 @@ use Rattle.vdo_model.specs.declared.report.DeskLine.{DeskLine}
 use Rattle.vdo_model.specs.declared.report.DeskLine.TheVariants.{Begin, Answer}
 use Rattle.vdo_model.specs.declared.report.Placed.{Placed}
 use Rattle.vdo_model.specs.Histories.{Progress}
+use Rattle.data_vio.specs.declared.logged.Logged.TheVariants.{Remaps}
 use Rattle.core_model.specs.DeskData.{Desk}
 use Rattle.core_model.specs.Reports.{is_there}
-use Rattle.core_model.specs.Trace.{logged_of}
+use Rattle.core_model.specs.Trace.{logged_of, remappings}
 use Rattle.core_model.specs.JournalData.{JournalZone}
 use Rattle.data_vio.specs.declared.logged.Logged.{Logged}
+use Rattle.data_vio.specs.declared.logged.Remapping.{Remapping}
 use Rattle.core_model.specs.declared.zones.Zone.{Zone}
 use Rattle.core_model.specs.declared.zones.ZoneData.{ZoneData}
 use Rattle.core_model.specs.declared.zones.ZoneData.TheVariants as at
@@ -48,7 +50,7 @@ far = place other 1 0 ∷ []
 abbrev front : Zone
 front = zone 0 (desk [] [] 0 [])
 
-abbrev of_journal : List Logged → Zone
+abbrev of_journal : List Remapping → Zone
 of_journal entries = zone 4 (journal false empty_log [] [] entries [])
 
 abbrev zones : List Zone
@@ -97,18 +99,18 @@ abbrev entered_at : ZoneData → List Logged
 entered_at (at.Journal j) = j.entered
 entered_at kept = []
 
-all_enter : AllByRecursion (Enters (of_first ∷ [])) zones
+all_enter : AllByRecursion (Enters (Remaps of_first ∷ [])) zones
 all_enter =
     ((λ j is. absurd cc), ((λ j is. absurd cc), ((λ j is. absurd cc), ((λ j is. absurd cc), ((λ j is. ap entered_at (sym is)), ((λ j is. absurd cc), tt))))))
 
-entered_there : HasEntered (of_first ∷ []) zones
+entered_there : HasEntered (Remaps of_first ∷ []) zones
 entered_there = record {
   number = 4;
   zone = of_journal (of_first ∷ []);
-  journal = record { notified = false; busy = false; broken = false; log = empty_log; filling = []; waiting = []; entered = of_first ∷ []; committed = [] };
+  journal = record { notified = false; busy = false; broken = false; log = empty_log; filling = []; waiting = []; entered = Remaps of_first ∷ []; committed = [] };
   had = refl;
   keeps = refl;
-  each = λ n z j had keeps. every-get (Enters (of_first ∷ [])) zones n z all_enter had j keeps;
+  each = λ n z j had keeps. every-get (Enters (Remaps of_first ∷ [])) zones n z all_enter had j keeps;
 }
 
 -- had, keeps: there is none; each: there are two, and one of them has handed in nothing
@@ -118,13 +120,13 @@ only_desk zero z j had keeps =
     cc
 only_desk (suc n) z j had keeps = cc
 
-no_journal : HasEntered (of_first ∷ []) [] → ⊥
+no_journal : HasEntered (Remaps of_first ∷ []) [] → ⊥
 no_journal is = absurd (let had = is.had in cc)
 
-desk_is_none : HasEntered (of_first ∷ []) (front ∷ []) → ⊥
+desk_is_none : HasEntered (Remaps of_first ∷ []) (front ∷ []) → ⊥
 desk_is_none is = only_desk is.number is.zone is.journal is.had is.keeps
 
-two_journals : HasEntered (of_first ∷ []) (of_journal (of_first ∷ []) ∷ of_journal [] ∷ []) → ⊥
+two_journals : HasEntered (Remaps of_first ∷ []) (of_journal (of_first ∷ []) ∷ of_journal [] ∷ []) → ⊥
 two_journals is = absurd (let none = is.each 1 (of_journal []) _ refl refl in cc)
 
 -- notes: the first request of stream 0 is answered by line 1
@@ -158,20 +160,20 @@ unanswered is = absurd (let some = is.answered in cc)
 
 -- how far each write has come: the first one's entry was handed in
 abbrev progress : Progress
-progress = record { is_set = λ w. false; is_handed = λ w. is_there (logged_of (of_first ∷ []) w) }
+progress = record { is_set = λ w. false; is_handed = λ w. is_there (logged_of (remappings (Remaps of_first ∷ [])) w) }
 
 abbrev drawn : Placed
 drawn = place first 0 0
 
-are_found : AreFound (answered first) (1 ∷ []) (of_first ∷ []) progress (drawn ∷ [])
-are_found = record { few = omega arith; handed = λ w. refl; found = (is_found, tt) }
+are_found : AreFound (answered first) (1 ∷ []) (Remaps of_first ∷ []) progress (drawn ∷ [])
+are_found = record { few = omega arith; handed = λ w stopped. refl; found = (is_found, tt) }
 
 -- few: one place more than there may be requests; handed: another entry was; found: the request isn't answered
-too_many : AreFound (answered first) (1 ∷ []) (of_first ∷ []) progress (replicate 65537 drawn) → ⊥
+too_many : AreFound (answered first) (1 ∷ []) (Remaps of_first ∷ []) progress (replicate 65537 drawn) → ⊥
 too_many is = absurd (omega (arith, is.few, length-replicate 65537 drawn))
 
 other_handed : AreFound (answered first) (1 ∷ []) [] progress (drawn ∷ []) → ⊥
-other_handed is = absurd (let handed = is.handed first in cc)
+other_handed is = absurd (let handed = is.handed first refl in cc)
 
-not_found : AreFound (Begin first ∷ []) (1 ∷ []) (of_first ∷ []) progress (drawn ∷ []) → ⊥
+not_found : AreFound (Begin first ∷ []) (1 ∷ []) (Remaps of_first ∷ []) progress (drawn ∷ []) → ⊥
 not_found is = unanswered is.found.0

@@ -1,6 +1,7 @@
 -- The answers of a core's requests, found by notes.
-use Rattle.std.specs.Prelude.{ℕ, ◌≡◌, ◌<◌, ◌≤◌, IsSome, List, [], Option, length, get_or, reverse}
+use Rattle.std.specs.Prelude.{ℕ, ◌≡◌, ◌<◌, ◌≤◌, IsSome, List, [], Option, Some, length, get_or, reverse}
 use Rattle.std.specs.List.{AllByRecursion}
+use Rattle.blk_base.specs.declared.request.Answer.TheVariants.{Stopped}
 use Rattle.blk_base.specs.declared.request.Writer.{Writer}
 use Rattle.answer_notes.specs.Notes.{NotesAnswers}
 use Rattle.vdo_model.specs.declared.report.DeskLine.{DeskLine}
@@ -9,7 +10,7 @@ use Rattle.vdo_model.specs.DeskLog.{answer_of}
 use Rattle.vdo_model.specs.Histories.{Progress}
 use Rattle.core_model.specs.Reports.{is_there}
 use Rattle.core_model.specs.SessionLimits.{most_requests, most_streams}
-use Rattle.core_model.specs.Trace.{logged_of}
+use Rattle.core_model.specs.Trace.{logged_of, remappings}
 use Rattle.data_vio.specs.declared.logged.Logged.{Logged}
 
 -- each stream's answers among these lines are noted
@@ -22,9 +23,9 @@ pub record IsFound (log : List DeskLine) (room : List ℕ) (w : Writer) : Type 0
   pub number : w.number < get_or room w.stream 0
   pub answered : IsSome (answer_of log w)
 
--- places that are no more than a session has requests, each of a request whose answer is found; and how far a write has
--- come is said by the entries that were handed in
+-- places that are no more than a session has requests, each of a request whose answer is found; and whether the entry of a
+-- write that is answered as stopped was handed in is said by the entries that were
 pub record AreFound (log : List DeskLine) (room : List ℕ) (entries : List Logged) (progress : Progress) (places : List Placed) : Type 0 where
   pub few : length places ≤ most_requests
-  pub handed : (w : Writer) → progress.is_handed w ≡ is_there (logged_of entries w)
+  pub handed : (w : Writer) → answer_of log w ≡ Some Stopped → progress.is_handed w ≡ is_there (logged_of (remappings entries) w)
   pub found : AllByRecursion (λ p. IsFound log room p.request) places

@@ -1,11 +1,12 @@
-ghost use Rattle.std.specs.Prelude.{◌≡◌, ◌<◌, ◌++◌, List, [], ◌∷◌, IfNone, IfSome, length, map, reverse};
+ghost use Rattle.std.specs.Prelude.{◌≡◌, ◌<◌, ◌++◌, Some, List, [], ◌∷◌, IfNone, IfSome, length, map, reverse};
+ghost use Rattle.blk_base.specs.declared.request.Answer.TheVariants.{Stopped};
 ghost use Rattle.vdo_model.specs.DeskLog.{answer_of};
 ghost use Rattle.vdo_model.specs.Histories.{Progress, entry_of, histories_of, mark_of};
 ghost use Rattle.vdo_model.specs.Scripts.{request_at};
 ghost use Rattle.vdo_model.specs.declared.report.Mark.{Mark as Marked};
 ghost use Rattle.core_model.specs.DeskData.{Desk as DeskData};
 ghost use Rattle.core_model.specs.Reports.{is_there};
-ghost use Rattle.core_model.specs.Trace.{logged_of};
+ghost use Rattle.core_model.specs.Trace.{logged_of, remappings};
 ghost use Rattle.data_vio.specs.declared.logged.Logged.{Logged as Entered};
 ghost use Rattle.core_reports.specs.Found.{AreFound, AreNoted, IsFound};
 ghost use Rattle.core_reports.specs.Listed.{HasDesk, HasEntered};
@@ -43,7 +44,8 @@ fn add_entry(
     histories: &mut Register<HistoryEntry, REQUEST_ROOM>,
 )
     ensures { (progress : Progress) →
-        progress.is_handed request ≡ is_there (logged_of (reverse entries.now) request) →
+        (answer_of (reverse desk.now) request ≡ Some Stopped → progress.is_handed request
+        ≡ is_there (logged_of (remappings (reverse entries.now)) request)) →
         AreNoted desk.now notes.now
         → IsFound (reverse desk.now) (map length notes.now) request →
         length histories.old < REQUEST_ROOM

@@ -20,7 +20,7 @@ struct Row {
     gives: &'static [Given],
 }
 
-const ROWS: [Row; 6] = [
+const ROWS: [Row; 7] = [
     Row {
         asks: &[Ask::Write(5, 0x61), Ask::Read(5)],
         fails: None,
@@ -80,11 +80,34 @@ const ROWS: [Row; 6] = [
             Given::Bytes(0),
         ],
     },
-    // The first block of the journal: the entry of a discard is handed in.
+    // The second block of the journal: the entry of a discard is handed in.
     Row {
-        asks: &[Ask::Discard(5), Ask::Discard(6), Ask::Read(5)],
+        asks: &[
+            Ask::Write(5, 0x61),
+            Ask::Discard(5),
+            Ask::Read(5),
+            Ask::Read(6),
+        ],
+        fails: Some(3),
+        gives: &[Given::Ok, Given::Stopped, Given::Stopped, Given::Bytes(0)],
+    },
+    // Discards without a leaf pass: the journal isn't written.
+    Row {
+        asks: &[
+            Ask::Discard(5),
+            Ask::Discard(5),
+            Ask::Discard(6),
+            Ask::Read(5),
+            Ask::Write(5, 0x61),
+        ],
         fails: Some(2),
-        gives: &[Given::Stopped, Given::Stopped, Given::Stopped],
+        gives: &[
+            Given::Ok,
+            Given::Ok,
+            Given::Ok,
+            Given::Bytes(0),
+            Given::Stopped,
+        ],
     },
     // The first data block: the entry isn't handed in.
     Row {
@@ -170,7 +193,8 @@ fn written(alloc: Global, events: &[Event], asks: &[Ask]) -> Result<Vec<Pbn>, Un
     Ok(written)
 }
 
-// Discards and writes of zeros take no data block: seven of them fill the journal, and it alone is written.
+// Discards and writes of zeros take no data block, and the first discard of an address without a leaf takes no entry either:
+// seven of them fill the journal, and it alone is written.
 #[test]
 fn discards_and_zeros(rt: HostRuntime) -> Result<(), Fail> {
     let events = in_order(rt.alloc(), 5)?;

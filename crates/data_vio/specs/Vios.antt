@@ -19,8 +19,11 @@ use Rattle.data_vio.specs.declared.items.Stage.{Stage}
 use Rattle.data_vio.specs.declared.items.Vio.{Vio}
 use Rattle.data_vio.specs.declared.sizes.Sizes.{Sizes}
 use Rattle.data_vio.specs.declared.logged.Logged.{Logged}
+use Rattle.data_vio.specs.declared.logged.Logged.TheVariants.{Remaps}
+use Rattle.data_vio.specs.declared.logged.Remapping.{Remapping}
 use Rattle.blk_base.specs.declared.journal_entry.Entry.{Entry}
-use Rattle.blk_base.specs.declared.journal_entry.Entry.TheVariants.{Remap}
+use Rattle.blk_base.specs.declared.journal_entry.Entry.TheVariants as entry
+use Rattle.data_vio.specs.declared.logged.Logged.TheVariants.{Makes}
 
 -- a read that was given the bytes of its address
 pub record Gift : Type 0 where
@@ -29,9 +32,10 @@ pub record Gift : Type 0 where
   pub place : ℕ
   pub bytes : List ℕ
 
--- the entry of the journal, and those of the journal
+-- the entry of the journal
 abbrev pub entry_of : Logged → Entry
-entry_of e = Remap e.at e.old e.new
+entry_of (Remaps e) = entry.Remap e.at e.old e.new
+entry_of (Makes p) = entry.NewPage p.page p.at
 
 -- an item, with the zone that it goes to
 abbrev pub Post : Type 0
@@ -73,9 +77,12 @@ turned next v = record v { phase = next }
 abbrev pub ended : Phase → Answer → Vio → Vio
 ended next answer v = record v { phase = next; answer = Some answer }
 
--- the entry that it hands in
+-- how it maps its address anew, and the entry that it hands in
+abbrev pub remapping : Vio → Remapping
+remapping v = record { request = v.request; at = v.at; place = v.place; old = v.old; new = v.new }
+
 abbrev pub logged : Vio → Logged
-logged v = record { request = v.request; at = v.at; place = v.place; old = v.old; new = v.new }
+logged v = Remaps (remapping v)
 
 -- the entries that requests hand in, the oldest request first: the newest entry first
 abbrev pub all_logged : List Vio → List Logged

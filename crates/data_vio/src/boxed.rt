@@ -1,9 +1,9 @@
 ghost use Rattle.std.specs.Prelude.{◌≡◌, None, Some, IfOk};
 ghost use Rattle.blk_base.specs.declared.request.Answer.TheVariants as reply;
 ghost use Rattle.data_vio.specs.declared.items.Phase.TheVariants as phase;
-ghost use Rattle.data_vio.specs.Vios.{ended, entry_of, logged, turned};
+ghost use Rattle.data_vio.specs.Vios.{ended, entry_of, logged, remapping, turned};
 
-use crate::{Logged, Phase, Vio};
+use crate::{Logged, Phase, Remapping, Vio};
 use blk_base::{Answer, Block, Entry, Mapping};
 use std::alloc::{AllocError, Global};
 use std::marker::Model;
@@ -72,7 +72,7 @@ impl BoxedVio {
     }
 
     /// It knows what its address is mapped to, and the last write of it that was done in the session.
-    pub fn look(mut self, old: Mapping, latest: Option<Logged>) -> BoxedVio
+    pub fn look(mut self, old: Mapping, latest: Option<Remapping>) -> BoxedVio
         ensures { result ≡ record self { old = old; latest = latest } }
     {
         self.vio.old = old;
@@ -129,11 +129,18 @@ impl BoxedVio {
         }
     }
 
-    /// The entry that it hands in, with its request and place.
+    /// The entry that it hands in, with its request.
     pub fn logged(&self) -> Logged
         ensures { result ≡ logged self.now }
     {
-        Logged {
+        Logged::Remaps(self.remapping())
+    }
+
+    /// How it maps its address anew, with its request and place.
+    pub fn remapping(&self) -> Remapping
+        ensures { result ≡ remapping self.now }
+    {
+        Remapping {
             request: self.vio.request,
             at: self.vio.at,
             place: self.vio.place,

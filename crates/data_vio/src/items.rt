@@ -1,4 +1,4 @@
-use crate::{BLOCK_ENTRIES, BoxedVio, Fifo, Logged};
+use crate::{BLOCK_ENTRIES, BoxedVio, Fifo, Remapping};
 use blk_base::{Answer, Block, Lba, Mapping, Writer, ZoneId};
 
 /// What a request asks for.
@@ -65,7 +65,7 @@ pub struct Vio {
     /// What its address was mapped to when that was looked up.
     pub old: Mapping,
     /// The last write of its address that was done in this session by then.
-    pub latest: Option<Logged>,
+    pub latest: Option<Remapping>,
     /// What a write or a discard maps its address to: the data block that it has taken, or none; `Unmapped` until that is
     /// known.
     pub new: Mapping,

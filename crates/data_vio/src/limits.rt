@@ -13,6 +13,10 @@ pub const MOST_ZONES: usize = 4;
 /// How many requests may be under way.
 pub const MOST_UNDER_WAY: usize = MOST_STREAMS * MOST_DEPTH;
 
+/// How many entries of the journal there may be: each request has one for its address, and one for each level of pages below
+/// the roots.
+pub const MOST_ENTRIES: usize = 3 * MOST_REQUESTS;
+
 /// How many zones may be notified of a stop: the logical zones, the physical zone and the journal.
 pub const MOST_NOTICES: u32 = 6;
 
@@ -30,6 +34,9 @@ pub const LANE_ROOM: u32 = MOST_ITEMS as u32 + POST_ROOM;
 
 /// The room of a list with an item for each request.
 pub const REQUEST_ROOM: usize = MOST_REQUESTS + 1;
+
+/// The room of a list with each entry of the journal.
+pub const ENTRY_ROOM: usize = MOST_ENTRIES + 1;
 
 /// How many requests may hold a lock or wait for one, and one more.
 pub const LOCK_ROOM: u32 = 2 * MOST_ITEMS as u32 + 1;

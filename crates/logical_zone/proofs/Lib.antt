@@ -1,4 +1,5 @@
 mod ActLaws
 mod ServedLaws
+mod TreeLaws
 mod WaitingLaws
 mod ZeroLaws

@@ -1,5 +1,5 @@
 -- What a rule of a logical zone serves, the zone can serve.
-use Rattle.std.proofs.Common.{List, [], ◌∷◌, sym, subst}
+use Rattle.std.proofs.Common.{List, [], ◌∷◌, sym, ◌∙◌, subst}
 use Rattle.data_vio.specs.declared.items.Item.TheVariants as item
 use Rattle.data_vio.specs.declared.items.Vio.{Vio}
 use Rattle.data_vio.specs.declared.sizes.Sizes.{Sizes}
@@ -17,7 +17,8 @@ serves : (sizes : Sizes) (old : LogicalZone) (v : Vio) (new : LogicalZone) (made
 serves sizes old v new made posts (logical.arrives_retired p d h1 h2 h3) = subst (CanServe sizes old v) (sym p) tt
 serves sizes old v new made posts (logical.arrives_free p d f h1 h2 h3) = subst (CanServe sizes old v) (sym p) tt
 serves sizes old v new made posts (logical.arrives_held p d f h1 h2 h3) = subst (CanServe sizes old v) (sym p) tt
-serves sizes old v new made posts (logical.looks post p goes h1 h2 h3) = subst (CanServe sizes old v) (sym p) (post, goes)
+serves sizes old v new made posts (logical.looks post p path stays goes h1 h2 h3) = subst (CanServe sizes old v) (sym p) (path, λ again. (post, goes))
+serves sizes old v new made posts (logical.passes p path past h1 h2 h3) = subst (CanServe sizes old v) (sym p) (path, λ stays. absurd (let both = sym past ∙ stays in cc))
 serves sizes old v new made posts (logical.settles p h1 h2 h3) = subst (CanServe sizes old v) (sym p) tt
 serves sizes old v new made posts (logical.gives p h1 h2 h3) = subst (CanServe sizes old v) (sym p) tt
 serves sizes old v new made posts (logical.aborts p h1 h2 h3) = subst (CanServe sizes old v) (sym p) tt

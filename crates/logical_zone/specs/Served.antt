@@ -1,17 +1,23 @@
 -- What a logical zone can serve.
-use Rattle.std.specs.Prelude.{⊤, ◌≡◌, Some}
+use Rattle.std.specs.Prelude.{⊤, ◌≡◌, Some, false}
 use Rattle.data_vio.specs.declared.items.Phase.{Phase}
 use Rattle.data_vio.specs.declared.items.Phase.TheVariants as phase
 use Rattle.data_vio.specs.declared.items.Vio.{Vio}
 use Rattle.data_vio.specs.declared.sizes.Sizes.{Sizes}
 use Rattle.core_model.specs.LogicalData.{LogicalZone}
-use Rattle.core_model.specs.LogicalRules.{goes_on}
+use Rattle.core_model.specs.LogicalRules.{goes_on, passes_by}
+use Rattle.core_model.specs.PageTrees.{HasPath}
 use Rattle.data_vio.specs.Vios.{Post}
 
--- A request in this phase can be served: one that looks its mapping up goes on with the lock of its address.
+-- a request that has the lock of its address goes on
+abbrev pub GoesOn : Sizes → LogicalZone → Vio → Type 0
+GoesOn sizes l v = (post : Post) × (goes_on sizes l v ≡ Some post)
+
+-- A request in this phase can be served: one that looks its mapping up has its path in the zone's trees, and passes or goes on
+-- with the lock of its address.
 abbrev pub CanServe : Sizes → LogicalZone → Vio → Phase → Type 0
 CanServe sizes l v phase.Arrive = ⊤
-CanServe sizes l v phase.Look = (post : Post) × (goes_on sizes l v ≡ Some post)
+CanServe sizes l v phase.Look = HasPath l.tree v.at.0 × (passes_by l v ≡ false → GoesOn sizes l v)
 CanServe sizes l v phase.Settle = ⊤
 CanServe sizes l v phase.Loaded = ⊤
 CanServe sizes l v phase.Abort = ⊤

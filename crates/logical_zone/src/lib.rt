@@ -7,6 +7,7 @@
 mod dispatch;
 mod requests;
 mod start;
+mod trees;
 mod waiters;
 
 pub use dispatch::act;

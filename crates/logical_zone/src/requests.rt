@@ -1,13 +1,14 @@
-ghost use Rattle.std.specs.Prelude.{◌≡◌, ◌-◌, ◌<◌, ◌≤◌, ◌^◌, List, [], ◌∷◌, ◌++◌, Some, true, length};
+ghost use Rattle.std.specs.Prelude.{◌≡◌, ◌-◌, ◌<◌, ◌≤◌, ◌^◌, List, [], ◌∷◌, ◌++◌, Some, true, false, length};
 ghost use Rattle.blk_base.specs.Sectors.{zero_block};
 ghost use Rattle.blk_base.specs.declared.place.ZoneId.TheVariants as id;
 ghost use Rattle.data_vio.specs.declared.items.Item.TheVariants as item;
 ghost use Rattle.data_vio.specs.declared.items.Phase.TheVariants as phase;
 ghost use Rattle.core_model.specs.Limits.{IsLogicalWithin};
 ghost use Rattle.core_model.specs.LogicalRules as rows;
-ghost use Rattle.core_model.specs.Trace.{Trace, Aborts, Draws, Gives, Sets};
+ghost use Rattle.core_model.specs.PageTrees.{HasPath};
+ghost use Rattle.core_model.specs.Trace.{Trace, Aborts, Draws, Gives, Passes, Sets};
 ghost use Rattle.data_vio.specs.Vios as vios;
-ghost use Rattle.logical_zone.specs.Served.{CanServe};
+ghost use Rattle.logical_zone.specs.Served.{CanServe, GoesOn};
 
 use crate::waiters::stop_all;
 use blk_base::{Answer, Block, Lba, Mapping, ZoneId};
@@ -98,6 +99,36 @@ fn goes_on(sizes: &Sizes, zone: &LogicalZone, vio: BoxedVio) -> Option<(ZoneId, 
     }
 }
 
+// Whether a discard passes: nothing is known of its address, and it lacks a page of its path.
+fn passes(zone: &LogicalZone, vio: &BoxedVio) -> bool
+    requires { HasPath zone.now.tree vio.now.at.0 }
+    ensures { result ≡ rows.passes_by zone.now vio.now }
+{
+    let at = vio.get().at;
+    is_discard(vio.get().asks) && is_unknown(zone, at) && zone.missing(at).is_some()
+}
+
+// Whether it is a discard.
+fn is_discard(asks: Asks) -> bool
+    ensures { result ≡ rows.is_discard asks }
+{
+    matches!(asks, Asks::Discard)
+}
+
+// Whether a mapping is to nothing.
+fn is_unmapped(mapping: Mapping) -> bool
+    ensures { result ≡ rows.is_unmapped mapping }
+{
+    matches!(mapping, Mapping::Unmapped)
+}
+
+// Whether nothing is known of an address: no slot of it was set, and the window maps it to nothing.
+fn is_unknown(zone: &LogicalZone, at: Lba) -> bool
+    ensures { result ≡ rows.is_unknown zone.now at.0 }
+{
+    zone.latest(at).is_none() && is_unmapped(mapping_at(zone.window(), at))
+}
+
 // Whoever gets the lock of an address looks up what is mapped there.
 fn look_up(vio: BoxedVio) -> (ZoneId, Item)
     ensures { result ≡ rows.looks_up vio }
@@ -139,7 +170,9 @@ fn arrive(sizes: &Sizes, zone: &mut LogicalZone, vio: BoxedVio, posts: &mut Post
 // It has the lock: what is mapped at its address says where it goes.
 fn go_on(sizes: &Sizes, zone: &LogicalZone, vio: BoxedVio, posts: &mut Posts)
     requires phase { vio.phase ≡ phase.Look }
-    requires goes { CanServe sizes.now zone.now vio phase.Look }
+    requires path { HasPath zone.now.tree vio.at.0 }
+    requires stays { rows.passes_by zone.now vio ≡ false }
+    requires goes { GoesOn sizes.now zone.now vio }
     requires none { posts.old ≡ [] }
     ensures { rows.LogicalServes sizes.now zone.now vio zone.now [] posts.new }
 {
@@ -147,6 +180,37 @@ fn go_on(sizes: &Sizes, zone: &LogicalZone, vio: BoxedVio, posts: &mut Posts)
         unreachable!();
     };
     posts.first(to, item);
+}
+
+// A discard passes: it is done, and enters nothing.
+fn pass(sizes: &Sizes, zone: &mut LogicalZone, vio: BoxedVio, posts: &mut Posts)
+    requires phase { vio.phase ≡ phase.Look }
+    requires path { HasPath zone.old.tree vio.at.0 }
+    requires passes { rows.passes_by zone.old vio ≡ true }
+    requires none { posts.old ≡ [] }
+    ensures { rows.LogicalServes sizes.now zone.old vio zone.new
+        (Passes (rows.pass_of vio) ∷ []) posts.new }
+{
+    let at = vio.get().at;
+    posts.first(
+        ZoneId::Desk,
+        Item::Request(vio.end(Phase::Reply, Answer::Ok)),
+    );
+    release(zone, at, posts);
+}
+
+// A request that has the lock of its address goes on, or passes.
+fn look_on(sizes: &Sizes, zone: &mut LogicalZone, vio: BoxedVio, posts: &mut Posts)
+    requires phase { vio.phase ≡ phase.Look }
+    requires can { CanServe sizes.now zone.old vio phase.Look }
+    requires none { posts.old ≡ [] }
+    ensures { (made : Trace) × rows.LogicalServes sizes.now zone.old vio zone.new made posts.new }
+{
+    if passes(zone, &vio) {
+        pass(sizes, zone, vio, posts);
+    } else {
+        go_on(sizes, zone, vio, posts);
+    }
 }
 
 // The entry of a write is committed: its slot is set, and the lock released.
@@ -158,7 +222,7 @@ fn settle(sizes: &Sizes, zone: &mut LogicalZone, vio: BoxedVio, posts: &mut Post
         (Sets (vios.logged vio) ∷ []) posts.new }
 {
     let at = vio.get().at;
-    zone.set(vio.logged());
+    zone.set(vio.remapping());
     posts.first(
         ZoneId::Desk,
         Item::Request(vio.end(Phase::Reply, Answer::Ok)),
@@ -220,7 +284,7 @@ pub(crate) fn serve_logical(sizes: &Sizes, zone: &mut LogicalZone, vio: BoxedVio
     let phase = vio.get().phase;
     match phase {
         Phase::Arrive => arrive(sizes, zone, vio, posts),
-        Phase::Look => go_on(sizes, zone, vio, posts),
+        Phase::Look => look_on(sizes, zone, vio, posts),
         Phase::Settle => settle(sizes, zone, vio, posts),
         Phase::Loaded => give(sizes, zone, vio, posts),
         Phase::Abort => abort(sizes, zone, vio, posts),

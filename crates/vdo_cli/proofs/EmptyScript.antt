@@ -3,6 +3,7 @@
 use Rattle.std.proofs.Common.{ℕ, zero, suc, ◌≡◌, Bool, false, IsTrue, List, [], ◌∷◌, None, Ok, refl, sym, ap, subst, arith}
 use Rattle.std.proofs.lemmas.Option.{same_Some}
 use Rattle.std.specs.List.{AllByRecursion}
+use Rattle.blk_base.specs.Limits.{IsGeometry}
 use Rattle.blk_base.specs.declared.geometry.Super.{Super}
 use Rattle.blk_base.specs.declared.journal_entry.Entry.{Entry}
 use Rattle.blk_base.specs.declared.request.Request.{Request}
@@ -28,10 +29,11 @@ use Rattle.vdo_core.specs.Plays.{core_with}
 use Rattle.vdo_model.specs.Scripts.{Script}
 use Rattle.vdo_model.specs.declared.report.RunReport.{RunReport}
 use Rattle.vdo_cli.specs.Endings.{RunsSession}
-use Rattle.vdo_cli.specs.Openings.{IsOpened, opening_of, trust}
+use Rattle.vdo_cli.specs.Openings.{IsOpened, IsRemap, opening_of, trust}
 use Rattle.vdo_cli.specs.Sessions.{IsDriven, IsOver, IsReported, run_sizes, task}
 use Rattle.vdo_cli.specs.Stops.{Happens}
 use Rattle.vdo_cli.specs.Outsides.{input_setting, inputs}
+use Rattle.vdo_cli.proofs.BareTrees.{bare, bare_is}
 use Rattle.vdo_cli.proofs.ScriptLaws.{can_begin}
 use Rattle.vdo_cli.proofs.SessionLaws.{happens, plays, reported}
 
@@ -47,13 +49,13 @@ module _ (head : Super) (window : List Entry) (used : ℕ) (script : Script) whe
   abbrev pub first_zones : List Zone
   first_zones =
       first_zone 0 (at.Desk (record { requests = script; log = []; marks = []; notices = 0; parked = [] }))
-      ∷ first_zone 1 (at.Logical (record { zone = 0; notified = false; next = 0; places = []; held = []; waiting = []; retired = []; window = window; slots = [] }))
+      ∷ first_zone 1 (at.Logical (record { zone = 0; notified = false; next = 0; places = []; held = []; waiting = []; retired = []; tree = bare head.geometry; window = window; slots = [] }))
       ∷ first_zone 2 (at.Physical (record { notified = false; free = free_of head.geometry window }))
       ∷ first_zone 3 (at.Journal (record { notified = false; busy = false; broken = false; log = first_log (run_sizes head used); filling = []; waiting = []; entered = []; committed = [] }))
       ∷ first_zone 4 (at.Device (record { stopped = false; calls = 0 }))
       ∷ []
 
-  module _ (s : Session) (over : IsOver (task (opening_of head window used) script) s) where
+  module _ (sizes : IsGeometry head.geometry) (maps : AllByRecursion IsRemap window) (s : Session) (over : IsOver (task (opening_of head window used) script) s) where
     zones_are : s.sizes.zones ≡ 1
     zones_are = ap (λ (sizes : Sizes). sizes.zones) over.sizes_is
 
@@ -71,6 +73,7 @@ module _ (head : Super) (window : List Entry) (used : ℕ) (script : Script) whe
       held = refl;
       waiting = refl;
       retired = refl;
+      tree = rw (over.sizes_is, over.window_is) (bare_is head.geometry window sizes maps);
       window = sym over.window_is;
       slots = refl;
     }))
@@ -120,7 +123,7 @@ module _ (tells honest : Bool) (schedule : ℕ) (head : Super) (window : List En
   empty_driven = record {
     first = first_zones head window used no_requests;
     last = first_zones head window used no_requests;
-    begins = first_begins head window used no_requests;
+    begins = first_begins head window used no_requests can.geometry is_opened.serves.mapped.1;
     events = [];
     state = schedule;
     drives = (refl, refl, refl, refl);
@@ -130,18 +133,18 @@ module _ (tells honest : Bool) (schedule : ℕ) (head : Super) (window : List En
   pub empty_reported : IsReported (opening_of head window used) empty_report [] opened opened
   empty_reported =
       reported tells honest head window used no_requests (first_zones head window used no_requests) (first_zones head window used no_requests) [] opened opened can
-      (first_begins head window used no_requests) rests (first_done head window used) (not_called tells honest opened)
+      (first_begins head window used no_requests can.geometry is_opened.serves.mapped.1) rests (first_done head window used) (not_called tells honest opened)
 
   pub empty_happens : IsTrue tells → Happens [] empty_report before opened opened
   empty_happens =
       happens tells honest head window used no_requests (first_zones head window used no_requests) (first_zones head window used no_requests) [] opened opened can
-      (first_begins head window used no_requests) rests (first_done head window used) (not_called tells honest opened) before is_opened
+      (first_begins head window used no_requests can.geometry is_opened.serves.mapped.1) rests (first_done head window used) (not_called tells honest opened) before is_opened
       (were_only_read tells honest 0 before opened _ is_opened.read.read)
 
   pub empty_plays : (source_tells : Bool) (source rest : SourceSeen) → (IsTrue source_tells → whole_script source.left ≡ Ok no_requests) → (IsTrue source_tells → rest.left ≡ [])
       → RunsSession (input_setting tells honest source_tells) schedule empty_report (inputs before source) (inputs opened rest)
   empty_plays source_tells source rest script_is whole =
       plays tells honest head window used no_requests (first_zones head window used no_requests) (first_zones head window used no_requests) [] opened opened can
-      (first_begins head window used no_requests) rests (first_done head window used) (not_called tells honest opened) before is_opened
+      (first_begins head window used no_requests can.geometry is_opened.serves.mapped.1) rests (first_done head window used) (not_called tells honest opened) before is_opened
       (were_only_read tells honest 0 before opened _ is_opened.read.read) source_tells schedule schedule [] source rest
       (record { opening = refl; size = refl }) (refl, refl, refl, refl) script_is whole

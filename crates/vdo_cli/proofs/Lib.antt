@@ -1,3 +1,4 @@
+mod BareTrees
 pub mod OpeningLaws
 pub mod WorkedRows
 pub mod StopLaws

@@ -30,7 +30,7 @@ use Rattle.core_model.specs.RightTraces.{MayAnswer, MayFollow, RightTrace}
 use Rattle.core_model.specs.Sessions.{Session, IsFair, IsSession, IsServed}
 use Rattle.core_model.specs.Start.{IsFirst}
 use Rattle.core_model.specs.Steps.{Leads}
-use Rattle.core_model.specs.Trace.{Aborts, Calls, Commits, Draws, Enters, Seals, Fails, Flushes, Gives, Happening, Says, Sets, Takes, Trace, calls, has_read_fault, has_stopped, lines, moments}
+use Rattle.core_model.specs.Trace.{Aborts, Passes, Calls, Commits, Draws, Enters, Seals, Fails, Flushes, Gives, Happening, Says, Sets, Takes, Trace, calls, has_read_fault, has_stopped, lines, moments}
 use Rattle.core_laws.proofs.kept.FirstState.{legal_first}
 use Rattle.core_laws.proofs.trace.AbortsOfTrace.{stops_at_failure}
 use Rattle.core_laws.proofs.trace.MarksOfTrace.{marks_right}
@@ -131,6 +131,7 @@ answered_failed s (Commits e ∷ t) w r a right asked is lost = answered_failed 
 answered_failed s (Sets e ∷ t) w r a right asked is lost = answered_failed s t w r a right.2 asked is lost
 answered_failed s (Gives g ∷ t) w r a right asked is lost = answered_failed s t w r a right.2 asked is lost
 answered_failed s (Takes v x ∷ t) w r a right asked is lost = answered_failed s t w r a right.2 asked is lost
+answered_failed s (Passes e ∷ t) w r a right asked is lost = answered_failed s t w r a right.2 asked is lost
 answered_failed s (Aborts e ∷ t) w r a right asked is lost = answered_failed s t w r a right.2 asked is lost
 answered_failed s (Calls c ∷ t) w r a right asked is lost = answered_failed s t w r a right.2 asked is lost
 

@@ -1,9 +1,10 @@
 ghost use Rattle.std.specs.Prelude.{◌≡◌, ◌+◌, ◌<◌, ◌≤◌, ◌^◌, [], ◌∷◌, ◌++◌, IfOk, OnOk, length, reverse};
 ghost use Rattle.std.specs.List.{AllByRecursion};
 ghost use Rattle.blk_base.specs.Limits.{IsGeometry};
+ghost use Rattle.image_model.specs.Windows.{IsOfImage};
 ghost use Rattle.data_vio.specs.Zones as numbers;
 ghost use Rattle.core_model.specs.Sessions.{Session, IsServed};
-ghost use Rattle.core_model.specs.SessionLimits.{most_requests, most_streams, requests_in};
+ghost use Rattle.core_model.specs.SessionLimits.{most_requests, most_streams, most_zones, requests_in};
 ghost use Rattle.core_model.specs.Start.{IsFirst, IsFirstZone, IsFirstData};
 ghost use Rattle.plain_laws.specs.Sums.{Each};
 ghost use Rattle.vdo_core.specs.Plays.{core_with};
@@ -69,7 +70,10 @@ fn add_logical(
     window: &[Entry],
     zones: &mut Vec<Zone>,
 ) -> Result<(), AllocError>
-    requires { length zones.old.items ≡ 1 }
+    requires desk { length zones.old.items ≡ 1 }
+    requires geometry { IsGeometry sizes.now.geometry }
+    requires zones { sizes.now.zones ≤ most_zones }
+    requires of_image { AllByRecursion (IsOfImage sizes.now.geometry) (reverse window.now) }
     ensures count { OnOk result (length zones.new.items ≡ 1 + sizes.now.zones) }
     ensures first { OnOk result
         ((s : Session) → s.sizes ≡ sizes.now → s.window ≡ reverse window.now →
@@ -78,7 +82,7 @@ fn add_logical(
     for zone in 0..sizes.zones {
         let number = logical_number(zone);
         let window = copied(alloc, window)?;
-        let logical = logical_zone::first(alloc, zone, window)?;
+        let logical = logical_zone::first(alloc, sizes, zone, window)?;
         add(alloc, sizes, number, ZoneData::Logical(logical), zones)?;
     }
     Ok(())
@@ -116,7 +120,7 @@ fn add_others(
 }
 
 /// The core at the start of a session: it has the requests, no one of which is begun, the entries of the window, the
-/// oldest first, and the free data blocks. Each request must be one that is served, and there may be 16 streams and 65,536
+/// oldest first, which are of the image, and the free data blocks. There are 4 logical zones at most. Each request must be one that is served, and there may be 16 streams and 65,536
 /// requests in all. It takes all the room that the session will need, and fails where no memory is found for it.
 pub fn begin(
     alloc: Global,
@@ -128,6 +132,8 @@ pub fn begin(
     requires geometry { IsGeometry sizes.now.geometry }
     requires start { (1 ≤ sizes.now.start) × (sizes.now.start < 2 ^ 54) }
     requires room { sizes.now.opened + 1 ≤ sizes.now.geometry.journal }
+    requires zones { sizes.now.zones ≤ most_zones }
+    requires of_image { AllByRecursion (IsOfImage sizes.now.geometry) (reverse window.now) }
     requires served { AllByRecursion (AllByRecursion IsServed) requests }
     requires streams { length requests ≤ most_streams }
     requires few { requests_in requests ≤ most_requests }

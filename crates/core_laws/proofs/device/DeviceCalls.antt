@@ -1,7 +1,8 @@
 -- The device's calls: what they write, what reads give, and which data blocks they are of.
-use Rattle.std.proofs.Common.{◌≡◌, ◌≢◌, ℕ, zero, suc, ◌*◌, ◌<◌, ◌≤◌, ◌^◌, Bool, Some, List, [], ◌∷◌, ◌++◌, length, length-append, get_or, subst, inl, inr, arith, ◌⊎◌, false, Option, None, ap, sym, ◌∙◌, ◌+◌, true, refl}
-use Rattle.core_laws.proofs.Common.{all_of, AllByRecursion, AreAllThere, asked, Asks, AtRest, Call, Calls, ComesLast, committed, device_number, done, entered, entries_of, Entry, entry_of, eqb_tells, every-front, every-get, every-map, filled, Geometry, Happening, HasBlocks, HasWholeBlocks, IsAsOpened, IsFair, IsFresh, IsServed, IsSession, IsWrite, Lba, log, Logged, Mapping, MayFollow, newest, NewStands, of_address, OnBlock, OnItsWay, Pbn, Quiet, ReadsAs, ReadsBlock, Request, request_at, RightTrace, sealed, Session, Shown, Stands, Trace, value_from, value_written, Writer}
-use Rattle.std.proofs.Math.Nat.{mod-lt, mul-le-mul_left}
+use Rattle.std.proofs.Common.{◌≡◌, ◌≢◌, ℕ, zero, suc, ◌*◌, ◌/◌, ◌%◌, ◌<◌, ◌≤◌, ◌^◌, Bool, Some, List, [], ◌∷◌, ◌++◌, length, length-append, get_or, subst, inl, inr, arith, ◌⊎◌, false, Option, None, ap, sym, ◌∙◌, ◌+◌, true, refl}
+use Rattle.core_laws.proofs.Common.{all_of, AllByRecursion, AreAllThere, asked, Asks, AtRest, Call, Calls, ComesLast, device_number, entries_of, Entry, entry_of, eqb_tells, every-front, every-get, every-map, filled, Geometry, Happening, HasBlocks, HasWholeBlocks, IsAsOpened, IsFair, IsFresh, IsServed, IsSession, IsWrite, Lba, log, Remapping, Mapping, MayFollow, newest, NewStands, of_address, OnBlock, OnItsWay, Pbn, Quiet, ReadsAs, ReadsBlock, Request, request_at, RightTrace, sealed, Session, Shown, Stands, Trace, value_from, value_written, Writer, Logged, Makes, Remaps, remappings, durable, journaled, new_of, NewPage as MadePage, applied, passed}
+use Rattle.core_laws.proofs.trace.PassesOfTrace.{cut_passed}
+use Rattle.std.proofs.Math.Nat.{div-le_self, mod-lt, mul-le-mul_left}
 use Rattle.std.proofs.lemmas.List.Elements.{All-from_recursion}
 use Rattle.blk_base.specs.Limits.{IsGeometry, logical_limit}
 use Rattle.blk_base.specs.Regions.{IsDataBlock, journal_slot_of, needed_blocks, slab_stride_of}
@@ -16,7 +17,9 @@ use Rattle.disk_model.specs.Images.{IsMixOf}
 use Rattle.disk_model.proofs.ImageLaws.{settled_are_contents, block_of_mix, settled-write}
 use Rattle.core_model.specs.LogicalRules.{mapped_by}
 use Rattle.core_laws.proofs.lists.Zeros.{zeros_length}
-use Rattle.core_laws.proofs.trace.DeskOfTrace.{AreData, HasData, done_writes, each_of_address, entered_data, of_address_append, shown_of}
+use Rattle.blk_base.specs.declared.place.PageId.{PageId}
+use Rattle.image_model.specs.Pages.{IsBelowRoot}
+use Rattle.core_laws.proofs.trace.DeskOfTrace.{HasBlock, journaled_data, changes_append, AreData, done_writes, each_of_address, shown_of}
 use Rattle.byte_fields.specs.Mappings.{HoldsMapping}
 use Rattle.journal_codec.specs.Grammar.{HoldsEntry}
 use Rattle.core_laws.proofs.kept.ActKept.{shown_kept}
@@ -100,15 +103,16 @@ pub stands_reads : (s : Session) (t : Trace) (x : ℕ) (bytes : List ℕ) → St
 stands_reads s t x bytes k = settled_are_contents (λ content. content ≡ bytes) s.blocks (log s t) x k
 
 -- Where these writes, on top of the window, map an address is a data block.
-pub mapped_is_data : (s : Session) (es : List Logged) (a : ℕ) (x : Pbn) → IsSession s → AreData s es → mapping_of (entries_of s.window es) a ≡ At x → IsDataBlock s.sizes.geometry x.0
+pub mapped_is_data : (s : Session) (es : List Logged) (a : ℕ) (x : Pbn) → IsSession s → AreData s (remappings es) → mapping_of (entries_of s.window es) a ≡ At x → IsDataBlock s.sizes.geometry x.0
 mapped_is_data s [] a x session to_data is = window_data s a x session is
-mapped_is_data s (e ∷ es) a x session to_data is = elim (eqb_tells e.at.0 a) [
+mapped_is_data s (Makes p ∷ es) a x session to_data is = mapped_is_data s es a x session to_data is
+mapped_is_data s (Remaps e ∷ es) a x session to_data is = elim (eqb_tells e.at.0 a) [
   | inl same ↦ let to : e.new ≡ At x = rw same.0 at is in subst (OnBlock (λ y. IsDataBlock s.sizes.geometry y.0)) to to_data.0
   | inr other ↦ mapped_is_data s es a x session to_data.1 (rw other.0 at is)
 ]
 
 -- a list in front of another that is no longer is empty
-none_between : (front between behind : List Logged) → front ++ (between ++ behind) ≡ behind → between ≡ []
+none_between : (front between behind : List Remapping) → front ++ (between ++ behind) ≡ behind → between ≡ []
 none_between front [] behind is = refl
 none_between front (e ∷ between) behind is =
     let longer = ap length is in
@@ -118,36 +122,42 @@ none_between front (e ∷ between) behind is =
 
 -- What an address has, by its last write or the window.
 module _ (s : Session) (t : Trace) (session : IsSession s) (right : RightTrace s t) (fair : IsFair s t) where
-  newest_of : (P : Logged → Type 0) (es : List Logged) (a : ℕ) (e : Logged) → newest (of_address a es) ≡ Some e → AllByRecursion P es → P e
+  newest_of : (P : Remapping → Type 0) (es : List Remapping) (a : ℕ) (e : Remapping) → newest (of_address a es) ≡ Some e → AllByRecursion P es → P e
   newest_of P es a e is all = newest_has P (of_address a es) e is (each_of_address P a es all)
 
   -- a value that is mapped to a block is whole
-  pub value_whole : (es : List Logged) (a : ℕ) (x : Pbn) (o : Option Logged) → AllByRecursion (IsWrite s t) es → newest (of_address a es) ≡ o → mapped_by o (mapping_of s.window a) ≡ At x → length (value_from s a o) ≡ 4096
+  pub value_whole : (es : List Remapping) (a : ℕ) (x : Pbn) (o : Option Remapping) → AllByRecursion (IsWrite s t) es → newest (of_address a es) ≡ o → mapped_by o (mapping_of s.window a) ≡ At x → length (value_from s a o) ≡ 4096
   value_whole es a x None writes is maps = let value : value_of s.image s.window a ≡ device.block_at s.image x.0 = ap (value_in s.image) maps in ap length value ∙ window_whole s a x session fair.opened maps
   value_whole es a x (Some e) writes is maps =
       let write = newest_of (IsWrite s t) es a e is writes in
       ap (λ o. length (value_written o)) write.asked ∙ whole_written s e.request write.asks e.at write.bytes session write.asked
 
   -- what the committed entries map an address to stands, where none of it is under way
+  abbrev changes : ℕ → List Logged → List Remapping
+  changes a es = of_address a (remappings es)
+
   abbrev StandsHere : ℕ → List Logged → Type 0
-  StandsHere a es = OnBlock (λ x. Stands s t x.0 (value_from s a (newest (of_address a es)))) (mapping_of (entries_of s.window es) a)
+  StandsHere a es = OnBlock (λ x. Stands s t x.0 (value_from s a (newest (of_address a (remappings es))))) (mapping_of (entries_of s.window es) a)
 
   -- it is said by the entries of the address alone
-  stands_same : (a : ℕ) (es fs : List Logged) → of_address a es ≡ of_address a fs → StandsHere a es → StandsHere a fs
+  stands_same : (a : ℕ) (es fs : List Logged) → of_address a (remappings es) ≡ of_address a (remappings fs) → StandsHere a es → StandsHere a fs
   stands_same a es fs same k =
-      subst (λ (m : Mapping). OnBlock (λ x. Stands s t x.0 (value_from s a (newest (of_address a fs)))) m) (mapping_same s.window es fs a same)
-      (subst (λ (xs : List Logged). OnBlock (λ x. Stands s t x.0 (value_from s a (newest xs))) (mapping_of (entries_of s.window es) a)) same k)
+      subst (λ (m : Mapping). OnBlock (λ x. Stands s t x.0 (value_from s a (newest (of_address a (remappings fs))))) m) (mapping_same s.window es fs a same)
+      (subst (λ (xs : List Remapping). OnBlock (λ x. Stands s t x.0 (value_from s a (newest xs))) (mapping_of (entries_of s.window es) a)) same k)
 
-  quiet_stands : (a : ℕ) → Quiet t a → AreAllThere s t ⊎ ComesLast s t → StandsHere a (committed t)
-  quiet_stands a quiet (inl k) = stands_same a (all_of (sealed t)) (committed t) same (k.stands.1 a)
+  quiet_stands : (a : ℕ) → Quiet t a → AreAllThere s t ⊎ ComesLast s t → StandsHere a (durable t)
+  quiet_stands a quiet (inl k) = stands_same a (all_of (sealed t)) (durable t) same (k.stands.1 a)
     where
-      all : of_address a (filled t) ++ (of_address a k.rest ++ of_address a (committed t)) ≡ of_address a (committed t)
-      all = ap (λ (xs : List Logged). of_address a (filled t) ++ xs) (sym (of_address_append a k.rest (committed t))) ∙ sym (of_address_append a (filled t) (k.rest ++ committed t))
-          ∙ ap (of_address a) (sym (entered_parts t ∙ ap (λ (es : List Logged). filled t ++ es) k.all)) ∙ quiet.all_committed
+      entries : changes a (journaled t) ≡ changes a (durable t)
+      entries = cut_passed a (remappings (journaled t)) (remappings (durable t)) (passed t) quiet.all_committed
 
-      same : of_address a (all_of (sealed t)) ≡ of_address a (committed t)
-      same = ap (of_address a) k.all ∙ of_address_append a k.rest (committed t)
-          ∙ ap (λ (xs : List Logged). xs ++ of_address a (committed t)) (none_between (of_address a (filled t)) (of_address a k.rest) (of_address a (committed t)) all)
+      all : changes a (filled t) ++ (changes a k.rest ++ changes a (durable t)) ≡ changes a (durable t)
+      all = ap (λ (xs : List Remapping). changes a (filled t) ++ xs) (sym (changes_append a k.rest (durable t))) ∙ sym (changes_append a (filled t) (k.rest ++ durable t))
+          ∙ ap (changes a) (sym (entered_parts t ∙ ap (λ (es : List Logged). filled t ++ es) k.all)) ∙ entries
+
+      same : changes a (all_of (sealed t)) ≡ changes a (durable t)
+      same = ap (changes a) k.all ∙ changes_append a k.rest (durable t)
+          ∙ ap (λ (xs : List Remapping). xs ++ changes a (durable t)) (none_between (changes a (filled t)) (changes a k.rest) (changes a (durable t)) all)
   quiet_stands a quiet (inr k) = subst (StandsHere a) (sym k.committed_is) (by k.stands)
     where
       by : AtRest s t k.older ⊎ OnItsWay s t k.older k.block → StandsHere a (all_of k.older)
@@ -155,15 +165,16 @@ module _ (s : Session) (t : Trace) (session : IsSession s) (right : RightTrace s
       by (inr way) = way.1 a
 
   -- a read of the block that an address is mapped to gives its value
-  pub read_value : (a : ℕ) (latest : Option Logged) (x : Pbn) (bytes : List ℕ) → Quiet t a → latest ≡ newest (of_address a (done t)) → mapped_by latest (mapping_of s.window a) ≡ At x
+  pub read_value : (a : ℕ) (latest : Option Remapping) (x : Pbn) (bytes : List ℕ) → Quiet t a → latest ≡ newest (changes a (applied t)) → mapped_by latest (mapping_of s.window a) ≡ At x
       → length bytes ≡ 4096 → IsMixOf (device.settled s.blocks (log s t) x.0) bytes → bytes ≡ value_from s a latest
   read_value a latest x bytes quiet is maps size mix =
-      let same : newest (of_address a (committed t)) ≡ latest = ap newest quiet.all_done ∙ sym is in
-      let maps_now : mapping_of (entries_of s.window (committed t)) a ≡ At x = mapping_by s.window (committed t) a ∙ ap (λ o. mapped_by o (mapping_of s.window a)) same ∙ maps in
-      let here : Stands s t x.0 (value_from s a (newest (of_address a (committed t))))
-      = subst (OnBlock (λ y. Stands s t y.0 (value_from s a (newest (of_address a (committed t)))))) maps_now (quiet_stands a quiet (shown_of s t right fair).journal) in
-      let stands : Stands s t x.0 (value_from s a latest) = subst (λ (o : Option Logged). Stands s t x.0 (value_from s a o)) same here in
-      block_of_mix (device.settled s.blocks (log s t) x.0) (value_from s a latest) bytes (value_whole (done t) a x latest (done_writes s t right) (sym is) maps) size mix (stands_reads s t x.0 _ stands)
+      let same : newest (changes a (durable t)) ≡ latest = ap newest (cut_passed a (remappings (durable t)) (remappings (applied t)) (passed t) quiet.all_done) ∙ sym is in
+      let writes = (every-front (IsWrite s t) (remappings (applied t)) (passed t) (done_writes s t right)).0 in
+      let maps_now : mapping_of (entries_of s.window (durable t)) a ≡ At x = mapping_by s.window (durable t) a ∙ ap (λ o. mapped_by o (mapping_of s.window a)) same ∙ maps in
+      let here : Stands s t x.0 (value_from s a (newest (changes a (durable t))))
+      = subst (OnBlock (λ y. Stands s t y.0 (value_from s a (newest (changes a (durable t)))))) maps_now (quiet_stands a quiet (shown_of s t right fair).journal) in
+      let stands : Stands s t x.0 (value_from s a latest) = subst (λ (o : Option Remapping). Stands s t x.0 (value_from s a o)) same here in
+      block_of_mix (device.settled s.blocks (log s t) x.0) (value_from s a latest) bytes (value_whole (remappings (applied t)) a x latest writes (sym is) maps) size mix (stands_reads s t x.0 _ stands)
 
 -- What one call of the device does to what stands on it.
 
@@ -182,7 +193,7 @@ call_filled t failed = refl
 
 -- a call that writes nothing
 pub quiet_journal : (s : Session) (t : Trace) {h : Happening} (c : Call) → IsCallOf h c → ((x : ℕ) → Misses c x) → Spares s t h OfJournal
-quiet_journal s t {h} c is misses = (call_sealed s t is, journal_spared s is (λ slot below. misses (block_of_slot slot)), ((λ a x named. block_spared is x.0 (misses x.0)), spares_all h (λ x. block_spared is x (misses x)) (entered t)))
+quiet_journal s t {h} c is misses = (call_sealed s t is, journal_spared s is (λ slot below. misses (block_of_slot slot)), ((λ a x named. block_spared is x.0 (misses x.0)), spares_all h (λ x. block_spared is x (misses x)) (journaled t)))
 
 pub quiet_call : (s : Session) (t : Trace) {h : Happening} (c : Call) → IsCallOf h c → MayFollow s h t → ((x : ℕ) → Misses c x) → RightTrace s t → RightTrace s (h ∷ t)
 quiet_call s t {h} c is may misses right =
@@ -190,11 +201,11 @@ quiet_call s t {h} c is may misses right =
     (may, shown_kept s h t same.0 (call_filled t is) same.1 same.2 (block_spared is 0 (misses 0)) (shown_of s t right), right)
 
 -- the data of a write
-pub store_call : (s : Session) (t : Trace) {h : Happening} (x : Pbn) (bytes : List ℕ) (ok : Bool) → IsCallOf h (Write x bytes ok) → MayFollow s h t → IsFresh s x → AreElsewhere x.0 (entered t)
+pub store_call : (s : Session) (t : Trace) {h : Happening} (x : Pbn) (bytes : List ℕ) (ok : Bool) → IsCallOf h (Write x bytes ok) → MayFollow s h t → IsFresh s x → AreElsewhere x.0 (journaled t)
     → RightTrace s t → RightTrace s (h ∷ t)
 store_call s t {h} x bytes ok is may fresh apart right = (
   may,
-  shown_kept s h t (call_sealed s t is) (call_filled t is) (journal_spared s is (data_misses s.sizes.geometry x bytes ok fresh.is_data)) ((λ a y named. block_spared is y.0 (λ same. fresh.unnamed a y named (sym same))), write_spares is (entered t) apart)
+  shown_kept s h t (call_sealed s t is) (call_filled t is) (journal_spared s is (data_misses s.sizes.geometry x bytes ok fresh.is_data)) ((λ a y named. block_spared is y.0 (λ same. fresh.unnamed a y named (sym same))), write_spares is (journaled t) apart)
       (block_spared is 0 (data_not_first s.sizes.geometry x.0 fresh.is_data)) (shown_of s t right),
   right,
 )
@@ -237,31 +248,63 @@ data_led g Zero inside = tt
 data_led g (At x) inside = inside
 
 -- what the entries map an address to leads to a data block, or to none
-pub old_data : (s : Session) (es : List Logged) (a : ℕ) (m : Mapping) → IsSession s → AreData s es → mapping_of (entries_of s.window es) a ≡ m → LeadsToData s.sizes.geometry m
+pub old_data : (s : Session) (es : List Logged) (a : ℕ) (m : Mapping) → IsSession s → AreData s (remappings es) → mapping_of (entries_of s.window es) a ≡ m → LeadsToData s.sizes.geometry m
 old_data s es a Unmapped session to_data is = tt
 old_data s es a Zero session to_data is = tt
 old_data s es a (At x) session to_data is = mapped_is_data s es a x session to_data is
 
 -- what the form of the journal needs of an entry
-pub record IsSpelled (s : Session) (e : Logged) : Type 0 where
+pub record IsSpelled (s : Session) (e : Remapping) : Type 0 where
   pub below : e.at.0 < s.sizes.geometry.logical
   pub old_held : HoldsMapping e.old
   pub old_led : LeadsToData s.sizes.geometry e.old
   pub fresh : OnBlock (IsFresh s) e.new
 
+-- and that of a new page
+pub record IsSpelledPage (s : Session) (p : MadePage) : Type 0 where
+  pub below : IsBelowRoot s.sizes.geometry p.page
+  pub fresh : IsFresh s p.at
+
+abbrev pub CanStand : Session → Logged → Type 0
+CanStand s (Remaps e) = IsSpelled s e
+CanStand s (Makes p) = IsSpelledPage s p
+
+-- its block is a fresh one
+pub can_fresh : (s : Session) (e : Logged) → CanStand s e → OnBlock (IsFresh s) (new_of e)
+can_fresh s (Remaps e) is = is.fresh
+can_fresh s (Makes p) is = is.fresh
+
 module _ (s : Session) (session : IsSession s) where
-  spelled_entry : (e : Logged) → IsSpelled s e → HoldsEntry (entry_of e)
-  spelled_entry e is =
+  spelled_page : (p : MadePage) → IsSpelledPage s p → HoldsEntry (entry_of (Makes p))
+  spelled_page p is =
+      let address = is.below.address in
+      let tree = ap (λ (q : PageId). q.tree) is.below.there in
+      let index = ap (λ (q : PageId). q.index) is.below.there in
+      let few = div-le_self (address / 812 / 60) (812 ^ p.page.level) in
+      let in_tree = div-le_self (address / 812) 60 in
+      let in_leaf = div-le_self address 812 in
+      let small = logical_small s.sizes.geometry.height in
+      let limit = session.sizes.logical.1 in
+      let inside = is.below.inside in
+      let level = is.below.level in
+      let height = session.sizes.height.1 in
+      let most : address / 812 % 60 < 60 = mod-lt (address / 812) (omega arith) in
+      (omega (arith, tree, most), omega (arith, level, height), omega (arith, index, few, in_tree, in_leaf, inside, limit, small), fresh_held s session.sizes (At p.at) is.fresh)
+
+  spelled_entry : (e : Logged) → CanStand s e → HoldsEntry (entry_of e)
+  spelled_entry (Makes p) is = spelled_page p is
+  spelled_entry (Remaps e) is =
       let small = logical_small s.sizes.geometry.height in
       let limit = session.sizes.logical.1 in
       let below = is.below in
       (omega (arith, below, limit, small), is.old_held, fresh_held s session.sizes e.new is.fresh)
 
-  spelled_of_image : (e : Logged) → IsSpelled s e → IsOfImage s.sizes.geometry (entry_of e)
-  spelled_of_image e is = (is.below, is.old_led, data_led s.sizes.geometry e.new (on_each e.new (λ x to fresh. fresh.is_data) is.fresh))
+  spelled_of_image : (e : Logged) → CanStand s e → IsOfImage s.sizes.geometry (entry_of e)
+  spelled_of_image (Makes p) is = (is.below, is.fresh.is_data)
+  spelled_of_image (Remaps e) is = (is.below, is.old_led, data_led s.sizes.geometry e.new (on_each e.new (λ x to fresh. fresh.is_data) is.fresh))
 
   -- their block can be sealed behind these
-  pub spelled_sealed : (older : List (List Logged)) (es : List Logged) → HasWholeBlocks s → AllByRecursion (IsSpelled s) es → length es ≤ 192 → s.sizes.opened + length older + 1 < s.sizes.geometry.journal
+  pub spelled_sealed : (older : List (List Logged)) (es : List Logged) → HasWholeBlocks s → AllByRecursion (CanStand s) es → length es ≤ 192 → s.sizes.opened + length older + 1 < s.sizes.geometry.journal
       → IsSealed s.sizes.geometry s.sizes.start (blocks_of s older) (sealed_with s es)
   spelled_sealed older es whole each few left =
       let some = session.start.0 in
@@ -275,17 +318,17 @@ module _ (s : Session) (session : IsSession s) where
           named = (omega (arith, some), omega (arith, low, left, most, count, opened));
           head_below = omega arith;
           few = omega (arith, few, block_length s es);
-          each = All-from_recursion HoldsEntry (sealed_with s es).entries (block_has s HoldsEntry es (every-map {P = IsSpelled s} {Q = λ e. HoldsEntry (entry_of e)} spelled_entry es each));
+          each = All-from_recursion HoldsEntry (sealed_with s es).entries (block_has s HoldsEntry es (every-map {P = CanStand s} {Q = λ e. HoldsEntry (entry_of e)} spelled_entry es each));
         };
         each = All-from_recursion (IsOfImage s.sizes.geometry) (sealed_with s es).entries
-            (block_has s (IsOfImage s.sizes.geometry) es (every-map {P = IsSpelled s} {Q = λ e. IsOfImage s.sizes.geometry (entry_of e)} spelled_of_image es each));
+            (block_has s (IsOfImage s.sizes.geometry) es (every-map {P = CanStand s} {Q = λ e. IsOfImage s.sizes.geometry (entry_of e)} spelled_of_image es each));
         rises = omega (arith, head);
         ring = omega (arith, left, count, opened);
         reach = omega (arith, left, most, count, opened);
       }
 
 -- The slot of the next block is written.
-module _ (s : Session) (t : Trace) (older : List (List Logged)) (es : List Logged) (slot : Pbn) (bytes : List ℕ) (session : IsSession s) (fresh : AllByRecursion (λ (e : Logged). OnBlock (IsFresh s) e.new) es)
+module _ (s : Session) (t : Trace) (older : List (List Logged)) (es : List Logged) (slot : Pbn) (bytes : List ℕ) (session : IsSession s) (fresh : AllByRecursion (λ (e : Logged). OnBlock (IsFresh s) (new_of e)) es)
     (can_seal : IsSealed s.sizes.geometry s.sizes.start (blocks_of s older) (sealed_with s es))
     (place : slot.0 ≡ place_of s.sizes.geometry (next_of s.sizes.start (blocks_of s older)))
     (says : IsWhole s.sizes.geometry (next_of s.sizes.start (blocks_of s older)) (sealed_with s es) bytes)
@@ -294,19 +337,19 @@ module _ (s : Session) (t : Trace) (older : List (List Logged)) (es : List Logge
   misses : (x : ℕ) → IsDataBlock s.sizes.geometry x → slot.0 ≢ x
   misses x held = let some = session.sizes.journal.0 in slot_misses s.sizes.geometry (next_of s.sizes.start (blocks_of s older)) slot.0 x (omega (arith, some)) place held
 
-  data_spared : (h : Happening) (ok : Bool) → IsCallOf h (Write slot bytes ok) → (fs : List Logged) → AreData s fs → SparesBlocks h fs
+  data_spared : (h : Happening) (ok : Bool) → IsCallOf h (Write slot bytes ok) → (fs : List Logged) → AllByRecursion (HasBlock s) fs → SparesBlocks h fs
   data_spared h ok is [] to_data = tt
-  data_spared h ok is (f ∷ fs) to_data = (on_each f.new (λ x to inside. block_spared is x.0 (misses x.0 inside)) to_data.0, data_spared h ok is fs to_data.1)
+  data_spared h ok is (f ∷ fs) to_data = (on_each (new_of f) (λ x to inside. block_spared is x.0 (misses x.0 inside)) to_data.0, data_spared h ok is fs to_data.1)
 
   window_spared : (a : ℕ) (x : Pbn) → mapping_of s.window a ≡ At x → slot.0 ≢ x.0
   window_spared a x named = misses x.0 (window_data s a x session named)
 
   -- the entries, those of the block being filled, and those of the older blocks
-  abbrev parts : AreData s (filled t) × AreData s (es ++ all_of older)
-  parts = every-front (HasData s) (filled t) (es ++ all_of older) (subst (AreData s) (entered_parts t ∙ ap (λ (all : List (List Logged)). filled t ++ all_of all) sealed_is) (entered_data s t right))
+  abbrev parts : AllByRecursion (HasBlock s) (filled t) × AllByRecursion (HasBlock s) (es ++ all_of older)
+  parts = every-front (HasBlock s) (filled t) (es ++ all_of older) (subst (AllByRecursion (HasBlock s)) (entered_parts t ∙ ap (λ (all : List (List Logged)). filled t ++ all_of all) sealed_is) (journaled_data s t right))
 
-  older_data : AreData s (all_of older)
-  older_data = (every-front (HasData s) es (all_of older) parts.1).1
+  older_data : AllByRecursion (HasBlock s) (all_of older)
+  older_data = (every-front (HasBlock s) es (all_of older) parts.1).1
 
   pub slot_way : (ok : Bool) → OnItsWay s (Calls (Write slot bytes ok) ∷ t) older es
   slot_way ok =
@@ -314,13 +357,13 @@ module _ (s : Session) (t : Trace) (older : List (List Logged)) (es : List Logge
       let h = Calls (Write slot bytes ok) in (
         (sealed_rest.0, begins s.blocks (log s t) s.sizes.geometry s.sizes.start (blocks_of s older) (sealed_with s es) slot bytes ok place can_seal says sealed_rest.1),
         map_kept s h t (all_of older) (window_spared, data_spared h ok succeeded (all_of older) older_data) rest.1,
-        new_kept s h t es (data_spared h ok succeeded es (every-map {P = λ (e : Logged). OnBlock (IsFresh s) e.new} {Q = HasData s} (λ e has. on_each e.new (λ x to free. free.is_data) has) es fresh)) keeps,
+        new_kept s h t es (data_spared h ok succeeded es (every-map {P = λ (e : Logged). OnBlock (IsFresh s) (new_of e)} {Q = HasBlock s} (λ e has. on_each (new_of e) (λ x to free. free.is_data) has) es fresh)) keeps,
       )
 
   pub slot_reads : ReadsBlock s (Calls (Write slot bytes true) ∷ t) older es
   slot_reads = is_written s.blocks (log s t) s.sizes.geometry s.sizes.start (blocks_of s older) (sealed_with s es) slot bytes place says
 
-  pub slot_shown : (h : Happening) (ok : Bool) → IsCallOf h (Write slot bytes ok) → AtRest s (h ∷ t) older ⊎ OnItsWay s (h ∷ t) older es → committed t ≡ all_of older → Shown s t → Shown s (h ∷ t)
+  pub slot_shown : (h : Happening) (ok : Bool) → IsCallOf h (Write slot bytes ok) → AtRest s (h ∷ t) older ⊎ OnItsWay s (h ∷ t) older es → durable t ≡ all_of older → Shown s t → Shown s (h ∷ t)
   slot_shown h ok is stands committed_is stood = record {
     superblock = stands_kept s h t 0 _ (block_spared is 0 (λ same. omega (arith, same, place))) stood.superblock;
     journal = inr (record { block = es; older = older; sealed_is = (call_sealed s t is).sealed_same ∙ sealed_is; committed_is = (call_sealed s t is).committed_same ∙ committed_is; stands = stands });

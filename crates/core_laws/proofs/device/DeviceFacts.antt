@@ -1,6 +1,7 @@
 -- What the acts of the device zone owe: it stores, loads and flushes for requests, and flushes and writes for sealed blocks.
 use Rattle.std.proofs.Common.{◌≡◌, ℕ, zero, suc, ◌+◌, ◌<◌, ◌≤◌, Bool, true, false, Some, IsSome, List, [], ◌∷◌, ◌++◌, map, refl, ap, sym, ◌∙◌, subst, inl, inr, arith, ◌⊎◌}
-use Rattle.core_laws.proofs.Common.{all_logged, all_of, AllByRecursion, asked, Asks, AtRest, Call, calls, Calls, DataOk, DeviceZone, done, each_at, ended, entered, Entry, entry_of, eqb_tells, every-map, Fails, FailureMayFollow, fair_before, Happening, has_read_fault, has_stopped, HasAddress, HasCause, HasWholeBlocks, is_ok, is_read, IsAsOpened, IsChange, IsEarned, IsFair, IsFresh, IsMadeFor, IsOpen, IsSealed, IsSession, IsToFresh, KeptOk, Lba, log, logged, Logged, logical_zones, Mapping, MapsTo, moments, NewReads, NewStands, notified, OnBlock, OnItsWay, Pbn, place_of, places, Post, ReadsAs, ReadsBlock, request_of, RightTrace, same_self, same_Some, SealedBlock, Session, Shown, Sizes, some_is, Stage, StandsAt, Trace, value_at, value_from, Vio, VioOk, Writer, zone_count, zone_number}
+use Rattle.core_laws.proofs.Common.{all_logged, all_of, AllByRecursion, asked, Asks, AtRest, Call, calls, Calls, DataOk, DeviceZone, each_at, ended, Entry, entry_of, eqb_tells, every-map, Fails, FailureMayFollow, fair_before, Happening, has_read_fault, has_stopped, HasAddress, HasCause, HasWholeBlocks, is_ok, is_read, IsAsOpened, IsChange, IsEarned, IsFair, IsFresh, IsMadeFor, IsOpen, IsSealed, IsSession, IsToFresh, KeptOk, Lba, log, logged, logical_zones, Mapping, MapsTo, moments, NewReads, NewStands, notified, OnBlock, OnItsWay, Pbn, place_of, places, Post, ReadsAs, ReadsBlock, request_of, RightTrace, same_self, same_Some, SealedBlock, Session, Shown, Sizes, some_is, Stage, StandsAt, Trace, value_at, value_from, Vio, VioOk, Writer, zone_count, zone_number, applied, journaled, Logged, new_of, remappings, passed, every-front}
+use Rattle.core_laws.proofs.trace.PassesOfTrace.{value_past}
 use Rattle.image_layout.specs.Values.{mapping_of}
 use Rattle.vdo_model.specs.FlushMarks.{IsMark, successes}
 use Rattle.data_vio.specs.declared.items.Asks.TheVariants.{Read, Write, Discard, Flush}
@@ -9,7 +10,7 @@ use Rattle.core_model.specs.DeviceRules.{DeviceServes, counted, stop_notices, De
 use Rattle.core_model.specs.LogicalRules.{mapped_by}
 use Rattle.core_laws.proofs.kept.ActKept.{Known, Mine, weighed, PostOk, ActKept, act_none, act_one, vio_ok, in_phase, carries_at}
 use Rattle.core_laws.proofs.kept.Keys.{OfBlock, Clears, claim_one}
-use Rattle.core_laws.proofs.device.DeviceCalls.{IsSpelled, call_clears, data_misses, old_data, quiet_call, quiet_journal, read_value, slot_misses, slot_reads, slot_shown, slot_way, spelled_sealed, store_call, store_reads, whole_opening}
+use Rattle.core_laws.proofs.device.DeviceCalls.{CanStand, can_fresh, call_clears, data_misses, old_data, quiet_call, quiet_journal, read_value, slot_misses, slot_reads, slot_shown, slot_way, spelled_sealed, store_call, store_reads, whole_opening}
 use Rattle.core_laws.proofs.journal.SealedBlocks.{blocks_length, entries_in_order, every_logged, logged_length}
 use Rattle.image_model.specs.Windows.{LeadsToData}
 use Rattle.disk_model.specs.Log.{Misses}
@@ -101,7 +102,7 @@ module _ {s : Session} {t : Trace} {n : ℕ} {old : DeviceZone} {v : Vio} (known
   quiet c is misses = call_clears is known.own.number_is (λ x. inr (λ inside. block_spared is x (misses x))) (inr (quiet_journal s t c is misses))
 
   -- the data of a write
-  unnamed : (x : Pbn) → v.phase ≡ phase.Store → v.new ≡ At x → AreElsewhere x.0 (entered t)
+  unnamed : (x : Pbn) → v.phase ≡ phase.Store → v.new ≡ At x → AreElsewhere x.0 (journaled t)
   unnamed x is to = known.unnamed old v x refl refl (rw is refl) to
 
   stored : {h : Happening} (x : Pbn) (success : Bool) → IsCallOf h (call.Write x v.bytes success) → v.phase ≡ phase.Store → v.new ≡ At x → IsFresh s x → Clears s n (Mine s t (at.Device old) (item.Request v ∷ [])) h t
@@ -110,7 +111,7 @@ module _ {s : Session} {t : Trace} {n : ℕ} {old : DeviceZone} {v : Vio} (known
         | inl same ↦ inl (subst (λ (z : ℕ). Mine s t (at.Device old) (item.Request v ∷ []) (OfBlock z)) same.1 (weighed (omega (arith, claim_one v x (rw store refl) to))))
         | inr other ↦ inr (λ inside. block_spared is y other.1)
       ])
-      (inr (call_sealed s t is, journal_spared s is (data_misses s.sizes.geometry x v.bytes success fresh.is_data), ((λ a y named. block_spared is y.0 (λ same. fresh.unnamed a y named (sym same))), write_spares is (entered t) (unnamed x store to))))
+      (inr (call_sealed s t is, journal_spared s is (data_misses s.sizes.geometry x v.bytes success fresh.is_data), ((λ a y named. block_spared is y.0 (λ same. fresh.unnamed a y named (sym same))), write_spares is (journaled t) (unnamed x store to))))
 
   -- what it carries then to the journal
   stored_carries : (u : Trace) (x : Pbn) (q : Asks) (m : Mapping) → q ≡ Write → m ≡ At x → IsFresh s x → ReadsAs s u x.0 v.bytes → MapsTo q v.bytes m × OnBlock (IsFresh s) m × (IsFair s u → OnBlock (λ y. ReadsAs s u y.0 v.bytes) m)
@@ -125,8 +126,9 @@ module _ {s : Session} {t : Trace} {n : ℕ} {old : DeviceZone} {v : Vio} (known
   load_value : (x : Pbn) (bytes : List ℕ) → v.phase ≡ phase.Load → v.old ≡ At x → IsFair s (Calls (call.Read x bytes true) ∷ t) → bytes ≡ value_at s t v.at.0
   load_value x bytes is from fair =
       let carries = in_phase known phase.Load is in
-      let maps = ap (λ o. mapped_by o (mapping_of s.window v.at.0)) carries.0.latest ∙ sym (mapping_by s.window (done t) v.at.0) ∙ sym carries.0.held.old_is ∙ from in
+      let maps = ap (λ o. mapped_by o (mapping_of s.window v.at.0)) carries.0.latest ∙ sym (mapping_by s.window (applied t) v.at.0) ∙ sym carries.0.held.old_is ∙ from in
       read_value s t known.session known.right (fair_before s (Calls (call.Read x bytes true)) t fair) v.at.0 v.latest x bytes carries.0.held.turn.quiet carries.0.latest maps fair.honest.0 fair.honest.1 ∙ ap (value_from s v.at.0) carries.0.latest
+      ∙ sym (value_past s t v.at.0 known.right (remappings (applied t)))
 
   pub device_serves : (new : DeviceZone) (made : Trace) (posts : List Post) → DeviceServes s.sizes old v new made posts → ActKept s t n (at.Device old) (item.Request v ∷ []) (at.Device new) made posts
   device_serves new made posts (device.stores x is to runs inside e m p) =
@@ -209,7 +211,7 @@ flush_way s t {h} older es is k = way_kept s h t older es (journal_spared s is (
 -- one that returns makes what reads give stand
 flushed : (s : Session) (t : Trace) (es : List Logged) → NewReads s t es → NewStands s (Calls (call.Flush true) ∷ t) es
 flushed s t [] reads = tt
-flushed s t (e ∷ es) reads = (on_each e.new (λ x to k. k) reads.0, flushed s t es reads.1)
+flushed s t (e ∷ es) reads = (on_each (new_of e) (λ x to k. k) reads.0, flushed s t es reads.1)
 
 below_logical : (s : Session) (v : Vio) (q : Asks) → IsChange q → HasAddress s.sizes v.at q → v.at.0 < s.sizes.geometry.logical
 below_logical s v Write is k = k
@@ -218,13 +220,13 @@ below_logical s v Read is k = absurd is
 below_logical s v Flush is k = absurd is
 
 -- what the form of the journal needs of the entry of a request in a block
-spelled : (s : Session) (t : Trace) (v : Vio) → IsSession s → RightTrace s t → KeptOk s t phase.Pending v → IsSpelled s (logged v)
+spelled : (s : Session) (t : Trace) (v : Vio) → IsSession s → RightTrace s t → KeptOk s t phase.Pending v → CanStand s (logged v)
 spelled s t v session right k =
     let has = carries_at s t v phase.Pending k.2 k.1 in
     record {
       below = below_logical s v v.asks has.is_entered.is_change k.0.address;
       old_held = has.old_held;
-      old_led = subst (LeadsToData s.sizes.geometry) (sym has.old_is) (old_data s (done t) v.at.0 _ session (all_done (HasData s) s t right (committed_data s t right)) refl);
+      old_led = subst (LeadsToData s.sizes.geometry) (sym has.old_is) (old_data s (applied t) v.at.0 _ session (every-front (HasData s) (remappings (applied t)) (passed t) (all_done (HasData s) s t right (committed_data s t right))).0 refl);
       fresh = has.fresh;
     }
 
@@ -242,11 +244,11 @@ module _ (s : Session) (t : Trace) (b : SealedBlock) (session : IsSession s) (vi
   sequence_is : b.sequence ≡ next_of s.sizes.start (blocks_of s k.older)
   sequence_is = let opened = whole.opened in let at = k.sequence in omega (arith, at, opened, blocks_length s k.older)
 
-  all_spelled : AllByRecursion (IsSpelled s) es
-  all_spelled = every_logged (IsSpelled s) b.vios (every-map {P = KeptOk s t phase.Pending} {Q = λ v. IsSpelled s (logged v)} (λ v ok. spelled s t v session right ok) b.vios vios)
+  all_spelled : AllByRecursion (CanStand s) es
+  all_spelled = every_logged (CanStand s) b.vios (every-map {P = KeptOk s t phase.Pending} {Q = λ v. CanStand s (logged v)} (λ v ok. spelled s t v session right ok) b.vios vios)
 
-  all_fresh : AllByRecursion (λ (e : Logged). OnBlock (IsFresh s) e.new) es
-  all_fresh = every-map {P = IsSpelled s} {Q = λ (e : Logged). OnBlock (IsFresh s) e.new} (λ e is. is.fresh) es all_spelled
+  all_fresh : AllByRecursion (λ (e : Logged). OnBlock (IsFresh s) (new_of e)) es
+  all_fresh = every-map {P = CanStand s} {Q = λ (e : Logged). OnBlock (IsFresh s) (new_of e)} (can_fresh s) es all_spelled
 
   -- its block can be sealed behind those that are committed
   can_seal : IsSealedBlock s.sizes.geometry s.sizes.start (blocks_of s k.older) (sealed_with s es)

@@ -1,7 +1,8 @@
 -- What the acts of the journal owe: entries are handed in, wait, or are refused; a block is sealed, and its entries are
 -- committed, or it failed.
 use Rattle.std.proofs.Common.{◌≡◌, ◌≢◌, ◌++◌, ◌≤◌, suc, Option, append_assoc, length-append, ℕ, ◌<◌, true, Some, IsNone, IsSome, List, [], ◌∷◌, refl, ap, arith, ◌+◌, Bool, false, length, sym, ◌∙◌, inl, inr, subst}
-use Rattle.core_laws.proofs.Common.{all_logged, all_of, AllByRecursion, asked, Asks, AtRest, bit, BlockOk, Carries, Commits, committed, DataOk, done, each_at, entered, Enters, entry_of, every-append, fair_before, filled, Happening, has_stopped, HasCause, HasFullJournal, HasPendingEntry, HasPlace, holder_weight, Holds, IsChange, IsFair, IsFull, IsPlaced, IsSession, JournalLists, JournalZone, KeptEach, KeptOk, Lba, Logged, logged, logged_of, ltb-false, ltb-true, Mapping, MapsTo, MayReply, NewReads, OnBlock, or_parts, place_of, places, Post, ReadsAs, Request, RestsAt, RightTrace, same_self, same_tells, same_writer, sealed, SealedBlock, Seals, Session, Shown, some_is, Stage, StandsAt, total, Trace, turned, value_written, Vio, VioOk, Writer, zone_count, zone_number, zone_of, zone_of_stage}
+use Rattle.core_laws.proofs.Common.{all_logged, all_of, AllByRecursion, asked, Asks, AtRest, bit, BlockOk, Carries, Commits, committed, DataOk, done, each_at, entered, Enters, entry_of, every-append, fair_before, filled, Happening, has_stopped, HasCause, HasFullJournal, HasPendingEntry, HasPlace, holder_weight, Holds, IsChange, IsFair, IsFull, IsPlaced, IsSession, JournalLists, JournalZone, KeptEach, KeptOk, Lba, logged, logged_of, ltb-false, ltb-true, Mapping, MapsTo, MayReply, NewReads, OnBlock, or_parts, place_of, places, Post, ReadsAs, Request, RestsAt, RightTrace, same_self, same_tells, same_writer, sealed, SealedBlock, Seals, Session, Shown, some_is, Stage, StandsAt, total, Trace, turned, value_written, Vio, VioOk, Writer, zone_count, zone_number, zone_of, zone_of_stage, applied, durable, journaled, remapping, Logged, Remaps, Makes, passed, remappings}
+use Rattle.core_laws.proofs.trace.PassesOfTrace.{cut_passed}
 use Rattle.std.proofs.Math.Nat.{mod-lt}
 use Rattle.data_vio.specs.declared.items.Asks.TheVariants.{Read, Write, Discard, Flush}
 use Rattle.core_model.specs.JournalRules.{JournalEnds, JournalServes, all_again, all_dropped, all_refused, entered_by, hands_out, has_block, has_room, is_closed, next_block, refused}
@@ -85,13 +86,15 @@ module _ (s : Session) (t : Trace) where
 -- where it has entries, a block of the journal is left for it, and it has no more than it may
 pub filled_left : (s : Session) (t : Trace) → RightTrace s t → 0 < length (filled t) → s.sizes.opened + length (sealed t) + 1 < s.sizes.geometry.journal
 filled_left s [] right some = absurd (omega (arith, some))
-filled_left s (Enters e ∷ t) right some = right.0.left
+filled_left s (Enters (Remaps e) ∷ t) right some = right.0.left
+filled_left s (Enters (Makes p) ∷ t) right some = right.0.left
 filled_left s (Seals ∷ t) right some = absurd (omega (arith, some))
 filled_left s (other ∷ t) right some = filled_left s t right.2 some
 
 pub filled_few : (s : Session) (t : Trace) → RightTrace s t → length (filled t) ≤ 192
 filled_few s [] right = omega arith
-filled_few s (Enters e ∷ t) right = let room = right.0.room in omega (arith, room)
+filled_few s (Enters (Remaps e) ∷ t) right = let room = right.0.room in omega (arith, room)
+filled_few s (Enters (Makes p) ∷ t) right = let room = right.0.room in omega (arith, room)
 filled_few s (Seals ∷ t) right = omega arith
 filled_few s (other ∷ t) right = filled_few s t right.2
 
@@ -152,7 +155,7 @@ module _ (s : Session) (t : Trace) (v : Vio) (right : RightTrace s t) (ok : VioO
       left = left;
       room = room;
       new_data = on_each v.new (λ x to fresh. fresh.is_data) carries.2;
-      old_is = carries.0.old_is ∙ mapping_same s.window (done t) (committed t) v.at.0 (sym carries.0.turn.quiet.all_done);
+      old_is = carries.0.old_is ∙ mapping_same s.window (applied t) (durable t) v.at.0 (sym (cut_passed v.at.0 (remappings (durable t)) (remappings (applied t)) (passed t) carries.0.turn.quiet.all_done));
     },
     shown_on,
     right,
@@ -169,7 +172,7 @@ module _ (s : Session) (t : Trace) (v : Vio) (right : RightTrace s t) (ok : VioO
         unset = unentered_slot s t v.request right carries.0.turn.is_placed.not_entered;
         unaborted = unentered_abort s t v.request right carries.0.turn.is_placed.not_entered;
       };
-      pending = record { last = of_same (logged v) (entered t) ∙ ap (λ es. logged v ∷ es) carries.0.turn.quiet.all_committed; others = carries.0.turn.quiet.all_done };
+      pending = record { last = of_same (remapping v) (entered t) ∙ ap (λ es. remapping v ∷ es) carries.0.turn.quiet.all_committed; others = carries.0.turn.quiet.all_done };
       below = record { writes = carries.0.turn.below.writes; reads = carries.0.turn.below.reads };
       maps = carries.1;
       fresh = carries.2;
@@ -179,7 +182,7 @@ module _ (s : Session) (t : Trace) (v : Vio) (right : RightTrace s t) (ok : VioO
     refl,
   )
 
-rests_idle : (s : Session) (t : Trace) (busy broken : Bool) → busy ≡ false → broken ≡ false → RestsAt s t busy broken → (all_of (sealed t) ≡ committed t) × (IsFair s t → AtRest s t (sealed t))
+rests_idle : (s : Session) (t : Trace) (busy broken : Bool) → busy ≡ false → broken ≡ false → RestsAt s t busy broken → (all_of (sealed t) ≡ durable t) × (IsFair s t → AtRest s t (sealed t))
 rests_idle s t busy broken p q k = let here : RestsAt s t false false = rw (p, q) at k in here
 
 -- a journal that is busy goes on so, and didn't fail
@@ -224,7 +227,7 @@ module _ {s : Session} {t : Trace} {n : ℕ} {old : JournalZone} {v : Vio} (know
       request = own_request known;
       address = own_address known phase.Enter is refl;
       block = λ x. inr (λ inside. tt);
-      journal = inr (record { sealed_same = refl; committed_same = refl }, tt, silent s t (Enters (logged v)) (λ x. tt) (entered t));
+      journal = inr (record { sealed_same = refl; committed_same = refl }, tt, silent s t (Enters (logged v)) (λ x. tt) (journaled t));
     }
 
     entry_right : RightTrace s (Enters (logged v) ∷ t)
@@ -373,14 +376,14 @@ module _ {s : Session} {t : Trace} {n : ℕ} {old : JournalZone} {b : SealedBloc
     mine : KeptOk s t phase.Pending v × AllByRecursion (KeptOk s t phase.Pending) vs
     mine = each_at (KeptOk s t phase.Pending) v vs b.vios vios vios_ok
 
-    has : HasPendingEntry s t v.asks v.bytes (logged v)
+    has : HasPendingEntry s t v.asks v.bytes (remapping v)
     has = carries_at s t v phase.Pending mine.0.2 mine.0.1
 
-    stands : (all_of (sealed t) ≡ all_logged b.vios ++ committed t) × (IsFair s t → AtRest s t (sealed t))
+    stands : (all_of (sealed t) ≡ all_logged b.vios ++ durable t) × (IsFair s t → AtRest s t (sealed t))
     stands = stands_as stage.Commit is
 
-    next : all_of (sealed t) ≡ all_logged vs ++ (logged v ∷ committed t)
-    next = stands.0 ∙ ap (λ (us : List Vio). all_logged us ++ committed t) vios ∙ append_assoc (all_logged vs) (logged v ∷ []) (committed t)
+    next : all_of (sealed t) ≡ all_logged vs ++ (logged v ∷ durable t)
+    next = stands.0 ∙ ap (λ (us : List Vio). all_logged us ++ durable t) vios ∙ append_assoc (all_logged vs) (logged v ∷ []) (durable t)
 
     rest_on : IsFair s (commits ∷ t) → AtRest s (commits ∷ t) (sealed t)
     rest_on fair = rests_kept s commits t (sealed t) tt (silent s t commits (λ x. tt) (all_of (sealed t))) (stands.1 (fair_before s commits t fair))
@@ -416,7 +419,7 @@ module _ {s : Session} {t : Trace} {n : ℕ} {old : JournalZone} {b : SealedBloc
         vio_over s commits t v refl mine.0.0,
         (
           record { is_change = has.is_entered.is_change; placed = has.is_entered.placed; entry = has.is_entered.entry; unset = has.is_entered.unset; unaborted = has.is_entered.unaborted },
-          record { all_committed = has.pending.last ∙ sym (of_same (logged v) (committed t)); last = of_same (logged v) (committed t) ∙ ap (λ es. logged v ∷ es) has.pending.others },
+          record { all_committed = has.pending.last ∙ sym (of_same (remapping v) (committed t)); last = of_same (remapping v) (committed t) ∙ ap (λ es. remapping v ∷ es) has.pending.others },
           record { writes = has.below.writes; reads = has.below.reads },
           has.fresh,
         ),
@@ -432,8 +435,8 @@ module _ {s : Session} {t : Trace} {n : ℕ} {old : JournalZone} {b : SealedBloc
 
   -- The next block is sealed.
   module _ (v : Vio) (vs : List Vio) (is : b.stage ≡ stage.Commit) (done_with : b.vios ≡ []) (filling : old.filling ≡ v ∷ vs) where
-    all_there : (all_of (sealed t) ≡ committed t) × (IsFair s t → AtRest s t (sealed t))
-    all_there = let k = stands_as stage.Commit is in (k.0 ∙ ap (λ (us : List Vio). all_logged us ++ committed t) done_with, k.1)
+    all_there : (all_of (sealed t) ≡ durable t) × (IsFair s t → AtRest s t (sealed t))
+    all_there = let k = stands_as stage.Commit is in (k.0 ∙ ap (λ (us : List Vio). all_logged us ++ durable t) done_with, k.1)
 
     filled_is : filled t ≡ all_logged (v ∷ vs)
     filled_is = sym (known.own.lists.filled_is whole) ∙ ap all_logged filling
@@ -528,7 +531,7 @@ module _ {s : Session} {t : Trace} {n : ℕ} {old : JournalZone} {b : SealedBloc
   journal_ends new made posts (journal.rests is done_with filling e m p) =
       let k = known.own in
       let stands = stands_as stage.Commit is in
-      let there = stands.0 ∙ ap (λ (us : List Vio). all_logged us ++ committed t) done_with in
+      let there = stands.0 ∙ ap (λ (us : List Vio). all_logged us ++ durable t) done_with in
       rw (e, m, p) (act_none known (record {
         number_is = k.number_is;
         lists = record {

@@ -3,7 +3,7 @@ use Rattle.std.proofs.Common.{ℕ, zero, suc, ◌+◌, ◌<◌, ◌≡◌, List,
 use Rattle.std.proofs.lemmas.List.{reverse-append}
 use Rattle.std.proofs.Math.Seq.{take-append_seam}
 use Rattle.blk_base.specs.declared.journal_entry.CommittedEntry.{CommittedEntry}
-use Rattle.core_laws.proofs.Common.{Commits, Enters, Entry, IsLogOf, Logged, RightTrace, Seals, Session, Trace, Vio, all_logged, all_of, committed, entry_of, filled, sealed}
+use Rattle.core_laws.proofs.Common.{Commits, Enters, Entry, IsLogOf, Logged, RightTrace, Seals, Session, Trace, Vio, all_logged, all_of, entry_of, filled, sealed, durable}
 use Rattle.core_laws.proofs.trace.DeskOfTrace.{committed_sealed}
 use Rattle.core_laws.proofs.journal.SealedBlocks.{block_length, logged_length, map_both, map_length, reverse_more}
 use Rattle.core_model.specs.JournalRules.{HasNext, IsSealable, appended, handed_out, sealed_log}
@@ -54,7 +54,7 @@ log_at_start s log is =
     })
 
 -- Where these lists stay, so does what it has.
-pub log_over : (s : Session) (t u : Trace) (log : Log) → filled u ≡ filled t → sealed u ≡ sealed t → committed u ≡ committed t → IsLogOf s t log → IsLogOf s u log
+pub log_over : (s : Session) (t u : Trace) (log : Log) → filled u ≡ filled t → sealed u ≡ sealed t → durable u ≡ durable t → IsLogOf s t log → IsLogOf s u log
 log_over s t u log same_filled same_sealed same_committed k = record {
   size_is = k.size_is;
   sequence_is = k.sequence_is ∙ ap (λ (blocks : List (List Logged)). s.sizes.start + (s.sizes.opened + length blocks)) (sym same_sealed);
@@ -90,7 +90,7 @@ log_committed s t log e k = record {
 }
 
 -- The block being filled is sealed.
-module _ (s : Session) (t : Trace) (log : Log) (k : IsLogOf s t log) (some : 0 < length (filled t)) (all_committed : all_of (sealed t) ≡ committed t) where
+module _ (s : Session) (t : Trace) (log : Log) (k : IsLogOf s t log) (some : 0 < length (filled t)) (all_committed : all_of (sealed t) ≡ durable t) where
   log_some : 0 < length log.filling
   log_some = let count = filling_length s t log k in omega (arith, some, count)
 
@@ -112,24 +112,24 @@ module _ (s : Session) (t : Trace) (log : Log) (k : IsLogOf s t log) (some : 0 <
   }
 
 -- It can be sealed where it has an entry, and all others are committed.
-pub is_sealable : (s : Session) (t : Trace) (log : Log) → IsLogOf s t log → 0 < length log.filling → all_of (sealed t) ≡ committed t → IsSealable log
+pub is_sealable : (s : Session) (t : Trace) (log : Log) → IsLogOf s t log → 0 < length log.filling → all_of (sealed t) ≡ durable t → IsSealable log
 is_sealable s t log k some all_committed = record { some = some; durable = k.durable_is all_committed }
 
 -- There is a next entry where not all are committed.
-pub has_next : (s : Session) (t : Trace) (log : Log) (vs : List Vio) → IsLogOf s t log → all_of (sealed t) ≡ all_logged vs ++ committed t → 0 < length vs → HasNext log
+pub has_next : (s : Session) (t : Trace) (log : Log) (vs : List Vio) → IsLogOf s t log → all_of (sealed t) ≡ all_logged vs ++ durable t → 0 < length vs → HasNext log
 has_next s t log vs k left some =
     let handed = k.handed_is in
     let entries = entries_length s t log k in
     let all = ap length left in
-    omega (arith, handed, entries, all, length-append (all_logged vs) (committed t), logged_length vs, some)
+    omega (arith, handed, entries, all, length-append (all_logged vs) (durable t), logged_length vs, some)
 
 -- What was handed out is what is committed, since all others stand behind it.
 
-pub log_handed : (s : Session) (t : Trace) (log : Log) → RightTrace s t → IsLogOf s t log → take log.handed (said_by log.entries) ≡ reverse (map entry_of (committed t))
+pub log_handed : (s : Session) (t : Trace) (log : Log) → RightTrace s t → IsLogOf s t log → take log.handed (said_by log.entries) ≡ reverse (map entry_of (durable t))
 log_handed s t log right k =
     let left = committed_sealed s t right in
-    let done = reverse (map entry_of (committed t)) in
+    let done = reverse (map entry_of (durable t)) in
     let all : said_by log.entries ≡ done ++ reverse (map entry_of left.0) =
-    k.entries_are ∙ ap (λ (es : List Logged). reverse (map entry_of es)) left.1 ∙ ap reverse (map_both entry_of left.0 (committed t)) ∙ reverse-append (map entry_of left.0) (map entry_of (committed t)) in
-    let count : log.handed ≡ length done = k.handed_is ∙ sym (block_length s (committed t)) in
+    k.entries_are ∙ ap (λ (es : List Logged). reverse (map entry_of es)) left.1 ∙ ap reverse (map_both entry_of left.0 (durable t)) ∙ reverse-append (map entry_of left.0) (map entry_of (durable t)) in
+    let count : log.handed ≡ length done = k.handed_is ∙ sym (block_length s (durable t)) in
     ap (λ (n : ℕ). take n (said_by log.entries)) count ∙ ap (take (length done)) all ∙ take-append_seam done (reverse (map entry_of left.0))

@@ -1,6 +1,6 @@
 -- What each act may use and what it owes.
 use Rattle.std.proofs.Common.{◌≡◌, ℕ, ◌+◌, ◌<◌, ◌≤◌, true, Some, IsNone, List, [], ◌∷◌, ◌++◌, refl, subst, inl, inr, arith, false}
-use Rattle.core_laws.proofs.Common.{all_of, AllByRecursion, begun, Calls, Carries, claims, Commits, DataOk, DeviceZone, done, entered, Enters, Fails, fair_before, filled, GivesRight, Happening, holds, IsFair, IsSession, IsWrite, Item, ItemOk, kept_by, KeptEach, KeptOk, lines, logged_of, LogicalZone, none_is, not_both, option_cases, Pbn, Phase, place_of, Placed, places, Post, RightTrace, same_Some, same_tells, sealed, Seals, Session, Shown, total, Trace, Vio, VioOk, Writer, zone_count, zone_number, ZoneData, cases_Bool, has_taken, Says, Flushes, Takes}
+use Rattle.core_laws.proofs.Common.{all_of, AllByRecursion, begun, Calls, Carries, claims, Commits, DataOk, DeviceZone, done, entered, Enters, Fails, fair_before, filled, GivesRight, Happening, holds, IsFair, IsSession, IsWrite, Item, ItemOk, kept_by, KeptEach, KeptOk, lines, logged_of, LogicalZone, none_is, not_both, option_cases, Pbn, Phase, place_of, Placed, places, Post, RightTrace, same_Some, same_tells, sealed, Seals, Session, Shown, total, Trace, Vio, VioOk, Writer, zone_count, zone_number, ZoneData, cases_Bool, has_taken, Says, Flushes, Takes, journaled}
 use Rattle.blk_base.specs.declared.place.Mapping.TheVariants.{At}
 use Rattle.data_vio.specs.declared.items.Item.TheVariants as item
 use Rattle.data_vio.specs.declared.items.Phase.TheVariants as phase
@@ -42,7 +42,7 @@ pub record Known (s : Session) (t : Trace) (n : ℕ) (d : ZoneData) (front : Lis
   pub leased : LeasedIn d front
   pub in_turn : (l : LogicalZone) (v : Vio) → d ≡ at.Logical l → front ≡ item.Request v ∷ [] → v.phase ≡ phase.Arrive → AllByRecursion (ComesAfter l.zone v.request) (places t)
   -- no entry names a block that a write at the device has taken
-  pub unnamed : (z : DeviceZone) (v : Vio) (x : Pbn) → d ≡ at.Device z → front ≡ item.Request v ∷ [] → claims v.phase ≡ true → v.new ≡ At x → AreElsewhere x.0 (entered t)
+  pub unnamed : (z : DeviceZone) (v : Vio) (x : Pbn) → d ≡ at.Device z → front ≡ item.Request v ∷ [] → claims v.phase ≡ true → v.new ≡ At x → AreElsewhere x.0 (journaled t)
 
 -- what happens is about what it has in its hands
 abbrev pub Owns : Session → Trace → ℕ → ZoneData → List Item → Trace → Type 0
@@ -77,10 +77,10 @@ plain_journal s t (Commits e) is = absurd is
 plain_journal s t Seals is = absurd is
 plain_journal s t (Calls c) is = absurd is
 plain_journal s t (Fails w c kept) is = absurd is
-plain_journal s t other is = (record { sealed_same = refl; committed_same = refl }, tt, ((λ a x named. tt), spares_all other (λ x. tt) (entered t)))
+plain_journal s t other is = (record { sealed_same = refl; committed_same = refl }, tt, ((λ a x named. tt), spares_all other (λ x. tt) (journaled t)))
 
 -- What stands where the session is fair stands after a happening that writes no block of it, and adds nothing to the journal.
-pub shown_kept : (s : Session) (h : Happening) (t : Trace) → SparesSealed s h t → filled (h ∷ t) ≡ filled t → SparesJournal s h → SparesMap s h (entered t) → SparesBlock h 0 → (IsFair s t → Shown s t)
+pub shown_kept : (s : Session) (h : Happening) (t : Trace) → SparesSealed s h t → filled (h ∷ t) ≡ filled t → SparesJournal s h → SparesMap s h (journaled t) → SparesBlock h 0 → (IsFair s t → Shown s t)
     → IsFair s (h ∷ t) → Shown s (h ∷ t)
 shown_kept s h t same filling journal blocks first before fair =
     let k = before (fair_before s h t fair) in

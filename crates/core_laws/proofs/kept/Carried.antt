@@ -1,6 +1,6 @@
 -- What requests and sealed blocks carry stays where the next happening is about something else.
 use Rattle.std.proofs.Common.{◌≡◌, ℕ, ◌≤◌, Bool, true, false, Option, None, Some, List, [], ◌∷◌, ◌++◌, refl, ap, sym, ◌∙◌, subst, arith}
-use Rattle.core_laws.proofs.Common.{AllByRecursion, Answer, BlockOk, Carries, Happening, HasCause, Holds, IsEarned, IsEntered, IsInTurn, IsPlaced, IsSealed, IsUndrawn, Item, ItemOk, KeptOk, Logged, Looks, MayReply, Pbn, Phase, Request, SealedBlock, Session, Stage, StandsAt, Trace, Vio, VioOk, Writer, all_logged, all_of, done, entered, fair_before, gift_of, gifts, has_taken, holds, logged, logged_of, newest, place_of, places, request_of, sealed, total}
+use Rattle.core_laws.proofs.Common.{AllByRecursion, Answer, BlockOk, Carries, Happening, HasCause, Holds, IsEarned, IsEntered, IsInTurn, IsPlaced, IsSealed, IsUndrawn, Item, ItemOk, KeptOk, Looks, MayReply, Pbn, Phase, Request, SealedBlock, Session, Stage, StandsAt, Trace, Vio, VioOk, Writer, all_logged, all_of, done, entered, fair_before, gift_of, gifts, has_taken, holds, logged_of, newest, place_of, places, request_of, sealed, total, applied, remapping, Logged}
 use Rattle.blk_base.specs.declared.place.Mapping.TheVariants.{At}
 use Rattle.blk_base.specs.declared.request.Answer.TheVariants as reply
 use Rattle.blk_base.specs.declared.request.Request.TheVariants as request
@@ -10,7 +10,7 @@ use Rattle.data_vio.specs.declared.items.Phase.TheVariants as phase
 use Rattle.data_vio.specs.declared.items.Stage.TheVariants as stage
 use Rattle.core_model.specs.DeskRules.{is_marked, mark_of_vio}
 use Rattle.core_laws.proofs.kept.Keys.{Key, OfRequest, OfAddress, OfBlock, OfJournal, token_of, Spares, own_name, holder_one, claim_one}
-use Rattle.core_laws.proofs.kept.Spared.{SparesRequest, SparesAddress, open_kept, place_same, entry_same, slot_same, abort_same, gift_same, take_same, stop_kept, fault_kept, abort_kept, full_kept, needs_kept, journal_full_kept, mapping_same, quiet_kept, committed_kept, below_kept, pending_kept, mark_kept, value_same, done_at}
+use Rattle.core_laws.proofs.kept.Spared.{applied_at, SparesRequest, SparesAddress, open_kept, place_same, entry_same, slot_same, abort_same, gift_same, take_same, stop_kept, fault_kept, abort_kept, full_kept, needs_kept, journal_full_kept, mapping_same, quiet_kept, committed_kept, below_kept, pending_kept, mark_kept, value_same}
 use Rattle.core_laws.proofs.kept.StandsOn.{SparesBlock, SparesBlocks, SparesJournal, SparesMap, SparesSealed, block_reads_kept, comes_stands, new_kept, new_reads_kept, on_both, reads_kept, rests_kept, sealed_spared, spares_parts, way_kept}
 
 none_weigh : (vs : List Vio) → total (λ v. 0) vs ≡ 0
@@ -97,14 +97,14 @@ module _ (s : Session) (h : Happening) (t : Trace) where
   holds_kept v apart off k = record {
     turn = turn_kept v apart off k.turn;
     old_held = k.old_held;
-    old_is = k.old_is ∙ sym (mapping_same s.window (done (h ∷ t)) (done t) v.at.0 (done_at h t v.at.0 off));
+    old_is = k.old_is ∙ sym (mapping_same s.window (applied (h ∷ t)) (applied t) v.at.0 (applied_at h t v.at.0 off));
   }
 
   pub looks_kept : (v : Vio) → SparesRequest h v.request → SparesAddress h v.at.0 → Looks s t v → Looks s (h ∷ t) v
   looks_kept v apart off k = record {
     held = holds_kept v apart off k.held;
     is_read = k.is_read;
-    latest = k.latest ∙ ap newest (sym (done_at h t v.at.0 off));
+    latest = k.latest ∙ ap newest (sym (applied_at h t v.at.0 off));
   }
 
   pub entered_kept : (v : Vio) → SparesRequest h v.request → IsEntered s t v → IsEntered s (h ∷ t) v
@@ -127,14 +127,14 @@ module _ (s : Session) (h : Happening) (t : Trace) where
   by_phase v phase.Enter r a b k = (holds_kept v r (a refl) k.0, k.1, k.2, λ fair. on_both v.new (λ x to fresh reads. reads_kept s h t x.0 v.bytes (b refl x to fresh.is_data) reads) k.2 (k.3 (fair_before s h t fair)))
   by_phase v phase.Pending r a b k = record {
     is_entered = entered_kept v r k.is_entered;
-    pending = pending_kept h t (logged v) (a refl) k.pending;
+    pending = pending_kept h t (remapping v) (a refl) k.pending;
     below = below_kept h t v.at.0 v.place (a refl) k.below;
     maps = k.maps;
     fresh = k.fresh;
     old_held = k.old_held;
-    old_is = k.old_is ∙ sym (mapping_same s.window (done (h ∷ t)) (done t) v.at.0 (done_at h t v.at.0 (a refl)));
+    old_is = k.old_is ∙ sym (mapping_same s.window (applied (h ∷ t)) (applied t) v.at.0 (applied_at h t v.at.0 (a refl)));
   }
-  by_phase v phase.Settle r a b k = (entered_kept v r k.0, committed_kept h t (logged v) (a refl) k.1, below_kept h t v.at.0 v.place (a refl) k.2, k.3)
+  by_phase v phase.Settle r a b k = (entered_kept v r k.0, committed_kept h t (remapping v) (a refl) k.1, below_kept h t v.at.0 v.place (a refl) k.2, k.3)
   by_phase v phase.Load r a b k = (looks_kept v r (a refl) k.0, k.1)
   by_phase v phase.Loaded r a b k = (looks_kept v r (a refl) k.0, λ fair. k.1 (fair_before s h t fair) ∙ sym (value_same s h t v.at.0 (a refl)))
   by_phase v phase.AbortClaim r a b k = (holds_kept v r (a refl) k.0, reply_kept v v.answer r k.1)

@@ -1,7 +1,7 @@
 -- A core at its start is legal, with an empty trace.
 use Rattle.std.proofs.Common.{◌≡◌, ℕ, suc, ◌⊎◌, ◌≤◌, Bool, false, not, List, [], ◌∷◌, ◌++◌, length, refl, sym, ◌∙◌, ap, subst, inl, inr, arith}
 use Rattle.core_laws.proofs.journal.LogLaws.{log_at_start}
-use Rattle.core_laws.proofs.Common.{all_logged, AllByRecursion, answers_of, arrival, as_items, AtMost, AtRest, Balanced, begins_of, bit, block_token, blocks_at, DataOk, desk_number, DeskLine, Each, entry_token, every-get, given, HasBlocks, HasWholeBlocks, holder_token, in_log, is_answer, is_begin, is_block, is_entry, IsAsOpened, IsFresh, IsSession, Item, ItemOk, journal_token, KeptEach, KeptOk, Lba, lease_token, Lock, lock_weight, LocksOk, Logged, logical_number, LogicalZone, made_by, MapOk, Mapping, newest, notice_token, notified_by, of_address, OnBlock, one_physical, Pbn, queued, request_token, RestsAt, room_token, Session, Shown, Stands, Token, total, Trace, Vio, weight, Zone, zone_count, ZoneData, ZoneOk}
+use Rattle.core_laws.proofs.Common.{all_logged, AllByRecursion, answers_of, arrival, as_items, AtMost, AtRest, Balanced, begins_of, bit, block_token, blocks_at, DataOk, desk_number, DeskLine, Each, entry_token, every-get, given, HasBlocks, HasWholeBlocks, holder_token, in_log, is_answer, is_begin, is_block, is_entry, IsAsOpened, IsFresh, IsSession, Item, ItemOk, journal_token, KeptEach, KeptOk, Lba, lease_token, Lock, lock_weight, LocksOk, Remapping, logical_number, LogicalZone, made_by, MapOk, Mapping, newest, notice_token, notified_by, of_address, OnBlock, one_physical, Pbn, queued, request_token, RestsAt, room_token, Session, Shown, Stands, Token, total, Trace, Vio, weight, Zone, zone_count, ZoneData, ZoneOk, Logged, remappings}
 use Rattle.blk_base.specs.declared.place.Mapping.TheVariants.{Unmapped, Zero, At}
 use Rattle.image_layout.specs.Values.{mapping_of, value_in}
 use Rattle.journal_stops.proofs.StepLaws.{opened}
@@ -71,8 +71,8 @@ no_holders s n (at.Logical l) h = sym (ap (λ (locks : List Lock). length locks)
 no_holders s n other h = refl
 
 no_entries : (s : Session) (n : ℕ) (d : ZoneData) → IsFirstData s n d → entry_token.own d ≡ entry_token.gave d
-no_entries s n (at.Logical l) h = omega (arith, ap (λ (slots : List Logged). length slots) h.slots, ap (λ (retired : List Lba). length retired) h.retired)
-no_entries s n (at.Journal j) h = sym (ap (λ (es : List Logged). length es) h.entered)
+no_entries s n (at.Logical l) h = omega (arith, ap (λ (slots : List Remapping). length slots) h.slots, ap (λ (retired : List Lba). length retired) h.retired)
+no_entries s n (at.Journal j) h = sym (ap (λ (es : List Logged). length (remappings es)) h.entered)
 no_entries s n other h = refl
 
 free_once : (x : ℕ) (s : Session) → IsSession s → (n : ℕ) (d : ZoneData) → IsFirstData s n d → blocks_at x d ≤ one_physical d
@@ -171,7 +171,7 @@ module _ (s : Session) (session : IsSession s) where
   }
   data_at_start n (at.Logical l) h = record {
     number_is = h.number_is;
-    lists = record { places_is = h.places; next_is = h.next; slots_are = λ a e. ap (of_address a) h.slots; below = λ a e. record { writes = tt; reads = tt } };
+    lists = record { places_is = h.places; next_is = h.next; slots_are = λ a e. ap (of_address a) h.slots; below = λ a e. record { writes = tt; reads = tt }; tree_is = h.tree };
     sound = record { among = h.among; map = map_at_start l h.slots h.window; locks = locks_at_start l.zone l.next l.held l.waiting h.held h.waiting };
     kept = nobody_at_start n (at.Logical l) h;
     answers = λ a e free living. record { all_committed = refl; all_done = refl };

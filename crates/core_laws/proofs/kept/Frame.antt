@@ -1,6 +1,7 @@
 -- A zone that weighs nothing for what a happening is about keeps all its facts. Paid once for all kinds of zone and item.
-use Rattle.std.proofs.Common.{◌≡◌, ◌≢◌, ◌⊎◌, ℕ, ◌≤◌, ◌==◌, Bool, true, false, Some, List, [], ◌∷◌, ◌++◌, slice_get, refl, ap, sym, ◌∙◌, subst, inl, inr, arith}
-use Rattle.core_laws.proofs.Common.{all_of, AllBelow, AllByRecursion, Answers, calls, Calls, Commits, committed, desk_number, device_number, done, drawn, Draws, Each, entered, Enters, eq-eqb, eqb_tells, every-front, Fails, fair_before, filled, Flushes, Gives, Happening, has_stopped, HasLists, Item, ItemOk, journal_number, kept_by, KeptEach, KeptOk, lines, logical_number, marks, name_of, of_address, Phase, physical_number, places, RestsAt, Says, sealed, Seals, Session, Sets, Sizes, taken, Takes, Token, total, total-append, total-get, Trace, Vio, WasTold, weight, Zone, zone_number, zone_of, ZoneData, ZoneOk}
+use Rattle.std.proofs.Common.{◌≡◌, ◌≢◌, ◌⊎◌, ℕ, ◌≤◌, ◌==◌, Bool, true, false, Some, List, [], ◌∷◌, ◌++◌, slice_get, refl, ap, sym, ◌∙◌, subst, inl, inr, arith, ◌<◌}
+use Rattle.core_laws.proofs.Common.{all_of, AllBelow, AllByRecursion, Answers, calls, Calls, Commits, durable, desk_number, device_number, drawn, Draws, Each, journaled, Enters, eq-eqb, eqb_tells, every-front, Fails, fair_before, filled, Flushes, Gives, Happening, has_stopped, HasLists, Item, ItemOk, journal_number, kept_by, KeptEach, KeptOk, lines, logical_number, marks, name_of, of_address, Phase, physical_number, places, RestsAt, Says, sealed, Seals, Session, Remaps, Sets, Sizes, taken, Takes, Token, total, total-append, total-get, Trace, Vio, WasTold, weight, Zone, zone_number, zone_of, ZoneData, ZoneOk, Passes, applied, passed, remappings, Remapping}
+use Rattle.core_laws.proofs.lists.Between.{every_between}
 use Rattle.vdo_model.specs.FlushMarks.{successes}
 use Rattle.vdo_model.specs.ZoneOrder.{places_in}
 use Rattle.data_vio.specs.declared.items.Item.TheVariants.{Request}
@@ -9,6 +10,7 @@ use Rattle.core_model.specs.declared.zones.ZoneData.TheVariants as at
 use Rattle.core_laws.proofs.journal.LogLaws.{log_over}
 use Rattle.core_laws.proofs.kept.Carried.{kept_kept, item_kept}
 use Rattle.core_laws.proofs.kept.Keys.{Key, OfAddress, OfJournal, token_of, Spares, happens_in, Clears, mine_or_spared, free_one}
+use Rattle.core_laws.proofs.logical.PageFacts.{tree_over}
 use Rattle.core_laws.proofs.kept.Spared.{of_other, quiet_kept, stop_kept, abort_kept}
 use Rattle.core_laws.proofs.kept.StandsOn.{rests_kept, sealed_spared}
 use Rattle.core_laws.proofs.tokens.Lift.{items_total}
@@ -35,12 +37,14 @@ module _ (sizes : Sizes) where
   slot_apart : (b a : ℕ) → logical_number (zone_of sizes.zones a) ≢ logical_number (zone_of sizes.zones b) → b ≢ a
   slot_apart b a off same = off (ap (λ c. logical_number (zone_of sizes.zones c)) (sym same))
 
-  slots_same : (h : Happening) (t : Trace) (a : ℕ) → logical_number (zone_of sizes.zones a) ≢ happens_in sizes h → of_address a (done (h ∷ t)) ≡ of_address a (done t)
-  slots_same (Sets e) t a off = of_other e (done t) a (slot_apart e.at.0 a off)
+  slots_same : (h : Happening) (t : Trace) (a : ℕ) → logical_number (zone_of sizes.zones a) ≢ happens_in sizes h → of_address a (remappings (applied (h ∷ t))) ≡ of_address a (remappings (applied t))
+  slots_same (Sets (Remaps e)) t a off = of_other e (remappings (applied t)) a (slot_apart e.at.0 a off)
   slots_same other t a off = refl
 
   still_below : (h : Happening) (t : Trace) (a place : ℕ) → logical_number (zone_of sizes.zones a) ≢ happens_in sizes h → AllBelow t a place → AllBelow (h ∷ t) a place
-  still_below (Sets e) t a place off b = record { writes = ((λ same. absurd (slot_apart e.at.0 a off same)), b.writes); reads = b.reads }
+  still_below (Sets (Remaps e)) t a place off b = record { writes = ((λ same. absurd (slot_apart e.at.0 a off same)), b.writes); reads = b.reads }
+  still_below (Passes e) t a place off b =
+      record { writes = every_between (λ (f : Remapping). f.at.0 ≡ a → f.place < place) (remappings (applied t)) (passed t) e (λ same. absurd (slot_apart e.at.0 a off same)) b.writes; reads = b.reads }
   still_below (Gives g) t a place off b = record { writes = b.writes; reads = ((λ same. absurd (slot_apart g.at.0 a off same)), b.reads) }
   still_below other t a place off b = record { writes = b.writes; reads = b.reads }
 
@@ -49,7 +53,7 @@ module _ (sizes : Sizes) where
   taken_same other t off = refl
 
   entries_same : (h : Happening) (t : Trace) → journal_number sizes ≢ happens_in sizes h
-      → (entered (h ∷ t) ≡ entered t) × (committed (h ∷ t) ≡ committed t) × (filled (h ∷ t) ≡ filled t) × (sealed (h ∷ t) ≡ sealed t)
+      → (journaled (h ∷ t) ≡ journaled t) × (durable (h ∷ t) ≡ durable t) × (filled (h ∷ t) ≡ filled t) × (sealed (h ∷ t) ≡ sealed t)
   entries_same (Enters e) t off = absurd (off refl)
   entries_same (Commits e) t off = absurd (off refl)
   entries_same Seals t off = absurd (off refl)
@@ -68,6 +72,7 @@ module _ (s : Session) (h : Happening) (t : Trace) where
     next_is = k.next_is ∙ sym (places_same s.sizes h t l.zone off).1;
     slots_are = λ a zone. k.slots_are a zone ∙ sym (slots_same s.sizes h t a (at_home a zone));
     below = λ a zone. still_below s.sizes h t a l.next (at_home a zone) (k.below a zone);
+    tree_is = tree_over s l.zone l.tree h t off k.tree_is;
   }
     where
       at_home : (a : ℕ) → zone_of s.sizes.zones a ≡ l.zone → logical_number (zone_of s.sizes.zones a) ≢ happens_in s.sizes h

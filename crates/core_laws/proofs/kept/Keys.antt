@@ -1,7 +1,7 @@
 -- The keys that facts are on: a request, an address, a data block, the journal. Whoever weighs for a key has facts on it,
 -- and of each key at most one is held in the whole core. Each happening is about some keys, and spares the others.
-use Rattle.std.proofs.Common.{◌≡◌, ◌⊎◌, ℕ, ◌≤◌, ◌==◌, ◌&&◌, Bool, true, false, not, Option, None, Some, refl, ap, subst, inl, inr, arith}
-use Rattle.core_laws.proofs.Common.{Aborts, Calls, Commits, Draws, Enters, Fails, Flushes, Gives, Happening, Says, Seals, Session, Sets, Sizes, Takes, Token, Trace, Vio, Writer, ZoneData, bit, block_token, claims, desk_number, device_number, entered, eqb_tells, holder_weight, holds, journal_token, journal_number, logical_number, of_vio, physical_number, request_token, same_self, same_tells, zone_of, Pbn}
+use Rattle.std.proofs.Common.{◌≡◌, ◌⊎◌, ℕ, ◌≤◌, ◌==◌, ◌%◌, ◌&&◌, Bool, true, false, not, Option, None, Some, refl, ap, subst, inl, inr, arith}
+use Rattle.core_laws.proofs.Common.{Aborts, Calls, Commits, Draws, Enters, Fails, Flushes, Gives, Logged, Makes, Happening, Says, Seals, Session, Remaps, Sets, Sizes, Takes, Token, Trace, Vio, Writer, ZoneData, bit, block_token, claims, desk_number, device_number, journaled, eqb_tells, holder_weight, holds, journal_token, journal_number, logical_number, of_vio, physical_number, request_token, same_self, same_tells, zone_of, Pbn, Passes}
 use Rattle.blk_base.specs.Regions.{IsDataBlock}
 use Rattle.data_vio.specs.declared.items.Item.TheVariants.{Request}
 use Rattle.core_model.specs.declared.zones.ZoneData.TheVariants as at
@@ -62,7 +62,12 @@ abbrev pub Spares : Session → Trace → Happening → Key → Type 0
 Spares s t h (OfRequest w) = SparesRequest h w
 Spares s t h (OfAddress a) = SparesAddress h a
 Spares s t h (OfBlock x) = IsDataBlock s.sizes.geometry x → SparesBlock h x
-Spares s t h OfJournal = SparesSealed s h t × SparesJournal s h × SparesMap s h (entered t)
+Spares s t h OfJournal = SparesSealed s h t × SparesJournal s h × SparesMap s h (journaled t)
+
+-- the logical zone that sets the slot of an entry
+abbrev pub zone_in : ℕ → Logged → ℕ
+zone_in zones (Remaps e) = zone_of zones e.at.0
+zone_in zones (Makes p) = p.page.tree % zones
 
 -- the zone where it happens
 abbrev pub happens_in : Sizes → Happening → ℕ
@@ -72,10 +77,11 @@ happens_in sizes (Draws p) = logical_number p.zone
 happens_in sizes (Enters e) = journal_number sizes
 happens_in sizes (Commits e) = journal_number sizes
 happens_in sizes Seals = journal_number sizes
-happens_in sizes (Sets e) = logical_number (zone_of sizes.zones e.at.0)
+happens_in sizes (Sets e) = logical_number (zone_in sizes.zones e)
+happens_in sizes (Passes e) = logical_number (zone_of sizes.zones e.at.0)
 happens_in sizes (Gives g) = logical_number (zone_of sizes.zones g.at.0)
 happens_in sizes (Takes w x) = physical_number sizes
-happens_in sizes (Aborts e) = logical_number (zone_of sizes.zones e.at.0)
+happens_in sizes (Aborts e) = logical_number (zone_in sizes.zones e)
 happens_in sizes (Calls c) = device_number sizes
 happens_in sizes (Fails w c kept) = device_number sizes
 

@@ -1,6 +1,6 @@
 -- Of each key at most one is held in a legal core; so whoever has it in hand has it alone.
 use Rattle.std.proofs.Common.{◌≡◌, ◌≢◌, ℕ, zero, suc, ◌+◌, ◌≤◌, ◌==◌, ◌&&◌, ◌++◌, Bool, true, false, not, List, [], ◌∷◌, Some, slice_get, refl, sym, ◌∙◌, ap, subst, inl, inr, arith}
-use Rattle.core_laws.proofs.Common.{DataOk, Item, Logged, Session, Trace, Writer, Zone, ZoneData, begins_of, begun, bit, block_token, blocks_at, cases_Bool, entered, eqb_tells, given, in_log, is_entry, journal_number, kept_by, lease_token, lines, lock_weight, locks_at, nobody_else, request_token, total, total-append, total-get, total_zero, weight, zone_of, Mapping, names, OnBlock}
+use Rattle.core_laws.proofs.Common.{DataOk, Item, Logged, Session, Trace, Writer, Zone, ZoneData, begins_of, begun, bit, block_token, blocks_at, cases_Bool, eqb_tells, given, in_log, is_entry, journal_number, kept_by, lease_token, lines, lock_weight, locks_at, nobody_else, request_token, total, total-append, total-get, total_zero, weight, zone_of, Mapping, names, OnBlock, journaled, new_of}
 use Rattle.blk_base.specs.declared.place.Mapping.TheVariants.{Unmapped, Zero, At}
 use Rattle.core_model.specs.declared.zones.ZoneData.TheVariants as at
 use Rattle.core_model.specs.Legal.{Legal}
@@ -105,13 +105,13 @@ module _ (s : Session) (core : Core) (legal : Legal s core) where
 
   entries_apart : (x : ℕ) (es : List Logged) → total (is_entry x) es ≡ 0 → AreElsewhere x es
   entries_apart x [] none = tt
-  entries_apart x (e ∷ es) none = (named_none x e.new (omega (arith, none)), entries_apart x es (omega (arith, none)))
+  entries_apart x (e ∷ es) none = (named_none x (new_of e) (omega (arith, none)), entries_apart x es (omega (arith, none)))
 
   -- no entry names a block of which nobody beside another zone than the journal has anything
-  pub block_unnamed : (n : ℕ) (z : Zone) (x : ℕ) → HasNoneBeside core.zones n z (block_token x) → (journal_number s.sizes ≡ n → ⊥) → AreElsewhere x (entered core.trace)
+  pub block_unnamed : (n : ℕ) (z : Zone) (x : ℕ) → HasNoneBeside core.zones n z (block_token x) → (journal_number s.sizes ≡ n → ⊥) → AreElsewhere x (journaled core.trace)
   block_unnamed n z x none apart =
       let journal = journal_sits s core.trace core.zones legal.each legal.count in
       let nothing = none.others (journal_number s.sizes) journal.zone journal.had apart in
       let own : blocks_at x journal.zone.keeps ≡ 0 = omega (arith, nothing) in
       let ok : DataOk s core.trace (journal_number s.sizes) (at.Journal journal.it) = subst (λ d. DataOk s core.trace (journal_number s.sizes) d) journal.keeps (legal.each (journal_number s.sizes) journal.zone journal.had).own in
-      entries_apart x (entered core.trace) (ap (total (is_entry x)) (sym ok.lists.entered_is) ∙ sym (ap (blocks_at x) journal.keeps) ∙ own)
+      entries_apart x (journaled core.trace) (ap (total (is_entry x)) (sym ok.lists.entered_is) ∙ sym (ap (blocks_at x) journal.keeps) ∙ own)

@@ -1,7 +1,7 @@
 -- What a zone does with an item, and the desk with none, is fixed, and at the device by how it answered: two acts on the
 -- same keep, make and post the same.
 use Rattle.std.proofs.Common.{ℕ, ◌+◌, ◌≡◌, Bool, true, false, not, ◌&&◌, Option, None, Some, List, [], ◌∷◌, ◌++◌, refl, sym, ap, ◌∙◌}
-use Rattle.core_laws.proofs.Common.{Aborts, Answer, Calls, Commits, Desk, DeviceZone, Draws, Enters, Flushes, Gives, Item, JournalZone, LogicalZone, Pbn, Phase, PhysicalZone, Post, Says, Request, SealedBlock, Seals, Sets, Sizes, Stage, Takes, Trace, Vio, Writer, ZoneData, ended, gift, logged, notified, request_at, staged, turned}
+use Rattle.core_laws.proofs.Common.{Aborts, Answer, Calls, Commits, Desk, DeviceZone, Draws, Enters, Flushes, Gives, Item, JournalZone, LogicalZone, Passes, Pbn, Phase, PhysicalZone, Post, Says, Request, SealedBlock, Seals, Sets, Sizes, Stage, Takes, Trace, Vio, Writer, ZoneData, ended, gift, logged, notified, request_at, staged, turned}
 use Rattle.blk_base.specs.declared.place.ZoneId.TheVariants as id
 use Rattle.blk_base.specs.declared.request.Answer.TheVariants as reply
 use Rattle.disk_model.specs.declared.call.Call.TheVariants.{Read}
@@ -14,7 +14,7 @@ use Rattle.core_model.specs.DeskRules.{BeginsNext, DeskBegins, DeskServes, parks
 use Rattle.core_model.specs.DeviceRules.{DeviceServes, DeviceWorks, counted, halted, stop_notices, next_stage, next_zone}
 use Rattle.core_model.specs.PhysicalRules.{PhysicalServes}
 use Rattle.core_model.specs.JournalRules.{JournalServes, JournalEnds, is_closed, has_block, has_room, next_block, refused, all_refused, all_again, all_dropped, entered_by, committed_by, sealed_by, hands_out}
-use Rattle.core_model.specs.LogicalRules.{LogicalServes, is_among, is_held, lock_of, all_for, placed, place_of_vio, drawn_by, goes_on, granted, looks_up, released, retire, all_stopped, with_slot}
+use Rattle.core_model.specs.LogicalRules.{LogicalServes, is_among, is_held, lock_of, all_for, placed, place_of_vio, drawn_by, goes_on, granted, pass_of, passes_by, looks_up, released, retire, all_stopped, with_slot}
 use Rattle.core_model.specs.Steps.{Act, CallsDevice}
 use Rattle.core_laws.proofs.desk.BeginLaws.{begins_one}
 use Rattle.core_model.specs.Steps as steps
@@ -91,18 +91,22 @@ arrival_at l v true held = (drawn_by l v, Draws (place_of_vio l v) ∷ [], (id.D
 arrival_at l v false true = (record (drawn_by l v) { waiting = l.waiting ++ turned phase.Wait (placed l v) ∷ [] }, Draws (place_of_vio l v) ∷ [], [])
 arrival_at l v false false = (record (drawn_by l v) { held = lock_of (placed l v) ∷ l.held }, Draws (place_of_vio l v) ∷ [], looks_up (placed l v) ∷ [])
 
--- it goes where the map says
-abbrev onward_at : LogicalZone → Option Post → Result LogicalZone
-onward_at l (Some post) = (l, [], post ∷ [])
-onward_at l None = (l, [], [])
-
 -- the lock is passed on
 abbrev passes : LogicalZone → ℕ → Trace → Post → Result LogicalZone
 passes l a made post = (released a l, made, post ∷ granted a l)
 
+-- it goes where the map says, or passes
+abbrev onward_at : LogicalZone → Option Post → Result LogicalZone
+onward_at l (Some post) = (l, [], post ∷ [])
+onward_at l None = (l, [], [])
+
+abbrev look_at : Sizes → LogicalZone → Vio → Bool → Result LogicalZone
+look_at sizes l v true = passes l v.at.0 (Passes (pass_of v) ∷ []) (id.Desk, item.Request (ended phase.Reply reply.Ok v))
+look_at sizes l v false = onward_at l (goes_on sizes l v)
+
 abbrev logical_at : Sizes → LogicalZone → Vio → Phase → Result LogicalZone
 logical_at sizes l v phase.Arrive = arrival_at l v (is_among v.at.0 l.retired) (is_held v.at.0 l.held)
-logical_at sizes l v phase.Look = onward_at l (goes_on sizes l v)
+logical_at sizes l v phase.Look = look_at sizes l v (passes_by l v)
 logical_at sizes l v phase.Settle = passes (with_slot l v) v.at.0 (Sets (logged v) ∷ []) (id.Desk, item.Request (ended phase.Reply reply.Ok v))
 logical_at sizes l v phase.Loaded = passes l v.at.0 (Gives (gift v) ∷ []) (id.Desk, item.Request (ended phase.Reply (reply.Bytes v.bytes) v))
 logical_at sizes l v phase.Abort = passes l v.at.0 [] (to_desk phase.Reply v)
@@ -114,7 +118,8 @@ logical_is : (sizes : Sizes) (l : LogicalZone) (v : Vio) (new : LogicalZone) (ma
 logical_is sizes l v new made posts (LogicalServes.arrives_retired is retired n m q) = rw (n, m, q, is, retired) refl
 logical_is sizes l v new made posts (LogicalServes.arrives_free is alive free n m q) = rw (n, m, q, is, alive, free) refl
 logical_is sizes l v new made posts (LogicalServes.arrives_held is alive held n m q) = rw (n, m, q, is, alive, held) refl
-logical_is sizes l v new made posts (LogicalServes.looks post is next n m q) = rw (n, m, q, is, next) refl
+logical_is sizes l v new made posts (LogicalServes.looks post is path stays next n m q) = rw (n, m, q, is, stays, next) refl
+logical_is sizes l v new made posts (LogicalServes.passes is path past n m q) = rw (n, m, q, is, past) refl
 logical_is sizes l v new made posts (LogicalServes.settles is n m q) = rw (n, m, q, is) refl
 logical_is sizes l v new made posts (LogicalServes.gives is n m q) = rw (n, m, q, is) refl
 logical_is sizes l v new made posts (LogicalServes.aborts is n m q) = rw (n, m, q, is) refl

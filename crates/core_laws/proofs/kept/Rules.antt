@@ -2,7 +2,7 @@
 use Rattle.std.proofs.Common.{◌≡◌, ℕ, ◌<◌, ◌≤◌, true, false, None, Some, Option, List, [], ◌∷◌, ◌++◌, length, slice_get, refl, ap, sym, ◌∙◌, subst, inl, inr, arith}
 use Rattle.std.proofs.lemmas.Option.{slice_get_within}
 use Rattle.core_laws.proofs.journal.LogLaws.{has_next, is_sealable}
-use Rattle.core_laws.proofs.Common.{all_logged, all_of, AllByRecursion, Answer, Asks, Call, Carries, cases_Bool, committed, DataOk, Desk, desk_number, device_number, DeviceZone, IsForBlock, IsServed, IsSession, IsToFresh, IsToInside, Item, ItemOk, journal_number, JournalLists, JournalZone, logical_number, LogicalZone, Mapping, MayReply, notified_zones, option_cases, Pbn, Phase, physical_number, PhysicalZone, Post, Request, request_at, Script, sealed, SealedBlock, Session, some_of, Stage, StandsAt, Trace, Vio, VioOk, Writer, Zone, zone_at, zone_count, zone_number, zone_of, zone_of_stage, ZoneData}
+use Rattle.core_laws.proofs.Common.{HasAddress, all_logged, all_of, AllByRecursion, Answer, Asks, Call, Carries, cases_Bool, DataOk, Desk, desk_number, device_number, DeviceZone, IsForBlock, IsServed, IsSession, IsToFresh, IsToInside, Item, ItemOk, journal_number, JournalLists, JournalZone, logical_number, LogicalZone, Mapping, MayReply, notified_zones, option_cases, Pbn, Phase, physical_number, PhysicalZone, Post, Request, request_at, Script, sealed, SealedBlock, Session, some_of, Stage, StandsAt, Trace, Vio, VioOk, Writer, Zone, zone_at, zone_count, zone_number, zone_of, zone_of_stage, ZoneData, durable}
 use Rattle.blk_base.specs.Regions.{journal_slot_of}
 use Rattle.blk_base.specs.declared.request.Answer.TheVariants as reply
 use Rattle.blk_base.specs.declared.request.Request.TheVariants as request
@@ -18,7 +18,9 @@ use Rattle.core_model.specs.DeviceRules.{DeviceServes, DeviceWorks, IsInside, ca
 use Rattle.core_model.specs.PhysicalRules.{PhysicalServes}
 use Rattle.core_model.specs.JournalRules.{JournalServes, JournalEnds, is_closed, has_block, has_room}
 use Rattle.core_model.specs.Legal.{Legal}
-use Rattle.core_model.specs.LogicalRules.{LogicalServes, is_among, is_held, next_for, goes_on}
+use Rattle.core_model.specs.LogicalRules.{LogicalServes, is_among, is_held, next_for, goes_on, passes_by}
+use Rattle.core_model.specs.PageTrees.{HasPath}
+use Rattle.core_laws.proofs.logical.PageFacts.{has_path}
 use Rattle.core_model.specs.Steps as steps
 use Rattle.core_model.specs.Steps.{Act, HasAct, MayBegin, Core}
 use Rattle.core_laws.proofs.desk.BeginLaws.{begins_some}
@@ -90,8 +92,22 @@ module _ (s : Session) (session : IsSession s) (t : Trace) where
     ]
   ]
 
-  looks : (l : LogicalZone) (v : Vio) → v.phase ≡ phase.Look → IsForBlock v.asks → HasAct s.sizes (at.Logical l) (item.Request v ∷ [])
-  looks l v is block = let goes = goes_some l v block in (_, _, _, steps.serves (LogicalServes.looks goes.0 is goes.1 refl refl refl))
+  looks : (l : LogicalZone) (v : Vio) → v.phase ≡ phase.Look → IsForBlock v.asks → HasPath l.tree v.at.0 → HasAct s.sizes (at.Logical l) (item.Request v ∷ [])
+  looks l v is block path = elim (cases_Bool (passes_by l v)) [
+    | inl passes ↦ (_, _, _, steps.serves (LogicalServes.passes is path passes refl refl refl))
+    | inr stays ↦ let goes = goes_some l v block in (_, _, _, steps.serves (LogicalServes.looks goes.0 is path stays goes.1 refl refl refl))
+  ]
+
+  -- the path of its address leads through its home
+  path_of : (l : LogicalZone) (v : Vio) → VioOk s t v → IsForBlock v.asks → DataOk s t (logical_number (zone_of s.sizes.zones v.at.0)) (at.Logical l) → HasPath l.tree v.at.0
+  path_of l v ok block here =
+      has_path s l.zone t l.tree v.at.0 here.lists.tree_is (inside v.asks block ok.address) (let number = here.number_is in omega (arith, number))
+    where
+      inside : (q : Asks) → IsForBlock q → HasAddress s.sizes v.at q → v.at.0 < s.sizes.geometry.logical
+      inside Read block low = low
+      inside Write block low = low
+      inside Discard block low = low
+      inside Flush block low = absurd block
 
   -- the physical zone
   claims : (p : PhysicalZone) (v : Vio) (free : List Pbn) → p.free ≡ free → v.phase ≡ phase.Claim → HasAct s.sizes (at.Physical p) (item.Request v ∷ [])
@@ -114,7 +130,7 @@ module _ (s : Session) (session : IsSession s) (t : Trace) where
     ]
   ]
 
-  commits : (j : JournalZone) (b : SealedBlock) (vios filling : List Vio) → JournalLists s t j → all_of (sealed t) ≡ all_logged vios ++ committed t → b.vios ≡ vios → j.filling ≡ filling → b.stage ≡ stage.Commit
+  commits : (j : JournalZone) (b : SealedBlock) (vios filling : List Vio) → JournalLists s t j → all_of (sealed t) ≡ all_logged vios ++ durable t → b.vios ≡ vios → j.filling ≡ filling → b.stage ≡ stage.Commit
       → HasAct s.sizes (at.Journal j) (item.Block b ∷ [])
   commits j b (v ∷ vs) filling lists left are fills is = (_, _, _, steps.ends (JournalEnds.commits v vs is are (has_next s t j.log (v ∷ vs) lists.log_is left (omega arith)) refl refl refl))
   commits j b [] [] lists left are fills is = (_, _, _, steps.ends (JournalEnds.rests is are fills refl refl refl))
@@ -201,7 +217,7 @@ module _ (s : Session) (session : IsSession s) (t : Trace) where
     -- a request, by its phase; one that waits is in no lane
     by_phase : (v : Vio) (q : Phase) → v.phase ≡ q → VioOk s t v → Carries s t v q → n ≡ zone_at s.sizes v.home q → Has (item.Request v)
     by_phase v phase.Arrive is ok carries to = in_home v ok to (λ l here. arrives l v is)
-    by_phase v phase.Look is ok carries to = in_home v ok to (λ l here. looks l v is carries.0.is_placed.for_block)
+    by_phase v phase.Look is ok carries to = in_home v ok to (λ l here. looks l v is carries.0.is_placed.for_block (path_of l v ok carries.0.is_placed.for_block here))
     by_phase v phase.Claim is ok carries to = in_physical _ to (λ p. claims p v p.free refl is)
     by_phase v phase.Store is ok carries to = in_device _ to (λ dev. stores_by dev v v.new is refl carries.2)
     by_phase v phase.Enter is ok carries to = in_journal _ to (λ j lists. enters j v is)

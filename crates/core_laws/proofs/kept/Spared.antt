@@ -1,6 +1,7 @@
 -- Facts on the trace stay where the next happening is about something else.
 use Rattle.std.proofs.Common.{◌≡◌, ◌≢◌, ℕ, ◌+◌, ◌<◌, ◌==◌, Bool, true, false, not, ◌&&◌, ◌||◌, if◌then◌else◌, Option, None, Some, List, [], ◌∷◌, ◌≤◌, length, refl, ap, sym, ◌∙◌, inl, inr, arith}
-use Rattle.core_laws.proofs.Common.{Aborts, AllBelow, Calls, Commits, DeskLine, Draws, Enters, Entry, Fails, Flushes, FlushMark, Gives, Happening, HasBelow, IsCommitted, HasFullJournal, IsFull, IsOpen, IsPending, Logged, NeedsBlock, Quiet, Says, Seals, Session, Sets, Takes, Trace, Writer, aborted, begun, committed, done, entered, entries_of, eqb_tells, gift_of, gifts, has_read_fault, has_stopped, has_taken, is_read, lines, logged_of, moments, newest, of_address, place_of, places, same_writer, taken, value_at}
+use Rattle.core_laws.proofs.Common.{Aborts, AllBelow, Calls, Commits, DeskLine, Draws, Enters, Entry, Fails, Flushes, FlushMark, Gives, Happening, HasBelow, IsCommitted, HasFullJournal, IsFull, IsOpen, IsPending, Logged, Makes, Remapping, Remaps, NeedsBlock, Quiet, Says, Seals, Session, Sets, Takes, Trace, Writer, aborted, begun, committed, done, entered, entries_of, eqb_tells, gift_of, gifts, has_read_fault, has_stopped, has_taken, is_read, lines, logged_of, moments, newest, of_address, place_of, places, remappings, request_in, same_writer, taken, value_at, Passes, applied, durable, journaled, passed}
+use Rattle.core_laws.proofs.lists.Between.{address_between, every_between, logged_between}
 use Rattle.blk_base.specs.declared.request.Answer.TheVariants as reply
 use Rattle.image_layout.specs.Values.{mapping_of}
 use Rattle.vdo_model.specs.FlushMarks.{Moment, Desk, Device, IsMark}
@@ -16,15 +17,21 @@ abbrev pub answered_by : DeskLine → Option Writer
 answered_by (Answer w a) = Some w
 answered_by (Begin w) = None
 
+-- the address that an entry maps anew
+abbrev pub address_in : Logged → Option ℕ
+address_in (Remaps e) = Some e.at.0
+address_in (Makes p) = None
+
 abbrev pub about : Happening → About
 about (Says line) = record { request = answered_by line; address = None }
 about (Flushes m) = record { request = Some m.request; address = None }
 about (Draws p) = record { request = Some p.request; address = None }
-about (Enters e) = record { request = Some e.request; address = Some e.at.0 }
-about (Commits e) = record { request = Some e.request; address = Some e.at.0 }
-about (Sets e) = record { request = Some e.request; address = Some e.at.0 }
+about (Enters e) = record { request = Some (request_in e); address = address_in e }
+about (Commits e) = record { request = Some (request_in e); address = address_in e }
+about (Sets e) = record { request = Some (request_in e); address = address_in e }
 about (Gives g) = record { request = Some g.request; address = Some g.at.0 }
-about (Aborts e) = record { request = Some e.request; address = None }
+about (Aborts e) = record { request = Some (request_in e); address = None }
+about (Passes e) = record { request = Some e.request; address = Some e.at.0 }
 about (Takes w x) = record { request = Some w; address = None }
 about other = record { request = None; address = None }
 
@@ -60,15 +67,17 @@ place_same (Draws p) t w apart = rw apart refl
 place_same other t w apart = refl
 
 pub entry_same : (h : Happening) (t : Trace) (w : Writer) → SparesRequest h w → logged_of (entered (h ∷ t)) w ≡ logged_of (entered t) w
-entry_same (Enters e) t w apart = rw apart refl
+entry_same (Enters (Remaps e)) t w apart = rw apart refl
+entry_same (Passes e) t w apart = logged_between (remappings (journaled t)) (passed t) e w apart
 entry_same other t w apart = refl
 
 pub slot_same : (h : Happening) (t : Trace) (w : Writer) → SparesRequest h w → logged_of (done (h ∷ t)) w ≡ logged_of (done t) w
-slot_same (Sets e) t w apart = rw apart refl
+slot_same (Sets (Remaps e)) t w apart = rw apart refl
+slot_same (Passes e) t w apart = logged_between (remappings (applied t)) (passed t) e w apart
 slot_same other t w apart = refl
 
 pub abort_same : (h : Happening) (t : Trace) (w : Writer) → SparesRequest h w → logged_of (aborted (h ∷ t)) w ≡ logged_of (aborted t) w
-abort_same (Aborts e) t w apart = rw apart refl
+abort_same (Aborts (Remaps e)) t w apart = rw apart refl
 abort_same other t w apart = refl
 
 pub gift_same : (h : Happening) (t : Trace) (w : Writer) → SparesRequest h w → gift_of (gifts (h ∷ t)) w ≡ gift_of (gifts t) w
@@ -80,23 +89,30 @@ take_same (Takes v x) t w apart = rw apart refl
 take_same other t w apart = refl
 
 -- what they say of an address
-pub of_other : (e : Logged) (es : List Logged) (a : ℕ) → e.at.0 ≢ a → of_address a (e ∷ es) ≡ of_address a es
+pub of_other : (e : Remapping) (es : List Remapping) (a : ℕ) → e.at.0 ≢ a → of_address a (e ∷ es) ≡ of_address a es
 of_other e es a apart = elim (eqb_tells e.at.0 a) [ inl same ↦ absurd (apart same.1) | inr other ↦ rw other.0 ]
 
-pub of_same : (e : Logged) (es : List Logged) → of_address e.at.0 (e ∷ es) ≡ e ∷ of_address e.at.0 es
+pub of_same : (e : Remapping) (es : List Remapping) → of_address e.at.0 (e ∷ es) ≡ e ∷ of_address e.at.0 es
 of_same e es = elim (eqb_tells e.at.0 e.at.0) [ inl same ↦ rw same.0 | inr other ↦ absurd (other.1 refl) ]
 
 pub entered_at : (h : Happening) (t : Trace) (a : ℕ) → SparesAddress h a → of_address a (entered (h ∷ t)) ≡ of_address a (entered t)
-entered_at (Enters e) t a apart = of_other e (entered t) a apart
+entered_at (Enters (Remaps e)) t a apart = of_other e (entered t) a apart
+entered_at (Passes e) t a apart = address_between a (remappings (journaled t)) (passed t) e apart
 entered_at other t a apart = refl
 
 pub committed_at : (h : Happening) (t : Trace) (a : ℕ) → SparesAddress h a → of_address a (committed (h ∷ t)) ≡ of_address a (committed t)
-committed_at (Commits e) t a apart = of_other e (committed t) a apart
+committed_at (Commits (Remaps e)) t a apart = of_other e (committed t) a apart
+committed_at (Passes e) t a apart = address_between a (remappings (durable t)) (passed t) e apart
 committed_at other t a apart = refl
 
 pub done_at : (h : Happening) (t : Trace) (a : ℕ) → SparesAddress h a → of_address a (done (h ∷ t)) ≡ of_address a (done t)
-done_at (Sets e) t a apart = of_other e (done t) a apart
+done_at (Sets (Remaps e)) t a apart = of_other e (done t) a apart
+done_at (Passes e) t a apart = address_between a (remappings (applied t)) (passed t) e apart
 done_at other t a apart = refl
+
+pub applied_at : (h : Happening) (t : Trace) (a : ℕ) → SparesAddress h a → of_address a (remappings (applied (h ∷ t))) ≡ of_address a (remappings (applied t))
+applied_at (Sets (Remaps e)) t a apart = of_other e (remappings (applied t)) a apart
+applied_at other t a apart = refl
 
 pub quiet_kept : (h : Happening) (t : Trace) (a : ℕ) → SparesAddress h a → Quiet t a → Quiet (h ∷ t) a
 quiet_kept h t a apart q = record {
@@ -104,20 +120,21 @@ quiet_kept h t a apart q = record {
   all_done = committed_at h t a apart ∙ q.all_done ∙ sym (done_at h t a apart);
 }
 
-pub committed_kept : (h : Happening) (t : Trace) (e : Logged) → SparesAddress h e.at.0 → IsCommitted t e → IsCommitted (h ∷ t) e
+pub committed_kept : (h : Happening) (t : Trace) (e : Remapping) → SparesAddress h e.at.0 → IsCommitted t e → IsCommitted (h ∷ t) e
 committed_kept h t e apart q = record {
   all_committed = entered_at h t e.at.0 apart ∙ q.all_committed ∙ sym (committed_at h t e.at.0 apart);
   last = committed_at h t e.at.0 apart ∙ q.last ∙ ap (λ es. e ∷ es) (sym (done_at h t e.at.0 apart));
 }
 
-pub pending_kept : (h : Happening) (t : Trace) (e : Logged) → SparesAddress h e.at.0 → IsPending t e → IsPending (h ∷ t) e
+pub pending_kept : (h : Happening) (t : Trace) (e : Remapping) → SparesAddress h e.at.0 → IsPending t e → IsPending (h ∷ t) e
 pending_kept h t e apart q = record {
   last = entered_at h t e.at.0 apart ∙ q.last ∙ ap (λ es. e ∷ es) (sym (committed_at h t e.at.0 apart));
   others = committed_at h t e.at.0 apart ∙ q.others ∙ sym (done_at h t e.at.0 apart);
 }
 
 pub below_kept : (h : Happening) (t : Trace) (a place : ℕ) → SparesAddress h a → AllBelow t a place → AllBelow (h ∷ t) a place
-below_kept (Sets e) t a place apart b = record { writes = ((λ same. absurd (apart same)), b.writes); reads = b.reads }
+below_kept (Sets (Remaps e)) t a place apart b = record { writes = ((λ same. absurd (apart same)), b.writes); reads = b.reads }
+below_kept (Passes e) t a place apart b = record { writes = every_between (λ (f : Remapping). f.at.0 ≡ a → f.place < place) (remappings (applied t)) (passed t) e (λ same. absurd (apart same)) b.writes; reads = b.reads }
 below_kept (Gives g) t a place apart b = record { writes = b.writes; reads = ((λ same. absurd (apart same)), b.reads) }
 below_kept other t a place apart b = record { writes = b.writes; reads = b.reads }
 
@@ -153,7 +170,7 @@ fault_kept (Fails v c kept) t w is = rw is (either (is_read c && same_writer v w
 fault_kept other t w is = is
 
 pub abort_kept : (h : Happening) (t : Trace) (a place : ℕ) → HasBelow a place (aborted t) → HasBelow a place (aborted (h ∷ t))
-abort_kept (Aborts e) t a place is = inr is
+abort_kept (Aborts (Remaps e)) t a place is = inr is
 abort_kept other t a place is = is
 
 pub journal_full_kept : (s : Session) (h : Happening) (t : Trace) → HasFullJournal s t → HasFullJournal s (h ∷ t)
@@ -173,11 +190,12 @@ full_kept s h t w bytes same (inl full) = inl (journal_full_kept s h t full)
 full_kept s h t w bytes same (inr full) = inr (needs_kept h t w bytes same full.0, taken_kept s h t full.1)
 
 -- what an address is mapped to, by the writes of it
-pub mapping_by : (window : List Entry) (es : List Logged) (a : ℕ) → mapping_of (entries_of window es) a ≡ mapped_by (newest (of_address a es)) (mapping_of window a)
+pub mapping_by : (window : List Entry) (es : List Logged) (a : ℕ) → mapping_of (entries_of window es) a ≡ mapped_by (newest (of_address a (remappings es))) (mapping_of window a)
 mapping_by window [] a = refl
-mapping_by window (e ∷ es) a = elim (eqb_tells e.at.0 a) [ inl same ↦ rw same.0 refl | inr other ↦ rw other.0 (mapping_by window es a) ]
+mapping_by window (Makes p ∷ es) a = mapping_by window es a
+mapping_by window (Remaps e ∷ es) a = elim (eqb_tells e.at.0 a) [ inl same ↦ rw same.0 refl | inr other ↦ rw other.0 (mapping_by window es a) ]
 
-pub mapping_same : (window : List Entry) (es fs : List Logged) (a : ℕ) → of_address a es ≡ of_address a fs → mapping_of (entries_of window es) a ≡ mapping_of (entries_of window fs) a
+pub mapping_same : (window : List Entry) (es fs : List Logged) (a : ℕ) → of_address a (remappings es) ≡ of_address a (remappings fs) → mapping_of (entries_of window es) a ≡ mapping_of (entries_of window fs) a
 mapping_same window es fs a same = mapping_by window es a ∙ ap (λ xs. mapped_by (newest xs) (mapping_of window a)) same ∙ sym (mapping_by window fs a)
 
 pub value_same : (s : Session) (h : Happening) (t : Trace) (a : ℕ) → SparesAddress h a → value_at s (h ∷ t) a ≡ value_at s t a

@@ -1,6 +1,6 @@
 -- What stands on the device goes on over each call that misses it.
 use Rattle.std.proofs.Common.{◌≡◌, ◌≢◌, ◌⊎◌, ℕ, ◌<◌, Bool, true, false, List, [], ◌∷◌, ◌++◌, refl, inl, inr, subst, sym, ap, ◌∙◌, arith}
-use Rattle.core_laws.proofs.Common.{AllByRecursion, AreAllThere, AtRest, Call, Calls, ComesLast, Enters, Fails, Happening, HasBlocks, Logged, MapStands, Mapping, NewReads, NewStands, OnBlock, OnItsWay, Pbn, ReadsAs, ReadsBlock, Seals, Session, Stands, Trace, Writer, all_of, committed, entered, entries_of, eqb_tells, filled, log, sealed}
+use Rattle.core_laws.proofs.Common.{AllByRecursion, AreAllThere, AtRest, Call, Calls, ComesLast, Enters, Fails, Happening, HasBlocks, Logged, Makes, MapStands, Mapping, NewReads, NewStands, OnBlock, OnItsWay, Pbn, ReadsAs, ReadsBlock, Remaps, Seals, Session, Stands, Trace, Writer, all_of, durable, journaled, entries_of, eqb_tells, filled, log, new_of, sealed}
 use Rattle.blk_base.specs.declared.place.Mapping.TheVariants.{Unmapped, Zero, At}
 use Rattle.disk_model.specs.Log.{Misses}
 use Rattle.disk_model.specs.declared.call.Call.TheVariants.{Write}
@@ -20,7 +20,7 @@ SparesBlock other x = Unit {0}
 -- nor one of the journal, nor of a block of these writes
 abbrev pub SparesBlocks : Happening → List Logged → Type 0
 SparesBlocks h [] = Unit {0}
-SparesBlocks h (e ∷ older) = OnBlock (λ x. SparesBlock h x.0) e.new × SparesBlocks h older
+SparesBlocks h (e ∷ older) = OnBlock (λ x. SparesBlock h x.0) (new_of e) × SparesBlocks h older
 
 -- what holds of each block, or follows from what holds of it, holds of that of a mapping
 pub on_any : {P : Pbn → Type 0} (m : Mapping) → ((x : Pbn) → P x) → OnBlock P m
@@ -50,7 +50,7 @@ spares_parts h (e ∷ es) older apart = let rest = spares_parts h es older apart
 -- one that writes no block at all
 pub spares_all : (h : Happening) → ((x : ℕ) → SparesBlock h x) → (es : List Logged) → SparesBlocks h es
 spares_all h none [] = tt
-spares_all h none (e ∷ es) = (on_any e.new (λ x. none x.0), spares_all h none es)
+spares_all h none (e ∷ es) = (on_any (new_of e) (λ x. none x.0), spares_all h none es)
 
 abbrev pub SparesJournal : Session → Happening → Type 0
 SparesJournal s (Calls c) = MissesJournal s.sizes.geometry c
@@ -68,19 +68,19 @@ block_spared failed x misses = misses
 
 -- none of these writes names this block
 abbrev pub AreElsewhere : ℕ → List Logged → Type 0
-AreElsewhere x es = AllByRecursion (λ (e : Logged). OnBlock (λ y. x ≢ y.0) e.new) es
+AreElsewhere x es = AllByRecursion (λ (e : Logged). OnBlock (λ y. x ≢ y.0) (new_of e)) es
 
 -- a write of a block that they don't name spares theirs
 pub write_spares : {h : Happening} {x : Pbn} {bytes : List ℕ} {ok : Bool} → IsCallOf h (Write x bytes ok) → (es : List Logged) → AreElsewhere x.0 es → SparesBlocks h es
 write_spares is [] apart = tt
-write_spares is (e ∷ es) apart = (on_each e.new (λ y to. block_spared is y.0) apart.0, write_spares is es apart.1)
+write_spares is (e ∷ es) apart = (on_each (new_of e) (λ y to. block_spared is y.0) apart.0, write_spares is es apart.1)
 
 pub journal_spared : (s : Session) {h : Happening} {c : Call} → IsCallOf h c → MissesJournal s.sizes.geometry c → SparesJournal s h
 journal_spared s succeeded misses = misses
 journal_spared s failed misses = misses
 
 -- an entry that was handed in is in the block being filled, or in a sealed one
-pub entered_parts : (t : Trace) → entered t ≡ filled t ++ all_of (sealed t)
+pub entered_parts : (t : Trace) → journaled t ≡ filled t ++ all_of (sealed t)
 entered_parts [] = refl
 entered_parts (Enters e ∷ t) = ap (λ es. e ∷ es) (entered_parts t)
 entered_parts (Seals ∷ t) = entered_parts t
@@ -100,7 +100,8 @@ module _ (s : Session) where
   -- the block of a mapping that they give is spared
   mapped_spared : (h : Happening) (es : List Logged) → SparesMap s h es → (a : ℕ) (x : Pbn) → mapping_of (entries_of s.window es) a ≡ At x → SparesBlock h x.0
   mapped_spared h [] spares a x is = spares.0 a x is
-  mapped_spared h (e ∷ es) spares a x is = elim (eqb_tells e.at.0 a) [
+  mapped_spared h (Makes p ∷ es) spares a x is = mapped_spared h es (spares.0, spares.1.1) a x is
+  mapped_spared h (Remaps e ∷ es) spares a x is = elim (eqb_tells e.at.0 a) [
     | inl same ↦ let to : e.new ≡ At x = rw same.0 at is in subst (OnBlock (λ y. SparesBlock h y.0)) to spares.1.0
     | inr other ↦ mapped_spared h es (spares.0, spares.1.1) a x (rw other.0 at is)
   ]
@@ -110,11 +111,11 @@ module _ (s : Session) where
 
   pub new_kept : (h : Happening) (t : Trace) (es : List Logged) → SparesBlocks h es → NewStands s t es → NewStands s (h ∷ t) es
   new_kept h t [] apart k = tt
-  new_kept h t (e ∷ es) apart k = (on_both e.new (λ x to spared stands. stands_kept h t x.0 _ spared stands) apart.0 k.0, new_kept h t es apart.1 k.1)
+  new_kept h t (e ∷ es) apart k = (on_both (new_of e) (λ x to spared stands. stands_kept h t x.0 _ spared stands) apart.0 k.0, new_kept h t es apart.1 k.1)
 
   pub new_reads_kept : (h : Happening) (t : Trace) (es : List Logged) → SparesBlocks h es → NewReads s t es → NewReads s (h ∷ t) es
   new_reads_kept h t [] apart k = tt
-  new_reads_kept h t (e ∷ es) apart k = (on_both e.new (λ x to spared reads. reads_kept h t x.0 _ spared reads) apart.0 k.0, new_reads_kept h t es apart.1 k.1)
+  new_reads_kept h t (e ∷ es) apart k = (on_both (new_of e) (λ x to spared reads. reads_kept h t x.0 _ spared reads) apart.0 k.0, new_reads_kept h t es apart.1 k.1)
 
   -- so does each block of the journal, over one that misses the journal
   opened_kept : (h : Happening) (t : Trace) (blocks : List (List Logged)) → ((slot : ℕ) → slot < s.sizes.geometry.journal → SparesBlock h (block_of_slot slot)) → StandsAsOpened s t blocks → StandsAsOpened s (h ∷ t) blocks
@@ -158,7 +159,8 @@ module _ (s : Session) where
   -- with more entries, the map stands where what these map their addresses to does
   pub map_more : (t : Trace) (es : List Logged) (older : List Logged) → MapStands s t older → NewStands s t es → MapStands s t (es ++ older)
   map_more t [] older k new = k
-  map_more t (e ∷ es) older k new = λ a. elim (eqb_tells e.at.0 a) [ inl same ↦ rw same.0 new.0 | inr other ↦ rw other.0 (map_more t es older k new.1 a) ]
+  map_more t (Makes p ∷ es) older k new = map_more t es older k new.1
+  map_more t (Remaps e ∷ es) older k new = λ a. elim (eqb_tells e.at.0 a) [ inl same ↦ rw same.0 new.0 | inr other ↦ rw other.0 (map_more t es older k new.1 a) ]
 
   -- the slot of the block, over a call that misses the journal
   block_missed : (c : Call) (t : Trace) (older : List (List Logged)) (es : List Logged) → MissesJournal s.sizes.geometry c → OnItsWay s t older es → ReadsBlock s t older es → ReadsBlock s (Calls c ∷ t) older es
@@ -173,7 +175,7 @@ module _ (s : Session) where
   -- a happening that neither seals a block nor commits an entry
   pub record SparesSealed (h : Happening) (t : Trace) : Type 0 where
     pub sealed_same : sealed (h ∷ t) ≡ sealed t
-    pub committed_same : committed (h ∷ t) ≡ committed t
+    pub committed_same : durable (h ∷ t) ≡ durable t
 
   -- a call does neither
   pub call_sealed : (t : Trace) {h : Happening} {c : Call} → IsCallOf h c → SparesSealed h t
@@ -181,7 +183,7 @@ module _ (s : Session) where
   call_sealed t failed = record { sealed_same = refl; committed_same = refl }
 
   -- it spares the entries of the sealed blocks, where it spares all
-  pub sealed_spared : (h : Happening) (t : Trace) → SparesMap s h (entered t) → SparesMap s h (all_of (sealed t))
+  pub sealed_spared : (h : Happening) (t : Trace) → SparesMap s h (journaled t) → SparesMap s h (all_of (sealed t))
   sealed_spared h t apart = (apart.0, (spares_parts h (filled t) (all_of (sealed t)) (subst (SparesBlocks h) (entered_parts t) apart.1)).1)
 
   all_there_kept : (h : Happening) (t : Trace) → SparesSealed h t → SparesJournal s h → SparesMap s h (all_of (sealed t)) → AreAllThere s t → AreAllThere s (h ∷ t)

@@ -1,6 +1,6 @@
 -- Over an act of a legal core: what its zone owes, and everything beside what is served stays as it was.
 use Rattle.std.proofs.Common.{◌≡◌, ℕ, true, Some, List, [], ◌∷◌, ◌++◌, slice_get, refl, ap, ◌∙◌, subst, arith}
-use Rattle.core_laws.proofs.Common.{AllByRecursion, DataOk, DeviceZone, IsSession, Item, ItemOk, LogicalZone, Phase, Post, Session, Trace, Vio, Writer, Zone, ZoneData, arrival, arriving, block_token, claims, desk_number, entered, every-front, places, total, Pbn}
+use Rattle.core_laws.proofs.Common.{AllByRecursion, DataOk, DeviceZone, IsSession, Item, ItemOk, LogicalZone, Phase, Post, Session, Trace, Vio, Writer, Zone, ZoneData, arrival, arriving, block_token, claims, desk_number, every-front, places, total, Pbn, journaled}
 use Rattle.data_vio.specs.declared.items.Item.TheVariants as item
 use Rattle.data_vio.specs.declared.items.Phase.TheVariants as phase
 use Rattle.core_model.specs.declared.zones.ZoneData.TheVariants as at
@@ -61,7 +61,7 @@ module _ (s : Session) (session : IsSession s) (core : Core) (legal : Legal s co
       first : (q : Phase) → q ≡ phase.Arrive → arriving q v.request ++ counted arrival rest ≡ v.request ∷ counted arrival rest
       first q is = rw is refl
 
-  unnamed : (d : DeviceZone) (v : Vio) (x : Pbn) → z.keeps ≡ at.Device d → front ≡ item.Request v ∷ [] → claims v.phase ≡ true → v.new ≡ At x → AreElsewhere x.0 (entered core.trace)
+  unnamed : (d : DeviceZone) (v : Vio) (x : Pbn) → z.keeps ≡ at.Device d → front ≡ item.Request v ∷ [] → claims v.phase ≡ true → v.new ≡ At x → AreElsewhere x.0 (journaled core.trace)
   unnamed d v x keeps is takes to =
       let here = (own_ok (at.Device d) keeps).number_is in
       let some = ap (total (block_token x.0).item) is in

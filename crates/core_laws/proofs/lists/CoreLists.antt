@@ -1,6 +1,6 @@
 -- Lists of items, of desk lines, of journal entries, and of locks.
 use Rattle.std.proofs.Common.{◌≡◌, ℕ, zero, suc, ◌+◌, ◌<◌, List, [], ◌∷◌, length, refl, ap, arith, ◌≤◌, true, Option, Some, None, IsSome, IsNone, ◌++◌, sym, ◌∙◌, subst, inl, inr, ◌==◌, ◌≢◌, ◌||◌, Bool, false}
-use Rattle.core_laws.proofs.Common.{newest, AllByRecursion, Answer as Reply, DeskLine, IsDeskLog, Item, Lock, Logged, Pbn, Rises, Script, Vio, Writer, answer_of, before_begin, begun, cases_Bool, eqb_tells, every-append, lock_weight, logged_of, none_of, of_address, same_Some, same_tells, total, total-append}
+use Rattle.core_laws.proofs.Common.{newest, AllByRecursion, Answer as Reply, DeskLine, IsDeskLog, Item, Lock, Remapping, Pbn, Rises, Script, Vio, Writer, answer_of, before_begin, begun, cases_Bool, eqb_tells, every-append, lock_weight, logged_of, none_of, of_address, same_Some, same_tells, total, total-append}
 use Rattle.blk_base.specs.declared.place.Mapping.TheVariants.{At}
 use Rattle.core_model.specs.Steps.{posted}
 use Rattle.vdo_model.specs.declared.report.DeskLine.TheVariants.{Begin, Answer}
@@ -100,15 +100,15 @@ each_newer P [] older all = tt
 each_newer P (x ∷ newer) older all = (all.0, each_newer P newer older all.1)
 
 -- there is an entry of this request
-abbrev pub Has : List Logged → Writer → Type 0
+abbrev pub Has : List Remapping → Writer → Type 0
 Has es w = is_there (logged_of es w) ≡ true
 
 -- Where one is found there is one.
-pub has_it : (es : List Logged) (w : Writer) (e : Logged) → logged_of es w ≡ Some e → Has es w
+pub has_it : (es : List Remapping) (w : Writer) (e : Remapping) → logged_of es w ≡ Some e → Has es w
 has_it es w e is = rw is refl
 
 -- One of the older part is one of the whole.
-pub has_older : (newer older : List Logged) (w : Writer) → Has older w → Has (newer ++ older) w
+pub has_older : (newer older : List Remapping) (w : Writer) → Has older w → Has (newer ++ older) w
 has_older [] older w has = has
 has_older (e ∷ newer) older w has = elim (same_tells e.request w) [
   | inl same ↦ rw same.0 refl
@@ -116,7 +116,7 @@ has_older (e ∷ newer) older w has = elim (same_tells e.request w) [
 ]
 
 -- One of an address is one of the whole.
-pub has_at : (a : ℕ) (es : List Logged) (w : Writer) → Has (of_address a es) w → Has es w
+pub has_at : (a : ℕ) (es : List Remapping) (w : Writer) → Has (of_address a es) w → Has es w
 has_at a [] w has = has
 has_at a (e ∷ older) w has = elim (same_tells e.request w) [
   | inl same ↦ rw same.0 refl
@@ -127,7 +127,7 @@ has_at a (e ∷ older) w has = elim (same_tells e.request w) [
 ]
 
 -- Where no two are of one request, not both parts have one.
-pub not_in_both : (newer older : List Logged) (w : Writer) → AreApart (newer ++ older) → Has newer w → Has older w → ⊥
+pub not_in_both : (newer older : List Remapping) (w : Writer) → AreApart (newer ++ older) → Has newer w → Has older w → ⊥
 not_in_both [] older w apart first second = absurd cc
 not_in_both (e ∷ newer) older w apart first second = elim (same_tells e.request w) [
   | inl same ↦
@@ -271,6 +271,6 @@ rises_more (u ∷ us) v up below = (more us up.0, rises_more us v up.1 below.1)
     more (w ∷ ws) all = (all.0, more ws all.1)
 
 -- what holds of all holds of the newest
-pub newest_has : (P : Logged → Type 0) (es : List Logged) (e : Logged) → newest es ≡ Some e → AllByRecursion P es → P e
+pub newest_has : (P : Remapping → Type 0) (es : List Remapping) (e : Remapping) → newest es ≡ Some e → AllByRecursion P es → P e
 newest_has P [] e is all = absurd cc
 newest_has P (f ∷ es) e is all = let same : f ≡ e = cc in subst P same all.0

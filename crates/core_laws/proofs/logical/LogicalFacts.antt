@@ -1,10 +1,11 @@
 -- What the acts of a logical zone owe: a request draws its place, and is done with its lock.
-use Rattle.std.proofs.Common.{◌≡◌, ℕ, ◌+◌, ◌==◌, Bool, true, false, if◌then◌else◌, Some, IsNone, List, [], ◌∷◌, ◌++◌, refl, ap, sym, ◌∙◌, inl, inr, arith, ◌<◌, IsSome, subst}
-use Rattle.core_laws.proofs.Common.{Aborts, AllBelow, AllByRecursion, Asks, DataOk, DeskLine, Draws, FlushMark, Follows, Gives, GivesRight, Happening, HasAddress, HasEarned, IsChange, IsCommitted, IsEntered, IsFair, IsForBlock, IsFresh, IsOfZone, IsPlaced, IsUndrawn, KeptOk, Lba, Lock, LocksOk, Logged, LogicalZone, Looks, MayReply, OnBlock, Pbn, Phase, Placed, PlaceMayFollow, Post, Quiet, RightTrace, Session, Sets, Trace, Vio, VioOk, Writer, aborted, answer_of, asked, before_begin, done, ended, eq-eqb, eqb_tells, every-append, every-map, fair_before, gift, gift_of, gifts, has_stopped, holds, lines, logged, logged_of, logical_number, mapping_in, places, request_at, same_self, same_writer, some_is, turned, value_at, zone_number, zone_of}
+use Rattle.std.proofs.Common.{◌≡◌, ℕ, ◌+◌, ◌==◌, Bool, true, false, not, if◌then◌else◌, Option, None, Some, is_some, length, length-append, IsNone, List, [], ◌∷◌, ◌++◌, refl, ap, sym, ◌∙◌, inl, inr, arith, ◌<◌, IsSome, subst}
+use Rattle.std.proofs.lemmas.Bool.{and_parts, cases_Bool}
+use Rattle.core_laws.proofs.Common.{Aborts, Entry, IsInTurn, Mapping, Passes, applied, durable, has_taken, journaled, newest, of_address, passed, remappings, AllBelow, AllByRecursion, Asks, DataOk, DeskLine, Draws, FlushMark, Follows, Gives, GivesRight, Happening, HasAddress, HasEarned, IsChange, IsCommitted, IsEntered, IsFair, IsForBlock, IsFresh, IsOfZone, IsPlaced, IsUndrawn, KeptOk, Lba, Lock, LocksOk, Remapping, LogicalZone, Looks, MayReply, OnBlock, Pbn, Phase, Placed, PlaceMayFollow, Post, Quiet, RightTrace, Session, Sets, Trace, Vio, VioOk, Writer, aborted, answer_of, asked, before_begin, done, ended, eq-eqb, eqb_tells, every-append, every-map, fair_before, gift, gift_of, gifts, has_stopped, holds, lines, logged, logged_of, logical_number, mapping_in, places, request_at, same_self, same_writer, some_is, turned, value_at, zone_number, zone_of, Remaps, remapping}
 use Rattle.data_vio.specs.declared.items.Asks.TheVariants.{Read, Write, Discard, Flush}
 use Rattle.core_model.specs.Legal.{ComesAfter}
-use Rattle.core_model.specs.LogicalRules.{is_among, is_held, lock_of, placed, place_of_vio, drawn_by, goes_on, LogicalServes, arrives_retired, arrives_free, arrives_held, looks, looks_up, settles, gives, aborts, aborts_entered, released, granted, retire, all_stopped, all_for, with_slot}
-use Rattle.core_laws.proofs.trace.DeskOfTrace.{shown_of}
+use Rattle.core_model.specs.LogicalRules.{is_among, is_held, lock_of, placed, place_of_vio, drawn_by, goes_on, is_discard, is_unknown, is_unmapped, latest_at, pass_of, passes_by, LogicalServes, arrives_retired, arrives_free, arrives_held, looks, looks_up, passes, settles, gives, aborts, aborts_entered, released, granted, retire, all_stopped, all_for, with_slot}
+use Rattle.core_laws.proofs.trace.DeskOfTrace.{of_address_append, shown_of}
 use Rattle.core_laws.proofs.kept.ActKept.{Known, Mine, ActKept, act_one, own_request, plain_clears, line_kept, shown_plain, vio_over, carries_at, IsPlain, act_none, own_address, vio_ok, in_phase}
 use Rattle.core_laws.proofs.kept.Keys.{Clears, OfRequest, OfAddress, IfAny, happens_in}
 use Rattle.core_laws.proofs.kept.Spared.{quiet_kept, below_kept, about, of_same}
@@ -13,7 +14,11 @@ use Rattle.core_laws.proofs.tokens.Owners.{at_home}
 use Rattle.data_vio.specs.Phases.{row}
 use Rattle.core_laws.proofs.lists.CoreLists.{or_none}
 use Rattle.core_laws.proofs.logical.Releases.{below_more, has_below_more, goes_ok, looks_ok, stopped_ok, release_ok, retire_ok, drawn_before}
-use Rattle.blk_base.specs.declared.place.Mapping.TheVariants.{At}
+use Rattle.core_model.specs.PageTrees.{HasPath, missing_at}
+use Rattle.image_layout.specs.Values.{mapping_of}
+use Rattle.core_laws.proofs.lists.Between.{every_between}
+use Rattle.core_laws.proofs.logical.PageFacts.{lacks_page, same_tree}
+use Rattle.blk_base.specs.declared.place.Mapping.TheVariants.{Unmapped, Zero, At}
 use Rattle.byte_fields.specs.Mappings.{HoldsMapping}
 use Rattle.core_model.specs.DeskRules.{mark_of_vio}
 use Rattle.core_model.specs.DeviceRules.{IsInside}
@@ -118,6 +123,7 @@ module _ {s : Session} {t : Trace} {n : ℕ} {l : LogicalZone} {v : Vio} (known 
             next_is = rw (eq-eqb l.zone l.zone refl) (ap (λ (m : ℕ). m + 1) k.lists.next_is);
             slots_are = k.lists.slots_are;
             below = λ a zone. below_more t' a l.next (l.next + 1) (omega arith) (below_kept (Draws p) t a l.next tt (k.lists.below a zone));
+            tree_is = k.lists.tree_is;
           };
           sound = record { among = k.sound.among; map = k.sound.map; locks = locks };
           kept = kept;
@@ -163,6 +169,37 @@ given_earned : (s : Session) (t : Trace) (m : FlushMark) (asks : Asks) (at : Lba
     → HasEarned s t m asks (asked asks at bytes) (Some (reply.Bytes bytes))
 given_earned s t m asks at bytes place is given = rw is (place, given)
 
+-- what a discard that passes knows, by its tests
+none_known : (o : Option Remapping) → not (is_some o) ≡ true → o ≡ None
+none_known None is = refl
+none_known (Some e) is = absurd cc
+
+unmapped_is : (m : Mapping) → is_unmapped m ≡ true → m ≡ Unmapped
+unmapped_is Unmapped is = refl
+unmapped_is Zero is = absurd cc
+unmapped_is (At x) is = absurd cc
+
+newest_none : (es : List Remapping) → newest es ≡ None → es ≡ []
+newest_none [] is = refl
+newest_none (e ∷ es) is = absurd cc
+
+nothing_before : (es fs : List Remapping) → es ++ fs ≡ fs → es ≡ []
+nothing_before [] fs same = refl
+nothing_before (e ∷ es) fs same = let all = ap length same in let parts = length-append es fs in absurd (omega (arith, all, parts))
+
+discards_it : (asks : Asks) → is_discard asks ≡ true → asks ≡ Discard
+discards_it Discard is = refl
+discards_it Read is = absurd cc
+discards_it Write is = absurd cc
+discards_it Flush is = absurd cc
+
+changes_it : (asks : Asks) → is_discard asks ≡ true → IsChange asks
+changes_it asks is = rw (discards_it asks is) tt
+
+there_between : (es fs : List Remapping) (e : Remapping) → IsSome (logged_of (es ++ e ∷ fs) e.request)
+there_between [] fs e = rw (same_self e.request) refl
+there_between (f ∷ es) fs e = elim (cases_Bool (same_writer f.request e.request)) [ inl same ↦ rw same refl | inr other ↦ rw other (there_between es fs e) ]
+
 module _ {s : Session} {t : Trace} {n : ℕ} {l : LogicalZone} {v : Vio} (known : Known s t n (at.Logical l) (item.Request v ∷ [])) where
   abbrev After : LogicalZone → Trace → List Post → Type 0
   After new made posts = ActKept s t n (at.Logical l) (item.Request v ∷ []) (at.Logical new) made posts
@@ -188,22 +225,119 @@ module _ {s : Session} {t : Trace} {n : ℕ} {l : LogicalZone} {v : Vio} (known 
       let carries = in_phase known phase.Look is in
       act_none known known.own (goes_ok s t n l known.session known.right known.own v (vio_ok known) carries.0 carries.1 (home_is known) post goes, tt)
 
+  -- Or it passes, a discard of an address of which nothing is known.
+  module _ (is : v.phase ≡ phase.Look) (path : HasPath l.tree v.at.0) (passes_it : passes_by l v ≡ true) where
+    abbrev gap : Remapping
+    gap = pass_of v
+
+    abbrev past_t : Trace
+    past_t = Passes gap ∷ t
+
+    turn : IsInTurn s t v × (has_taken t v.request ≡ false)
+    turn = in_phase known phase.Look is
+
+    parts : (is_discard v.asks ≡ true) × (is_unknown l v.at.0 ≡ true) × (is_some (missing_at l.tree v.at.0) ≡ true)
+    parts = let first = and_parts (is_discard v.asks) _ passes_it in let rest = and_parts (is_unknown l v.at.0) _ first.1 in (first.0, rest.0, rest.1)
+
+    unknown : (latest_at l v.at.0 ≡ None) × (mapping_of l.window v.at.0 ≡ Unmapped)
+    unknown = let both = and_parts (not (is_some (latest_at l v.at.0))) _ parts.1 in (none_known (latest_at l v.at.0) both.0, unmapped_is (mapping_of l.window v.at.0) both.1)
+
+    -- no entry of its address was handed in
+    none_set : of_address v.at.0 (remappings (applied t)) ≡ []
+    none_set = newest_none _ (ap newest (sym (known.own.lists.slots_are v.at.0 home)) ∙ unknown.0)
+
+    first_there : of_address v.at.0 (remappings (journaled t)) ≡ []
+    first_there = nothing_before _ (of_address v.at.0 (passed t)) (
+        sym (of_address_append v.at.0 (remappings (journaled t)) (passed t)) ∙ turn.0.quiet.all_committed ∙ turn.0.quiet.all_done
+        ∙ of_address_append v.at.0 (remappings (applied t)) (passed t) ∙ ap (λ (es : List Remapping). es ++ of_address v.at.0 (passed t)) none_set)
+
+    clears_pass : Clears s n (Mine s t (at.Logical l) (item.Request v ∷ [])) (Passes gap) t
+    clears_pass = own_clears (Passes gap) tt refl (own_request known) (own_address known phase.Look is refl)
+
+    right_pass : RightTrace s past_t
+    right_pass = (
+      record {
+        is_open = (vio_ok known).is_open;
+        asked = (vio_ok known).asked ∙ ap (λ (asks : Asks). Some (asked asks v.at v.bytes)) (discards_it v.asks parts.0);
+        placed = turn.0.is_placed.placed;
+        maps = (refl, refl);
+        once = turn.0.is_placed.not_entered;
+        below = turn.0.below;
+        lacking = lacks_page s.sizes.geometry l.zone s.sizes.zones s.window (applied t) l.tree v.at.0 known.own.lists.tree_is path parts.2;
+        first = first_there;
+        unmapped = ap (λ (w : List Entry). mapping_of w v.at.0) (sym known.own.sound.map.window_is) ∙ unknown.1;
+      },
+      shown_plain s t (Passes gap) tt (shown_of s t known.right),
+      known.right,
+    )
+
+    passed_of : (es : List Remapping) → of_address v.at.0 es ≡ [] → of_address v.at.0 (es ++ gap ∷ passed t) ≡ gap ∷ of_address v.at.0 (passed t)
+    passed_of es none = of_address_append v.at.0 es (gap ∷ passed t) ∙ ap (λ (fs : List Remapping). fs ++ of_address v.at.0 (gap ∷ passed t)) none ∙ of_same gap (passed t)
+
+    durable_none : of_address v.at.0 (remappings (durable t)) ≡ []
+    durable_none = nothing_before _ (of_address v.at.0 (passed t)) (
+        sym (of_address_append v.at.0 (remappings (durable t)) (passed t)) ∙ turn.0.quiet.all_done
+        ∙ of_address_append v.at.0 (remappings (applied t)) (passed t) ∙ ap (λ (es : List Remapping). es ++ of_address v.at.0 (passed t)) none_set)
+
+    quiet_pass : Quiet past_t v.at.0
+    quiet_pass = record {
+      all_committed = passed_of (remappings (journaled t)) first_there ∙ sym (passed_of (remappings (durable t)) durable_none);
+      all_done = passed_of (remappings (durable t)) durable_none ∙ sym (passed_of (remappings (applied t)) none_set);
+    }
+
+    abbrev IsUnder : ℕ → ℕ → Remapping → Type 0
+    IsUnder a place e = e.at.0 ≡ a → e.place < place
+
+    under_pass : (a place : ℕ) → v.place < place → AllBelow t a place → AllBelow past_t a place
+    under_pass a place less old = record { writes = every_between (IsUnder a place) (remappings (applied t)) (passed t) gap (λ same. less) old.writes; reads = old.reads }
+
+    passed_ok : DataOk s past_t n (at.Logical l)
+    passed_ok =
+        let k = known.own in
+        record {
+          number_is = k.number_is;
+          lists = record {
+            places_is = k.lists.places_is;
+            next_is = k.lists.next_is;
+            slots_are = k.lists.slots_are;
+            below = λ a zone. under_pass a l.next (drawn_here phase.Look is refl) (k.lists.below a zone);
+            tree_is = k.lists.tree_is;
+          };
+          sound = k.sound;
+          kept = line_kept known (Passes gap) t clears_pass k.kept;
+          answers = λ a zone free alive. elim (eqb_tells v.at.0 a) [
+            | inl same ↦ subst (λ (b : ℕ). Quiet past_t b) same.1 quiet_pass
+            | inr other ↦ quiet_kept (Passes gap) t a other.1 (k.answers a zone free alive)
+          ];
+          told = k.told;
+        }
+
+    done_pass : IsSome (logged_of (done past_t) v.request)
+    done_pass = there_between (remappings (applied t)) (passed t) gap
+
+    passes_kept : After (released v.at.0 l) (Passes gap ∷ []) ((id.Desk, item.Request (ended phase.Reply reply.Ok v)) ∷ granted v.at.0 l)
+    passes_kept =
+        let both = release_ok s past_t n l known.session right_pass passed_ok v (leased phase.Look is refl) home quiet_pass
+        (under_pass v.at.0 (v.place + 1) (omega arith) (below_more t v.at.0 v.place (v.place + 1) (omega arith) turn.0.below)) in
+        act_one known (Passes gap) clears_pass (λ f fair. f (fair_before s (Passes gap) t fair)) right_pass both.0
+        ((omega arith, (vio_over s (Passes gap) t v refl (vio_ok known), done_earned s past_t (mark_of_vio v) v.asks v.at v.bytes (changes_it v.asks parts.0) done_pass, refl)), both.1)
+
   -- Its slot is set.
   module _ (is : v.phase ≡ phase.Settle) where
-    abbrev e : Logged
-    e = logged v
+    abbrev e : Remapping
+    e = remapping v
 
     abbrev set_t : Trace
     set_t = Sets (logged v) ∷ t
 
-    facts : IsEntered s t v × IsCommitted t (logged v) × AllBelow t v.at.0 v.place × OnBlock (IsFresh s) v.new
+    facts : IsEntered s t v × IsCommitted t (remapping v) × AllBelow t v.at.0 v.place × OnBlock (IsFresh s) v.new
     facts = in_phase known phase.Settle is
 
-    clears_set : Clears s n (Mine s t (at.Logical l) (item.Request v ∷ [])) (Sets e) t
-    clears_set = own_clears (Sets e) tt refl (own_request known) (own_address known phase.Settle is refl)
+    clears_set : Clears s n (Mine s t (at.Logical l) (item.Request v ∷ [])) (Sets (Remaps e)) t
+    clears_set = own_clears (Sets (Remaps e)) tt refl (own_request known) (own_address known phase.Settle is refl)
 
     right_set : RightTrace s set_t
-    right_set = (record { is_open = (vio_ok known).is_open; is_committed = facts.1; below = facts.2; unaborted = facts.0.unaborted }, shown_plain s t (Sets e) tt (shown_of s t known.right), known.right)
+    right_set = (record { is_open = (vio_ok known).is_open; is_committed = facts.1; below = facts.2; unaborted = facts.0.unaborted }, shown_plain s t (Sets (Remaps e)) tt (shown_of s t known.right), known.right)
 
     quiet_set : Quiet set_t v.at.0
     quiet_set = record { all_committed = facts.1.all_committed; all_done = facts.1.last ∙ sym (of_same e (done t)) }
@@ -236,12 +370,13 @@ module _ {s : Session} {t : Trace} {n : ℕ} {l : LogicalZone} {v : Vio} (known 
             next_is = k.lists.next_is;
             slots_are = λ a zone. rw (k.lists.slots_are a zone) refl;
             below = λ a zone. let old = k.lists.below a zone in record { writes = ((λ same. drawn_here phase.Settle is refl), old.writes); reads = old.reads };
+            tree_is = same_tree s l.zone l.tree t set_t (λ page. refl) k.lists.tree_is;
           };
           sound = record { among = k.sound.among; map = record { window_is = k.sound.map.window_is; mapped = mapped_set; inside = inside_set }; locks = k.sound.locks };
-          kept = line_kept known (Sets e) t clears_set k.kept;
+          kept = line_kept known (Sets (Remaps e)) t clears_set k.kept;
           answers = λ a zone free alive. elim (eqb_tells v.at.0 a) [
             | inl same ↦ subst (λ (b : ℕ). Quiet set_t b) same.1 quiet_set
-            | inr other ↦ quiet_kept (Sets e) t a other.1 (k.answers a zone free alive)
+            | inr other ↦ quiet_kept (Sets (Remaps e)) t a other.1 (k.answers a zone free alive)
           ];
           told = k.told;
         }
@@ -249,8 +384,8 @@ module _ {s : Session} {t : Trace} {n : ℕ} {l : LogicalZone} {v : Vio} (known 
     settles_kept : After (released v.at.0 (with_slot l v)) (Sets (logged v) ∷ []) ((id.Desk, item.Request (ended phase.Reply reply.Ok v)) ∷ granted v.at.0 l)
     settles_kept =
         let both = release_ok s set_t n (with_slot l v) known.session right_set slot_ok v (leased phase.Settle is refl) home quiet_set below_set in
-        act_one known (Sets e) clears_set (λ f fair. f (fair_before s (Sets e) t fair)) right_set both.0
-        ((omega arith, (vio_over s (Sets e) t v refl (vio_ok known), done_earned s set_t (mark_of_vio v) v.asks v.at v.bytes facts.0.is_change (rw (same_self v.request) (some_is (Some e) e refl)), refl)), both.1)
+        act_one known (Sets (Remaps e)) clears_set (λ f fair. f (fair_before s (Sets (Remaps e)) t fair)) right_set both.0
+        ((omega arith, (vio_over s (Sets (Remaps e)) t v refl (vio_ok known), done_earned s set_t (mark_of_vio v) v.asks v.at v.bytes facts.0.is_change (rw (same_self v.request) (some_is (Some e) e refl)), refl)), both.1)
 
   -- It is given its bytes.
   module _ (is : v.phase ≡ phase.Loaded) where
@@ -289,6 +424,7 @@ module _ {s : Session} {t : Trace} {n : ℕ} {l : LogicalZone} {v : Vio} (known 
             next_is = k.lists.next_is;
             slots_are = k.lists.slots_are;
             below = λ a zone. let old = k.lists.below a zone in record { writes = old.writes; reads = ((λ same. drawn_here phase.Loaded is refl), old.reads) };
+            tree_is = k.lists.tree_is;
           };
           sound = k.sound;
           kept = line_kept known (Gives (gift v)) t clears_give k.kept;
@@ -332,7 +468,7 @@ module _ {s : Session} {t : Trace} {n : ℕ} {l : LogicalZone} {v : Vio} (known 
         let k = known.own in
         record {
           number_is = k.number_is;
-          lists = record { places_is = k.lists.places_is; next_is = k.lists.next_is; slots_are = k.lists.slots_are; below = λ a zone. below_kept (Aborts (logged v)) t a l.next tt (k.lists.below a zone) };
+          lists = record { places_is = k.lists.places_is; next_is = k.lists.next_is; slots_are = k.lists.slots_are; below = λ a zone. below_kept (Aborts (logged v)) t a l.next tt (k.lists.below a zone); tree_is = k.lists.tree_is };
           sound = k.sound;
           kept = line_kept known (Aborts (logged v)) t clears_abort k.kept;
           answers = λ a zone free alive. quiet_kept (Aborts (logged v)) t a tt (k.answers a zone free alive);
@@ -350,7 +486,8 @@ module _ {s : Session} {t : Trace} {n : ℕ} {l : LogicalZone} {v : Vio} (known 
   logical_serves new made posts (arrives_retired p d i m q) = rw (i, m, q) (retired_kept known p d)
   logical_serves new made posts (arrives_free p d f i m q) = rw (i, m, q) (free_kept known p d f)
   logical_serves new made posts (arrives_held p d f i m q) = rw (i, m, q) (held_kept known p f)
-  logical_serves new made posts (looks post p goes i m q) = rw (i, m, q) (looks_kept p post goes)
+  logical_serves new made posts (looks post p path stays goes i m q) = rw (i, m, q) (looks_kept p post goes)
+  logical_serves new made posts (passes p path past i m q) = rw (i, m, q) (passes_kept p path past)
   logical_serves new made posts (settles p i m q) = rw (i, m, q) (settles_kept p)
   logical_serves new made posts (gives p i m q) = rw (i, m, q) (gives_kept p)
   logical_serves new made posts (aborts p i m q) = rw (i, m, q) (aborts_kept p)

@@ -1,6 +1,7 @@
 -- A lock is passed on to the first that waits for it, or released, or never released.
 use Rattle.std.proofs.Common.{◌≡◌, ◌≢◌, ℕ, ◌+◌, ◌<◌, ◌≤◌, ◌==◌, true, false, Option, None, Some, List, [], ◌∷◌, refl, ap, sym, ◌∙◌, subst, inl, inr, arith}
-use Rattle.core_laws.proofs.Common.{AllBelow, AllByRecursion, Asks, DataOk, Gift, HasBelow, HasCause, Holds, IsForBlock, IsInTurn, IsPlaced, IsSession, IsToInside, KeptOk, Logged, LogicalZone, Looks, Mapping, MapsTo, Pbn, Post, Quiet, Request, RightTrace, Session, Trace, Vio, VioOk, WaitsOk, aborted, asked, done, each_both, ended, eqb_tells, every-map, gifts, has_stopped, newest, of_address, request_at, some_is, value_at, zone_count, zone_number, zone_of, has_taken}
+use Rattle.core_laws.proofs.Common.{AllBelow, AllByRecursion, Asks, DataOk, Gift, HasBelow, HasCause, Holds, IsForBlock, IsInTurn, IsPlaced, IsSession, IsToInside, KeptOk, Remapping, LogicalZone, Looks, Mapping, MapsTo, Pbn, Post, Quiet, Request, RightTrace, Session, Trace, Vio, VioOk, WaitsOk, aborted, asked, done, each_both, ended, eqb_tells, every-map, gifts, has_stopped, newest, of_address, request_at, some_is, value_at, zone_count, zone_number, zone_of, has_taken, applied, remappings}
+use Rattle.core_laws.proofs.trace.PassesOfTrace.{mapped_past}
 use Rattle.blk_base.specs.Sectors.{zero_block}
 use Rattle.blk_base.specs.declared.place.Mapping.TheVariants.{Unmapped, Zero, At}
 use Rattle.blk_base.specs.declared.place.ZoneId.TheVariants as id
@@ -26,7 +27,7 @@ use Rattle.core_laws.proofs.trace.DeskOfTrace.{done_writes}
 -- below a greater place
 pub below_more : (t : Trace) (a m n : ℕ) → m ≤ n → AllBelow t a m → AllBelow t a n
 below_more t a m n less k = record {
-  writes = every-map {P = λ (e : Logged). e.at.0 ≡ a → e.place < m} {Q = λ (e : Logged). e.at.0 ≡ a → e.place < n} (λ e f same. (let g = f same in omega (arith, g, less))) (done t) k.writes;
+  writes = every-map {P = λ (e : Remapping). e.at.0 ≡ a → e.place < m} {Q = λ (e : Remapping). e.at.0 ≡ a → e.place < n} (λ e f same. (let g = f same in omega (arith, g, less))) (done t) k.writes;
   reads = every-map {P = λ (g : Gift). g.at.0 ≡ a → g.place < m} {Q = λ (g : Gift). g.at.0 ≡ a → g.place < n} (λ g f same. (let h = f same in omega (arith, h, less))) (gifts t) k.reads;
 }
 
@@ -49,7 +50,7 @@ module _ (s : Session) (t : Trace) (n : ℕ) (l : LogicalZone) (session : IsSess
   zone_is : zone_of s.sizes.zones u.at.0 ≡ l.zone
   zone_is = let a = ap (zone_number s.sizes) ok.home in let b = ap (zone_number s.sizes) home in omega (arith, a, b)
 
-  latest_is : latest_at l u.at.0 ≡ newest (of_address u.at.0 (done t))
+  latest_is : latest_at l u.at.0 ≡ newest (of_address u.at.0 (remappings (applied t)))
   latest_is = ap newest (k.lists.slots_are u.at.0 zone_is)
 
   mapping_is : mapping_at l u.at.0 ≡ mapped_by (latest_at l u.at.0) (mapping_of s.window u.at.0)
@@ -59,13 +60,13 @@ module _ (s : Session) (t : Trace) (n : ℕ) (l : LogicalZone) (session : IsSess
   holds = record {
     turn = turn;
     old_held = k.sound.map.mapped u.at.0;
-    old_is = mapping_is ∙ ap (λ o. mapped_by o (mapping_of s.window u.at.0)) latest_is ∙ sym (mapping_by s.window (done t) u.at.0);
+    old_is = mapping_is ∙ ap (λ o. mapped_by o (mapping_of s.window u.at.0)) latest_is ∙ sym (mapping_by s.window (applied t) u.at.0);
   }
 
   -- a read of zeros: what was done there last maps the address to no block, or the window does
   zeros : (m : Mapping) → ((x : Pbn) → m ≢ At x) → value_in s.image m ≡ zero_block → mapping_at l u.at.0 ≡ m → zero_block ≡ value_at s t u.at.0
   zeros m off zero is =
-      let maps = sym (ap (λ o. mapped_by o (mapping_of s.window u.at.0)) latest_is) ∙ sym mapping_is ∙ is in
+      let maps = mapped_past s t u.at.0 right (remappings (applied t)) ∙ sym (ap (λ o. mapped_by o (mapping_of s.window u.at.0)) latest_is) ∙ sym mapping_is ∙ is in
       sym (zeros_by s t (done t) u.at.0 (newest (of_address u.at.0 (done t))) m off zero refl (done_writes s t right) maps)
 
   module _ (is_read : u.asks ≡ Read) where
@@ -107,7 +108,7 @@ module _ (s : Session) (t : Trace) (n : ℕ) (l : LogicalZone) (session : IsSess
       (λ discards. (omega arith, (ok, (holds, discard_mapped u.asks discards, tt, λ fair. tt), refl)))
 
 -- A greater place has a lower one still.
-pub has_below_more : (a m n : ℕ) (es : List Logged) → m ≤ n → HasBelow a m es → HasBelow a n es
+pub has_below_more : (a m n : ℕ) (es : List Remapping) → m ≤ n → HasBelow a m es → HasBelow a n es
 has_below_more a m n [] less below = below
 has_below_more a m n (e ∷ es) less (inl here) = inl (here.0, (let p = here.1 in omega (arith, p, less)))
 has_below_more a m n (e ∷ es) less (inr there) = inr (has_below_more a m n es less there)

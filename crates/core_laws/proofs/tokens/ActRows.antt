@@ -1,7 +1,7 @@
 -- The rows of the table of phases as the tokens see them: what a zone's data was and is, and the items that were there
 -- (the front, and those that are kept) and are there (those that are posted, and those that are kept), by their sum.
 use Rattle.std.proofs.Common.{◌≡◌, ℕ, ◌+◌, ◌*◌, true, false, Option, Some, List, [], ◌∷◌, length, map, ◌&&◌}
-use Rattle.core_laws.proofs.Common.{Answer, Desk, DeviceZone, FlushMark, Item, JournalZone, Logged, LogicalZone, Mapping, Pbn, Phase, PhysicalZone, SealedBlock, Sizes, Stage, Vio, Writer, ZoneData, bit, claims, ended, has_entry, holds, notified_zones, staged, total, turned, names}
+use Rattle.core_laws.proofs.Common.{Answer, Desk, DeviceZone, FlushMark, Item, JournalZone, Remapping, LogicalZone, Mapping, Pbn, Phase, PhysicalZone, SealedBlock, Sizes, Stage, Vio, Writer, ZoneData, bit, claims, ended, has_entry, holds, notified_zones, staged, total, turned, names}
 use Rattle.blk_base.specs.declared.request.Answer.TheVariants as reply
 use Rattle.vdo_model.specs.declared.report.DeskLine.TheVariants as line
 use Rattle.data_vio.specs.declared.items.Item.TheVariants.{Request, Block, StopNotice}
@@ -37,7 +37,7 @@ kept_of j f = all_there j.filling f + all_there j.waiting f
 pub record Onward : Type 0 where
   pub phase : Phase
   pub old : Mapping
-  pub latest : Option Logged
+  pub latest : Option Remapping
   pub new : Mapping
   pub bytes : List ℕ
   pub locks : holds phase ≡ true
@@ -52,7 +52,7 @@ abbrev pub replied : Option Answer → Vio → Vio
 replied answer v = record v { phase = phase.Reply; answer = answer }
 
 -- whoever leaves a lock with an entry sets a slot
-abbrev pub IsSetBy : LogicalZone → Phase → List Logged → Type 0
+abbrev pub IsSetBy : LogicalZone → Phase → List Remapping → Type 0
 IsSetBy l q slots = length slots ≡ bit (has_entry q) + length l.slots
 
 pub data Row (sizes : Sizes) : ZoneData → ZoneData → Sum → Sum → Type 0 where
@@ -76,9 +76,9 @@ pub data Row (sizes : Sizes) : ZoneData → ZoneData → Sum → Sum → Type 0 
   looks : (l : LogicalZone) (v : Vio) (on : Onward)
       → Row sizes (at.Logical l) (at.Logical l) (λ f. f (Request (turned phase.Look v)) + all_in phase.Wait l.waiting f) (λ f. f (Request (onward on v)) + all_in phase.Wait l.waiting f)
   -- a request leaves its lock, and nobody waits for it, or one does
-  leaves : (l : LogicalZone) (slots : List Logged) (v : Vio) (q : Phase) (a : Option Answer) → holds q ≡ true → IsSetBy l q slots → Leased l v
+  leaves : (l : LogicalZone) (slots : List Remapping) (v : Vio) (q : Phase) (a : Option Answer) → holds q ≡ true → IsSetBy l q slots → Leased l v
       → Row sizes (at.Logical l) (at.Logical (record l { slots = slots; held = without v.at.0 l.held })) (λ f. f (Request (turned q v)) + all_in phase.Wait l.waiting f) (λ f. f (Request (replied a v)) + all_in phase.Wait l.waiting f)
-  hands_on : (l : LogicalZone) (slots : List Logged) (v : Vio) (q : Phase) (a : Option Answer) (w : Vio) (others : List Vio) → holds q ≡ true → IsSetBy l q slots → Leased l v
+  hands_on : (l : LogicalZone) (slots : List Remapping) (v : Vio) (q : Phase) (a : Option Answer) (w : Vio) (others : List Vio) → holds q ≡ true → IsSetBy l q slots → Leased l v
       → Row sizes (at.Logical l) (at.Logical (record l { slots = slots; held = lock_of w ∷ without v.at.0 l.held; waiting = others }))
       (λ f. f (Request (turned q v)) + (f (Request (turned phase.Wait w)) + all_in phase.Wait others f)) (λ f. f (Request (replied a v)) + (f (Request (turned phase.Look w)) + all_in phase.Wait others f))
   retires : (l : LogicalZone) (v : Vio) → Leased l v

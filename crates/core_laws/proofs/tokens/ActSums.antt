@@ -1,6 +1,6 @@
 -- Each act is one of the rows that the tokens see.
 use Rattle.std.proofs.Common.{◌≡◌, ℕ, suc, ◌+◌, ◌*◌, true, false, Option, None, Some, List, [], ◌∷◌, ◌++◌, length, map, refl, ap, ◌∙◌, subst, inl, inr, arith, ◌&&◌}
-use Rattle.core_laws.proofs.Common.{AllByRecursion, Answer, Desk, DeviceZone, Item, JournalZone, Logged, LogicalZone, Mapping, Phase, PhysicalZone, Post, SealedBlock, Sizes, Trace, Vio, ZoneData, ZoneId, as_items, claims, eqb_tells, every-map, has_entry, holds, notified, notified_zones, queued, same_Some, total, turned, names}
+use Rattle.core_laws.proofs.Common.{AllByRecursion, Answer, Desk, DeviceZone, Item, JournalZone, Remapping, LogicalZone, Mapping, Phase, PhysicalZone, Post, SealedBlock, Sizes, Trace, Vio, ZoneData, ZoneId, as_items, claims, eqb_tells, every-map, has_entry, holds, notified, notified_zones, queued, same_Some, total, turned, names}
 use Rattle.blk_base.specs.Sectors.{zero_block}
 use Rattle.blk_base.specs.declared.place.Mapping.TheVariants.{Unmapped, Zero, At}
 use Rattle.blk_base.specs.declared.place.ZoneId.TheVariants as id
@@ -130,7 +130,7 @@ module _ (sizes : Sizes) where
       elim (eqb_tells v.at.0 a) [ inl same ↦ rw same.0 (omega (arith, rest)) | inr other ↦ rw other.0 (omega (arith, rest)) ]
 
   -- a request leaves its lock
-  module _ (l : LogicalZone) (slots : List Logged) (v : Vio) (q : Phase) (in_it : v.phase ≡ q) (locks : holds q ≡ true) (is_set : IsSetBy l q slots) (leased : Leased l v) (kept : KeptIn (at.Logical l)) (a : Option Answer) where
+  module _ (l : LogicalZone) (slots : List Remapping) (v : Vio) (q : Phase) (in_it : v.phase ≡ q) (locks : holds q ≡ true) (is_set : IsSetBy l q slots) (leased : Leased l v) (kept : KeptIn (at.Logical l)) (a : Option Answer) where
     abbrev set : LogicalZone
     set = record l { slots = slots }
 
@@ -155,7 +155,9 @@ module _ (sizes : Sizes) where
   logical_row old v new made posts kept leased (logical.arrives_held p among held n m q) =
       rw (n, q) (is_row (row.arrives_held old v (old.waiting ++ turned phase.Wait (placed old v) ∷ [])) (λ f. omega (arith, in_phase f v phase.Arrive p, all_are f phase.Wait old.waiting kept))
       (λ f. omega (arith, items_more f old.waiting (turned phase.Wait (placed old v)), all_are f phase.Wait old.waiting kept)))
-  logical_row old v new made posts kept leased (logical.looks post p goes n m q) =
+  logical_row old v new made posts kept leased (logical.passes p path past n m q) =
+      rw (n, q) (leaves_row old old.slots v phase.Look p refl (omega arith) (leased (ap holds p)) kept (Some reply.Ok))
+  logical_row old v new made posts kept leased (logical.looks post p path stays goes n m q) =
       let on = went_on old v post goes in
       rw (n, q) (is_row (row.looks old v on.0) (λ f. omega (arith, in_phase f v phase.Look p, all_are f phase.Wait old.waiting kept)) (λ f. omega (arith, ap f on.1, all_are f phase.Wait old.waiting kept)))
   logical_row old v new made posts kept leased (logical.settles p n m q) =

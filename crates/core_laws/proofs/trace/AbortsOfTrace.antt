@@ -1,13 +1,14 @@
 -- The writes that a right trace aborted were handed in, and their slots are never set; and no write or flush of the device
 -- follows one that failed.
 use Rattle.std.proofs.Common.{◌≡◌, Bool, true, false, not, ◌||◌, List, [], ◌∷◌, ◌++◌, Some, IsNone, refl, ap, sym, ◌∙◌, subst, inl, inr}
-use Rattle.core_laws.proofs.Common.{Aborts, AllByRecursion, Call, Calls, Fails, Flushes, Happening, IsHeldBack, Logged, MayFollow, RightTrace, Says, Session, Sets, StopsAtFailure, Trace, Writer, aborted, calls, entered, every-map, every_both, has_stopped, is_ok, is_read, logged_of, none_is, not_both, option_cases, or_parts, same_tells, same_writer}
+use Rattle.core_laws.proofs.Common.{Aborts, AllByRecursion, Call, Calls, Fails, Flushes, Happening, IsHeldBack, Remapping, MayFollow, RightTrace, Says, Session, Sets, StopsAtFailure, Trace, Writer, aborted, calls, entered, every-map, every_both, has_stopped, is_ok, is_read, logged_of, none_is, not_both, option_cases, or_parts, same_tells, same_writer, Remaps, Passes, remappings, applied, journaled, passed}
+use Rattle.core_laws.proofs.lists.Between.{logged_between}
 use Rattle.disk_model.specs.declared.call.Call.TheVariants as call
 use Rattle.core_laws.proofs.trace.DeskOfTrace.{logged_has}
 use Rattle.core_laws.proofs.trace.Growth.{entered_stays}
 
 -- no entry of a list is of a request that the list doesn't name
-others_named : (es : List Logged) (w : Writer) → IsNone (logged_of es w) → AllByRecursion (λ (e : Logged). same_writer w e.request ≡ false) es
+others_named : (es : List Remapping) (w : Writer) → IsNone (logged_of es w) → AllByRecursion (λ (e : Remapping). same_writer w e.request ≡ false) es
 others_named [] w none = tt
 others_named (e ∷ es) w none = elim (same_tells e.request w) [
   | inl same ↦ absurd (let some : logged_of (e ∷ es) w ≡ Some e = rw same.0 refl in not_both (logged_of (e ∷ es) w) e none some)
@@ -16,9 +17,17 @@ others_named (e ∷ es) w none = elim (same_tells e.request w) [
 
 -- what was held back stays so
 held_stays : (s : Session) (h : Happening) (t : Trace) → MayFollow s h t → AllByRecursion (IsHeldBack t) (aborted t) → AllByRecursion (IsHeldBack (h ∷ t)) (aborted t)
-held_stays s (Sets f) t may all =
-    every_both {P = λ (e : Logged). same_writer f.request e.request ≡ false} {Q = IsHeldBack t} {R = IsHeldBack (Sets f ∷ t)} (λ e off is. record { handed_in = is.handed_in; unset = rw off is.unset }) (aborted t)
+held_stays s (Sets (Remaps f)) t may all =
+    every_both {P = λ (e : Remapping). same_writer f.request e.request ≡ false} {Q = IsHeldBack t} {R = IsHeldBack (Sets (Remaps f) ∷ t)} (λ e off is. record { handed_in = is.handed_in; unset = rw off is.unset }) (aborted t)
     (others_named (aborted t) f.request may.unaborted) all
+held_stays s (Passes f) t may all =
+    every-map {P = IsHeldBack t} {Q = IsHeldBack (Passes f ∷ t)} (λ e is. elim (same_tells f.request e.request) [
+      | inl same ↦ absurd (not_both (logged_of (entered t) e.request) e (subst (λ (x : Writer). IsNone (logged_of (entered t) x)) same.1 may.once) is.handed_in)
+      | inr other ↦ record {
+        handed_in = logged_between (remappings (journaled t)) (passed t) f e.request other.0 ∙ is.handed_in;
+        unset = subst IsNone (sym (logged_between (remappings (applied t)) (passed t) f e.request other.0)) is.unset;
+      }
+    ]) (aborted t) all
 held_stays s other t may all =
     every-map {P = IsHeldBack t} {Q = IsHeldBack (other ∷ t)} (λ e is. record { handed_in = entered_stays s other t e.request e may is.handed_in; unset = is.unset }) (aborted t) all
 
@@ -30,7 +39,7 @@ all_held_back s (h ∷ t) right =
     by h right.0 rest
   where
     by : (g : Happening) → MayFollow s g t → AllByRecursion (IsHeldBack (g ∷ t)) (aborted t) → AllByRecursion (IsHeldBack (g ∷ t)) (aborted (g ∷ t))
-    by (Aborts e) may rest = (record { handed_in = may.handed_in; unset = may.unset }, rest)
+    by (Aborts (Remaps e)) may rest = (record { handed_in = may.handed_in; unset = may.unset }, rest)
     by other may rest = rest
 
 -- one whose entry wasn't handed in wasn't aborted

@@ -1,6 +1,7 @@
 -- The marks of a right trace: an answer says of a write no more than whether its entry was handed in and its slot set.
 use Rattle.std.proofs.Common.{ℕ, ◌≡◌, ◌<◌, ◌++◌, Bool, true, false, List, [], ◌∷◌, Option, Some, None, IsSome, IsNone, refl, sym, ◌∙◌, ap, subst, inl, inr, arith}
-use Rattle.core_laws.proofs.Common.{Answer as Reply, AreDrawn, DeskLine, Enters, Fails, Flushes, HistoryEntry, Logged, Mark, MayAnswer, Placed, Request, RightTrace, Says, Session, Sets, Trace, Writer, address_of, answer_of, done, entered, lines, logged_of, none_of, places, request_at, same_Some, same_tells}
+use Rattle.core_laws.proofs.Common.{Answer as Reply, AreDrawn, DeskLine, Enters, Fails, Flushes, HistoryEntry, Remapping, Mark, MayAnswer, Placed, Request, RightTrace, Says, Session, Sets, Trace, Writer, address_of, answer_of, done, entered, lines, logged_of, none_of, places, request_at, same_Some, same_tells, Remaps, Passes, remappings, applied, journaled, passed}
+use Rattle.core_laws.proofs.lists.Between.{logged_between}
 use Rattle.blk_base.specs.declared.request.Answer.TheVariants as reply
 use Rattle.blk_base.specs.declared.request.Request.TheVariants as request
 use Rattle.vdo_model.specs.Histories.{mark_of, histories_of}
@@ -24,16 +25,16 @@ AnswerSays is_set handed (Some reply.NoSpace) = ⊥
 AnswerSays is_set handed (Some reply.ReadFault) = ⊥
 AnswerSays is_set handed (Some reply.Damaged) = ⊥
 
-there_true : (o : Option Logged) → IsSome o → is_there o ≡ true
+there_true : (o : Option Remapping) → IsSome o → is_there o ≡ true
 there_true (Some e) some = refl
 there_true None some = absurd cc
 
-there_false : (o : Option Logged) → IsNone o → is_there o ≡ false
+there_false : (o : Option Remapping) → IsNone o → is_there o ≡ false
 there_false (Some e) none = absurd cc
 there_false None none = refl
 
 -- what is there is something
-pub there_some : (o : Option Logged) → is_there o ≡ true → (e : Logged) × (o ≡ Some e)
+pub there_some : (o : Option Remapping) → is_there o ≡ true → (e : Remapping) × (o ≡ Some e)
 there_some (Some e) is = (e, refl)
 there_some None is = absurd cc
 
@@ -78,11 +79,15 @@ answer_says s (Flushes mark ∷ t) w r a right asked change has below = elim (sa
       absurd (flush_changes r (same_Some _ _ (sym flush ∙ asked)) change)
   | inr other ↦ rw other.0 (answer_says s t w r a right.2 asked change has below)
 ]
-answer_says s (Enters e ∷ t) w r a right asked change has below = elim (same_tells e.request w) [
+answer_says s (Enters (Remaps e) ∷ t) w r a right asked change has below = elim (same_tells e.request w) [
   | inl same ↦ unanswered_says _ _ _ (subst (λ (x : Writer). IsNone (answer_of (lines t) x)) same.1 right.0.is_open.unanswered)
   | inr other ↦ rw other.0 (answer_says s t w r a right.2 asked change has below)
 ]
-answer_says s (Sets e ∷ t) w r a right asked change has below = elim (same_tells e.request w) [
+answer_says s (Passes e ∷ t) w r a right asked change has below = elim (same_tells e.request w) [
+  | inl same ↦ unanswered_says _ _ _ (subst (λ (x : Writer). IsNone (answer_of (lines t) x)) same.1 right.0.is_open.unanswered)
+  | inr other ↦ rw (logged_between (remappings (applied t)) (passed t) e w other.0, logged_between (remappings (journaled t)) (passed t) e w other.0) (answer_says s t w r a right.2 asked change has below)
+]
+answer_says s (Sets (Remaps e) ∷ t) w r a right asked change has below = elim (same_tells e.request w) [
   | inl same ↦ unanswered_says _ _ _ (subst (λ (x : Writer). IsNone (answer_of (lines t) x)) same.1 right.0.is_open.unanswered)
   | inr other ↦ rw other.0 (answer_says s t w r a right.2 asked change has below)
 ]

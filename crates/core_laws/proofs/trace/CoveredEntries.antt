@@ -1,6 +1,7 @@
 -- What a flush covers was committed when the device's flush of it was called.
 use Rattle.std.proofs.Common.{◌<◌, List, [], ◌∷◌, ℕ, ◌≡◌, ◌⊎◌, ◌≤◌, ◌++◌, Bool, true, false, Some, length, refl, sym, ◌∙◌, ap, subst, inl, inr, arith}
-use Rattle.core_laws.proofs.Common.{AllByRecursion, Answer as Reply, Call, Calls, DeskLine, FlushMark, HistoryEntry, IsDeskLog, IsWrite, Logged, Mark, RightTrace, Session, Trace, Writer, and_parts, answer_of, before_begin, begun, calls, committed, done, each_both, entered, every-map, lines, logged_of, of_address}
+use Rattle.core_laws.proofs.Common.{AllByRecursion, Answer as Reply, Call, Calls, DeskLine, FlushMark, HistoryEntry, IsDeskLog, IsWrite, Remapping, Mark, RightTrace, Session, Trace, Writer, and_parts, answer_of, before_begin, begun, calls, committed, done, each_both, entered, every-map, lines, logged_of, of_address, remappings, journaled, passed}
+use Rattle.core_laws.proofs.lists.Between.{every_between}
 use Rattle.core_laws.proofs.trace.Growth.{entered_grows, begun_stays}
 use Rattle.disk_model.specs.declared.call.Call.TheVariants.{Flush}
 use Rattle.stop_laws.specs.Histories.{is_lasting}
@@ -9,26 +10,27 @@ use Rattle.vdo_model.specs.Stops.{length_at, is_answered, is_covered}
 use Rattle.vdo_model.specs.declared.report.Mark.TheVariants.{Settled, Unsettled, Refused}
 use Rattle.core_model.specs.Reports.{set_in, handed_in}
 use Rattle.core_laws.proofs.trace.AnswersOfTrace.{AnswerSays, there_some, answer_says, set_is_handed}
-use Rattle.core_laws.proofs.trace.Cuts.{Cut, call_in_cut, lines_append, committed_append, right_part}
-use Rattle.core_laws.proofs.trace.DeskOfTrace.{AreApart, each_of_address, are_of_address, logged_has, desk_log_right, entered_apart, done_writes, done_is_committed}
+use Rattle.core_laws.proofs.trace.Cuts.{Cut, call_in_cut, lines_append, right_part}
+use Rattle.core_laws.proofs.trace.DeskOfTrace.{committed_stays, each_of_address, are_of_address, logged_has, desk_log_right, done_writes, done_is_committed}
 use Rattle.core_laws.proofs.lists.Changes.{change_address, changes_asked, maps_change}
-use Rattle.core_laws.proofs.lists.CoreLists.{Has, has_it, has_at, has_older, not_in_both, answer_later, answered_before, before_later}
+use Rattle.core_laws.proofs.lists.CoreLists.{Has, has_it, has_at, has_older, answer_later, answered_before, before_later}
 use Rattle.core_laws.proofs.trace.MarksOfTrace.{HasMark}
 use Rattle.blk_base.specs.declared.request.Answer.TheVariants as reply
 
 -- Each entry that was handed in is of a request that is begun.
 
 -- the request of an entry is begun
-abbrev pub IsBegunBy : List DeskLine → Logged → Type 0
+abbrev pub IsBegunBy : List DeskLine → Remapping → Type 0
 IsBegunBy desk e = e.request.number < begun e.request.stream desk
 
 -- Each entry that was handed in is of a request that is begun.
 pub entered_begun : (s : Session) (t : Trace) → RightTrace s t → AllByRecursion (IsBegunBy (lines t)) (entered t)
 entered_begun s [] right = tt
 entered_begun s (h ∷ t) right =
-    let stays : (e : Logged) → IsBegunBy (lines t) e → IsBegunBy (lines (h ∷ t)) e = λ e is. begun_stays s h t e.request right.0 is in
+    let stays : (e : Remapping) → IsBegunBy (lines t) e → IsBegunBy (lines (h ∷ t)) e = λ e is. begun_stays s h t e.request right.0 is in
     let rest = every-map {P = IsBegunBy (lines t)} {Q = IsBegunBy (lines (h ∷ t))} stays (entered t) (entered_begun s t right.2) in
     entered_grows (AllByRecursion (IsBegunBy (lines (h ∷ t)))) s h t right.0 rest (λ e came next. (stays e next.is_open.is_begun, rest))
+    (λ e came next. every_between (IsBegunBy (lines (h ∷ t))) (remappings (journaled t)) (passed t) e (stays e next.is_open.is_begun) rest)
 
 -- What a flush covers was committed when the device's flush of it was called.
 
@@ -49,9 +51,16 @@ settled_lasts Settled is none = cc
 settled_lasts Unsettled is none = cc
 settled_lasts Refused is none = cc
 
+-- what is committed stays so
+committed_later : (s : Session) (newer older : Trace) (w : Writer) → RightTrace s (newer ++ older) → Has (committed older) w → Has (committed (newer ++ older)) w
+committed_later s [] older w right has = has
+committed_later s (h ∷ t) older w right has =
+    let found = there_some (logged_of (committed (t ++ older)) w) (committed_later s t older w right.2 has) in
+    has_it (committed (h ∷ (t ++ older))) w found.0 (committed_stays s h (t ++ older) w found.0 right.2 right.0 found.1)
+
 module _ (s : Session) (t : Trace) (right : RightTrace s t) where
   -- a write whose slot is set and that has an answer in an older part has its entry committed there
-  answered_committed : (newer older : Trace) → t ≡ newer ++ older → (e : Logged) → IsWrite s t e → e.at.0 < s.sizes.geometry.logical → set_in t e.request ≡ true
+  answered_committed : (newer older : Trace) → t ≡ newer ++ older → (e : Remapping) → IsWrite s t e → e.at.0 < s.sizes.geometry.logical → set_in t e.request ≡ true
       → (b : Reply) → answer_of (lines older) e.request ≡ Some b → Has (committed older) e.request
   answered_committed newer older parts e write below set b answer =
       let right_old = right_part s newer older (subst (RightTrace s) parts right) in
@@ -89,8 +98,8 @@ module _ (s : Session) (t : Trace) (right : RightTrace s t) where
   covered_committed f has a w below set before =
       let found = there_some (logged_of (of_address a (done t)) w) set in
       let e = found.0 in
-      let facts = logged_has (λ (x : Logged). IsWrite s t x × (x.at.0 ≡ a)) (of_address a (done t)) w e found.1
-      (each_both (IsWrite s t) (λ (x : Logged). x.at.0 ≡ a) (of_address a (done t)) (each_of_address (IsWrite s t) a (done t) (done_writes s t right)) (are_of_address a (done t))) in
+      let facts = logged_has (λ (x : Remapping). IsWrite s t x × (x.at.0 ≡ a)) (of_address a (done t)) w e found.1
+      (each_both (IsWrite s t) (λ (x : Remapping). x.at.0 ≡ a) (of_address a (done t)) (each_of_address (IsWrite s t) a (done t) (done_writes s t right)) (are_of_address a (done t))) in
       let name : w ≡ e.request = sym facts.1 in
       let set_now : set_in t e.request ≡ true = subst (Has (done t)) name (has_at a (done t) w set) in
       let answer = answered_by_call f has e.request (subst (λ (v : Writer). is_answered (answer_of (before_begin (lines t) f.request) v) ≡ true) name before) in
@@ -98,11 +107,11 @@ module _ (s : Session) (t : Trace) (right : RightTrace s t) where
       (answered_committed has.later (Calls (Flush true) ∷ has.older) has.parts e facts.0.0 (omega (arith, facts.0.1, below)) set_now answer.0 answer.1)
 
   -- So no newer entry is covered than those that an image shows.
-  pub not_covered : (prefix : List Call) (c : Cut t prefix) (newer_es es fewer : List Logged) → entered t ≡ newer_es ++ es → es ≡ fewer ++ committed c.older
+  pub not_covered : (prefix : List Call) (c : Cut t prefix) (newer_es es fewer : List Remapping) → ((w : Writer) → Has newer_es w → Has es w → ⊥) → es ≡ fewer ++ committed c.older
       → (f : FlushMark) → HasMark t f → length_at (calls t) f.calls ≤ length prefix → (a : ℕ) → a < s.sizes.geometry.logical → (x : HistoryEntry)
       → (is_lasting true x.mark ≡ false) ⊎ Has (of_address a newer_es) x.request → (is_settled x.mark ≡ true → Has (of_address a (done t)) x.request)
       → is_covered (lines t) f x ≡ true → ⊥
-  not_covered prefix c newer_es es fewer of_entered has_committed f has by_then a below x of_newer there taken =
+  not_covered prefix c newer_es es fewer apart has_committed f has by_then a below x of_newer there taken =
       let both = and_parts (is_settled x.mark) (is_answered (answer_of (before_begin (lines t) f.request) x.request)) taken in
       elim of_newer [
         | inl passes_not ↦ settled_lasts x.mark both.0 passes_not
@@ -112,7 +121,7 @@ module _ (s : Session) (t : Trace) (right : RightTrace s t) where
             let at_call = covered_committed f has a x.request below (there both.0) both.1 in
             let at_cut : Has (committed c.older) x.request =
             subst (λ (u : Trace). Has (committed u) x.request) (sym inside.1)
-            (subst (λ (xs : List Logged). Has xs x.request) (sym (committed_append inside.0 old)) (has_older (committed inside.0) (committed old) x.request at_call)) in
-            let shown : Has es x.request = subst (λ (xs : List Logged). Has xs x.request) (sym has_committed) (has_older fewer (committed c.older) x.request at_cut) in
-            not_in_both newer_es es x.request (subst AreApart of_entered (entered_apart s t right)) (has_at a newer_es x.request newer) shown
+            (committed_later s inside.0 old x.request (subst (RightTrace s) inside.1 (right_part s c.newer c.older (subst (RightTrace s) c.parts right))) at_call) in
+            let shown : Has es x.request = subst (λ (xs : List Remapping). Has xs x.request) (sym has_committed) (has_older fewer (committed c.older) x.request at_cut) in
+            apart x.request (has_at a newer_es x.request newer) shown
       ]

@@ -1,6 +1,6 @@
 -- Where a stop cuts a trace, and what stood at a mark's call then.
 use Rattle.std.proofs.Common.{◌≡◌, ◌⊎◌, true, List, [], ◌∷◌, ◌++◌, refl, sym, ap, inl, inr, suc, ◌+◌, ◌≤◌, length, ◌∙◌, arith, length-append}
-use Rattle.core_laws.proofs.Common.{Call, Calls, Commits, DeskLine, Enters, Fails, Flushes, FlushMark, Happening, Logged, RightTrace, Says, Session, Trace, append-nil, calls, committed, entered, lines}
+use Rattle.core_laws.proofs.Common.{Call, Calls, DeskLine, Enters, Fails, Flushes, FlushMark, Happening, RightTrace, Says, Session, Trace, append-nil, calls, lines, Logged, journaled}
 use Rattle.blk_base.specs.declared.request.Answer.TheVariants.{Ok}
 use Rattle.vdo_model.specs.declared.report.DeskLine.TheVariants.{Answer}
 use Rattle.disk_model.specs.declared.call.Call.TheVariants.{Flush}
@@ -27,16 +27,10 @@ calls_append (Fails w call true ∷ t) older = ap (λ (xs : List Call). call ∷
 calls_append (other ∷ t) older = calls_append t older
 
 -- The entries that were handed in.
-pub entered_append : (newer older : Trace) → entered (newer ++ older) ≡ entered newer ++ entered older
-entered_append [] older = refl
-entered_append (Enters e ∷ t) older = ap (λ (xs : List Logged). e ∷ xs) (entered_append t older)
-entered_append (other ∷ t) older = entered_append t older
-
--- The committed entries.
-pub committed_append : (newer older : Trace) → committed (newer ++ older) ≡ committed newer ++ committed older
-committed_append [] older = refl
-committed_append (Commits e ∷ t) older = ap (λ (xs : List Logged). e ∷ xs) (committed_append t older)
-committed_append (other ∷ t) older = committed_append t older
+pub journaled_append : (newer older : Trace) → journaled (newer ++ older) ≡ journaled newer ++ journaled older
+journaled_append [] older = refl
+journaled_append (Enters e ∷ t) older = ap (λ (xs : List Logged). e ∷ xs) (journaled_append t older)
+journaled_append (other ∷ t) older = journaled_append t older
 
 -- The older part of a right trace is right.
 pub right_part : (s : Session) (newer older : Trace) → RightTrace s (newer ++ older) → RightTrace s older

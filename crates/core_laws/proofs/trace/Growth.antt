@@ -1,6 +1,7 @@
 -- A trace that grows by a happening: what its lists become, and what of them stays.
-use Rattle.std.proofs.Common.{ℕ, ◌≡◌, ◌<◌, ◌≤◌, true, List, ◌∷◌, Some, IsNone, refl, subst, inl, inr, arith}
-use Rattle.core_laws.proofs.Common.{Answer as Reply, CommitMayFollow, Commits, DeskLine, Draws, Enters, EntryMayFollow, Fails, Flushes, Gift, GiftMayFollow, Gives, Happening, IsNextLine, IsWrite, Logged, MayFollow, Placed, PlaceMayFollow, Says, Script, Session, Sets, SlotMayFollow, Trace, Writer, answer_of, before_begin, begun, committed, done, entered, eqb_tells, gifts, lines, logged_of, not_both, place_of, places, same_tells}
+use Rattle.std.proofs.Common.{ℕ, ◌≡◌, ◌<◌, ◌≤◌, true, List, ◌∷◌, Some, IsNone, refl, subst, inl, inr, arith, ◌++◌, ◌∙◌}
+use Rattle.core_laws.proofs.Common.{Answer as Reply, CommitMayFollow, Commits, DeskLine, Draws, Enters, EntryMayFollow, Fails, Flushes, Gift, GiftMayFollow, Gives, Happening, IsNextLine, IsWrite, Remapping, MayFollow, Placed, PlaceMayFollow, Says, Script, Session, Sets, SlotMayFollow, Trace, Writer, answer_of, before_begin, begun, committed, done, entered, eqb_tells, gifts, lines, logged_of, not_both, place_of, places, same_tells, Remaps, applied, durable, journaled, passed, remappings, Passes, PassMayFollow}
+use Rattle.core_laws.proofs.lists.Between.{logged_between}
 use Rattle.vdo_model.specs.declared.report.DeskLine.TheVariants.{Begin, Answer}
 
 -- Lists of a trace that grew: the old one, or with one item more.
@@ -21,22 +22,34 @@ places_grow P s (Draws p) t may same grown = grown p refl may
 places_grow P s other t may same grown = same
 
 -- the entered entries of a trace that grew
-pub entered_grows : (P : List Logged → Type 0) (s : Session) (h : Happening) (t : Trace) → MayFollow s h t → P (entered t)
-    → ((e : Logged) → h ≡ Enters e → EntryMayFollow s e t → P (e ∷ entered t)) → P (entered (h ∷ t))
-entered_grows P s (Enters e) t may same grown = grown e refl may
-entered_grows P s other t may same grown = same
+pub entered_grows : (P : List Remapping → Type 0) (s : Session) (h : Happening) (t : Trace) → MayFollow s h t → P (entered t)
+    → ((e : Remapping) → h ≡ Enters (Remaps e) → EntryMayFollow s e t → P (e ∷ entered t))
+    → ((e : Remapping) → h ≡ Passes e → PassMayFollow s e t → P (remappings (journaled t) ++ e ∷ passed t)) → P (entered (h ∷ t))
+entered_grows P s (Enters (Remaps e)) t may same grown past = grown e refl may
+entered_grows P s (Passes e) t may same grown past = past e refl may
+entered_grows P s other t may same grown past = same
 
 -- the committed ones
-pub committed_grows : (P : List Logged → Type 0) (s : Session) (h : Happening) (t : Trace) → MayFollow s h t → P (committed t)
-    → ((e : Logged) → h ≡ Commits e → CommitMayFollow s e t → P (e ∷ committed t)) → P (committed (h ∷ t))
-committed_grows P s (Commits e) t may same grown = grown e refl may
-committed_grows P s other t may same grown = same
+pub committed_grows : (P : List Remapping → Type 0) (s : Session) (h : Happening) (t : Trace) → MayFollow s h t → P (committed t)
+    → ((e : Remapping) → h ≡ Commits (Remaps e) → CommitMayFollow s (Remaps e) t → P (e ∷ committed t))
+    → ((e : Remapping) → h ≡ Passes e → PassMayFollow s e t → P (remappings (durable t) ++ e ∷ passed t)) → P (committed (h ∷ t))
+committed_grows P s (Commits (Remaps e)) t may same grown past = grown e refl may
+committed_grows P s (Passes e) t may same grown past = past e refl may
+committed_grows P s other t may same grown past = same
 
 -- the done ones
-pub done_grows : (P : List Logged → Type 0) (s : Session) (h : Happening) (t : Trace) → MayFollow s h t → P (done t)
-    → ((e : Logged) → h ≡ Sets e → SlotMayFollow s e t → P (e ∷ done t)) → P (done (h ∷ t))
-done_grows P s (Sets e) t may same grown = grown e refl may
-done_grows P s other t may same grown = same
+pub done_grows : (P : List Remapping → Type 0) (s : Session) (h : Happening) (t : Trace) → MayFollow s h t → P (done t)
+    → ((e : Remapping) → h ≡ Sets (Remaps e) → SlotMayFollow s e t → P (e ∷ done t))
+    → ((e : Remapping) → h ≡ Passes e → PassMayFollow s e t → P (remappings (applied t) ++ e ∷ passed t)) → P (done (h ∷ t))
+done_grows P s (Sets (Remaps e)) t may same grown past = grown e refl may
+done_grows P s (Passes e) t may same grown past = past e refl may
+done_grows P s other t may same grown past = same
+
+-- those that passed
+pub passed_grows : (P : List Remapping → Type 0) (s : Session) (h : Happening) (t : Trace) → MayFollow s h t → P (passed t)
+    → ((e : Remapping) → h ≡ Passes e → PassMayFollow s e t → P (e ∷ passed t)) → P (passed (h ∷ t))
+passed_grows P s (Passes e) t may same grown = grown e refl may
+passed_grows P s other t may same grown = same
 
 -- the gifts
 pub gifts_grow : (P : List Gift → Type 0) (s : Session) (h : Happening) (t : Trace) → MayFollow s h t → P (gifts t)
@@ -94,12 +107,15 @@ place_stays s h t w p may is = places_grow (λ ps. place_of ps w ≡ Some p) s h
 ])
 
 -- an entered entry stays entered
-pub entered_stays : (s : Session) (h : Happening) (t : Trace) (w : Writer) (e : Logged) → MayFollow s h t → logged_of (entered t) w ≡ Some e → logged_of (entered (h ∷ t)) w ≡ Some e
+pub entered_stays : (s : Session) (h : Happening) (t : Trace) (w : Writer) (e : Remapping) → MayFollow s h t → logged_of (entered t) w ≡ Some e → logged_of (entered (h ∷ t)) w ≡ Some e
 entered_stays s h t w e may is = entered_grows (λ es. logged_of es w ≡ Some e) s h t may is (λ f came next. elim (same_tells f.request w) [
   | inl same ↦ absurd (not_both (logged_of (entered t) w) e (subst (λ (x : Writer). IsNone (logged_of (entered t) x)) same.1 next.once) is)
   | inr other ↦ rw other.0 is
+]) (λ f came next. elim (same_tells f.request w) [
+  | inl same ↦ absurd (not_both (logged_of (entered t) w) e (subst (λ (x : Writer). IsNone (logged_of (entered t) x)) same.1 next.once) is)
+  | inr other ↦ logged_between (remappings (journaled t)) (passed t) f w other.0 ∙ is
 ])
 
 -- an entry of a write stays one
-pub write_stays : (s : Session) (h : Happening) (t : Trace) (e : Logged) → MayFollow s h t → IsWrite s t e → IsWrite s (h ∷ t) e
+pub write_stays : (s : Session) (h : Happening) (t : Trace) (e : Remapping) → MayFollow s h t → IsWrite s t e → IsWrite s (h ∷ t) e
 write_stays s h t e may is = record { asks = is.asks; bytes = is.bytes; asked = is.asked; maps = is.maps; placed = place_stays s h t e.request _ may is.placed }

@@ -1,6 +1,6 @@
 -- The histories of a right trace: which entries of its address one walks, and what each entry says.
 use Rattle.std.proofs.Common.{ℕ, ◌≡◌, ◌==◌, Bool, true, false, List, [], ◌∷◌, Some, None, refl, sym, ◌∙◌, ap, subst, inl, inr, ◌+◌, ◌<◌, ◌≤◌, ◌++◌, Option, IsNone, arith}
-use Rattle.core_laws.proofs.Common.{AllByRecursion, AreDrawn, DeskLine, HistoryEntry, IsWrite, Lba, Logged, Mark, Placed, Request, RightTrace, Script, Session, Trace, Writer, address_of, asked, cases_Bool, done, drawn, each_both, entered, eqb_tells, every-map, lines, logged_of, not_both, of_address, place_of, places, request_at, same_self, same_Some, same_tells, zone_of}
+use Rattle.core_laws.proofs.Common.{AllByRecursion, AreDrawn, DeskLine, HistoryEntry, IsWrite, Lba, Remapping, Mark, Placed, Request, RightTrace, Script, Session, Trace, Writer, address_of, asked, cases_Bool, done, drawn, each_both, entered, eqb_tells, every-map, lines, logged_of, not_both, of_address, place_of, places, request_at, same_self, same_Some, same_tells, zone_of}
 use Rattle.stop_laws.specs.Histories.{is_lasting}
 use Rattle.vdo_model.specs.Histories.{mark_of, history_of, is_settled, histories_of}
 use Rattle.core_model.specs.Reports.{is_there, set_in, handed_in, drawn_histories}
@@ -17,19 +17,19 @@ use Rattle.vdo_model.specs.Histories as model
 -- those whose slots were set.
 
 -- the entries of an address are of writes and discards of it, with their places
-pub writes_put : (s : Session) (t : Trace) (a : ℕ) (es : List Logged) → AllByRecursion (IsWrite s t) es → AllByRecursion (IsPut s.script (places t) (zone_of s.sizes.zones a) a) (of_address a es)
+pub writes_put : (s : Session) (t : Trace) (a : ℕ) (es : List Remapping) → AllByRecursion (IsWrite s t) es → AllByRecursion (IsPut s.script (places t) (zone_of s.sizes.zones a) a) (of_address a es)
 writes_put s t a es writes =
-    every-map {P = λ (e : Logged). IsWrite s t e × (e.at.0 ≡ a)} {Q = IsPut s.script (places t) (zone_of s.sizes.zones a) a} (λ e is. record {
+    every-map {P = λ (e : Remapping). IsWrite s t e × (e.at.0 ≡ a)} {Q = IsPut s.script (places t) (zone_of s.sizes.zones a) a} (λ e is. record {
       asks = is.0.asks;
       bytes = is.0.bytes;
       asked = is.0.asked;
       change = maps_change is.0.asks is.0.bytes e.new is.0.maps;
       at_address = is.1;
       has_place = subst (λ (b : ℕ). place_of (places t) e.request ≡ Some (record { request = e.request; zone = zone_of s.sizes.zones b; place = e.place })) is.1 is.0.placed;
-    }) (of_address a es) (each_both (IsWrite s t) (λ (e : Logged). e.at.0 ≡ a) (of_address a es) (each_of_address (IsWrite s t) a es writes) (are_of_address a es))
+    }) (of_address a es) (each_both (IsWrite s t) (λ (e : Remapping). e.at.0 ≡ a) (of_address a es) (each_of_address (IsWrite s t) a es writes) (are_of_address a es))
 
 -- the entry of a request of this address is among those of the address
-pub logged_at : (s : Session) (t : Trace) (a : ℕ) (es : List Logged) (w : Writer) (r : Request) → AllByRecursion (IsWrite s t) es → request_at s.script w ≡ Some r → address_of r ≡ Some a
+pub logged_at : (s : Session) (t : Trace) (a : ℕ) (es : List Remapping) (w : Writer) (r : Request) → AllByRecursion (IsWrite s t) es → request_at s.script w ≡ Some r → address_of r ≡ Some a
     → logged_of (of_address a es) w ≡ logged_of es w
 logged_at s t a [] w r writes asks has = refl
 logged_at s t a (e ∷ es) w r writes asks has =

@@ -1,13 +1,14 @@
 -- The reads of a right trace are right, and so is its report, which has the zones' lists of places.
 use Rattle.std.proofs.Common.{ℕ, ◌≡◌, ◌<◌, nat_lt, true, List, [], ◌∷◌, Some, IsNone, if◌then◌else◌, refl, sym, ◌∙◌, ap, subst, inl, inr, arith, length}
-use Rattle.core_laws.proofs.Common.{AllAnswered, AllByRecursion, Fails, Flushes, Gift, Gives, GivesRight, HasCause, HistoryEntry, IsFair, IsSession, Lba, Logged, Placed, RightTrace, Says, Session, Sets, Trace, Writer, answer_of, bytes_of, calls, done, each_both, eqb_tells, every-map, gift_of, gifts, le-ltb, lines, lt-ltb, marks, newest, not_both, of_address, places, request_at, same_Some, same_tells, value_from, zone_of}
+use Rattle.core_laws.proofs.Common.{AllAnswered, AllByRecursion, Fails, Flushes, Gift, Gives, GivesRight, HasCause, HistoryEntry, IsFair, IsSession, Lba, Remapping, Placed, RightTrace, Says, Session, Sets, Trace, Writer, answer_of, bytes_of, calls, done, each_both, eqb_tells, every-map, gift_of, gifts, le-ltb, lines, lt-ltb, marks, newest, not_both, of_address, places, request_at, same_Some, same_tells, value_from, zone_of, Remaps, Passes, remappings, applied, journaled, passed}
+use Rattle.core_laws.proofs.lists.Between.{address_behind, address_between, address_there}
 use Rattle.vdo_model.specs.Histories.{history_of, is_settled}
 use Rattle.vdo_model.specs.RightReads.{value_below, ReadsRight}
 use Rattle.vdo_model.specs.declared.report.DeskLine.TheVariants.{Begin, Answer}
 use Rattle.core_model.specs.Reports.{opening_values, drawn_histories, ShowsValues, listed_places, progress_of, report_of}
 use Rattle.core_laws.proofs.trace.DeskOfTrace.{done_writes, desk_log_right}
 use Rattle.core_laws.proofs.trace.PlacesOfTrace.{gifts_placed, gift_has, IsPlacedGift, places_drawn, places_all}
-use Rattle.core_laws.proofs.trace.TurnsOfTrace.{below_at}
+use Rattle.core_laws.proofs.trace.TurnsOfTrace.{below_at, at_address, none_set}
 use Rattle.core_laws.proofs.trace.Walks.{Walks, IsPut}
 use Rattle.core_laws.proofs.trace.HistoriesOfTrace.{settled_walks, writes_put}
 use Rattle.vdo_model.specs.RightRuns.{RunRight}
@@ -21,35 +22,51 @@ use Rattle.blk_base.specs.declared.request.Request.TheVariants as request
 -- The reads of a right trace are right: each gave the value of the last settled write of its address before it.
 
 -- the value of an address below a place: that of its last entry there
-abbrev pub value_before : Session → List Logged → ℕ → ℕ → List ℕ
+abbrev pub value_before : Session → List Remapping → ℕ → ℕ → List ℕ
 value_before s [] a n = opening_values s a
 value_before s (e ∷ older) a n = if nat_lt e.place n then bytes_of s e else value_before s older a n
 
 -- where all entries are below, it is that of the newest one
-newest_before : (s : Session) (es : List Logged) (a n : ℕ) → AllByRecursion (λ (e : Logged). e.place < n) es → value_before s es a n ≡ value_from s a (newest es)
+newest_before : (s : Session) (es : List Remapping) (a n : ℕ) → AllByRecursion (λ (e : Remapping). e.place < n) es → value_before s es a n ≡ value_from s a (newest es)
 newest_before s [] a n below = refl
 newest_before s (e ∷ es) a n below = rw (lt-ltb e.place n below.0) refl
 
 -- a later entry changes nothing
-later_before : (s : Session) (e : Logged) (es : List Logged) (a n : ℕ) → n < e.place → value_before s (e ∷ es) a n ≡ value_before s es a n
+later_before : (s : Session) (e : Remapping) (es : List Remapping) (a n : ℕ) → n < e.place → value_before s (e ∷ es) a n ≡ value_before s es a n
 later_before s e es a n less = rw (le-ltb e.place n (omega arith)) refl
 
 -- a gift has the value of its address below its place
 abbrev pub IsRightGift : Session → Trace → Gift → Type 0
 IsRightGift s t g = g.bytes ≡ value_before s (of_address g.at.0 (done t)) g.at.0 g.place
 
-gift_after : (s : Session) (e : Logged) (t : Trace) (g : Gift) → (g.at.0 ≡ e.at.0 → g.place < e.place) → IsRightGift s t g → IsRightGift s (Sets e ∷ t) g
+gift_after : (s : Session) (e : Remapping) (t : Trace) (g : Gift) → (g.at.0 ≡ e.at.0 → g.place < e.place) → IsRightGift s t g → IsRightGift s (Sets (Remaps e) ∷ t) g
 gift_after s e t g less is = elim (eqb_tells e.at.0 g.at.0) [
   | inl same ↦ rw same.0 (is ∙ sym (later_before s e (of_address g.at.0 (done t)) g.at.0 g.place (less (sym same.1))))
   | inr other ↦ rw other.0 is
 ]
 
+-- nor does a discard that passes
+pass_after : (s : Session) (e : Remapping) (t : Trace) (g : Gift) → RightTrace s (Passes e ∷ t) → (g.at.0 ≡ e.at.0 → g.place < e.place) → IsRightGift s t g → IsRightGift s (Passes e ∷ t) g
+pass_after s e t g right less is =
+    let given : List Remapping → List ℕ = λ es. value_before s es g.at.0 g.place in
+    elim (eqb_tells e.at.0 g.at.0) [
+      | inl same ↦
+          let first : of_address g.at.0 (remappings (journaled t)) ≡ [] = subst (λ (b : ℕ). of_address b (remappings (journaled t)) ≡ []) same.1 right.0.first in
+          let none = none_set t g.at.0 (at_address s t g.at.0 right.2) first in
+          is ∙ ap given (address_behind g.at.0 (remappings (applied t)) (passed t) none.1) ∙ sym (later_before s e (of_address g.at.0 (passed t)) g.at.0 g.place (less (sym same.1)))
+          ∙ ap given (sym (address_there g.at.0 (remappings (applied t)) (passed t) e same.1 none.1))
+      | inr other ↦ is ∙ ap given (sym (address_between g.at.0 (remappings (applied t)) (passed t) e other.1))
+    ]
+
 -- each gift has the value of its address below its place
 pub gifts_right : (s : Session) (t : Trace) → RightTrace s t → GivesRight s t → AllByRecursion (IsRightGift s t) (gifts t)
 gifts_right s [] right gives = tt
-gifts_right s (Sets e ∷ t) right gives =
+gifts_right s (Sets (Remaps e) ∷ t) right gives =
     let below : Gift → Type 0 = λ g. g.at.0 ≡ e.at.0 → g.place < e.place in
-    every-map {P = λ g. below g × IsRightGift s t g} {Q = IsRightGift s (Sets e ∷ t)} (λ g is. gift_after s e t g is.0 is.1) (gifts t) (each_both below (IsRightGift s t) (gifts t) right.0.below.reads (gifts_right s t right.2 gives))
+    every-map {P = λ g. below g × IsRightGift s t g} {Q = IsRightGift s (Sets (Remaps e) ∷ t)} (λ g is. gift_after s e t g is.0 is.1) (gifts t) (each_both below (IsRightGift s t) (gifts t) right.0.below.reads (gifts_right s t right.2 gives))
+gifts_right s (Passes e ∷ t) right gives =
+    let below : Gift → Type 0 = λ g. g.at.0 ≡ e.at.0 → g.place < e.place in
+    every-map {P = λ g. below g × IsRightGift s t g} {Q = IsRightGift s (Passes e ∷ t)} (λ g is. pass_after s e t g right is.0 is.1) (gifts t) (each_both below (IsRightGift s t) (gifts t) right.0.below.reads (gifts_right s t right.2 gives))
 gifts_right s (Gives g ∷ t) right gives = (
   gives.0 ∙ sym (newest_before s (of_address g.at.0 (done t)) g.at.0 g.place (below_at t g.at.0 g.place right.0.below)),
   gifts_right s t right.2 gives.1,
@@ -89,7 +106,7 @@ was_given s (Fails v c true ∷ t) w at bytes right asked is = was_given s t w a
 was_given s (other ∷ t) w at bytes right asked is = was_given s t w at bytes right.2 asked is
 
 -- what a history has below a place is what the entries that it walks have
-walk_value : (s : Session) (ps : List Placed) (zone a n : ℕ) (hs : List HistoryEntry) (es : List Logged) → AllByRecursion (IsPut s.script ps zone a) es → Walks is_settled hs es
+walk_value : (s : Session) (ps : List Placed) (zone a n : ℕ) (hs : List HistoryEntry) (es : List Remapping) → AllByRecursion (IsPut s.script ps zone a) es → Walks is_settled hs es
     → value_below s.script ps (opening_values s a) hs n ≡ value_before s es a n
 walk_value s ps zone a n [] es puts walks = rw walks refl
 walk_value s ps zone a n (h ∷ hs) es puts walks = elim walks [
@@ -97,7 +114,7 @@ walk_value s ps zone a n (h ∷ hs) es puts walks = elim walks [
   | inr (e, older, is, request_is, passes, rest_walks) ↦
       let here : AllByRecursion (IsPut s.script ps zone a) (e ∷ older) = subst (AllByRecursion (IsPut s.script ps zone a)) is puts in
       let rest = walk_value s ps zone a n hs older here.1 rest_walks in
-      subst (λ (xs : List Logged). value_below s.script ps (opening_values s a) (h ∷ hs) n ≡ value_before s xs a n) (sym is)
+      subst (λ (xs : List Remapping). value_below s.script ps (opening_values s a) (h ∷ hs) n ≡ value_before s xs a n) (sym is)
       (rw (passes, request_is, here.0.has_place) (ap (λ (rest_value : List ℕ). if nat_lt e.place n then bytes_of s e else rest_value) rest))
 ]
 

@@ -1,6 +1,7 @@
 -- A stop before or after any call of a right trace is right.
 use Rattle.std.proofs.Common.{ℕ, min, drop, length-drop, length-take, ◌+◌, ◌-◌, ◌≡◌, ◌⊎◌, ◌<◌, false, List, [], ◌∷◌, ◌++◌, length, refl, ◌∙◌, ap, inl, inr, arith, ◌≤◌, Bool, true, sym, subst, append_assoc, IsSome}
-use Rattle.core_laws.proofs.Common.{all_of, AllByRecursion, answer_of, append-nil, AreAllThere, AtRest, begun, bytes_of, Call, calls, Calls, ComesLast, committed, DeskLine, done, each_both, entered, entries_of, every-append, every-front, every-map, fair_part, filled, FlushMark, HasBlocks, HasWholeBlocks, HistoryEntry, IsFair, IsSession, IsWrite, lines, log, Logged, Mapping, MapStands, Mark, marks, newest, NewStands, of_address, OnBlock, OnItsWay, places, request_at, RightTrace, RunReport, same_self, sealed, Session, Shown, Stands, Trace, value_from, value_written, Writer}
+use Rattle.core_laws.proofs.Common.{all_of, AllByRecursion, answer_of, append-nil, AreAllThere, AtRest, begun, Call, calls, Calls, ComesLast, committed, DeskLine, done, each_both, entered, entries_of, every-append, every-front, every-map, fair_part, filled, FlushMark, HasBlocks, HasWholeBlocks, HistoryEntry, IsFair, IsSession, IsWrite, lines, log, Logged, Remapping, Mapping, MapStands, Mark, marks, newest, NewStands, of_address, OnBlock, OnItsWay, places, request_at, RightTrace, RunReport, same_self, sealed, Session, Shown, Stands, Trace, value_from, value_written, Writer, content_of, new_of, journaled, durable, remappings, passed}
+use Rattle.core_laws.proofs.trace.PassesOfTrace.{entered_at_both, entered_once, has_either, value_past}
 use Rattle.blk_base.specs.declared.place.Mapping.TheVariants.{Unmapped, Zero, At}
 use Rattle.disk_model.specs.Images.{IsImage}
 use Rattle.disk_model.specs.Log.{Blocks, block_at}
@@ -15,12 +16,12 @@ use Rattle.vdo_model.specs.declared.report.Mark.TheVariants.{Settled, Unsettled,
 use Rattle.stop_laws.proofs.HistoryLaws.{covered_within}
 use Rattle.core_model.specs.Reports.{opening_values, ShowsValues, report_of, drawn_histories}
 use Rattle.core_laws.proofs.trace.CoveredEntries.{IsBegunBy, entered_begun, not_covered}
-use Rattle.core_laws.proofs.lists.CoreLists.{Has, has_older, each_older, each_newer, begun_later, before_answer_part}
+use Rattle.core_laws.proofs.lists.CoreLists.{Has, has_older, not_in_both, each_older, each_newer, begun_later, before_answer_part}
 use Rattle.core_laws.proofs.trace.Walks.{Walks, walks_front, walks_split}
 use Rattle.disk_model.specs.declared.call.Call.TheVariants.{Flush}
 use Rattle.vdo_model.specs.Histories.{history_of, is_settled}
-use Rattle.core_laws.proofs.trace.Cuts.{Cut, cut, cut_before_call, lines_append, entered_append, right_part}
-use Rattle.core_laws.proofs.trace.DeskOfTrace.{of_address_append, shown_of, each_of_address, entered_writes, HasData, AreData, entered_data}
+use Rattle.core_laws.proofs.trace.Cuts.{Cut, cut, cut_before_call, lines_append, right_part}
+use Rattle.core_laws.proofs.trace.DeskOfTrace.{AreApart, both_parts, entered_apart, of_address_append, shown_of, each_of_address, entered_writes, HasData, AreData, entered_data}
 use Rattle.core_laws.proofs.trace.HistoriesOfTrace.{entered_walks, settled_walks}
 use Rattle.core_laws.proofs.trace.MarksOfTrace.{HasMark, all_marks}
 use Rattle.core_laws.proofs.kept.StandsOn.{entered_parts, map_more}
@@ -51,8 +52,8 @@ pub record ImageEntries (s : Session) (u : Trace) (image : Blocks) : Type 0 wher
   pub es : List Logged
   pub more : List Logged
   pub fewer : List Logged
-  pub of_entered : entered u ≡ more ++ es
-  pub has_committed : es ≡ fewer ++ committed u
+  pub of_entered : journaled u ≡ more ++ es
+  pub has_committed : es ≡ fewer ++ durable u
   pub window : HasWindow s image es
   pub stand : MapStands s u es
 
@@ -134,7 +135,7 @@ module _ (s : Session) (u : Trace) (image : Blocks) (session : IsSession s) (fai
   comes_last : (k : ComesLast s u) → AtRest s u k.older ⊎ OnItsWay s u k.older k.block → ImageEntries s u image
   comes_last k stands = by stands
     where
-      parts : entered u ≡ filled u ++ (k.block ++ all_of k.older)
+      parts : journaled u ≡ filled u ++ (k.block ++ all_of k.older)
       parts = entered_parts u ∙ ap (λ (all : List (List Logged)). filled u ++ all_of all) k.sealed_is
 
       old_entries : HasWindow s image (all_of k.older) → MapStands s u (all_of k.older) → ImageEntries s u image
@@ -161,7 +162,7 @@ module _ (s : Session) (u : Trace) (image : Blocks) (session : IsSession s) (fai
           has_committed = ap (λ (es : List Logged). part.older ++ es) (sym k.committed_is);
           window = window;
           stand = map_more s u part.older (all_of k.older) way.1
-              (every-front (λ (e : Logged). OnBlock (λ x. Stands s u x.0 (bytes_of s e)) e.new) part.newer part.older (subst (NewStands s u) part.parts way.2)).1;
+              (every-front (λ (e : Logged). OnBlock (λ x. Stands s u x.0 (content_of s e)) (new_of e)) part.newer part.older (subst (NewStands s u) part.parts way.2)).1;
         }
       ]
 
@@ -180,30 +181,33 @@ module _ (s : Session) (u : Trace) (image : Blocks) (session : IsSession s) (fai
       block_of_image s.blocks (log s u) image 0 (block_at s.image 0) some (fair.opened.one_image.whole 0 some) shown.superblock is
 
   -- An address has the value of its newest entry, or that which it had.
-  module _ (right : RightTrace s u) (es : List Logged) (a : ℕ) (stand : MapStands s u es) (writes : AllByRecursion (IsWrite s u) es) (to_data : AreData s es) where
-    by_mapping : (m : Mapping) → mapping_of (entries_of s.window es) a ≡ m → value_in image m ≡ value_from s a (newest (of_address a es))
+  module _ (right : RightTrace s u) (es : List Logged) (a : ℕ) (stand : MapStands s u es) (writes : AllByRecursion (IsWrite s u) (remappings es)) (to_data : AreData s (remappings es)) where
+    abbrev here : List Remapping
+    here = of_address a (remappings es)
+
+    by_mapping : (m : Mapping) → mapping_of (entries_of s.window es) a ≡ m → value_in image m ≡ value_from s a (newest here)
     by_mapping (At x) maps =
         let inside = data_block_inside s.sizes.geometry x.0 (mapped_is_data s es a x session to_data maps) in
-        let whole = value_whole s u session right fair es a x (newest (of_address a es)) writes refl (sym (mapping_by s.window es a) ∙ maps) in
-        let stands : Stands s u x.0 (value_from s a (newest (of_address a es))) = subst (OnBlock (λ y. Stands s u y.0 (value_from s a (newest (of_address a es))))) maps (stand a) in
+        let whole = value_whole s u session right fair (remappings es) a x (newest here) writes refl (sym (mapping_by s.window es a) ∙ maps) in
+        let stands : Stands s u x.0 (value_from s a (newest here)) = subst (OnBlock (λ y. Stands s u y.0 (value_from s a (newest here)))) maps (stand a) in
         block_of_image s.blocks (log s u) image x.0 _ (omega (arith, inside, fair.opened.room)) whole stands is
-    by_mapping Unmapped maps = sym (zeros_by s u es a (newest (of_address a es)) Unmapped (λ x off. cc) refl refl writes (sym (mapping_by s.window es a) ∙ maps))
-    by_mapping Zero maps = sym (zeros_by s u es a (newest (of_address a es)) Zero (λ x off. cc) refl refl writes (sym (mapping_by s.window es a) ∙ maps))
+    by_mapping Unmapped maps = sym (zeros_by s u (remappings es) a (newest here) Unmapped (λ x off. cc) refl refl writes (sym (mapping_by s.window es a) ∙ maps))
+    by_mapping Zero maps = sym (zeros_by s u (remappings es) a (newest here) Zero (λ x off. cc) refl refl writes (sym (mapping_by s.window es a) ∙ maps))
 
-    pub shown_value : value_of image (entries_of s.window es) a ≡ value_from s a (newest (of_address a es))
+    pub shown_value : value_of image (entries_of s.window es) a ≡ value_from s a (newest here)
     shown_value = by_mapping (mapping_of (entries_of s.window es) a) refl
 
 -- The part of a history that a stop shows: from the entry that stands for the newest of the shown ones back.
 
 -- The first entry of a history stands for the first of these; where there is none, nothing is shown.
-abbrev pub StandsFor : List HistoryEntry → List Logged → Type 0
+abbrev pub StandsFor : List HistoryEntry → List Remapping → Type 0
 StandsFor [] [] = Unit {0}
 StandsFor [] (e ∷ es) = ⊥
 StandsFor (h ∷ hs) [] = ⊥
 StandsFor (h ∷ hs) (e ∷ es) = (is_lasting true h.mark ≡ true) × (h.request ≡ e.request)
 
 -- a history in two parts: what is newer doesn't last, or is of newer entries
-pub record ShownPart (history : List HistoryEntry) (newer_es es : List Logged) : Type 0 where
+pub record ShownPart (history : List HistoryEntry) (newer_es es : List Remapping) : Type 0 where
   pub newer : List HistoryEntry
   pub shown : List HistoryEntry
   pub part : history ≡ newer ++ shown
@@ -215,7 +219,7 @@ none_passes test [] walks = tt
 none_passes test (h ∷ hs) (inl (passed, rest)) = (passed, none_passes test hs rest)
 none_passes test (h ∷ hs) (inr (e, older, is, request_is, passes, rest)) = absurd cc
 
-oldest_part : (hs : List HistoryEntry) (newer_es es : List Logged) → Walks (is_lasting true) hs es → ShownPart hs newer_es es
+oldest_part : (hs : List HistoryEntry) (newer_es es : List Remapping) → Walks (is_lasting true) hs es → ShownPart hs newer_es es
 oldest_part hs newer_es [] walks = record {
   newer = hs;
   shown = [];
@@ -233,7 +237,7 @@ oldest_part hs newer_es (e ∷ es) walks =
     }
 
 -- A history that walks newer entries and these has such parts.
-pub shown_part : (hs : List HistoryEntry) (newer_es es : List Logged) → Walks (is_lasting true) hs (newer_es ++ es) → ShownPart hs newer_es es
+pub shown_part : (hs : List HistoryEntry) (newer_es es : List Remapping) → Walks (is_lasting true) hs (newer_es ++ es) → ShownPart hs newer_es es
 shown_part hs newer_es es walks =
     let split = walks_split (is_lasting true) hs newer_es es walks in
     let oldest = oldest_part split.older newer_es es split.walks in record {
@@ -245,11 +249,11 @@ shown_part hs newer_es es walks =
     }
 
 -- Each entry that passes the test has one of the entries that are walked.
-pub each_there : (test : Mark → Bool) (hs : List HistoryEntry) (es : List Logged) → Walks test hs es → AllByRecursion (λ (h : HistoryEntry). test h.mark ≡ true → Has es h.request) hs
+pub each_there : (test : Mark → Bool) (hs : List HistoryEntry) (es : List Remapping) → Walks test hs es → AllByRecursion (λ (h : HistoryEntry). test h.mark ≡ true → Has es h.request) hs
 each_there test [] es walks = tt
 each_there test (h ∷ hs) es (inl (passed, rest)) = (λ passes. absurd cc, each_there test hs es rest)
 each_there test (h ∷ hs) es (inr (e, older, is, request_is, passes, rest)) =
-    let back : (w : Writer) → Has (e ∷ older) w → Has es w = λ w has. subst (λ (xs : List Logged). Has xs w) (sym is) has in
+    let back : (w : Writer) → Has (e ∷ older) w → Has es w = λ w has. subst (λ (xs : List Remapping). Has xs w) (sym is) has in
     let here : Has (e ∷ older) e.request = rw (same_self e.request) refl in (
       λ passes_too. back h.request (subst (Has (e ∷ older)) (sym request_is) here),
       every-map {P = λ (g : HistoryEntry). test g.mark ≡ true → Has older g.request} {Q = λ (g : HistoryEntry). test g.mark ≡ true → Has es g.request} (λ g has passes_too. back g.request (has_older (e ∷ []) older g.request (has passes_too))) hs (each_there test hs older rest),
@@ -261,20 +265,20 @@ mark_lasts h hs Unsettled is lasts = rw is tt
 mark_lasts h hs Refused is lasts = absurd cc
 
 -- The last entry of what is shown lasts.
-pub stands_last : (shown : List HistoryEntry) (es : List Logged) → StandsFor shown es → MayLast shown
+pub stands_last : (shown : List HistoryEntry) (es : List Remapping) → StandsFor shown es → MayLast shown
 stands_last [] es stands = tt
 stands_last (h ∷ hs) [] stands = absurd stands
 stands_last (h ∷ hs) (e ∷ es) stands = mark_lasts h hs h.mark refl stands.0
 
 -- It has the value of the newest entry that is shown.
-pub stands_value : (s : Session) (a : ℕ) (shown : List HistoryEntry) (es : List Logged) → StandsFor shown es → value_from s a (newest es) ≡ last_value s.script (opening_values s a) shown
+pub stands_value : (s : Session) (a : ℕ) (shown : List HistoryEntry) (es : List Remapping) → StandsFor shown es → value_from s a (newest es) ≡ last_value s.script (opening_values s a) shown
 stands_value s a [] [] stands = refl
 stands_value s a [] (e ∷ es) stands = absurd stands
 stands_value s a (h ∷ hs) [] stands = absurd stands
 stands_value s a (h ∷ hs) (e ∷ es) stands = ap (λ (w : Writer). value_written (request_at s.script w)) (sym stands.1)
 
 -- It was begun where that was.
-pub stands_begun : (desk : List DeskLine) (f : FlushMark) (shown : List HistoryEntry) (es : List Logged) → StandsFor shown es
+pub stands_begun : (desk : List DeskLine) (f : FlushMark) (shown : List HistoryEntry) (es : List Remapping) → StandsFor shown es
     → AllByRecursion (IsBegunBy (before_answer desk f.request)) es → IsBegunBefore desk f shown
 stands_begun desk f [] es stands all = tt
 stands_begun desk f (h ∷ hs) [] stands all = absurd stands
@@ -294,13 +298,38 @@ not_true true never = absurd (never refl)
 not_true false never = refl
 
 module _ (s : Session) (t : Trace) (session : IsSession s) (right : RightTrace s t) (prefix : List Call) (c : Cut t prefix)
-    (es more fewer : List Logged) (of_entered : entered c.older ≡ more ++ es) (has_committed : es ≡ fewer ++ committed c.older) where
+    (es more fewer : List Remapping) (of_entered : entered c.older ≡ more ++ es) (has_committed : es ≡ fewer ++ committed c.older) where
   -- what was handed in later than what is shown
-  abbrev newer_es : List Logged
-  newer_es = entered c.newer ++ more
+  abbrev newer_es : List Remapping
+  newer_es = remappings (journaled c.newer) ++ (passed c.newer ++ more)
 
-  all_entered : entered t ≡ newer_es ++ es
-  all_entered = ap entered c.parts ∙ entered_append c.newer c.older ∙ ap (λ (xs : List Logged). entered c.newer ++ xs) of_entered ∙ sym (append_assoc (entered c.newer) more es)
+  right_all : RightTrace s (c.newer ++ c.older)
+  right_all = subst (RightTrace s) c.parts right
+
+  all_entered : (a : ℕ) → of_address a (entered t) ≡ of_address a newer_es ++ of_address a es
+  all_entered a =
+      let here = of_address a (remappings (journaled c.newer)) in
+      let past = of_address a (passed c.newer) in
+      ap (λ (u : Trace). of_address a (entered u)) c.parts ∙ entered_at_both s c.newer c.older a right_all
+      ∙ ap (λ (xs : List Remapping). here ++ (past ++ of_address a xs)) of_entered
+      ∙ ap (λ (xs : List Remapping). here ++ (past ++ xs)) (of_address_append a more es)
+      ∙ ap (λ (xs : List Remapping). here ++ xs) (sym (append_assoc past (of_address a more) (of_address a es)))
+      ∙ sym (append_assoc here (past ++ of_address a more) (of_address a es))
+      ∙ ap (λ (xs : List Remapping). (here ++ xs) ++ of_address a es) (sym (of_address_append a (passed c.newer) more))
+      ∙ ap (λ (xs : List Remapping). xs ++ of_address a es) (sym (of_address_append a (remappings (journaled c.newer)) (passed c.newer ++ more)))
+
+  -- no request has one of both
+  in_one : (w : Writer) → Has newer_es w → Has es w → ⊥
+  in_one w newer shown =
+      let right_cut = right_part s c.newer c.older right_all in
+      let old : Has (entered c.older) w = subst (λ (xs : List Remapping). Has xs w) (sym of_entered) (has_older more es w shown) in
+      elim (has_either (remappings (journaled c.newer)) (passed c.newer ++ more) w newer) [
+        | inl now ↦ entered_once s c.newer c.older w right_all (inl now) old
+        | inr rest ↦ elim (has_either (passed c.newer) more w rest) [
+          | inl past ↦ entered_once s c.newer c.older w right_all (inr past) old
+          | inr before ↦ not_in_both more es w (subst AreApart of_entered (entered_apart s c.older right_cut)) before shown
+        ]
+      ]
 
   -- what is shown was begun before the answers of the later flushes
   begun_before : (f : FlushMark) → HasMark t f → length prefix ≤ length_at (calls t) f.calls → AllByRecursion (IsBegunBy (before_answer (lines t) f.request)) es
@@ -326,7 +355,7 @@ module _ (s : Session) (t : Trace) (session : IsSession s) (right : RightTrace s
   may_show a below value value_is =
       let history = history_of (drawn_histories s t) a in
       let walks : Walks (is_lasting true) history (of_address a newer_es ++ of_address a es) =
-      subst (Walks (is_lasting true) history) (ap (of_address a) all_entered ∙ of_address_append a newer_es es) (entered_walks s t a right) in
+      subst (Walks (is_lasting true) history) (all_entered a) (entered_walks s t a right) in
       let parts = shown_part history (of_address a newer_es) (of_address a es) walks in
       let there = each_newer (λ (x : HistoryEntry). is_settled x.mark ≡ true → Has (of_address a (done t)) x.request) parts.newer parts.shown
       (subst (AllByRecursion (λ (x : HistoryEntry). is_settled x.mark ≡ true → Has (of_address a (done t)) x.request)) parts.part
@@ -342,7 +371,7 @@ module _ (s : Session) (t : Trace) (session : IsSession s) (right : RightTrace s
             subst (λ (h : List HistoryEntry). length (covered (lines t) f h) ≤ length parts.shown) (sym parts.part)
             (none_covered (lines t) f parts.newer parts.shown
             (every-map {Q = λ x. is_covered (lines t) f x ≡ false} (λ x fact.
-            not_true (is_covered (lines t) f x) (not_covered s t right prefix c newer_es es fewer all_entered has_committed f has by_then a below x fact.0 fact.1)) parts.newer facts))) (marks t) (all_marks s t session right);
+            not_true (is_covered (lines t) f x) (not_covered s t right prefix c newer_es es fewer in_one has_committed f has by_then a below x fact.0 fact.1)) parts.newer facts))) (marks t) (all_marks s t session right);
         begun = every-map {P = HasMark t} (λ f has since.
             stands_begun (lines t) f parts.shown (of_address a es) parts.stands
             (each_of_address (IsBegunBy (before_answer (lines t) f.request)) a es (begun_before f has since))) (marks t) (all_marks s t session right);
@@ -363,10 +392,13 @@ stops_right s t session right fair later prefix calls_are image is =
     let stands = shown_of s u right_cut fair_cut in
     let is_cut : IsImage s.blocks (log s u) image = subst (λ (cs : List Call). IsImage s.blocks (cs ++ s.before) image) (sym c.calls_are) is in
     let entries = image_entries s u image session fair_cut is_cut stands in
-    let writes = each_older (IsWrite s u) entries.more entries.es (subst (AllByRecursion (IsWrite s u)) entries.of_entered (entered_writes s u right_cut)) in
-    let to_data = each_older (HasData s) entries.more entries.es (subst (AreData s) entries.of_entered (entered_data s u right_cut)) in (
+    let es : List Remapping = remappings entries.es ++ passed u in
+    let of_entered : entered u ≡ remappings entries.more ++ (remappings entries.es ++ passed u) = ap (λ (xs : List Logged). remappings xs ++ passed u) entries.of_entered ∙ both_parts entries.more entries.es (passed u) in
+    let has_committed : remappings entries.es ++ passed u ≡ remappings entries.fewer ++ committed u = ap (λ (xs : List Logged). remappings xs ++ passed u) entries.has_committed ∙ both_parts entries.fewer (durable u) (passed u) in
+    let writes = (every-front (IsWrite s u) (remappings entries.es) (passed u) (each_older (IsWrite s u) (remappings entries.more) es (subst (AllByRecursion (IsWrite s u)) of_entered (entered_writes s u right_cut)))).0 in
+    let to_data = (every-front (HasData s) (remappings entries.es) (passed u) (each_older (HasData s) (remappings entries.more) es (subst (AreData s) of_entered (entered_data s u right_cut)))).0 in (
       value_of image (entries_of s.window entries.es),
       (same_superblock s u image session fair_cut is_cut stands, record { last = entries.window.last; window = entries.window.shown; is_window = entries.window.is_window; values_are = ap (value_of image) entries.window.said }),
-      λ a below. may_show s t session right prefix c entries.es entries.more entries.fewer entries.of_entered entries.has_committed a below
-          (value_of image (entries_of s.window entries.es) a) (shown_value s u image session fair_cut is_cut right_cut entries.es a entries.stand writes to_data),
+      λ a below. may_show s t session right prefix c es (remappings entries.more) (remappings entries.fewer) of_entered has_committed a below
+          (value_of image (entries_of s.window entries.es) a) (shown_value s u image session fair_cut is_cut right_cut entries.es a entries.stand writes to_data ∙ sym (value_past s u a right_cut (remappings entries.es))),
     )

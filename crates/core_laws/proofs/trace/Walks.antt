@@ -1,6 +1,6 @@
 -- The history of an address walks a list of entries.
 use Rattle.std.proofs.Common.{◌≡◌, ◌⊎◌, ◌++◌, Bool, true, false, List, [], ◌∷◌, refl, sym, ◌∙◌, ap, subst, inl, inr, ℕ, ◌≢◌, ◌+◌, ◌<◌, ◌≤◌, ◌==◌, Option, Some, None, IsNone, arith}
-use Rattle.core_laws.proofs.Common.{AllByRecursion, AreDrawn, Asks, DeskLine, HistoryEntry, IsChange, Logged, Mark, Placed, Request, Script, Writer, address_of, asked, cases_Bool, drawn, each_both, eqb_tells, every-map, logged_of, not_both, place_of, request_at, same_self, same_Some, same_tells}
+use Rattle.core_laws.proofs.Common.{AllByRecursion, AreDrawn, Asks, DeskLine, HistoryEntry, IsChange, Remapping, Mark, Placed, Request, Script, Writer, address_of, asked, cases_Bool, drawn, each_both, eqb_tells, every-map, logged_of, not_both, place_of, request_at, same_self, same_Some, same_tells}
 use Rattle.data_vio.specs.declared.items.Asks.TheVariants.{Read, Write, Discard, Flush}
 use Rattle.core_model.specs.Reports.{is_there}
 use Rattle.vdo_model.specs.Histories.{Progress, mark_of, histories_of, history_of}
@@ -13,14 +13,14 @@ use Rattle.vdo_model.specs.Histories as model
 -- none.
 
 -- newest first
-abbrev pub Walks : (Mark → Bool) → List HistoryEntry → List Logged → Type 0
+abbrev pub Walks : (Mark → Bool) → List HistoryEntry → List Remapping → Type 0
 Walks test [] es = es ≡ []
 Walks test (h ∷ hs) es =
     ((test h.mark ≡ false) × Walks test hs es)
-    ⊎ ((e : Logged) × (older : List Logged) × (es ≡ e ∷ older) × (h.request ≡ e.request) × (test h.mark ≡ true) × Walks test hs older)
+    ⊎ ((e : Remapping) × (older : List Remapping) × (es ≡ e ∷ older) × (h.request ≡ e.request) × (test h.mark ≡ true) × Walks test hs older)
 
 -- A history with an entry for the first of these: those before it pass no test.
-pub record Found (test : Mark → Bool) (hs : List HistoryEntry) (e : Logged) (es : List Logged) : Type 0 where
+pub record Found (test : Mark → Bool) (hs : List HistoryEntry) (e : Remapping) (es : List Remapping) : Type 0 where
   pub newer : List HistoryEntry
   pub entry : HistoryEntry
   pub older : List HistoryEntry
@@ -30,11 +30,11 @@ pub record Found (test : Mark → Bool) (hs : List HistoryEntry) (e : Logged) (e
   pub passes : test entry.mark ≡ true
   pub walks : Walks test older es
 
-same_parts : (e f : Logged) (es fs : List Logged) → ◌≡◌ {A = List Logged} (e ∷ es) (f ∷ fs) → (e ≡ f) × (es ≡ fs)
+same_parts : (e f : Remapping) (es fs : List Remapping) → ◌≡◌ {A = List Remapping} (e ∷ es) (f ∷ fs) → (e ≡ f) × (es ≡ fs)
 same_parts e f es fs is = (cc, cc)
 
 -- a history that walks a list has an entry for its first
-pub walks_front : (test : Mark → Bool) (hs : List HistoryEntry) (e : Logged) (es : List Logged) → Walks test hs (e ∷ es) → Found test hs e es
+pub walks_front : (test : Mark → Bool) (hs : List HistoryEntry) (e : Remapping) (es : List Remapping) → Walks test hs (e ∷ es) → Found test hs e es
 walks_front test [] e es walks = absurd cc
 walks_front test (h ∷ hs) e es walks = elim walks [
   | inl passed ↦
@@ -57,14 +57,14 @@ walks_front test (h ∷ hs) e es walks = elim walks [
         older = hs;
         part = refl;
         of_none = tt;
-        request_is = request_is ∙ ap (λ (x : Logged). x.request) (sym same.0);
+        request_is = request_is ∙ ap (λ (x : Remapping). x.request) (sym same.0);
         passes = passes;
         walks = subst (Walks test hs) (sym same.1) walks;
       }
 ]
 
 -- A history of older entries with newer ones before: its newer part stands for these alone.
-pub record Split (test : Mark → Bool) (hs : List HistoryEntry) (newer_es older_es : List Logged) : Type 0 where
+pub record Split (test : Mark → Bool) (hs : List HistoryEntry) (newer_es older_es : List Remapping) : Type 0 where
   pub newer : List HistoryEntry
   pub older : List HistoryEntry
   pub part : hs ≡ newer ++ older
@@ -72,7 +72,7 @@ pub record Split (test : Mark → Bool) (hs : List HistoryEntry) (newer_es older
   pub walks : Walks test older older_es
 
 -- a history that walks two lists in turn has a part for each
-pub walks_split : (test : Mark → Bool) (hs : List HistoryEntry) (newer_es older_es : List Logged) → Walks test hs (newer_es ++ older_es) → Split test hs newer_es older_es
+pub walks_split : (test : Mark → Bool) (hs : List HistoryEntry) (newer_es older_es : List Remapping) → Walks test hs (newer_es ++ older_es) → Split test hs newer_es older_es
 walks_split test hs [] es walks = record { newer = []; older = hs; part = refl; of_newer = tt; walks = walks }
 walks_split test [] (e ∷ newer) es walks = absurd cc
 walks_split test (h ∷ hs) (e ∷ newer) es walks = elim walks [
@@ -88,7 +88,7 @@ walks_split test (h ∷ hs) (e ∷ newer) es walks = elim walks [
   | inr (f, older, is, request_is, passes, walks) ↦
       let same = same_parts e f (newer ++ es) older is in
       let rest = walks_split test hs newer es (subst (Walks test hs) (sym same.1) walks) in
-      let mine : h.request ≡ e.request = request_is ∙ ap (λ (x : Logged). x.request) (sym same.0) in
+      let mine : h.request ≡ e.request = request_is ∙ ap (λ (x : Remapping). x.request) (sym same.0) in
       record {
         newer = h ∷ rest.newer;
         older = rest.older;
@@ -101,7 +101,7 @@ walks_split test (h ∷ hs) (e ∷ newer) es walks = elim walks [
       }
 ]
   where
-    there_too : (e : Logged) (es : List Logged) (w : Writer) → is_there (logged_of es w) ≡ true → is_there (logged_of (e ∷ es) w) ≡ true
+    there_too : (e : Remapping) (es : List Remapping) (w : Writer) → is_there (logged_of es w) ≡ true → is_there (logged_of (e ∷ es) w) ≡ true
     there_too e es w is = elim (same_tells e.request w) [ inl same ↦ rw same.0 refl | inr other ↦ rw other.0 is ]
 
 -- The history of an address, made of drawn places and marks, walks a list of entries that fall in place.
@@ -111,7 +111,7 @@ abbrev pub placed : Writer → ℕ → ℕ → Placed
 placed w zone place = record { request = w; zone = zone; place = place }
 
 -- an entry is of a write or a discard of this address that has its place
-pub record IsPut (script : Script) (ps : List Placed) (zone a : ℕ) (e : Logged) : Type 0 where
+pub record IsPut (script : Script) (ps : List Placed) (zone a : ℕ) (e : Remapping) : Type 0 where
   pub asks : Asks
   pub bytes : List ℕ
   pub asked : request_at script e.request ≡ Some (asked asks e.at bytes)
@@ -155,7 +155,7 @@ none_named (p ∷ ps) w none = elim (same_tells p.request w) [
 
 -- What an entry adds to the history of an address.
 
-skip : (test : Mark → Bool) (o : Option Request) (w : Writer) (mark : Mark) (hs : List HistoryEntry) (a : ℕ) (es : List Logged)
+skip : (test : Mark → Bool) (o : Option Request) (w : Writer) (mark : Mark) (hs : List HistoryEntry) (a : ℕ) (es : List Remapping)
     → ((r : Request) → o ≡ Some r → address_of r ≡ Some a → test mark ≡ false)
     → Walks test (history_of hs a) es → Walks test (history_of (model.entry_of o w mark ++ hs) a) es
 skip test None w mark hs a es none walks = walks
@@ -170,7 +170,7 @@ skip test (Some (request.Discard at)) w mark hs a es none walks = elim (eqb_tell
   | inr other ↦ rw other.0 walks
 ]
 
-take : (test : Mark → Bool) (o : Option Request) (w : Writer) (mark : Mark) (hs : List HistoryEntry) (a : ℕ) (e : Logged) (es : List Logged) (q : Asks) (bytes : List ℕ) → IsChange q
+take : (test : Mark → Bool) (o : Option Request) (w : Writer) (mark : Mark) (hs : List HistoryEntry) (a : ℕ) (e : Remapping) (es : List Remapping) (q : Asks) (bytes : List ℕ) → IsChange q
     → o ≡ Some (asked q e.at bytes) → e.at.0 ≡ a → w ≡ e.request → test mark ≡ true
     → Walks test (history_of hs a) es → Walks test (history_of (model.entry_of o w mark ++ hs) a) (e ∷ es)
 take test o w mark hs a e es Write bytes change is at same passes walks = elim (eqb_tells e.at.0 a) [
@@ -189,11 +189,11 @@ abbrev pub progress : (Writer → Bool) → (Writer → Bool) → Progress
 progress is_set handed = record { is_set = is_set; is_handed = handed }
 
 -- the mark of a place at this address passes the test where its request is one of these
-abbrev pub Fits : (Mark → Bool) → Script → (Writer → Bool) → (Writer → Bool) → ℕ → List Logged → Placed → Type 0
+abbrev pub Fits : (Mark → Bool) → Script → (Writer → Bool) → (Writer → Bool) → ℕ → List Remapping → Placed → Type 0
 Fits test script is_set handed a es p =
     (r : Request) → request_at script p.request ≡ Some r → address_of r ≡ Some a → test (mark_of None (is_set p.request) (handed p.request)) ≡ is_there (logged_of es p.request)
 
-not_there : (es : List Logged) (w : Writer) → AllByRecursion (λ (e : Logged). w ≢ e.request) es → is_there (logged_of es w) ≡ false
+not_there : (es : List Remapping) (w : Writer) → AllByRecursion (λ (e : Remapping). w ≢ e.request) es → is_there (logged_of es w) ≡ false
 not_there [] w others = refl
 not_there (e ∷ es) w others = elim (same_tells e.request w) [
   | inl same ↦ absurd (others.0 (sym same.1))
@@ -202,28 +202,28 @@ not_there (e ∷ es) w others = elim (same_tells e.request w) [
 
 module _ (test : Mark → Bool) (zones logical : ℕ) (script : Script) (desk : List DeskLine) (is_set handed : Writer → Bool) (zone a : ℕ) where
   -- an entry with another place than the newest one has it among the older ones
-  older_place : (p : Placed) (ps : List Placed) (e : Logged) → p.request ≢ e.request → IsPut script (p ∷ ps) zone a e → IsPut script ps zone a e
+  older_place : (p : Placed) (ps : List Placed) (e : Remapping) → p.request ≢ e.request → IsPut script (p ∷ ps) zone a e → IsPut script ps zone a e
   older_place p ps e differs put = elim (same_tells p.request e.request) [
     | inl same ↦ absurd (differs same.1)
     | inr other ↦ record { asks = put.asks; bytes = put.bytes; asked = put.asked; change = put.change; at_address = put.at_address; has_place = rw other.0 at put.has_place }
   ]
 
   -- the place of an entry that is of the newest place's request
-  newest_place : (p : Placed) (ps : List Placed) (e : Logged) → p.request ≡ e.request → IsPut script (p ∷ ps) zone a e → p ≡ placed e.request zone e.place
+  newest_place : (p : Placed) (ps : List Placed) (e : Remapping) → p.request ≡ e.request → IsPut script (p ∷ ps) zone a e → p ≡ placed e.request zone e.place
   newest_place p ps e is put = elim (same_tells p.request e.request) [
     | inl same ↦ same_Some p (placed e.request zone e.place) (rw same.0 at put.has_place)
     | inr other ↦ absurd (other.1 is)
   ]
 
   -- the older entries have another request than the newest place's, which is that of an entry above them
-  below_newest : (p : Placed) (ps : List Placed) (e f : Logged) → p.request ≡ e.request → IsPut script (p ∷ ps) zone a e → f.place < e.place → IsPut script (p ∷ ps) zone a f → p.request ≢ f.request
+  below_newest : (p : Placed) (ps : List Placed) (e f : Remapping) → p.request ≡ e.request → IsPut script (p ∷ ps) zone a e → f.place < e.place → IsPut script (p ∷ ps) zone a f → p.request ≢ f.request
   below_newest p ps e f is put less puts same =
       let here : p.place ≡ e.place = ap (λ (x : Placed). x.place) (newest_place p ps e is put) in
       let there : p.place ≡ f.place = ap (λ (x : Placed). x.place) (newest_place p ps f same puts) in
       absurd (omega (arith, here, there, less))
 
   -- an entry whose place is older has another request than the newest place's, and so have those below it
-  below_older : (p : Placed) (ps : List Placed) (e f : Logged) → AreDrawn zones logical script desk (p ∷ ps) → IsPut script ps zone a e → f.place < e.place → IsPut script (p ∷ ps) zone a f → p.request ≢ f.request
+  below_older : (p : Placed) (ps : List Placed) (e f : Remapping) → AreDrawn zones logical script desk (p ∷ ps) → IsPut script ps zone a e → f.place < e.place → IsPut script (p ∷ ps) zone a f → p.request ≢ f.request
   below_older p ps e f drawn_so put less puts same =
       let p_is = newest_place p ps f same puts in
       let there : p.place ≡ f.place = ap (λ (x : Placed). x.place) p_is in
@@ -232,23 +232,23 @@ module _ (test : Mark → Bool) (zones logical : ℕ) (script : Script) (desk : 
       let low = place_below zones logical script desk ps e.request zone e.place drawn_so.1 put.has_place in
       absurd (omega (arith, there, number, low, less))
 
-  all_older : (p : Placed) (ps : List Placed) (es : List Logged) → AllByRecursion (λ (e : Logged). p.request ≢ e.request) es → AllByRecursion (IsPut script (p ∷ ps) zone a) es → AllByRecursion (IsPut script ps zone a) es
+  all_older : (p : Placed) (ps : List Placed) (es : List Remapping) → AllByRecursion (λ (e : Remapping). p.request ≢ e.request) es → AllByRecursion (IsPut script (p ∷ ps) zone a) es → AllByRecursion (IsPut script ps zone a) es
   all_older p ps es differ puts =
-      every-map {P = λ (e : Logged). (p.request ≢ e.request) × IsPut script (p ∷ ps) zone a e} {Q = IsPut script ps zone a} (λ e is. older_place p ps e is.0 is.1) es (each_both (λ (e : Logged). p.request ≢ e.request) (IsPut script (p ∷ ps) zone a) es differ puts)
+      every-map {P = λ (e : Remapping). (p.request ≢ e.request) × IsPut script (p ∷ ps) zone a e} {Q = IsPut script ps zone a} (λ e is. older_place p ps e is.0 is.1) es (each_both (λ (e : Remapping). p.request ≢ e.request) (IsPut script (p ∷ ps) zone a) es differ puts)
 
-  differ_from : (p : Placed) (ps : List Placed) (e : Logged) (es : List Logged) → ((f : Logged) → f.place < e.place → IsPut script (p ∷ ps) zone a f → p.request ≢ f.request)
-      → AllByRecursion (λ (f : Logged). f.place < e.place) es → AllByRecursion (IsPut script (p ∷ ps) zone a) es → AllByRecursion (λ (f : Logged). p.request ≢ f.request) es
+  differ_from : (p : Placed) (ps : List Placed) (e : Remapping) (es : List Remapping) → ((f : Remapping) → f.place < e.place → IsPut script (p ∷ ps) zone a f → p.request ≢ f.request)
+      → AllByRecursion (λ (f : Remapping). f.place < e.place) es → AllByRecursion (IsPut script (p ∷ ps) zone a) es → AllByRecursion (λ (f : Remapping). p.request ≢ f.request) es
   differ_from p ps e es differs falls puts =
-      every-map {P = λ (f : Logged). (f.place < e.place) × IsPut script (p ∷ ps) zone a f} {Q = λ (f : Logged). p.request ≢ f.request} (λ f is. differs f is.0 is.1) es (each_both (λ (f : Logged). f.place < e.place) (IsPut script (p ∷ ps) zone a) es falls puts)
+      every-map {P = λ (f : Remapping). (f.place < e.place) × IsPut script (p ∷ ps) zone a f} {Q = λ (f : Remapping). p.request ≢ f.request} (λ f is. differs f is.0 is.1) es (each_both (λ (f : Remapping). f.place < e.place) (IsPut script (p ∷ ps) zone a) es falls puts)
 
   -- without an entry of the newest place's request
-  walk_past : (p : Placed) (ps : List Placed) (es : List Logged) → AllByRecursion (λ (e : Logged). p.request ≢ e.request) es → Fits test script is_set handed a es p
+  walk_past : (p : Placed) (ps : List Placed) (es : List Remapping) → AllByRecursion (λ (e : Remapping). p.request ≢ e.request) es → Fits test script is_set handed a es p
       → Walks test (history_of (histories_of script [] (progress is_set handed) ps) a) es → Walks test (history_of (histories_of script [] (progress is_set handed) (p ∷ ps)) a) es
   walk_past p ps es differ fits walks =
       skip test (request_at script p.request) p.request (mark_of None (is_set p.request) (handed p.request)) (histories_of script [] (progress is_set handed) ps) a es
       (λ r asked at. fits r asked at ∙ not_there es p.request differ) walks
 
-  fits_older : (e : Logged) (es : List Logged) (ps : List Placed) → AllByRecursion (λ (q : Placed). q.request ≢ e.request) ps → AllByRecursion (Fits test script is_set handed a (e ∷ es)) ps
+  fits_older : (e : Remapping) (es : List Remapping) (ps : List Placed) → AllByRecursion (λ (q : Placed). q.request ≢ e.request) ps → AllByRecursion (Fits test script is_set handed a (e ∷ es)) ps
       → AllByRecursion (Fits test script is_set handed a es) ps
   fits_older e es ps differ fits =
       every-map {P = λ (q : Placed). (q.request ≢ e.request) × Fits test script is_set handed a (e ∷ es) q} {Q = Fits test script is_set handed a es} (λ q is r asked at. elim (same_tells e.request q.request) [
@@ -257,7 +257,7 @@ module _ (test : Mark → Bool) (zones logical : ℕ) (script : Script) (desk : 
       ]) ps (each_both (λ (q : Placed). q.request ≢ e.request) (Fits test script is_set handed a (e ∷ es)) ps differ fits)
 
   -- the history walks the entries
-  pub places_walk : (ps : List Placed) (es : List Logged) → AreDrawn zones logical script desk ps → IsFalling es → AllByRecursion (IsPut script ps zone a) es → AllByRecursion (Fits test script is_set handed a es) ps
+  pub places_walk : (ps : List Placed) (es : List Remapping) → AreDrawn zones logical script desk ps → IsFalling es → AllByRecursion (IsPut script ps zone a) es → AllByRecursion (Fits test script is_set handed a es) ps
       → Walks test (history_of (histories_of script [] (progress is_set handed) ps) a) es
   places_walk [] [] drawn_so falls puts fits = refl
   places_walk [] (e ∷ es) drawn_so falls puts fits = let none = puts.0.has_place in absurd cc

@@ -10,6 +10,7 @@ use Rattle.blk_base.specs.declared.request.Writer.{Writer}
 use Rattle.blk_base.specs.declared.request.Request.{Request}
 use Rattle.disk_model.specs.declared.call.Call.TheVariants.{Read, Flush}
 use Rattle.vdo_model.specs.declared.report.DeskLine.TheVariants.{Begin}
+use Rattle.data_vio.specs.declared.logged.Logged.TheVariants.{Remaps}
 use Rattle.core_model.specs.RightTraces.{HasCause, MayAnswer}
 use Rattle.core_model.specs.Trace.{Gift, Says, Gives, Takes, Aborts, Fails, Trace}
 use Rattle.core_model.proofs.rows.WorkedTraces.{address, block, x, y, first, reader, second, other, late, flush, session, begun, took, handed_in, lasting, set, stopped, entry, of_first, of_other, given, in_block, one_not_zeros}
@@ -52,22 +53,22 @@ range_of_a_write_outside : Writes begun first 999 Range → ⊥
 range_of_a_write_outside may = absurd (omega (arith, may))
 
 -- A read is stopped after a stop, behind a write of its address with a lower place that was aborted.
-read_stopped : Reads (Aborts of_first ∷ stopped handed_in) reader 0 Stopped
+read_stopped : Reads (Aborts (Remaps of_first) ∷ stopped handed_in) reader 0 Stopped
 read_stopped = (refl, record { place = 2; placed = refl; behind = inl (refl, omega arith) })
 
-read_stopped_by_a_stop : Reads (Aborts of_first ∷ handed_in) reader 0 Stopped → ⊥
+read_stopped_by_a_stop : Reads (Aborts (Remaps of_first) ∷ handed_in) reader 0 Stopped → ⊥
 read_stopped_by_a_stop may = let is = may.0 in absurd cc
 
 read_stopped_by_an_abort : Reads (stopped handed_in) reader 0 Stopped → ⊥
 read_stopped_by_an_abort may = may.1.behind
 
-read_stopped_at_its_address : Reads (Aborts of_other ∷ stopped handed_in) reader 0 Stopped → ⊥
+read_stopped_at_its_address : Reads (Aborts (Remaps of_other) ∷ stopped handed_in) reader 0 Stopped → ⊥
 read_stopped_at_its_address may = elim may.1.behind [
   | inl other ↦ let same = other.0 in absurd (omega (arith, same))
   | inr none ↦ none
 ]
 
-read_stopped_behind_it : Reads (Aborts (entry second 0 3 Unmapped 86) ∷ stopped handed_in) reader 0 Stopped → ⊥
+read_stopped_behind_it : Reads (Aborts (Remaps (entry second 0 3 Unmapped 86)) ∷ stopped handed_in) reader 0 Stopped → ⊥
 read_stopped_behind_it may =
     let placed : 2 ≡ may.1.place = ap (λ p. p.place) (same_Some _ _ may.1.placed) in
     elim may.1.behind [
@@ -75,7 +76,7 @@ read_stopped_behind_it may =
       | inr none ↦ none
     ]
 
-read_stopped_with_a_place : Reads (Aborts of_first ∷ stopped begun) reader 0 Stopped → ⊥
+read_stopped_with_a_place : Reads (Aborts (Remaps of_first) ∷ stopped begun) reader 0 Stopped → ⊥
 read_stopped_with_a_place may = let placed = may.1.placed in absurd cc
 
 -- A read has a fault where a read of the device failed that was made for it.

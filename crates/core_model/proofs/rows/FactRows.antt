@@ -5,6 +5,7 @@ use Rattle.std.specs.List.{AllByRecursion}
 use Rattle.std.proofs.Common.{ap, arith, subst}
 use Rattle.blk_base.specs.declared.place.Pbn.{Pbn}
 use Rattle.blk_base.specs.declared.place.ZoneId.TheVariants as id
+use Rattle.data_vio.specs.declared.logged.Logged.TheVariants.{Remaps}
 use Rattle.data_vio.specs.declared.items.Asks.TheVariants as asks
 use Rattle.data_vio.specs.declared.items.Item.{Item}
 use Rattle.data_vio.specs.declared.items.Item.TheVariants.{Request}
@@ -67,10 +68,10 @@ may_look = (in_turn, refl)
 looks_without_a_place : ¬ Carries session [] claims phase.Look
 looks_without_a_place = λ is. let no = is.0.is_placed.placed in absurd cc
 
-not_before_an_entry_is_done : ¬ IsInTurn session (Enters (record of_first { at = address 812 }) ∷ took) claims
+not_before_an_entry_is_done : ¬ IsInTurn session (Enters (Remaps (record of_first { at = address 812 })) ∷ took) claims
 not_before_an_entry_is_done = λ is. let no = ap length is.quiet.all_committed in omega (arith, no)
 
-not_behind_a_later_write : ¬ IsInTurn session (Sets (record of_first { at = address 812 }) ∷ took) claims
+not_behind_a_later_write : ¬ IsInTurn session (Sets (Remaps (record of_first { at = address 812 })) ∷ took) claims
 not_behind_a_later_write = λ is. let no = is.below.writes.0 refl in omega (arith, no)
 
 not_behind_a_later_read : ¬ IsInTurn session (Gives (record (given 0) { at = address 812 }) ∷ took) claims

@@ -15,7 +15,7 @@ use Rattle.core_model.specs.Legal.{Legal}
 use Rattle.core_model.specs.RightTraces.{GivesRight, MapsTo, MayFollow, RightTrace}
 use Rattle.core_model.specs.Sessions.{AtRest, HasNoneLeft, HasWholeBlocks, IsAsOpened, IsFair, IsFresh, IsSession, NewReads, NewStands, OnBlock, OnItsWay, ReadsAs, ReadsBlock, Session, Shown, value_at}
 use Rattle.core_model.specs.Steps.{Core}
-use Rattle.core_model.specs.Trace.{Calls, Happening, Trace, all_of, committed, has_stopped, sealed}
+use Rattle.core_model.specs.Trace.{Calls, Happening, Trace, all_of, durable, has_stopped, sealed}
 use Rattle.data_vio.specs.Vios.{all_logged}
 use Rattle.core_model.proofs.FairLaws.{fair_before, fair_on}
 use Rattle.core_model.proofs.rows.WorkedTraces.{session}
@@ -125,10 +125,10 @@ module _ (s : Session) (t : Trace) (vios : List Vio) (at : ℕ) where
   harden-not_without_its_block : IsFair s t → ((k : IsSealed s t vios at) → ReadsBlock s t k.older (all_logged vios) → ⊥) → StandsAt s t vios at stage.Harden → ⊥
   harden-not_without_its_block fair lost stands = lost stands.0 (stands.1 fair).1
 
-  commit-of_any_device : (IsFair s t → ⊥) → all_of (sealed t) ≡ all_logged vios ++ committed t → StandsAt s t vios at stage.Commit
+  commit-of_any_device : (IsFair s t → ⊥) → all_of (sealed t) ≡ all_logged vios ++ durable t → StandsAt s t vios at stage.Commit
   commit-of_any_device unfair left = (left, λ fair. absurd (unfair fair))
 
-  commit-not_of_others : all_of (sealed t) ≢ all_logged vios ++ committed t → StandsAt s t vios at stage.Commit → ⊥
+  commit-not_of_others : all_of (sealed t) ≢ all_logged vios ++ durable t → StandsAt s t vios at stage.Commit → ⊥
   commit-not_of_others others stands = others stands.0
 
   commit-not_before_it_stands : IsFair s t → (AtRest s t (sealed t) → ⊥) → StandsAt s t vios at stage.Commit → ⊥
@@ -144,10 +144,10 @@ module _ (s : Session) (t : Trace) (vios : List Vio) (at : ℕ) where
   fail-not_without_the_older fair lost stands = lost stands.0 (stands.1 fair)
 
   -- RestsAt: while no block is under way, all is committed, and stands where that is fair
-  rests-on_any_device : (IsFair s t → ⊥) → all_of (sealed t) ≡ committed t → RestsAt s t false false
+  rests-on_any_device : (IsFair s t → ⊥) → all_of (sealed t) ≡ durable t → RestsAt s t false false
   rests-on_any_device unfair all = (all, λ fair. absurd (unfair fair))
 
-  rests-not_with_an_entry_left : all_of (sealed t) ≢ committed t → RestsAt s t false false → ⊥
+  rests-not_with_an_entry_left : all_of (sealed t) ≢ durable t → RestsAt s t false false → ⊥
   rests-not_with_an_entry_left left rests = left rests.0
 
   rests-not_before_it_stands : IsFair s t → (AtRest s t (sealed t) → ⊥) → RestsAt s t false false → ⊥

@@ -10,6 +10,7 @@ use Rattle.blk_base.specs.declared.request.Request.TheVariants as request
 use Rattle.disk_model.specs.declared.call.Call.TheVariants.{Read, Write, Flush}
 use Rattle.vdo_model.specs.FlushMarks.{Moment, Desk, Device}
 use Rattle.vdo_model.specs.declared.report.DeskLine.TheVariants.{Begin, Answer}
+use Rattle.data_vio.specs.declared.logged.Logged.TheVariants.{Remaps}
 use Rattle.data_vio.specs.declared.items.Asks.{Asks}
 use Rattle.data_vio.specs.declared.items.Asks.TheVariants as asks
 use Rattle.core_model.specs.RightTraces.{MapsTo, MayAnswer, MayFollow, StopsAtFailure}
@@ -116,7 +117,7 @@ draws_of_blocks_alone may = let asked = may.next.zone.2 in let address = may.nex
 draws_in_order : May (Draws (place first 0 1)) (Draws (place reader 0 0) ∷ begun) → ⊥
 draws_in_order may = let less = (may.next.order.0 refl).stream refl in absurd (omega (arith, less))
 
-draws_before_it_enters : May (Draws (place first 0 0)) (Enters of_first ∷ begun) → ⊥
+draws_before_it_enters : May (Draws (place first 0 0)) (Enters (Remaps of_first) ∷ begun) → ⊥
 draws_before_it_enters may = let no = may.not_entered in absurd cc
 
 -- A write that isn't of zeros takes the next free data block, and one alone.
@@ -145,7 +146,7 @@ takes_no_block_beyond may = let next = may.next in absurd cc
 
 -- An entry is handed in once, of a write that has its place; those of its address are done, nothing at its address has a later
 -- place, a block of the journal is left for it, which has room, and it says what its address was mapped to.
-enters : May (Enters of_second) set
+enters : May (Enters (Remaps of_second)) set
 enters = record {
   is_open = record { is_begun = omega arith; unanswered = refl };
   is_write = record { asks = asks.Write; bytes = y; asked = refl; maps = tt; placed = refl };
@@ -158,10 +159,10 @@ enters = record {
   old_is = refl;
 }
 
-enters_while_open : May (Enters of_second) (Says (Answer second Stopped) ∷ set) → ⊥
+enters_while_open : May (Enters (Remaps of_second)) (Says (Answer second Stopped) ∷ set) → ⊥
 enters_while_open may = let no = may.is_open.unanswered in absurd cc
 
-enters_as_asked : May (Enters (entry first 812 0 Unmapped 85)) took → ⊥
+enters_as_asked : May (Enters (Remaps (entry first 812 0 Unmapped 85))) took → ⊥
 enters_as_asked may = at_its_address may.is_write.asks may.is_write.bytes may.is_write.asked
   where
     at_its_address : (what : Asks) (bytes : List ℕ) → Some (request.Write (address 0) x false) ≡ Some (asked what (address 812) bytes) → ⊥
@@ -171,7 +172,7 @@ enters_as_asked may = at_its_address may.is_write.asks may.is_write.bytes may.is
     at_its_address asks.Flush bytes is = absurd cc
 
 -- It maps its address to a block, or to zeros where the bytes are; that of a discard to nothing.
-enters_zeros : MayFollow (session_of (request.Write (address 0) zero_block false)) (Enters (record of_first { new = Zero })) drawn
+enters_zeros : MayFollow (session_of (request.Write (address 0) zero_block false)) (Enters (Remaps (record of_first { new = Zero }))) drawn
 enters_zeros = record {
   is_open = record { is_begun = omega arith; unanswered = refl };
   is_write = record { asks = asks.Write; bytes = zero_block; asked = refl; maps = refl; placed = refl };
@@ -184,7 +185,7 @@ enters_zeros = record {
   old_is = refl;
 }
 
-enters_a_discard : MayFollow (session_of (request.Discard (address 0))) (Enters (record of_first { new = Unmapped })) drawn
+enters_a_discard : MayFollow (session_of (request.Discard (address 0))) (Enters (Remaps (record of_first { new = Unmapped }))) drawn
 enters_a_discard = record {
   is_open = record { is_begun = omega arith; unanswered = refl };
   is_write = record { asks = asks.Discard; bytes = zero_block; asked = refl; maps = tt; placed = refl };
@@ -212,13 +213,13 @@ maps_no_read Unmapped may = may
 maps_no_read Zero may = may
 maps_no_read (At b) may = may
 
-enters_at_its_place : May (Enters (entry second 0 5 (At (block 85)) 86)) set → ⊥
+enters_at_its_place : May (Enters (Remaps (entry second 0 5 (At (block 85)) 86))) set → ⊥
 enters_at_its_place may = let placed : 1 ≡ 5 = ap (λ p. p.place) (same_Some _ _ may.is_write.placed) in absurd (omega (arith, placed))
 
-enters_once : May (Enters of_first) set → ⊥
+enters_once : May (Enters (Remaps of_first)) set → ⊥
 enters_once may = let no = may.once in absurd cc
 
-enters_beside_another : May (Enters of_other) handed_in
+enters_beside_another : May (Enters (Remaps of_other)) handed_in
 enters_beside_another = record {
   is_open = record { is_begun = omega arith; unanswered = refl };
   is_write = record { asks = asks.Write; bytes = y; asked = refl; maps = tt; placed = refl };
@@ -234,31 +235,31 @@ enters_beside_another = record {
 -- a trace with so many entries in the block being filled
 abbrev filling : ℕ → Trace
 filling zero = set
-filling (suc n) = Enters of_other ∷ filling n
+filling (suc n) = Enters (Remaps of_other) ∷ filling n
 
 filled_with : (n : ℕ) → length (filled (filling n)) ≡ n
 filled_with zero = refl
 filled_with (suc n) = ap suc (filled_with n)
 
-enters_where_there_is_room : May (Enters of_second) (filling 192) → ⊥
+enters_where_there_is_room : May (Enters (Remaps of_second)) (filling 192) → ⊥
 enters_where_there_is_room may = let room = may.room in absurd (omega (arith, room, filled_with 192))
 
-enters_behind_a_slot : May (Enters of_second) lasting → ⊥
+enters_behind_a_slot : May (Enters (Remaps of_second)) lasting → ⊥
 enters_behind_a_slot may = let quiet = ap length may.quiet.all_done in absurd (omega (arith, quiet))
 
-enters_behind_a_write : May (Enters (entry first 0 0 (At (block 86)) 85)) (Sets of_second ∷ Commits of_second ∷ Enters of_second ∷ took) → ⊥
+enters_behind_a_write : May (Enters (Remaps (entry first 0 0 (At (block 86)) 85))) (Sets (Remaps of_second) ∷ Commits (Remaps of_second) ∷ Enters (Remaps of_second) ∷ took) → ⊥
 enters_behind_a_write may = let below = may.below.writes.0 refl in absurd (omega (arith, below))
 
-enters_behind_a_read : May (Enters of_first) (Gives (given 2) ∷ took) → ⊥
+enters_behind_a_read : May (Enters (Remaps of_first)) (Gives (given 2) ∷ took) → ⊥
 enters_behind_a_read may = let below = may.below.reads.0 refl in absurd (omega (arith, below))
 
-enters_while_a_block_is_left : May (Enters of_other) (Sets of_second ∷ Commits of_second ∷ Seals ∷ Enters of_second ∷ set) → ⊥
+enters_while_a_block_is_left : May (Enters (Remaps of_other)) (Sets (Remaps of_second) ∷ Commits (Remaps of_second) ∷ Seals ∷ Enters (Remaps of_second) ∷ set) → ⊥
 enters_while_a_block_is_left may = let left = may.left in absurd (omega (arith, left))
 
-enters_of_a_data_block : May (Enters (record of_second { new = At (block 78) })) set → ⊥
+enters_of_a_data_block : May (Enters (Remaps (record of_second { new = At (block 78) }))) set → ⊥
 enters_of_a_data_block may = let stands = may.new_data.stands in absurd (omega (arith, stands))
 
-enters_with_the_mapping : May (Enters (entry second 0 1 Unmapped 86)) set → ⊥
+enters_with_the_mapping : May (Enters (Remaps (entry second 0 1 Unmapped 86))) set → ⊥
 enters_with_the_mapping may = let old = may.old_is in absurd cc
 
 -- The block being filled is sealed where it has an entry, all those of the others are committed, and a block of the journal is
@@ -269,40 +270,40 @@ seals = record { some = omega arith; all_committed = refl; left = omega arith }
 seals_no_empty_one : May Seals took → ⊥
 seals_no_empty_one may = let some = may.some in absurd (omega (arith, some))
 
-seals_behind_a_committed_one : May Seals (Enters of_other ∷ in_block) → ⊥
+seals_behind_a_committed_one : May Seals (Enters (Remaps of_other) ∷ in_block) → ⊥
 seals_behind_a_committed_one may = let all = ap length may.all_committed in absurd (omega (arith, all))
 
-seals_while_a_block_is_left : May Seals (Enters of_other ∷ Sets of_second ∷ Commits of_second ∷ Seals ∷ Enters of_second ∷ set) → ⊥
+seals_while_a_block_is_left : May Seals (Enters (Remaps of_other) ∷ Sets (Remaps of_second) ∷ Commits (Remaps of_second) ∷ Seals ∷ Enters (Remaps of_second) ∷ set) → ⊥
 seals_while_a_block_is_left may = let left = may.left in absurd (omega (arith, left))
 
 -- An entry is committed once, in a sealed block, and in their order.
-commits : May (Commits of_first) in_block
+commits : May (Commits (Remaps of_first)) in_block
 commits = record { is_open = record { is_begun = omega arith; unanswered = refl }; rest = []; next = refl }
 
-commits_while_open : May (Commits of_first) (Says (Answer first Stopped) ∷ in_block) → ⊥
+commits_while_open : May (Commits (Remaps of_first)) (Says (Answer first Stopped) ∷ in_block) → ⊥
 commits_while_open may = let no = may.is_open.unanswered in absurd cc
 
-commits_what_is_sealed : May (Commits of_first) handed_in → ⊥
-commits_what_is_sealed may = let all = ap length may.next in let parts = length-append may.rest (of_first ∷ []) in absurd (omega (arith, all, parts))
+commits_what_is_sealed : May (Commits (Remaps of_first)) handed_in → ⊥
+commits_what_is_sealed may = let all = ap length may.next in let parts = length-append may.rest (Remaps of_first ∷ []) in absurd (omega (arith, all, parts))
 
-commits_once : May (Commits of_first) lasting → ⊥
-commits_once may = let all = ap length may.next in let parts = length-append may.rest (of_first ∷ of_first ∷ []) in absurd (omega (arith, all, parts))
+commits_once : May (Commits (Remaps of_first)) lasting → ⊥
+commits_once may = let all = ap length may.next in let parts = length-append may.rest (Remaps of_first ∷ Remaps of_first ∷ []) in absurd (omega (arith, all, parts))
 
 abbrev the_second : List Logged → ℕ
-the_second (e ∷ f ∷ []) = f.at.0
+the_second (e ∷ Remaps f ∷ []) = f.at.0
 the_second es = 0
 
-commits_in_order : May (Commits of_other) (Seals ∷ Enters of_other ∷ handed_in) → ⊥
+commits_in_order : May (Commits (Remaps of_other)) (Seals ∷ Enters (Remaps of_other) ∷ handed_in) → ⊥
 commits_in_order may = by may.rest may.next
   where
-    by : (rest : List Logged) → of_other ∷ of_first ∷ [] ≡ rest ++ of_other ∷ [] → ⊥
+    by : (rest : List Logged) → Remaps of_other ∷ Remaps of_first ∷ [] ≡ rest ++ Remaps of_other ∷ [] → ⊥
     by [] is = let all = ap length is in absurd (omega (arith, all))
     by (e ∷ []) is = let all : 0 ≡ 812 = ap the_second is in absurd (omega (arith, all))
-    by (e ∷ f ∷ rest) is = let all = ap length is in let parts = length-append rest (of_other ∷ []) in absurd (omega (arith, all, parts))
+    by (e ∷ f ∷ rest) is = let all = ap length is in let parts = length-append rest (Remaps of_other ∷ []) in absurd (omega (arith, all, parts))
 
 -- A slot is set once, when its entry is committed and none of its address is under way, behind whatever its address had, and not
 -- once it is aborted.
-sets : May (Sets of_first) lasting
+sets : May (Sets (Remaps of_first)) lasting
 sets = record {
   is_open = record { is_begun = omega arith; unanswered = refl };
   is_committed = record { all_committed = refl; last = refl };
@@ -310,22 +311,22 @@ sets = record {
   unaborted = refl;
 }
 
-sets_while_open : May (Sets of_first) (Says (Answer first Stopped) ∷ lasting) → ⊥
+sets_while_open : May (Sets (Remaps of_first)) (Says (Answer first Stopped) ∷ lasting) → ⊥
 sets_while_open may = let no = may.is_open.unanswered in absurd cc
 
-sets_what_is_committed : May (Sets of_first) handed_in → ⊥
+sets_what_is_committed : May (Sets (Remaps of_first)) handed_in → ⊥
 sets_what_is_committed may = let all = ap length may.is_committed.all_committed in absurd (omega (arith, all))
 
-sets_once : May (Sets of_first) set → ⊥
+sets_once : May (Sets (Remaps of_first)) set → ⊥
 sets_once may = let last = ap length may.is_committed.last in absurd (omega (arith, last))
 
-sets_behind_a_write : May (Sets of_first) (Commits of_first ∷ Enters of_first ∷ Sets of_second ∷ Commits of_second ∷ Enters of_second ∷ took) → ⊥
+sets_behind_a_write : May (Sets (Remaps of_first)) (Commits (Remaps of_first) ∷ Enters (Remaps of_first) ∷ Sets (Remaps of_second) ∷ Commits (Remaps of_second) ∷ Enters (Remaps of_second) ∷ took) → ⊥
 sets_behind_a_write may = let below = may.below.writes.0 refl in absurd (omega (arith, below))
 
-sets_behind_a_read : May (Sets of_first) (Gives (given 2) ∷ lasting) → ⊥
+sets_behind_a_read : May (Sets (Remaps of_first)) (Gives (given 2) ∷ lasting) → ⊥
 sets_behind_a_read may = let below = may.below.reads.0 refl in absurd (omega (arith, below))
 
-sets_unless_aborted : May (Sets of_first) (Aborts of_first ∷ stopped lasting) → ⊥
+sets_unless_aborted : May (Sets (Remaps of_first)) (Aborts (Remaps of_first) ∷ stopped lasting) → ⊥
 sets_unless_aborted may = let no = may.unaborted in absurd cc
 
 -- A read is given its bytes at its place, when the entries of its address are done.
@@ -353,26 +354,26 @@ gives_what_is_committed may = let quiet = ap length may.quiet.all_committed in a
 gives_what_is_done : May (Gives (given 2)) lasting → ⊥
 gives_what_is_done may = let quiet = ap length may.quiet.all_done in absurd (omega (arith, quiet))
 
-gives_behind_a_write : May (Gives (given 2)) (Sets (entry second 0 3 Unmapped 85) ∷ Commits (entry second 0 3 Unmapped 85) ∷ Enters (entry second 0 3 Unmapped 85) ∷ took) → ⊥
+gives_behind_a_write : May (Gives (given 2)) (Sets (Remaps (entry second 0 3 Unmapped 85)) ∷ Commits (Remaps (entry second 0 3 Unmapped 85)) ∷ Enters (Remaps (entry second 0 3 Unmapped 85)) ∷ took) → ⊥
 gives_behind_a_write may = let below = may.below.writes.0 refl in absurd (omega (arith, below))
 
 gives_behind_a_read : May (Gives (given 2)) (Gives (given 3) ∷ set) → ⊥
 gives_behind_a_read may = let below = may.below.reads.0 refl in absurd (omega (arith, below))
 
 -- A write is aborted that was handed in and isn't set, once the roomy is stopped.
-aborts : May (Aborts of_first) (stopped handed_in)
+aborts : May (Aborts (Remaps of_first)) (stopped handed_in)
 aborts = record { is_open = record { is_begun = omega arith; unanswered = refl }; handed_in = refl; unset = refl; stopped = refl }
 
-aborts_while_open : May (Aborts of_first) (Says (Answer first Stopped) ∷ stopped handed_in) → ⊥
+aborts_while_open : May (Aborts (Remaps of_first)) (Says (Answer first Stopped) ∷ stopped handed_in) → ⊥
 aborts_while_open may = let no = may.is_open.unanswered in absurd cc
 
-aborts_what_is_handed_in : May (Aborts of_first) (stopped took) → ⊥
+aborts_what_is_handed_in : May (Aborts (Remaps of_first)) (stopped took) → ⊥
 aborts_what_is_handed_in may = let handed = may.handed_in in absurd cc
 
-aborts_what_is_unset : May (Aborts of_first) (stopped set) → ⊥
+aborts_what_is_unset : May (Aborts (Remaps of_first)) (stopped set) → ⊥
 aborts_what_is_unset may = let no = may.unset in absurd cc
 
-aborts_after_a_stop : May (Aborts of_first) handed_in → ⊥
+aborts_after_a_stop : May (Aborts (Remaps of_first)) handed_in → ⊥
 aborts_after_a_stop may = let stopped = may.stopped in absurd cc
 
 -- A call succeeds; after a write or flush that failed only reads do.

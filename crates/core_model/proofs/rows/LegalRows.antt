@@ -1,12 +1,11 @@
 -- For each clause of a legal core, and of what its journal may hand out and seal, a case that breaks it; a core that is legal
 -- stands in `core_laws` (`proofs/kept/FirstCore`), which has the law that one is at its start.
-use Rattle.std.specs.Prelude.{ℕ, ◌≡◌, ◌==◌, Bool, true, false, Some, List, [], ◌∷◌, length, replicate, refl}
+use Rattle.std.specs.Prelude.{ℕ, ◌≡◌, ◌==◌, true, false, List, [], ◌∷◌, length, replicate, refl}
 use Rattle.std.proofs.Common.{ap, arith}
 use Rattle.blk_base.specs.declared.request.Answer.TheVariants as reply
 use Rattle.blk_base.specs.declared.request.Writer.{Writer}
 use Rattle.vdo_model.specs.declared.report.DeskLine.TheVariants as line
 use Rattle.data_vio.specs.declared.items.Asks.TheVariants as asks
-use Rattle.data_vio.specs.declared.items.Item.{Item}
 use Rattle.data_vio.specs.declared.items.Item.TheVariants.{Request}
 use Rattle.data_vio.specs.declared.items.Phase.TheVariants as phase
 use Rattle.core_model.specs.declared.zones.Zone.{Zone}

@@ -4,7 +4,9 @@ use Rattle.blk_base.specs.Sectors.{zero_block}
 use Rattle.blk_base.specs.declared.journal_entry.CommittedEntry.{CommittedEntry}
 use Rattle.blk_base.specs.declared.journal_entry.Entry.{Entry}
 use Rattle.blk_base.specs.declared.place.Lba.{Lba}
+use Rattle.blk_base.specs.declared.place.Mapping.{Mapping}
 use Rattle.blk_base.specs.declared.place.Mapping.TheVariants.{Unmapped, Zero, At}
+use Rattle.block_map_tree.specs.Tree.{Tree}
 use Rattle.blk_base.specs.declared.place.Pbn.{Pbn}
 use Rattle.blk_base.specs.declared.place.ZoneId.TheVariants as id
 use Rattle.blk_base.specs.declared.request.Answer.{Answer}
@@ -17,6 +19,7 @@ use Rattle.vdo_model.specs.declared.report.DeskLine.TheVariants as line
 use Rattle.vdo_model.specs.declared.report.FlushMark.{FlushMark}
 use Rattle.vdo_model.specs.declared.report.Placed.{Placed}
 use Rattle.vdo_model.specs.Scripts.{Script}
+use Rattle.data_vio.specs.declared.logged.Logged.TheVariants.{Remaps}
 use Rattle.data_vio.specs.declared.items.Asks.{Asks}
 use Rattle.data_vio.specs.declared.items.Asks.TheVariants as asks
 use Rattle.data_vio.specs.declared.items.Item.{Item}
@@ -29,19 +32,21 @@ use Rattle.data_vio.specs.declared.items.Stage.TheVariants as stage
 use Rattle.data_vio.specs.declared.items.Vio.{Vio}
 use Rattle.core_model.specs.LogicalData.{Lock}
 use Rattle.data_vio.specs.declared.logged.Logged.{Logged}
+use Rattle.data_vio.specs.declared.logged.Remapping.{Remapping}
 use Rattle.core_model.specs.declared.zones.ZoneData.{ZoneData}
 use Rattle.core_model.specs.declared.zones.ZoneData.TheVariants as at
-use Rattle.core_model.specs.DeskRules.{BeginsNext, DeskBegins, DeskServes}
+use Rattle.core_model.specs.DeskRules.{DeskBegins, DeskServes}
 use Rattle.core_model.specs.DeviceRules.{DeviceServes, DeviceWorks, journal_bytes}
 use Rattle.core_model.specs.PhysicalRules.{PhysicalServes}
 use Rattle.core_model.specs.JournalRules.{JournalServes, JournalEnds}
 use Rattle.core_model.specs.LogicalRules.{LogicalServes}
 use Rattle.core_model.specs.Steps.{Act, begins, answers, hears, serves, serves_notice, takes, takes_notice, enters, ends, enters_notice, calls, works}
-use Rattle.core_model.specs.Trace.{Says, Flushes, Draws, Enters, Seals, Commits, Sets, Gives, Takes, Aborts, Calls, Fails, Trace, entry_of}
+use Rattle.core_model.specs.PageTrees.{HasPath}
+use Rattle.core_model.specs.Trace.{Says, Flushes, Draws, Enters, Passes, Seals, Commits, Sets, Gives, Takes, Aborts, Calls, Fails, Trace, entry_of}
 use Rattle.data_vio.specs.Vios.{Post, logged}
 use Rattle.recovery_journal.specs.Log.{Log, placed, point_at}
 use Rattle.core_model.proofs.rows.BeginRows.{one_busy, two_busy, past_one, past_two}
-use Rattle.core_model.proofs.rows.WorkedTraces.{address, block, x, y, script, first, reader, second, other, flush, sizes, place, of_first, of_second, given}
+use Rattle.core_model.proofs.rows.WorkedTraces.{address, block, x, y, script, first, reader, other, flush, sizes, place, of_first, of_second, given}
 
 abbrev Acts : ZoneData → List Item → ZoneData → Trace → List Post → Type 0
 Acts = Act sizes
@@ -72,13 +77,29 @@ desk log marks notices parked = at.Desk (record { requests = script; log = log; 
 abbrev desk_of : Script → List DeskLine → List FlushMark → ZoneData
 desk_of requests log marks = at.Desk (record { requests = requests; log = log; marks = marks; notices = 0; parked = [] })
 
+abbrev pass_of_first : Remapping
+pass_of_first = record { request = first; at = address 0; place = 0; old = Unmapped; new = Unmapped }
+
 abbrev discards : Script
 discards = (request.Discard (address 0) ∷ []) ∷ []
 
 -- logical zone 0: its next place and its places, its locks and who waits for one, the retired addresses, and the slots that are set
-abbrev pub logical : ℕ → List Placed → List Lock → List Vio → List Lba → List Logged → ZoneData
-logical next places held waiting retired slots =
-    at.Logical (record { zone = 0; notified = false; next = next; places = places; held = held; waiting = waiting; retired = retired; window = []; slots = slots })
+abbrev pub logical_over : Tree → ℕ → List Placed → List Lock → List Vio → List Lba → List Remapping → ZoneData
+logical_over tree next places held waiting retired slots =
+    at.Logical (record { zone = 0; notified = false; next = next; places = places; held = held; waiting = waiting; retired = retired; tree = tree; window = []; slots = slots })
+
+-- its trees: the root of the first leads to the leaf of address 0; or to no leaf
+abbrev tree_with : List Mapping → Tree
+tree_with slots = record { forest = record { geometry = sizes.geometry; zone = 0; zones = sizes.zones }; pages = slots ∷ []; marks = [] }
+
+abbrev leafy : Tree
+leafy = tree_with (At (block 87) ∷ [])
+
+abbrev pub logical : ℕ → List Placed → List Lock → List Vio → List Lba → List Remapping → ZoneData
+logical = logical_over leafy
+
+has_path : (slots : List Mapping) → HasPath (tree_with slots) 0
+has_path slots = record { inside = omega arith; own = record { inside = omega arith; own = refl } }
 
 abbrev pub lock : ℕ → Lock
 lock n = record { at = address 0; place = n }
@@ -117,11 +138,16 @@ empty_log = log_with 1 [] [] 0 1
 abbrev full_log : ℕ → Log
 full_log handed = log_with 2 [] (placed 1 0 (of_write ∷ of_read ∷ [])) handed 2
 
+-- entries that remap
+abbrev all_remap : List Remapping → List Logged
+all_remap [] = []
+all_remap (e ∷ es) = Remaps e ∷ all_remap es
+
 -- the journal: whether a block is under way, its log, whose entries are in the block being filled, who waits, and the entries
 -- that were handed in and are committed
-abbrev pub journal : Bool → Log → List Vio → List Vio → List Logged → List Logged → ZoneData
-journal busy log filling waiting entered committed =
-    at.Journal (record { notified = false; busy = busy; broken = false; log = log; filling = filling; waiting = waiting; entered = entered; committed = committed })
+abbrev pub journal : Bool → Log → List Vio → List Vio → List Remapping → List Remapping → ZoneData
+journal busy log filling waiting handed_in durable =
+    at.Journal (record { notified = false; busy = busy; broken = false; log = log; filling = filling; waiting = waiting; entered = all_remap handed_in; committed = all_remap durable })
 
 -- a block with these requests
 abbrev block_of : Stage → List Vio → SealedBlock
@@ -188,23 +214,32 @@ arrives_retired : Acts (logical 2 [] [] [] (address 0 ∷ []) []) (Request (vio 
     (Draws (place reader 0 2) ∷ []) ((id.Desk, Request (answered reply.Stopped (vio reader asks.Read phase.Reply 2))) ∷ [])
 arrives_retired = serves (LogicalServes.arrives_retired refl refl refl refl refl)
 
--- Look: a write claims a block, but for one of zeros, a discard hands in its entry, a read goes to the block that is mapped, or
--- has zeros
+-- Look: a write claims a block, but for one of zeros, a discard hands in its entry, or passes where it has no leaf, a read goes to
+-- the block that is mapped, or has zeros
 looks_to_write : Acts (logical 1 [] (lock 0 ∷ []) [] [] []) (Request (vio first asks.Write phase.Look 0) ∷ []) (logical 1 [] (lock 0 ∷ []) [] [] []) [] ((id.Physical 0, Request (vio first asks.Write phase.Claim 0)) ∷ [])
-looks_to_write = serves (LogicalServes.looks _ refl refl refl refl refl)
+looks_to_write = serves (LogicalServes.looks _ refl (has_path _) refl refl refl refl refl)
 
 looks_to_write_zeros : Acts (logical 1 [] (lock 0 ∷ []) [] [] []) (Request (record (vio first asks.Write phase.Look 0) { bytes = 0 ∷ 0 ∷ [] }) ∷ []) (logical 1 [] (lock 0 ∷ []) [] [] []) []
     ((id.Journal, Request (record (vio first asks.Write phase.Enter 0) { bytes = 0 ∷ 0 ∷ []; new = Zero })) ∷ [])
-looks_to_write_zeros = serves (LogicalServes.looks _ refl refl refl refl refl)
+looks_to_write_zeros = serves (LogicalServes.looks _ refl (has_path _) refl refl refl refl refl)
 
 looks_to_discard : Acts (logical 1 [] (lock 0 ∷ []) [] [] []) (Request (vio first asks.Discard phase.Look 0) ∷ []) (logical 1 [] (lock 0 ∷ []) [] [] []) [] ((id.Journal, Request (vio first asks.Discard phase.Enter 0)) ∷ [])
-looks_to_discard = serves (LogicalServes.looks _ refl refl refl refl refl)
+looks_to_discard = serves (LogicalServes.looks _ refl (has_path _) refl refl refl refl refl)
+
+looks_past : Acts (logical_over (tree_with []) 1 [] (lock 0 ∷ []) [] [] []) (Request (vio first asks.Discard phase.Look 0) ∷ []) (logical_over (tree_with []) 1 [] [] [] [] []) (Passes pass_of_first ∷ [])
+    ((id.Desk, Request (answered reply.Ok (vio first asks.Discard phase.Reply 0))) ∷ [])
+looks_past = serves (LogicalServes.passes refl (has_path _) refl refl refl refl)
+
+-- but not where something is known of its address: a slot of it was set
+looks_to_discard_again : Acts (logical_over (tree_with []) 1 [] (lock 0 ∷ []) [] [] (of_first ∷ [])) (Request (vio first asks.Discard phase.Look 0) ∷ []) (logical_over (tree_with []) 1 [] (lock 0 ∷ []) [] [] (of_first ∷ [])) []
+    ((id.Journal, Request (record (vio first asks.Discard phase.Enter 0) { old = At (block 85); latest = Some of_first; new = Unmapped })) ∷ [])
+looks_to_discard_again = serves (LogicalServes.looks _ refl (has_path _) refl refl refl refl refl)
 
 looks_to_read : Acts (logical 3 [] (lock 2 ∷ []) [] [] (of_first ∷ [])) (Request (reads phase.Look) ∷ []) (logical 3 [] (lock 2 ∷ []) [] [] (of_first ∷ [])) [] ((id.Device, Request (finds phase.Load)) ∷ [])
-looks_to_read = serves (LogicalServes.looks _ refl refl refl refl refl)
+looks_to_read = serves (LogicalServes.looks _ refl (has_path _) refl refl refl refl refl)
 
 looks_to_read_zeros : Acts (logical 3 [] (lock 2 ∷ []) [] [] []) (Request (reads phase.Look) ∷ []) (logical 3 [] (lock 2 ∷ []) [] [] []) [] ((id.Logical 0, Request (record (reads phase.Loaded) { bytes = zero_block })) ∷ [])
-looks_to_read_zeros = serves (LogicalServes.looks _ refl refl refl refl refl)
+looks_to_read_zeros = serves (LogicalServes.looks _ refl (has_path _) refl refl refl refl refl)
 
 -- Claim: the next free block, or none
 claims : Acts (physical (block 85 ∷ block 86 ∷ [])) (Request (vio first asks.Write phase.Claim 0) ∷ []) (physical (block 86 ∷ [])) (Takes first (block 85) ∷ []) ((id.Device, Request (writes phase.Store)) ∷ [])
@@ -225,12 +260,12 @@ stores_no_more : Acts (device true 6) (Request (writes phase.Store) ∷ []) (dev
 stores_no_more = calls (DeviceServes.store_unmade refl refl refl refl refl)
 
 -- Enter: the entry is handed in, with the first one the block goes round; or it waits, or has no block, or the journal was notified
-enters_now : Acts (journal false empty_log [] [] [] []) (Request (writes phase.Enter) ∷ []) (journal true (log_with 1 (of_write ∷ []) [] 0 1) (writes phase.Pending ∷ []) [] (of_first ∷ []) []) (Enters of_first ∷ [])
+enters_now : Acts (journal false empty_log [] [] [] []) (Request (writes phase.Enter) ∷ []) (journal true (log_with 1 (of_write ∷ []) [] 0 1) (writes phase.Pending ∷ []) [] (of_first ∷ []) []) (Enters (Remaps of_first) ∷ [])
     ((id.Journal, Block (block_of stage.Commit [])) ∷ [])
 enters_now = enters (JournalServes.enters_first refl refl refl refl refl refl refl refl)
 
 enters_next : Acts (journal true (log_with 1 (of_read ∷ []) [] 0 1) (reads phase.Pending ∷ []) [] [] []) (Request (writes phase.Enter) ∷ [])
-    (journal true (log_with 1 (of_read ∷ of_write ∷ []) [] 0 1) (reads phase.Pending ∷ writes phase.Pending ∷ []) [] (of_first ∷ []) []) (Enters of_first ∷ []) []
+    (journal true (log_with 1 (of_read ∷ of_write ∷ []) [] 0 1) (reads phase.Pending ∷ writes phase.Pending ∷ []) [] (of_first ∷ []) []) (Enters (Remaps of_first) ∷ []) []
 enters_next = enters (JournalServes.enters refl refl refl refl refl refl refl refl)
 
 enters_later : Acts (journal true (log_with 1 (replicate 192 of_read) [] 0 1) (replicate 192 (reads phase.Pending)) [] [] []) (Request (writes phase.Enter) ∷ [])
@@ -260,7 +295,7 @@ hardens_no_more = works (DeviceWorks.unmade (Flush false) (block 2) _ _ refl ref
 -- Commit, Fail: the oldest entry goes to its slot; behind the last one the next block is sealed, or there is none; or all are
 -- aborted, and those that wait are stopped
 commits : Acts (journal true (log_with 2 [] (placed 1 0 (of_write ∷ of_read ∷ [])) 0 1) [] [] (of_first ∷ []) []) (Block (block_of stage.Commit (writes phase.Pending ∷ reads phase.Pending ∷ [])) ∷ [])
-    (journal true (full_log 1) [] [] (of_first ∷ []) (of_first ∷ [])) (Commits of_first ∷ [])
+    (journal true (full_log 1) [] [] (of_first ∷ []) (of_first ∷ [])) (Commits (Remaps of_first) ∷ [])
     ((id.Logical 0, Request (writes phase.Settle)) ∷ (id.Journal, Block (block_of stage.Commit (reads phase.Pending ∷ []))) ∷ [])
 commits = ends (JournalEnds.commits _ _ refl refl (omega arith) refl refl refl)
 
@@ -279,7 +314,7 @@ fails : Acts (journal true (log_with 2 (of_read ∷ []) (placed 1 0 (of_write �
 fails = ends (JournalEnds.fails refl refl refl refl)
 
 -- Settle: the slot is set, and the lock goes to the reader
-settles : Acts (logical 3 [] (lock 0 ∷ []) (reads phase.Wait ∷ []) [] []) (Request (writes phase.Settle) ∷ []) (logical 3 [] (lock 2 ∷ []) [] [] (of_first ∷ [])) (Sets of_first ∷ [])
+settles : Acts (logical 3 [] (lock 0 ∷ []) (reads phase.Wait ∷ []) [] []) (Request (writes phase.Settle) ∷ []) (logical 3 [] (lock 2 ∷ []) [] [] (of_first ∷ [])) (Sets (Remaps of_first) ∷ [])
     ((id.Desk, Request (answered reply.Ok (writes phase.Reply))) ∷ (id.Logical 0, Request (reads phase.Look)) ∷ [])
 settles = serves (LogicalServes.settles refl refl refl refl)
 
@@ -306,7 +341,7 @@ aborts : Acts (logical 3 [] (lock 0 ∷ []) (reads phase.Wait ∷ []) [] []) (Re
     ((id.Desk, Request (answered reply.Full (writes phase.Reply))) ∷ (id.Logical 0, Request (reads phase.Look)) ∷ [])
 aborts = serves (LogicalServes.aborts refl refl refl refl)
 
-aborts_entered : Acts (logical 3 [] (lock 0 ∷ []) (reads phase.Wait ∷ []) [] []) (Request (answered reply.Stopped (writes phase.AbortEntered)) ∷ []) (logical 3 [] [] [] (address 0 ∷ []) []) (Aborts of_first ∷ [])
+aborts_entered : Acts (logical 3 [] (lock 0 ∷ []) (reads phase.Wait ∷ []) [] []) (Request (answered reply.Stopped (writes phase.AbortEntered)) ∷ []) (logical 3 [] [] [] (address 0 ∷ []) []) (Aborts (Remaps of_first) ∷ [])
     ((id.Desk, Request (answered reply.Stopped (writes phase.Reply))) ∷ (id.Desk, Request (answered reply.Stopped (reads phase.Reply))) ∷ [])
 aborts_entered = serves (LogicalServes.aborts_entered refl refl refl refl)
 
@@ -323,7 +358,7 @@ flushes_no_more : Acts (device true 9) (Request (vio flush asks.Flush phase.Flus
 flushes_no_more = calls (DeviceServes.flush_unmade refl refl refl refl refl)
 
 -- (stop notice): it is passed on to the desk; in the journal those that wait are aborted, and no entry is handed in any more
-notifies : Acts (logical 0 [] [] [] [] []) (StopNotice ∷ []) (at.Logical (record { zone = 0; notified = true; next = 0; places = []; held = []; waiting = []; retired = []; window = []; slots = [] })) []
+notifies : Acts (logical 0 [] [] [] [] []) (StopNotice ∷ []) (at.Logical (record { zone = 0; notified = true; next = 0; places = []; held = []; waiting = []; retired = []; tree = leafy; window = []; slots = [] })) []
     ((id.Desk, StopNotice) ∷ [])
 notifies = serves_notice
 

@@ -13,8 +13,9 @@ use Rattle.disk_model.specs.declared.call.Call.TheVariants.{Flush}
 use Rattle.vdo_model.specs.declared.report.DeskLine.TheVariants.{Begin}
 use Rattle.vdo_model.specs.declared.report.Placed.{Placed}
 use Rattle.vdo_model.specs.Scripts.{Script}
+use Rattle.data_vio.specs.declared.logged.Logged.TheVariants.{Remaps}
 use Rattle.data_vio.specs.declared.sizes.Sizes.{Sizes}
-use Rattle.data_vio.specs.declared.logged.Logged.{Logged}
+use Rattle.data_vio.specs.declared.logged.Remapping.{Remapping}
 use Rattle.core_model.specs.Sessions.{Session}
 use Rattle.core_model.specs.Trace.{Gift, Says, Draws, Enters, Seals, Commits, Sets, Takes, Fails, Trace}
 
@@ -94,16 +95,16 @@ abbrev pub drawn : Trace
 drawn = Draws (place other 1 0) ∷ Draws (place reader 0 2) ∷ Draws (place second 0 1) ∷ Draws (place first 0 0) ∷ begun
 
 -- the entries of the writes
-abbrev pub entry : Writer → ℕ → ℕ → Mapping → ℕ → Logged
+abbrev pub entry : Writer → ℕ → ℕ → Mapping → ℕ → Remapping
 entry w a n old b = record { request = w; at = address a; place = n; old = old; new = At (block b) }
 
-abbrev pub of_first : Logged
+abbrev pub of_first : Remapping
 of_first = entry first 0 0 Unmapped 85
 
-abbrev pub of_second : Logged
+abbrev pub of_second : Remapping
 of_second = entry second 0 1 (At (block 85)) 86
 
-abbrev pub of_other : Logged
+abbrev pub of_other : Remapping
 of_other = entry other 812 0 Unmapped 86
 
 -- the first write has its block, hands its entry in, has it sealed in a block and committed, and sets its slot
@@ -111,16 +112,16 @@ abbrev pub took : Trace
 took = Takes first (block 85) ∷ drawn
 
 abbrev pub handed_in : Trace
-handed_in = Enters of_first ∷ took
+handed_in = Enters (Remaps of_first) ∷ took
 
 abbrev pub in_block : Trace
 in_block = Seals ∷ handed_in
 
 abbrev pub lasting : Trace
-lasting = Commits of_first ∷ in_block
+lasting = Commits (Remaps of_first) ∷ in_block
 
 abbrev pub set : Trace
-set = Sets of_first ∷ lasting
+set = Sets (Remaps of_first) ∷ lasting
 
 -- a flush of the device failed that was made for the first write
 abbrev pub stopped : Trace → Trace

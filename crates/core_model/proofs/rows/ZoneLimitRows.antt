@@ -2,10 +2,12 @@
 use Rattle.std.proofs.Common.{ℕ, ◌-◌, ◌^◌, false, List, [], ◌∷◌, replicate, arith}
 use Rattle.std.proofs.lemmas.List.{length-replicate}
 use Rattle.vdo_model.specs.declared.report.Placed.{Placed}
+use Rattle.data_vio.specs.declared.logged.Logged.TheVariants.{Remaps}
 use Rattle.data_vio.specs.declared.items.Item.{Item}
 use Rattle.data_vio.specs.declared.items.Item.TheVariants.{StopNotice}
 use Rattle.data_vio.specs.declared.items.Phase.TheVariants as phase
 use Rattle.data_vio.specs.declared.items.Vio.{Vio}
+use Rattle.block_map_tree.specs.Tree.{Tree}
 use Rattle.core_model.specs.declared.zones.DeviceZone.{DeviceZone}
 use Rattle.core_model.specs.JournalData.{JournalZone}
 use Rattle.core_model.specs.LogicalData.{Lock, LogicalZone}
@@ -13,7 +15,7 @@ use Rattle.core_model.specs.declared.zones.Zone.{Zone}
 use Rattle.core_model.specs.declared.zones.ZoneData.TheVariants as at
 use Rattle.core_model.specs.Limits.{IsJournalWithin, IsLogicalWithin, IsWithin}
 use Rattle.core_model.proofs.rows.PhaseRows.{empty_log, writes}
-use Rattle.core_model.proofs.rows.WorkedTraces.{address, first, of_first, place}
+use Rattle.core_model.proofs.rows.WorkedTraces.{address, first, of_first, place, sizes}
 
 abbrev waits : Vio
 waits = writes phase.Wait
@@ -23,6 +25,9 @@ lock = record { at = address 0; place = 0 }
 
 abbrev drawn : Placed
 drawn = place first 0 0
+
+abbrev no_tree : Tree
+no_tree = record { forest = record { geometry = sizes.geometry; zone = 0; zones = 1 }; pages = []; marks = [] }
 
 -- a logical zone with so many of each
 abbrev logical : (next places held waiting retired slots : ℕ) → LogicalZone
@@ -34,6 +39,7 @@ logical next places held waiting retired slots = record {
   held = replicate held lock;
   waiting = replicate waiting waits;
   retired = replicate retired (address 0);
+  tree = no_tree;
   window = [];
   slots = replicate slots of_first;
 }
@@ -77,33 +83,33 @@ journal sequence filling waiting entered committed = record {
   log = record empty_log { sequence = sequence };
   filling = replicate filling waits;
   waiting = replicate waiting waits;
-  entered = replicate entered of_first;
-  committed = replicate committed of_first;
+  entered = replicate entered (Remaps of_first);
+  committed = replicate committed (Remaps of_first);
 }
 
-journal_full : IsJournalWithin (journal (2 ^ 55 - 1) 192 263 65536 65536)
+journal_full : IsJournalWithin (journal (2 ^ 55 - 1) 192 263 196608 196608)
 journal_full = record {
   sequence = omega arith;
   filling = omega (arith, length-replicate 192 waits);
   waiting = omega (arith, length-replicate 263 waits);
-  entered = omega (arith, length-replicate 65536 of_first);
-  committed = omega (arith, length-replicate 65536 of_first);
+  entered = omega (arith, length-replicate 196608 (Remaps of_first));
+  committed = omega (arith, length-replicate 196608 (Remaps of_first));
 }
 
-journal_sequence : IsJournalWithin (journal (2 ^ 55) 192 263 65536 65536) → ⊥
+journal_sequence : IsJournalWithin (journal (2 ^ 55) 192 263 196608 196608) → ⊥
 journal_sequence is = absurd (omega (arith, is.sequence))
 
-journal_filling : IsJournalWithin (journal 1 193 263 65536 65536) → ⊥
+journal_filling : IsJournalWithin (journal 1 193 263 196608 196608) → ⊥
 journal_filling is = absurd (omega (arith, is.filling, length-replicate 193 waits))
 
-journal_waiting : IsJournalWithin (journal 1 192 264 65536 65536) → ⊥
+journal_waiting : IsJournalWithin (journal 1 192 264 196608 196608) → ⊥
 journal_waiting is = absurd (omega (arith, is.waiting, length-replicate 264 waits))
 
-journal_entered : IsJournalWithin (journal 1 192 263 65537 65536) → ⊥
-journal_entered is = absurd (omega (arith, is.entered, length-replicate 65537 of_first))
+journal_entered : IsJournalWithin (journal 1 192 263 196609 196608) → ⊥
+journal_entered is = absurd (omega (arith, is.entered, length-replicate 196609 (Remaps of_first)))
 
-journal_committed : IsJournalWithin (journal 1 192 263 65536 65537) → ⊥
-journal_committed is = absurd (omega (arith, is.committed, length-replicate 65537 of_first))
+journal_committed : IsJournalWithin (journal 1 192 263 196608 196609) → ⊥
+journal_committed is = absurd (omega (arith, is.committed, length-replicate 196609 (Remaps of_first)))
 
 -- a device that made so many calls, as the zone that made nine steps, with so many items in its inbox and its two outboxes
 abbrev device : ℕ → DeviceZone

@@ -4,7 +4,7 @@ use Rattle.vdo_model.specs.declared.report.Placed.{Placed}
 use Rattle.vdo_model.specs.Histories.{histories_of}
 use Rattle.core_model.specs.Reports.{progress_of}
 use Rattle.core_model.specs.SessionLimits.{most_requests}
-use Rattle.core_model.specs.Trace.{entered}
+use Rattle.core_model.specs.Trace.{journaled}
 use Rattle.core_model.specs.declared.zones.Zone.{Zone}
 use Rattle.core_reports.specs.Found.{AreFound}
 use Rattle.core_reports.specs.Listed.{HasDesk, HasEntered, places_of_all}
@@ -26,14 +26,14 @@ returns c s t session legal answered for =
     -- the histories
     let room_is : c.args.room ≡ room = sym c.room.view_is ∙ ap (λ (notes : List (List (Option ℕ))). map length notes) (sym c.deref_mut.ensures.value) in
     let enough : IsRoomFor room s.script = subst (λ (counts : List ℕ). IsRoomFor counts s.script) room_is for in
-    let found : AreFound desk.desk.log room (entered t) (progress_of t) slice
-    = subst (λ (log : List DeskLine). AreFound log room (entered t) (progress_of t) slice) (sym desk.log_is)
+    let found : AreFound desk.desk.log room (journaled t) (progress_of t) slice
+    = subst (λ (log : List DeskLine). AreFound log room (journaled t) (progress_of t) slice) (sym desk.log_is)
     (places_found s t zones session legal room slice enough answered (sym c.as_slice.ensures ∙ placed)) in
     let has : HasDesk desk.desk c.deref-2.result.now = subst (λ (zs : List Zone). HasDesk desk.desk zs) (sym c.deref-2.ensures.value) desk.has in
-    let entries : HasEntered (entered t) c.deref-2.result.now
-    = subst (λ (zs : List Zone). HasEntered (entered t) zs) (sym c.deref-2.ensures.value) (its_entries s t zones session legal) in
+    let entries : HasEntered (journaled t) c.deref-2.result.now
+    = subst (λ (zs : List Zone). HasEntered (journaled t) zs) (sym c.deref-2.ensures.value) (its_entries s t zones session legal) in
     let histories : c.list_histories.new.histories ≡ histories_of desk.desk.requests desk.desk.log (progress_of t) listed
-    = c.list_histories.ensures desk.desk (entered t) (progress_of t) has entries c.room.invariant.1 found
+    = c.list_histories.ensures desk.desk (journaled t) (progress_of t) has entries c.room.invariant.1 found
     ∙ ap (λ (ps : List Placed). histories_of desk.desk.requests desk.desk.log (progress_of t) ps) (sym c.as_slice.ensures) in
     report_is s t zones session legal c.desk_report-desk.result c.into_list.result c.into_list-2.result
     (c.desk_report-desk.ensures desk.desk desk.has) (c.into_list.ensures ∙ placed)

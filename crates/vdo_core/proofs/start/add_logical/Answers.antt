@@ -11,7 +11,6 @@ loop-zone-preserved c =
     record {
       count = omega (arith, longer, count);
       first = λ s sizes window each.
-          (let among : c.loop-zone.zone < s.sizes.zones = (let most : s.sizes.zones ≡ c.args.sizes.now.zones = ap (λ (x : Sizes). x.zones) sizes in omega (arith, most)) in
-          let first = numbered s _ c.logical_number-number.result (at.Logical c.in_ok-logical.logical) c.logical_number-number.ensures (c.in_ok-logical.ensures s (window ∙ sym c.in_ok-window.ensures) among) in
+          (let first = numbered s _ c.logical_number-number.result (at.Logical c.in_ok-logical.logical) c.logical_number-number.ensures (c.in_ok-logical.ensures s sizes (window ∙ sym c.in_ok-window.ensures)) in
           c.in_ok-add.ensures.first s sizes first (c.loop-zone.invariant.first s sizes window each));
     }

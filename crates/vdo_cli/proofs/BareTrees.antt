@@ -1,0 +1,85 @@
+-- The trees of the one logical zone of a session whose window links no page: their roots alone.
+use Rattle.std.specs.Prelude.{ℕ, ◌≡◌, ◌<◌, ◌≤◌, ◌+◌, ◌-◌, ◌*◌, ◌^◌, None, Some, List, [], ◌∷◌, length, replicate, slice_index_or, refl}
+use Rattle.std.proofs.Common.{sym, ◌∙◌, ap, subst, inl, inr, arith}
+use Rattle.std.proofs.lemmas.Bool.Decides.{leb_tells}
+use Rattle.std.proofs.lemmas.List.{length-replicate, get_or-replicate}
+use Rattle.std.proofs.lemmas.List.Elements.{All-replicate}
+use Rattle.std.proofs.Math.ListN.{get_or-eq_default}
+use Rattle.std.specs.List.{AllByRecursion}
+use Rattle.blk_base.specs.Limits.{IsGeometry}
+use Rattle.blk_base.specs.declared.geometry.Geometry.{Geometry}
+use Rattle.blk_base.specs.declared.journal_entry.Entry.{Entry}
+use Rattle.blk_base.specs.declared.journal_entry.Entry.TheVariants.{Remap, NewPage}
+use Rattle.blk_base.specs.declared.place.Mapping.{Mapping}
+use Rattle.blk_base.specs.declared.place.Mapping.TheVariants.{Unmapped}
+use Rattle.blk_base.specs.declared.place.PageId.{PageId}
+use Rattle.page_codec.specs.Grammar.{AreHeld}
+use Rattle.page_codec.proofs.HeldLaws.{held_unmapped}
+use Rattle.dirty_pages.specs.Marks.{HasPoint, clean}
+use Rattle.dirty_pages.specs.declared.marks.Marks.{Marks}
+use Rattle.dirty_pages.proofs.PageLists.{replicate_at}
+use Rattle.block_map_tree.proofs.PageLaws.{in_row, root_or_lower, row_lower, row_root}
+use Rattle.block_map_tree.specs.Pages.{IsForest, IsOnPath}
+use Rattle.block_map_tree.specs.Tree.{Tree, most_rows, row_of, trees_of}
+use Rattle.block_map_tree.specs.declared.forms.Forest.{Forest}
+use Rattle.core_model.specs.PageLinks.{opened_page}
+use Rattle.core_model.specs.PageTrees.{IsMapTree, block_in}
+use Rattle.vdo_cli.specs.Openings.{IsRemap}
+
+abbrev forest : Geometry → Forest
+forest g = record { geometry = g; zone = 0; zones = 1 }
+
+abbrev blank : List Mapping
+blank = replicate 812 Unmapped
+
+abbrev count : Geometry → ℕ
+count g = most_rows g.height * trees_of (forest g)
+
+unfoldable pub bare : Geometry → Tree
+bare g = record { forest = forest g; pages = replicate (count g) blank; marks = replicate (count g) clean }
+
+blank_slot : (n place slot : ℕ) → slice_index_or (slice_index_or (replicate n blank) place []) slot Unmapped ≡ Unmapped
+blank_slot n place slot = elim (leb_tells n place) [
+  | inl past ↦ ap (λ (r : List Mapping). slice_index_or r slot Unmapped)
+      (get_or-eq_default (replicate n blank) [] (let p = past.1 in let size = length-replicate n blank in omega arith))
+  | inr inside ↦ ap (λ (r : List Mapping). slice_index_or r slot Unmapped) (get_or-replicate n place blank [] inside.1) ∙ replicate_at 812 slot Unmapped
+]
+
+none_linked : (height : ℕ) (window : List Entry) (page : PageId) → AllByRecursion IsRemap window → opened_page height window page ≡ None
+none_linked height [] page maps = refl
+none_linked height (Remap at old new ∷ older) page maps = none_linked height older page maps.1
+none_linked height (NewPage other at ∷ older) page maps = absurd maps.0
+
+few_rows : (g : Geometry) (page : PageId) → IsForest (forest g) → IsOnPath (forest g) page → 1 ≤ page.level → row_of (forest g) page < most_rows g.height
+few_rows g page is_forest on level =
+    let heights = is_forest.sizes.height in
+    elim (root_or_lower (forest g) page is_forest on) [
+      | inl root ↦ let row = row_root (forest g) page root in omega (arith, row)
+      | inr lower ↦
+          let row = row_lower (forest g) page lower in
+          let low = lower.level in
+          let three : g.height ≡ 3 = omega (arith, level, low, heights) in
+          let wide : page.index < 812 ^ 1 = subst (λ (n : ℕ). page.index < 812 ^ n) (let e : g.height - 1 - page.level ≡ 1 = omega (arith, level, low, three) in e) lower.index in
+          let most : most_rows g.height ≡ 813 = ap most_rows three in
+          omega (arith, row, wide, most)
+    ]
+
+pub bare_is : (g : Geometry) (window : List Entry) → IsGeometry g → AllByRecursion IsRemap window → IsMapTree g 0 1 window [] (bare g)
+unfolding bare
+bare_is g window sizes maps =
+    let n = count g in
+    let is_forest : IsForest (forest g) = record { sizes = sizes; zone = omega arith; zones = omega arith } in
+    let wide : length (replicate n blank) ≡ n = length-replicate n blank in
+    let marked : length (replicate n clean) ≡ n = length-replicate n clean in
+    record {
+      forest_is = refl;
+      form = record {
+        forest = is_forest;
+        room = λ page on level. let place = in_row (forest g) page (most_rows g.height) is_forest on.tree (few_rows g page is_forest on level) in omega (arith, place, wide);
+        most = omega (arith, wide);
+        held = All-replicate (AreHeld g 1) n blank (held_unmapped g 1);
+        marks = marked ∙ sym wide;
+        there = λ page point inner has. absurd (elim (subst (λ (m : Marks). HasPoint m point) (replicate_at n _ clean) has) [ inl dirty ↦ cc | inr writing ↦ cc ]);
+      };
+      linked = λ page linkable. ap block_in (blank_slot n _ _) ∙ sym (none_linked g.height window page maps);
+    }
