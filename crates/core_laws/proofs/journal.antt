@@ -1,3 +1,5 @@
 pub mod JournalFacts
 pub mod LogLaws
+pub mod LoggedEntries
+pub mod PageEntries
 pub mod SealedBlocks

@@ -4,5 +4,7 @@ pub mod Known
 pub mod LeaseTokens
 pub mod Lift
 pub mod Owners
+pub mod PageOwners
+pub mod PageTokens
 pub mod Posts
 pub mod TokenLaws

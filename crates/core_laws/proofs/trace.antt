@@ -9,8 +9,10 @@ pub mod MarksOfTrace
 pub mod PassesOfTrace
 pub mod PlacesOfTrace
 pub mod ReportOfTrace
+pub mod ShownPages
 pub mod StopsOfTrace
 pub mod TurnsOfTrace
 pub mod Walks
 pub mod ZeroWrites
 pub mod StoppedPasses
+pub mod PagesOfTrace

@@ -1,13 +1,13 @@
 -- How long the lists of a legal core get: its locks by the requests that are under way, its slots and retired addresses by the
 -- entries of the journal, and those by the journal's blocks.
 use Rattle.std.proofs.Common.{ℕ, ◌^◌, ◌≡◌, ◌<◌, ◌≤◌, Bool, true, false, Some, List, [], ◌∷◌, IsNone, length, slice_get, refl, ap, ◌∙◌, subst, inl, inr, arith}
-use Rattle.core_laws.proofs.Common.{bit, journaled, Logged, remappings, DataOk, DeviceZone, ended_at, entered, entered_at, entry_token, every-map, given, held_at, holder_token, holds, IsSession, IsWrite, Item, journal_number, JournalZone, Remapping, logged_of, LogicalZone, made_by, RightTrace, room_token, same_tells, sealed, Seals, Session, some_is, total, total-get, total_alone, Trace, Vio, weight, Writer, Zone, ZoneData}
+use Rattle.core_laws.proofs.Common.{bit, journaled, Logged, remappings, DataOk, DeviceZone, ended_at, entered, entered_at, entry_token, every-map, given, held_at, holder_token, holds, IsSession, IsWrite, Item, journal_number, JournalZone, Remapping, logged_of, LogicalZone, made_by, RightTrace, room_token, same_tells, Token, new_pages, sealed, Seals, Session, some_is, total, total-get, total_alone, Trace, Vio, weight, Writer, Zone, ZoneData}
 use Rattle.data_vio.specs.declared.items.Item.TheVariants as item
 use Rattle.core_model.specs.declared.zones.ZoneData.TheVariants as at
 use Rattle.core_model.specs.Legal.{Legal, share}
 use Rattle.core_model.specs.Limits.{most_entries, most_requests, requests_in}
 use Rattle.core_model.specs.Steps.{Core}
-use Rattle.core_model.specs.Tokens.{kept_items}
+use Rattle.core_model.specs.Tokens.{kept_items, page_entry_token, pages_entered_at, unlinkable_at}
 use Rattle.core_laws.proofs.kept.FirstState.{total_at_most}
 use Rattle.core_laws.proofs.kept.ZoneKinds.{journal_sits}
 use Rattle.core_limits.proofs.Rooms.{all_requests, carried}
@@ -112,16 +112,34 @@ module _ (s : Session) (core : Core) (legal : Legal s core) (n : ℕ) (z : Zone)
         omega (arith, same, less, journal_few)
 
     -- the journal alone gives out entries
-    all_entries : total (given entry_token) core.zones ≡ length (remappings (journaled core.trace))
-    all_entries =
+    journal_gives : (t : Token) (f : List Logged → ℕ) → ((j : JournalZone) → t.gave (at.Journal j) ≡ f j.entered)
+        → ((j : ℕ) (d : ZoneData) → (j ≡ journal_number s.sizes → ⊥) → DataOk s core.trace j d → t.gave d ≡ 0) → total (given t) core.zones ≡ f (journaled core.trace)
+    journal_gives t f gives none =
         let journal = journal_sits s core.trace core.zones legal.each legal.count in
         let k = subst (λ (d : ZoneData). DataOk s core.trace (journal_number s.sizes) d) journal.keeps (legal.each (journal_number s.sizes) journal.zone journal.had).own in
-        total_alone (given entry_token) core.zones (journal_number s.sizes) journal.zone journal.had (λ j y there ne. none_given j y.keeps ne (legal.each j y there).own)
-        ∙ ap entered_at journal.keeps ∙ ap (λ (es : List Logged). length (remappings es)) k.lists.entered_is
+        total_alone (given t) core.zones (journal_number s.sizes) journal.zone journal.had (λ j y there ne. none j y.keeps ne (legal.each j y there).own)
+        ∙ ap t.gave journal.keeps ∙ gives journal.it ∙ ap f k.lists.entered_is
+
+    all_entries : total (given entry_token) core.zones ≡ length (remappings (journaled core.trace))
+    all_entries = journal_gives entry_token (λ es. length (remappings es)) (λ j. refl) none
       where
-        none_given : (j : ℕ) (d : ZoneData) → (j ≡ journal_number s.sizes → ⊥) → DataOk s core.trace j d → entered_at d ≡ 0
-        none_given j (at.Journal x) ne k = absurd (ne k.number_is)
-        none_given j other ne k = refl
+        none : (j : ℕ) (d : ZoneData) → (j ≡ journal_number s.sizes → ⊥) → DataOk s core.trace j d → entered_at d ≡ 0
+        none j (at.Journal x) ne k = absurd (ne k.number_is)
+        none j other ne k = refl
+
+    all_page_entries : total (given page_entry_token) core.zones ≡ length (new_pages (journaled core.trace))
+    all_page_entries = journal_gives page_entry_token (λ es. length (new_pages es)) (λ j. refl) none
+      where
+        none : (j : ℕ) (d : ZoneData) → (j ≡ journal_number s.sizes → ⊥) → DataOk s core.trace j d → pages_entered_at d ≡ 0
+        none j (at.Journal x) ne k = absurd (ne k.number_is)
+        none j other ne k = refl
+
+    pub unlinkable_within : (l : LogicalZone) → z.keeps ≡ at.Logical l → length l.unlinkable ≤ most_entries
+    unlinkable_within l keeps =
+        let here = total-get (weight page_entry_token) core.zones n z had in
+        let same = ap unlinkable_at keeps in
+        let most = legal.dropped in
+        omega (arith, here, same, most, all_page_entries, pages_few s core.trace session legal.right, session.limits.requests)
 
     ended_within : ended_at z.keeps ≤ most_requests
     ended_within =

@@ -8,4 +8,5 @@ pub mod Stillness
 pub mod StreamSums
 pub mod WholeZones
 pub mod ZoneLimits
+mod MakingLimits
 mod PageLimits

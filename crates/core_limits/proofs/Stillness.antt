@@ -1,14 +1,18 @@
 -- A legal core in which nothing is left to do has answered each request: nobody holds a lock or waits for one, no block of the
 -- journal goes round, and the stop notices of all zones have come if the session is stopped.
-use Rattle.std.proofs.Common.{◌≡◌, ℕ, ◌≤◌, Bool, true, false, not, cond, Some, List, [], ◌∷◌, ◌++◌, length, slice_get, refl, sym, ap, ◌∙◌, subst, inl, inr, arith}
+use Rattle.std.proofs.Common.{◌≡◌, ℕ, ◌+◌, ◌≤◌, Bool, true, false, not, cond, Option, Some, List, [], ◌∷◌, ◌++◌, length, slice_get, refl, sym, ap, ◌∙◌, subst, inl, inr, arith}
 use Rattle.std.proofs.lemmas.List.{nil_from_length}
-use Rattle.core_laws.proofs.Common.{AllAnswered, AllByRecursion, DataOk, Desk, IsNextLine, Item, JournalZone, LogicalZone, Phase, Session, Token, Vio, WaitsOk, Writer, Zone, ZoneData, as_items, bit, cases_Bool, cases_lt, desk_number, device_number, eqb_tells, given, heard_at, held_at, holder_token, holds, idle_at, is_answer, is_begin, is_sealed, is_word, journal_token, kept_by, lines, notice_token, notified_by, notified_zones, queued, room_token, total, total-get, total_alone, total_zero, weight}
+use Rattle.core_laws.proofs.Common.{AllAnswered, AllByRecursion, DataOk, Desk, IsNextLine, Item, JournalZone, KeptOk, LogicalZone, Phase, Session, Token, Vio, WaitsOk, Writer, Zone, ZoneData, as_items, bit, cases_Bool, cases_lt, desk_number, device_number, eqb_tells, given, heard_at, held_at, holder_token, holds, idle_at, is_answer, is_begin, is_sealed, is_word, journal_token, kept_by, lines, notice_token, notified_by, notified_zones, queued, room_token, total, total-get, total_alone, total_zero, weight}
 use Rattle.data_vio.specs.declared.items.Phase.TheVariants as phase
 use Rattle.core_model.specs.declared.zones.ZoneData.TheVariants as at
 use Rattle.core_model.specs.Legal.{Legal}
+use Rattle.blk_base.specs.declared.place.PageId.{PageId}
+use Rattle.core_model.specs.Facts.{Awaits, CarriesPage}
 use Rattle.core_model.specs.LogicalRules.{is_held}
 use Rattle.core_model.specs.Steps.{Core, IsStill, MayBegin}
-use Rattle.core_model.specs.Tokens.{one_journal}
+use Rattle.core_model.specs.Tokens.{is_same, making_at, making_token, one_journal}
+use Rattle.core_laws.proofs.kept.ActKept.{bare_of, carries_at}
+use Rattle.core_laws.proofs.logical.PageLists.{listed_times, times}
 use Rattle.vdo_model.specs.declared.report.DeskLine.TheVariants.{Begin}
 use Rattle.core_laws.proofs.kept.ZoneKinds.{desk_sits, device_sits}
 use Rattle.core_laws.proofs.tokens.Known.{IsIn, kept_in}
@@ -26,6 +30,11 @@ no_block (v ∷ vs) = omega (arith, no_block vs)
 no_word : (vs : List Vio) → total is_word (as_items vs) ≡ 0
 no_word [] = refl
 no_word (v ∷ vs) = omega (arith, no_word vs)
+
+-- what two lists of requests weigh
+both_items : (weigh : Item → ℕ) (vs ws : List Vio) → total weigh (as_items (vs ++ ws)) ≡ total weigh (as_items vs) + total weigh (as_items ws)
+both_items weigh [] ws = omega arith
+both_items weigh (v ∷ vs) ws = omega (arith, both_items weigh vs ws)
 
 -- and those in a phase without a lock weigh none
 no_lock : (q : Phase) (vs : List Vio) → holds q ≡ false → AllByRecursion (IsIn q) vs → total holder_token.item (as_items vs) ≡ 0
@@ -81,13 +90,53 @@ module _ (s : Session) (core : Core) (legal : Legal s core) (still : IsStill s.s
       let unused = (own n z had (at.Journal j) keeps).sound.1 (one_idle n z had j keeps) in
       ap (λ (vs : List Vio). vs ++ j.waiting) unused.unfilled ∙ unused.unawaited
 
+  -- No page is being made, so nobody waits for one.
+  no_maker : (page : PageId) (n : ℕ) (z : Zone) → slice_get core.zones n ≡ Some z → queued (making_token page).item z.keeps ≡ 0
+  no_maker page n z had = by z.keeps refl
+    where
+      none_makes : (q : Phase) (vs : List Vio) → ((v : Vio) (other : PageId) → CarriesPage s core.trace v other q → ⊥) → AllByRecursion (KeptOk s core.trace q) vs → total (making_token page).item (as_items vs) ≡ 0
+      none_makes q [] none all = refl
+      none_makes q (v ∷ vs) none all =
+          let bare = (bare_of s core.trace v q (none v) (carries_at s core.trace v q all.0.2 all.0.1)).0 in
+          let here : bit (is_same page v.page) ≡ 0 = ap (λ (o : Option PageId). bit (is_same page o)) bare in
+          omega (arith, here, none_makes q vs none all.1)
+
+      by : (d : ZoneData) → z.keeps ≡ d → queued (making_token page).item d ≡ 0
+      by (at.Desk desk) keeps = none_makes phase.Reply desk.parked (λ v other no. no) (own n z had (at.Desk desk) keeps).kept
+      by (at.Logical l) keeps =
+          let kept = (own n z had (at.Logical l) keeps).kept in
+          let waiting = none_makes phase.Wait l.waiting (λ v other no. no) kept.0 in
+          let lacking = none_makes phase.Look l.lacking (λ v other no. no) kept.1 in
+          omega (arith, waiting, lacking, both_items (making_token page).item l.waiting l.lacking)
+      by (at.Journal j) keeps = ap (λ (vs : List Vio). total (making_token page).item (as_items vs)) (journal_keeps_none n z had j keeps)
+      by other keeps = refl
+
+  none_made : (n : ℕ) (z : Zone) → slice_get core.zones n ≡ Some z → (l : LogicalZone) → z.keeps ≡ at.Logical l → (page : PageId) → times page l.making ≡ 0
+  none_made n z had l keeps page =
+      let held = own_alone (making_token page) (no_maker page) in
+      let none = total_zero (λ (y : Zone). (making_token page).own y.keeps) core.zones (λ m y there. refl) in
+      let here = total-get (given (making_token page)) core.zones n z had in
+      let same = ap (making_at page) keeps in
+      let balance = legal.making page in
+      omega (arith, held, none, here, same, balance)
+
+  none_lacks : (n : ℕ) (z : Zone) → slice_get core.zones n ≡ Some z → (l : LogicalZone) → z.keeps ≡ at.Logical l → l.lacking ≡ []
+  none_lacks n z had l keeps = by l.lacking (own n z had (at.Logical l) keeps).sound.pages.waits
+    where
+      by : (vs : List Vio) → AllByRecursion (Awaits l.tree l.making) vs → vs ≡ []
+      by [] waits = refl
+      by (v ∷ vs) waits = absurd (let some = listed_times waits.0.page l.making waits.0.is_made in let none = none_made n z had l keeps waits.0.page in omega (arith, some, none))
+
   -- Nobody holds a lock, so nobody waits for one.
   no_holder : (n : ℕ) (z : Zone) → slice_get core.zones n ≡ Some z → queued holder_token.item z.keeps ≡ 0
   no_holder n z had = by z.keeps refl
     where
       by : (d : ZoneData) → z.keeps ≡ d → queued holder_token.item d ≡ 0
       by (at.Desk desk) keeps = no_lock phase.Reply desk.parked refl (kept_in s core.trace (at.Desk desk) (own n z had (at.Desk desk) keeps).kept)
-      by (at.Logical l) keeps = no_lock phase.Wait l.waiting refl (kept_in s core.trace (at.Logical l) (own n z had (at.Logical l) keeps).kept)
+      by (at.Logical l) keeps =
+          let waiting = no_lock phase.Wait l.waiting refl (kept_in s core.trace (at.Logical l) (own n z had (at.Logical l) keeps).kept).0 in
+          let lacking = ap (λ (vs : List Vio). total holder_token.item (as_items vs)) (none_lacks n z had l keeps) in
+          omega (arith, waiting, lacking, both_items holder_token.item l.waiting l.lacking)
       by (at.Journal j) keeps = ap (λ (vs : List Vio). total holder_token.item (as_items vs)) (journal_keeps_none n z had j keeps)
       by other keeps = refl
 
@@ -139,7 +188,7 @@ module _ (s : Session) (core : Core) (legal : Legal s core) (still : IsStill s.s
     where
       by : (d : ZoneData) → z.keeps ≡ d → kept_by d ≡ []
       by (at.Desk desk) keeps = none_parked n z had desk keeps
-      by (at.Logical l) keeps = none_waits n z had l keeps
+      by (at.Logical l) keeps = ap (λ (vs : List Vio). vs ++ l.lacking) (none_waits n z had l keeps) ∙ none_lacks n z had l keeps
       by (at.Journal j) keeps = journal_keeps_none n z had j keeps
       by other keeps = refl
 

@@ -5,7 +5,8 @@ use Rattle.core_model.specs.declared.zones.ZoneData.TheVariants as at
 use Rattle.core_model.specs.Legal.{Legal}
 use Rattle.core_model.specs.Limits.{IsDataWithin, IsWithin}
 use Rattle.core_model.specs.Steps.{Core}
-use Rattle.core_limits.proofs.Bounds.{calls_within, committed_within, entered_within, filling_within, held_within, next_within, retired_within, sequence_within, slots_within}
+use Rattle.core_limits.proofs.Bounds.{calls_within, committed_within, entered_within, filling_within, held_within, next_within, retired_within, sequence_within, slots_within, unlinkable_within}
+use Rattle.core_limits.proofs.MakingLimits.{makers_few}
 use Rattle.core_limits.proofs.ZoneLimits.{desk_within, few_items, inbox_within, lanes_within, places_within, waiting_within}
 
 module _ (s : Session) (core : Core) (session : IsSession s) (legal : Legal s core) (n : ℕ) (z : Zone) (had : slice_get core.zones n ≡ Some z) where
@@ -19,9 +20,12 @@ module _ (s : Session) (core : Core) (session : IsSession s) (legal : Legal s co
         next = next_within s core legal n z had l keeps;
         places = places_within s core session legal n z had l keeps;
         held = omega (arith, held, few_items s core session legal);
-        waiting = omega (arith, waiting, waits);
+        waiting = omega (arith, waiting, waits, length-append l.waiting l.lacking);
         retired = retired_within s core legal n z had session l keeps;
         slots = slots_within s core legal n z had session l keeps;
+        making = omega (arith, makers_few s core legal n z l had keeps, few_items s core session legal);
+        lacking = omega (arith, waiting, waits, length-append l.waiting l.lacking);
+        unlinkable = unlinkable_within s core legal n z had session l keeps;
       }
   data_within (at.Journal j) keeps =
       let waiting = waiting_within s core session legal n z had in

@@ -12,6 +12,7 @@ use Rattle.logical_locks.specs.Holders.{Holders, Takes, Waits, HasRoom, HoldsNex
 use Rattle.logical_locks.specs.Holders as locks
 use Rattle.logical_locks.specs.declared.waiter.Waiter.{Waiter}
 use Rattle.plain_laws.specs.Firsts.{but_first}
+use Rattle.blk_base.specs.declared.place.PageId.{PageId}
 use Rattle.block_map_tree.specs.Tree.{Tree}
 use Rattle.core_model.specs.LogicalData.{Lock, LogicalZone}
 use Rattle.core_model.specs.LogicalRules.{but_first_for, first_for, is_among, drawn_by, is_held, lock_of, passed_to, place_of_vio, placed, released, without}
@@ -169,7 +170,7 @@ free_retired at held vs retired free own = λ a among. elim (eqb_tells at.0 a) [
 ]
 
 -- The locks of a zone that has the rest.
-module _ (zone : ℕ) (notified : Bool) (retired : List Lba) (tree : Tree) (window : List Entry) (slots : List Remapping) where
+module _ (zone : ℕ) (notified : Bool) (retired : List Lba) (tree : Tree) (making : List PageId) (lacking : List Vio) (unlinkable : List PageId) (window : List Entry) (slots : List Remapping) where
   abbrev pub shown : List Placed → Holders Vio → LogicalZone
   shown places h = record {
     zone = zone;
@@ -180,6 +181,9 @@ module _ (zone : ℕ) (notified : Bool) (retired : List Lba) (tree : Tree) (wind
     waiting = vios h.waiting;
     retired = retired;
     tree = tree;
+    making = making;
+    lacking = lacking;
+    unlinkable = unlinkable;
     window = window;
     slots = slots;
   }

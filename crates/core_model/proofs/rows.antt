@@ -17,3 +17,5 @@ pub mod SlotRows
 pub mod WaiterRows
 mod LegalRows
 mod PageRows
+pub mod PageActRows
+mod PageFactRows

@@ -1,7 +1,10 @@
 -- What the device zone does: one call of the device. A failed read has any bytes.
-use Rattle.std.specs.Prelude.{ℕ, ◌+◌, ◌≡◌, ◌<◌, Bool, true, false, Option, Some, List, [], ◌∷◌, map}
+use Rattle.std.specs.Prelude.{ℕ, ◌+◌, ◌≡◌, ◌<◌, Bool, true, false, Option, None, Some, List, [], ◌∷◌, map, replicate}
 use Rattle.blk_base.specs.Regions.{journal_slot_of, needed_blocks}
-use Rattle.blk_base.specs.declared.place.Mapping.TheVariants.{At}
+use Rattle.blk_base.specs.declared.place.Mapping.TheVariants.{At, Unmapped}
+use Rattle.blk_base.specs.declared.place.PageId.{PageId}
+use Rattle.blk_base.specs.declared.sizes.TheConstants.{PAGE_SLOTS}
+use Rattle.page_codec.specs.Spelling.{page_bytes}
 use Rattle.blk_base.specs.declared.place.Pbn.{Pbn}
 use Rattle.blk_base.specs.declared.place.ZoneId.{ZoneId}
 use Rattle.blk_base.specs.declared.place.ZoneId.TheVariants as id
@@ -36,6 +39,17 @@ abbrev pub stop_notices : List ZoneId → List Post
 stop_notices [] = []
 stop_notices (to ∷ others) = (to, item.StopNotice) ∷ stop_notices others
 
+-- what is written for a write to its block: its data, or the page that it makes, which leads nowhere
+abbrev pub page_at : Sizes → PageId → Pbn → List ℕ
+page_at sizes page x = page_bytes (record { geometry = sizes.geometry; page = page; at = x }) (replicate PAGE_SLOTS Unmapped)
+
+abbrev pub stored_for : Sizes → Option PageId → List ℕ → Pbn → List ℕ
+stored_for sizes None bytes x = bytes
+stored_for sizes (Some page) bytes x = page_at sizes page x
+
+abbrev pub stored : Sizes → Vio → Pbn → List ℕ
+stored sizes v x = stored_for sizes v.page v.bytes x
+
 -- the block lies inside the image
 abbrev pub IsInside : Sizes → Pbn → Type 0
 IsInside sizes x = x.0 < needed_blocks sizes.geometry
@@ -43,10 +57,10 @@ IsInside sizes x = x.0 < needed_blocks sizes.geometry
 pub data DeviceServes (sizes : Sizes) (old : DeviceZone) (v : Vio) (new : DeviceZone) (made : Trace) (posts : List Post) : Type 0 where
   -- the data of a write
   stores : (x : Pbn) → v.phase ≡ phase.Store → v.new ≡ At x → old.stopped ≡ false → IsInside sizes x
-      → new ≡ counted old → made ≡ Calls (Write x v.bytes true) ∷ [] → posts ≡ (id.Journal, item.Request (turned phase.Enter v)) ∷ []
+      → new ≡ counted old → made ≡ Calls (Write x (stored sizes v x) true) ∷ [] → posts ≡ (id.Journal, item.Request (turned phase.Enter v)) ∷ []
       → DeviceServes sizes old v new made posts
   store_fails : (x : Pbn) (kept : Bool) → v.phase ≡ phase.Store → v.new ≡ At x → old.stopped ≡ false → IsInside sizes x
-      → new ≡ halted old → made ≡ Fails v.request (Write x v.bytes false) kept ∷ []
+      → new ≡ halted old → made ≡ Fails v.request (Write x (stored sizes v x) false) kept ∷ []
       → posts ≡ (id.Physical 0, item.Request (ended phase.AbortClaim reply.Stopped v)) ∷ stop_notices (notified sizes)
       → DeviceServes sizes old v new made posts
   store_unmade : v.phase ≡ phase.Store → old.stopped ≡ true
@@ -85,7 +99,7 @@ abbrev pub call_of : Sizes → SealedBlock → Pbn → Bool → Stage → Option
 call_of sizes b slot ok stage.Cover = Some (Flush ok)
 call_of sizes b slot ok stage.Write = Some (Write slot (journal_bytes sizes b) ok)
 call_of sizes b slot ok stage.Harden = Some (Flush ok)
-call_of sizes b slot ok other = Option.None
+call_of sizes b slot ok other = None
 
 abbrev pub next_stage : Stage → Stage
 next_stage now = (stage_row now).next

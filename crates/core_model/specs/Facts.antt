@@ -1,5 +1,5 @@
 -- What a request carries, and what a zone keeps: facts on their own fields and on the trace.
-use Rattle.std.specs.Prelude.{ℕ, ◌+◌, ◌≡◌, ◌⊎◌, ◌<◌, ◌≤◌, Bool, true, false, Option, None, Some, IsNone, List, [], ◌∷◌, ◌++◌, length, drop, map, reverse, slice_get, if◌then◌else◌}
+use Rattle.std.specs.Prelude.{ℕ, ◌+◌, ◌≡◌, ◌⊎◌, ◌<◌, ◌≤◌, Bool, true, false, Option, None, Some, IsNone, List, [], ◌∷◌, ◌++◌, length, drop, map, reverse, slice_get, Contains, if◌then◌else◌}
 use Rattle.std.specs.List.{AllByRecursion}
 use Rattle.blk_base.specs.declared.journal_entry.Entry.{Entry}
 use Rattle.blk_base.specs.declared.place.Lba.{Lba}
@@ -44,19 +44,23 @@ use Rattle.core_model.specs.LogicalData.{LogicalZone}
 use Rattle.core_model.specs.declared.zones.PhysicalZone.{PhysicalZone}
 use Rattle.core_model.specs.declared.zones.Zone.{Zone}
 use Rattle.core_model.specs.DeskRules.{is_marked, mark_of_vio}
-use Rattle.core_model.specs.DeviceRules.{IsInside}
+use Rattle.core_model.specs.DeviceRules.{IsInside, page_at}
 use Rattle.core_model.specs.JournalRules.{is_closed}
 use Rattle.core_model.specs.LogicalRules.{is_among, is_held, mapped_by}
 use Rattle.data_vio.specs.Phases.{row, number_at, stage_row}
 use Rattle.data_vio.specs.Zones.{zone_number, zone_count, notified_zones}
 use Rattle.core_model.specs.RightTraces.{IsOpen, IsPending, MapsTo, NeedsBlock, Quiet, IsCommitted, AllBelow, HasPlace, HasBelow, HasCause}
 use Rattle.core_model.specs.Sessions.{Session, IsFair, IsFresh, OnBlock, NewReads, NewStands, ReadsAs, AtRest, OnItsWay, ReadsBlock, said_by, value_at}
-use Rattle.block_map_tree.specs.Tree.{Tree}
-use Rattle.core_model.specs.PageTrees.{IsMapTree}
-use Rattle.plain_laws.specs.Sums.{total, Each}
+use Rattle.block_map_tree.specs.Tree.{Tree, IsLinkable}
+use Rattle.blk_base.specs.Pages.{above}
+use Rattle.blk_base.specs.declared.place.PageId.{PageId}
+use Rattle.image_model.specs.Pages.{is_page}
+use Rattle.core_model.specs.PageLinks.{IsThere, MayLack, page_in}
+use Rattle.core_model.specs.PageTrees.{IsMapTree, is_listed, link_at, missing_at}
+use Rattle.plain_laws.specs.Sums.{bit, total, Each}
 use Rattle.core_model.specs.Tokens.{lock_weight}
-use Rattle.core_model.specs.Trace.{Trace, all_of, filled, sealed, moments, lines, calls, marks, places, journaled, entered, durable, applied, done, remappings, aborted, taken, has_taken, has_stopped, of_address, newest, logged_of, entry_of, entries_of}
-use Rattle.data_vio.specs.Vios.{all_logged, asked, request_of, remapping}
+use Rattle.core_model.specs.Trace.{Trace, all_of, filled, sealed, moments, lines, calls, marks, places, journaled, entered, durable, applied, done, dropped, remappings, aborted, taken, has_taken, has_stopped, of_address, newest, logged_of, entry_of, entries_of}
+use Rattle.data_vio.specs.Vios.{all_logged, asked, logged, request_of, remapping}
 use Rattle.recovery_journal.specs.Log.{Log, head_of}
 
 -- the number of the zone where a phase, and a stage, is done
@@ -179,24 +183,65 @@ abbrev pub IsToInside : Session → Mapping → Type 0
 IsToInside s (At x) = IsInside s.sizes x
 IsToInside s other = ⊥
 
--- What a request carries in each phase.
+-- a write that makes a page: it has the lock of its address, took no block for its data, and lacks the page
+pub record IsMaking (s : Session) (t : Trace) (w : Writer) (asks : Asks) (at : Lba) (bytes : List ℕ) (place : ℕ) (page : PageId) : Type 0 where
+  pub turn : HasTurn s t w asks at.0 place
+  pub is_write : asks ≡ Write
+  pub none_taken : has_taken t w ≡ false
+  pub lacked : MayLack s.sizes.geometry.height (asked asks at bytes) page
+  pub up : IsThere s.sizes.geometry.height s.window (applied t) (above page)
+
+abbrev pub MakesPage : Session → Trace → Vio → PageId → Type 0
+MakesPage s t v page = IsMaking s t v.request v.asks v.at v.bytes v.place page
+
+-- no entry puts the page anywhere; the one that does is its own, and it isn't linked
+abbrev pub IsUnmade : Session → Trace → PageId → Type 0
+IsUnmade s t page = page_in s.sizes.geometry.height s.window (journaled t) page ≡ None
+
+pub record HasPageEntry (s : Session) (t : Trace) (e : Logged) (page : PageId) : Type 0 where
+  pub handed_in : Contains (journaled t) e
+  pub unlinked : page_in s.sizes.geometry.height s.window (applied t) page ≡ None
+  pub undropped : Contains (dropped t) e → ⊥
+
+-- what a write carries while it makes a page
+abbrev pub CarriesPage : Session → Trace → Vio → PageId → Phase → Type 0
+CarriesPage s t v page phase.Claim = MakesPage s t v page × IsUnmade s t page
+CarriesPage s t v page phase.Store = MakesPage s t v page × IsUnmade s t page × IsToFresh s v.new
+CarriesPage s t v page phase.Enter = MakesPage s t v page × IsUnmade s t page × IsToFresh s v.new × (IsFair s t → OnBlock (λ x. ReadsAs s t x.0 (page_at s.sizes page x)) v.new)
+CarriesPage s t v page phase.Pending = MakesPage s t v page × IsToFresh s v.new × HasPageEntry s t (logged v) page
+CarriesPage s t v page phase.Settle = MakesPage s t v page × IsToFresh s v.new × HasPageEntry s t (logged v) page × Contains (durable t) (logged v)
+CarriesPage s t v page phase.AbortClaim = MakesPage s t v page × IsUnmade s t page × MayReply s t v v.answer
+CarriesPage s t v page phase.Abort = MakesPage s t v page × IsUnmade s t page × MayReply s t v v.answer
+CarriesPage s t v page phase.AbortEnteredClaim = MakesPage s t v page × IsToFresh s v.new × HasPageEntry s t (logged v) page × MayReply s t v v.answer × (has_stopped t ≡ true)
+CarriesPage s t v page phase.AbortEntered = MakesPage s t v page × IsToFresh s v.new × HasPageEntry s t (logged v) page × MayReply s t v v.answer × (has_stopped t ≡ true)
+CarriesPage s t v page other = ⊥
+
+-- What a request carries in each phase, while it is about its own address.
+abbrev pub CarriesOwn : Session → Trace → Vio → Phase → Type 0
+CarriesOwn s t v phase.Arrive = IsUndrawn t v.request v.asks
+CarriesOwn s t v phase.Wait = IsPlaced s t v × (has_taken t v.request ≡ false)
+CarriesOwn s t v phase.Look = IsInTurn s t v × (has_taken t v.request ≡ false)
+CarriesOwn s t v phase.Claim = Holds s t v × (v.asks ≡ Write) × NeedsBlock t v.request v.bytes
+CarriesOwn s t v phase.Store = Holds s t v × (v.asks ≡ Write) × IsToFresh s v.new
+CarriesOwn s t v phase.Enter = Holds s t v × MapsTo v.asks v.bytes v.new × OnBlock (IsFresh s) v.new × (IsFair s t → OnBlock (λ x. ReadsAs s t x.0 v.bytes) v.new)
+CarriesOwn s t v phase.Pending = HasPendingEntry s t v.asks v.bytes (remapping v)
+CarriesOwn s t v phase.Settle = IsEntered s t v × IsCommitted t (remapping v) × AllBelow t v.at.0 v.place × OnBlock (IsFresh s) v.new
+CarriesOwn s t v phase.Load = Looks s t v × IsToInside s v.old
+CarriesOwn s t v phase.Loaded = Looks s t v × (IsFair s t → v.bytes ≡ value_at s t v.at.0)
+CarriesOwn s t v phase.AbortClaim = Holds s t v × MayReply s t v v.answer
+CarriesOwn s t v phase.Abort = Holds s t v × MayReply s t v v.answer
+CarriesOwn s t v phase.AbortEnteredClaim = IsEntered s t v × MayReply s t v v.answer × (has_stopped t ≡ true)
+CarriesOwn s t v phase.AbortEntered = IsEntered s t v × MayReply s t v v.answer × (has_stopped t ≡ true)
+CarriesOwn s t v phase.Flush = v.asks ≡ Flush
+CarriesOwn s t v phase.Reply = MayReply s t v v.answer
+
+-- and whatever it is about
+abbrev pub CarriesFor : Session → Trace → Vio → Phase → Option PageId → Type 0
+CarriesFor s t v q None = CarriesOwn s t v q
+CarriesFor s t v q (Some page) = CarriesPage s t v page q
+
 abbrev pub Carries : Session → Trace → Vio → Phase → Type 0
-Carries s t v phase.Arrive = IsUndrawn t v.request v.asks
-Carries s t v phase.Wait = IsPlaced s t v × (has_taken t v.request ≡ false)
-Carries s t v phase.Look = IsInTurn s t v × (has_taken t v.request ≡ false)
-Carries s t v phase.Claim = Holds s t v × (v.asks ≡ Write) × NeedsBlock t v.request v.bytes
-Carries s t v phase.Store = Holds s t v × (v.asks ≡ Write) × IsToFresh s v.new
-Carries s t v phase.Enter = Holds s t v × MapsTo v.asks v.bytes v.new × OnBlock (IsFresh s) v.new × (IsFair s t → OnBlock (λ x. ReadsAs s t x.0 v.bytes) v.new)
-Carries s t v phase.Pending = HasPendingEntry s t v.asks v.bytes (remapping v)
-Carries s t v phase.Settle = IsEntered s t v × IsCommitted t (remapping v) × AllBelow t v.at.0 v.place × OnBlock (IsFresh s) v.new
-Carries s t v phase.Load = Looks s t v × IsToInside s v.old
-Carries s t v phase.Loaded = Looks s t v × (IsFair s t → v.bytes ≡ value_at s t v.at.0)
-Carries s t v phase.AbortClaim = Holds s t v × MayReply s t v v.answer
-Carries s t v phase.Abort = Holds s t v × MayReply s t v v.answer
-Carries s t v phase.AbortEnteredClaim = IsEntered s t v × MayReply s t v v.answer × (has_stopped t ≡ true)
-Carries s t v phase.AbortEntered = IsEntered s t v × MayReply s t v v.answer × (has_stopped t ≡ true)
-Carries s t v phase.Flush = v.asks ≡ Flush
-Carries s t v phase.Reply = MayReply s t v v.answer
+Carries s t v q = CarriesFor s t v q v.page
 
 -- A block that was sealed last with the entries of these requests, at this sequence of the journal: all others are committed.
 pub record IsSealed (s : Session) (t : Trace) (vios : List Vio) (at : ℕ) : Type 0 where
@@ -239,7 +284,7 @@ Rises (v ∷ behind) = AllByRecursion (λ w. v.place < w.place) behind × Rises 
 -- this holds of each request that a zone keeps, with the phase that it is in
 abbrev pub KeptEach : (Phase → Vio → Type 0) → ZoneData → Type 0
 KeptEach P (at.Desk desk) = AllByRecursion (P phase.Reply) desk.parked
-KeptEach P (at.Logical l) = AllByRecursion (P phase.Wait) l.waiting
+KeptEach P (at.Logical l) = AllByRecursion (P phase.Wait) l.waiting × AllByRecursion (P phase.Look) l.lacking
 KeptEach P (at.Journal j) = AllByRecursion (P phase.Pending) j.filling × AllByRecursion (P phase.Enter) j.waiting
 KeptEach P other = Unit {0}
 
@@ -347,10 +392,24 @@ pub record LocksOk (s : Session) (zone next : ℕ) (held : List Lock) (waiting :
   pub in_line : AllByRecursion (InLine waiting) held
   pub in_order : Rises waiting
 
+-- who waits for a page that is being made: a write that lacks it
+pub record Awaits (tree : Tree) (making : List PageId) (v : Vio) : Type 0 where
+  pub page : PageId
+  pub lacked : missing_at tree v.at.0 ≡ Some page
+  pub is_made : is_listed page making ≡ true
+
+-- The pages that are being made: each may be linked, and is made once.
+pub record PagesOk (zone : ℕ) (tree : Tree) (making : List PageId) (lacking : List Vio) : Type 0 where
+  pub linkable : AllByRecursion (IsLinkable tree) making
+  pub once : (page : PageId) → total (λ other. bit (is_page other page)) making ≤ 1
+  pub waits : AllByRecursion (Awaits tree making) lacking
+  pub at_home : AllByRecursion (λ v. v.home ≡ id.Logical zone) lacking
+
 pub record IsSoundLogical (s : Session) (l : LogicalZone) : Type 0 where
   pub among : l.zone < s.sizes.zones
   pub map : MapOk s l.window l.slots
   pub locks : LocksOk s l.zone l.next l.held l.waiting
+  pub pages : PagesOk l.zone l.tree l.making l.lacking
 
 abbrev pub IsSound : Session → ZoneData → Type 0
 IsSound s (at.Desk desk) = IsSoundDesk s desk
@@ -366,10 +425,16 @@ RestsAt s t true broken = broken ≡ false
 RestsAt s t false false = (all_of (sealed t) ≡ durable t) × (IsFair s t → AtRest s t (sealed t))
 RestsAt s t false true = Unit {0}
 
--- What it answers for: a logical zone for its addresses that are free (all entries of them are done), the journal for
--- the device while it is idle.
+-- no entry puts a page of these trees anywhere that isn't linked, is not being made, and may be linked yet
+abbrev pub AreUnmade : Session → Trace → Tree → (making unlinkable : List PageId) → Type 0
+AreUnmade s t tree making unlinkable = (page : PageId) → IsLinkable tree page → link_at tree page ≡ None → is_listed page making ≡ false → is_listed page unlinkable ≡ false → IsUnmade s t page
+
+-- What it answers for: a logical zone for its addresses that are free (all entries of them are done) and its pages that nobody
+-- makes, the journal for the device while it is idle.
 abbrev pub Answers : Session → Trace → ZoneData → Type 0
-Answers s t (at.Logical l) = (a : ℕ) → zone_of s.sizes.zones a ≡ l.zone → is_held a l.held ≡ false → is_among a l.retired ≡ false → Quiet t a
+Answers s t (at.Logical l) =
+    ((a : ℕ) → zone_of s.sizes.zones a ≡ l.zone → is_held a l.held ≡ false → is_among a l.retired ≡ false → Quiet t a)
+    × AreUnmade s t l.tree l.making l.unlinkable
 Answers s t (at.Journal j) = RestsAt s t j.busy j.broken
 Answers s t other = Unit {0}
 
@@ -377,7 +442,7 @@ Answers s t other = Unit {0}
 -- lock is never released since a write of its address was aborted.
 abbrev pub WasTold : Trace → ZoneData → Type 0
 WasTold t (at.Desk desk) = 0 < desk.notices + length desk.parked → has_stopped t ≡ true
-WasTold t (at.Logical l) = (a : ℕ) → is_among a l.retired ≡ true → (has_stopped t ≡ true) × HasBelow a l.next (aborted t)
+WasTold t (at.Logical l) = ((a : ℕ) → is_among a l.retired ≡ true → (has_stopped t ≡ true) × HasBelow a l.next (aborted t)) × (0 < length l.unlinkable → has_stopped t ≡ true)
 WasTold t (at.Journal j) = is_closed j ≡ true → has_stopped t ≡ true
 WasTold t other = Unit {0}
 

@@ -1,5 +1,6 @@
 -- The legal states of the core.
 use Rattle.std.specs.Prelude.{ℕ, ◌+◌, ◌*◌, ◌≡◌, ◌<◌, Bool, length}
+use Rattle.blk_base.specs.declared.place.PageId.{PageId}
 use Rattle.blk_base.specs.declared.request.Writer.{Writer}
 use Rattle.vdo_model.specs.declared.report.Placed.{Placed}
 use Rattle.core_model.specs.Arrivals.{arrivals_at}
@@ -10,7 +11,7 @@ use Rattle.core_model.specs.Sessions.{Session, IsFair}
 use Rattle.core_model.specs.Steps.{Core}
 use Rattle.core_model.specs.Streams.{Flows}
 use Rattle.plain_laws.specs.Sums.{Each}
-use Rattle.core_model.specs.Tokens.{Balanced, AtMost, request_token, lease_token, block_token, journal_token, room_token, notice_token, holder_token, entry_token}
+use Rattle.core_model.specs.Tokens.{Balanced, AtMost, request_token, lease_token, block_token, journal_token, room_token, notice_token, holder_token, entry_token, making_token, page_entry_token}
 
 -- in a zone, each stream's places are drawn in the order of its requests: a request has a greater number than those of its
 -- stream that have a place there
@@ -34,6 +35,10 @@ pub record Legal (s : Session) (core : Core) : Type 0 where
   pub holders : Balanced holder_token core.zones
   -- each entry that was handed in is under way, or its slot is set, or its address retired
   pub entries : Balanced entry_token core.zones
+  -- each page that is being made has one maker
+  pub making : (page : PageId) → Balanced (making_token page) core.zones
+  -- no more pages are never linked than entries of pages were handed in
+  pub dropped : AtMost page_entry_token core.zones
   -- no data block is taken twice
   pub blocks : (x : ℕ) → AtMost (block_token x) core.zones
   -- one block is under way, or the journal is idle

@@ -37,6 +37,9 @@ pub record IsLogicalWithin (steps : ℕ) (l : LogicalZone) : Type 0 where
   pub waiting : IsShort l.waiting
   pub retired : length l.retired ≤ most_requests
   pub slots : length l.slots ≤ most_requests
+  pub making : IsShort l.making
+  pub lacking : IsShort l.lacking
+  pub unlinkable : length l.unlinkable ≤ most_entries
 
 -- Those of the journal: each request hands in one entry for its address at most, and one for each page of its path. The sequence of the block being filled can be spelled.
 pub record IsJournalWithin (j : JournalZone) : Type 0 where

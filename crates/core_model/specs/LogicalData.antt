@@ -2,6 +2,7 @@
 use Rattle.std.specs.Prelude.{ℕ, Bool, List}
 use Rattle.blk_base.specs.declared.journal_entry.Entry.{Entry}
 use Rattle.blk_base.specs.declared.place.Lba.{Lba}
+use Rattle.blk_base.specs.declared.place.PageId.{PageId}
 pub use Rattle.logical_locks.specs.declared.lock.Lock.{Lock}
 use Rattle.block_map_tree.specs.Tree.{Tree}
 use Rattle.vdo_model.specs.declared.report.Placed.{Placed}
@@ -10,8 +11,9 @@ use Rattle.data_vio.specs.declared.logged.Remapping.{Remapping}
 
 -- Its number among the logical zones, whether the stop notice has come, the place that is drawn next and those that were;
 -- the locks that are held, one for each address at most, and who waits for one, in the order of their places; the addresses
--- of aborted writes whose entry was handed in: their locks are never released; the pages of its trees that are no leaves; where
--- an address is mapped that isn't set in the session, and the slots that are.
+-- of aborted writes whose entry was handed in: their locks are never released; the pages of its trees that are no leaves; the
+-- pages that are being made, each by one request, and who waits for one of these; those that are never linked; where an address is
+-- mapped that isn't set in the session, and the slots that are.
 pub record LogicalZone : Type 0 where
   pub zone : ℕ
   pub notified : Bool
@@ -21,5 +23,8 @@ pub record LogicalZone : Type 0 where
   pub waiting : List Vio
   pub retired : List Lba
   pub tree : Tree
+  pub making : List PageId
+  pub lacking : List Vio
+  pub unlinkable : List PageId
   pub window : List Entry
   pub slots : List Remapping

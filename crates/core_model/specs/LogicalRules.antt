@@ -3,6 +3,9 @@ use Rattle.std.specs.Prelude.{ℕ, ◌+◌, ◌≡◌, ◌==◌, Bool, true, fal
 use Rattle.blk_base.specs.Sectors.{zero_block}
 use Rattle.blk_base.specs.declared.place.Lba.{Lba}
 use Rattle.blk_base.specs.declared.place.Mapping.{Mapping}
+use Rattle.blk_base.specs.declared.place.PageId.{PageId}
+use Rattle.blk_base.specs.declared.place.Pbn.{Pbn}
+use Rattle.block_map_tree.specs.Tree.{Links}
 use Rattle.blk_base.specs.declared.place.Mapping.TheVariants.{Unmapped, Zero, At}
 use Rattle.blk_base.specs.declared.place.ZoneId.TheVariants as id
 use Rattle.blk_base.specs.declared.request.Answer.TheVariants as reply
@@ -16,9 +19,10 @@ use Rattle.data_vio.specs.declared.items.Vio.{Vio}
 use Rattle.data_vio.specs.declared.sizes.Sizes.{Sizes}
 use Rattle.core_model.specs.LogicalData.{Lock, LogicalZone}
 use Rattle.data_vio.specs.declared.logged.Remapping.{Remapping}
-use Rattle.core_model.specs.PageTrees.{HasPath, missing_at}
+use Rattle.core_model.specs.PageTrees.{HasPath, MayLink, but_page, is_listed, least_point, missing_at}
 use Rattle.core_model.specs.Trace.{Trace, Draws, Passes, Sets, Gives, Aborts, of_address, newest}
-use Rattle.data_vio.specs.Vios.{Post, turned, ended, remapping, logged, gift}
+use Rattle.data_vio.specs.Vios.{Post, turned, ended, makes, remapping, logged, gift}
+use Rattle.data_vio.specs.Vios as vios
 
 -- whether an address is among these
 abbrev pub is_among : ℕ → List Lba → Bool
@@ -130,6 +134,19 @@ passes_by l v = is_discard v.asks && (is_unknown l v.at.0 && is_some (missing_at
 abbrev pub pass_of : Vio → Remapping
 pass_of v = record { request = v.request; at = v.at; place = v.place; old = Unmapped; new = Unmapped }
 
+-- the highest page that a request lacks: nothing but a write needs its leaf
+abbrev pub lacks_for : LogicalZone → ℕ → Asks → Option PageId
+lacks_for l a Write = missing_at l.tree a
+lacks_for l a other = None
+
+abbrev pub lacks : LogicalZone → Vio → Option PageId
+lacks l v = lacks_for l v.at.0 v.asks
+
+-- a page is linked, and isn't being made any more
+pub record IsLinked (page : PageId) (at : Pbn) (old new : LogicalZone) : Type 0 where
+  pub links : Links old.tree new.tree page at least_point
+  pub rest : new ≡ record old { tree = new.tree; making = but_page page old.making }
+
 -- The lock of an address goes to the first that waits for it, or is released.
 abbrev pub passed_to : ℕ → LogicalZone → Option Vio → LogicalZone
 passed_to a l None = record l { held = without a l.held }
@@ -158,6 +175,21 @@ abbrev pub all_stopped : List Vio → List Post
 all_stopped [] = []
 all_stopped (v ∷ vs) = (id.Desk, item.Request (ended phase.Reply reply.Stopped v)) ∷ all_stopped vs
 
+-- those that wait for a page look again
+abbrev pub all_again : List Vio → List Post
+all_again [] = []
+all_again (v ∷ vs) = (v.home, item.Request v) ∷ all_again vs
+
+abbrev pub woken : LogicalZone → LogicalZone
+woken l = record l { lacking = [] }
+
+-- a page isn't being made any more; it is never linked
+abbrev pub unmade : PageId → LogicalZone → LogicalZone
+unmade page l = record l { making = but_page page l.making }
+
+abbrev pub dropped : PageId → LogicalZone → LogicalZone
+dropped page l = record (unmade page l) { unlinkable = l.unlinkable ++ page ∷ [] }
+
 -- with the slot that a write sets
 abbrev pub with_slot : LogicalZone → Vio → LogicalZone
 with_slot l v = record l { slots = remapping v ∷ l.slots }
@@ -177,7 +209,7 @@ pub data LogicalServes (sizes : Sizes) (old : LogicalZone) (v : Vio) (new : Logi
       → posts ≡ []
       → LogicalServes sizes old v new made posts
   -- it has the lock: what is mapped at its address says where it goes
-  looks : (post : Post) → v.phase ≡ phase.Look → HasPath old.tree v.at.0 → passes_by old v ≡ false → goes_on sizes old v ≡ Some post
+  looks : (post : Post) → v.phase ≡ phase.Look → HasPath old.tree v.at.0 → passes_by old v ≡ false → lacks old v ≡ None → goes_on sizes old v ≡ Some post
       → new ≡ old → made ≡ [] → posts ≡ post ∷ []
       → LogicalServes sizes old v new made posts
   -- or it passes: it is done, and enters nothing
@@ -185,8 +217,27 @@ pub data LogicalServes (sizes : Sizes) (old : LogicalZone) (v : Vio) (new : Logi
       → new ≡ released v.at.0 old → made ≡ Passes (pass_of v) ∷ []
       → posts ≡ (id.Desk, item.Request (ended phase.Reply reply.Ok v)) ∷ granted v.at.0 old
       → LogicalServes sizes old v new made posts
+  -- or it lacks a page: that is never linked, or is being made, or it makes it
+  is_dropped : (page : PageId) → v.phase ≡ phase.Look → HasPath old.tree v.at.0 → lacks old v ≡ Some page → is_listed page old.unlinkable ≡ true
+      → new ≡ released v.at.0 old → made ≡ []
+      → posts ≡ (id.Desk, item.Request (ended phase.Reply reply.Stopped v)) ∷ granted v.at.0 old
+      → LogicalServes sizes old v new made posts
+  waits : (page : PageId) → v.phase ≡ phase.Look → HasPath old.tree v.at.0 → lacks old v ≡ Some page → is_listed page old.unlinkable ≡ false
+      → is_listed page old.making ≡ true
+      → new ≡ record old { lacking = old.lacking ++ v ∷ [] } → made ≡ [] → posts ≡ []
+      → LogicalServes sizes old v new made posts
+  makes_page : (page : PageId) → v.phase ≡ phase.Look → HasPath old.tree v.at.0 → lacks old v ≡ Some page → is_listed page old.unlinkable ≡ false
+      → is_listed page old.making ≡ false
+      → new ≡ record old { making = old.making ++ page ∷ [] } → made ≡ []
+      → posts ≡ (id.Physical 0, item.Request (makes page v)) ∷ []
+      → LogicalServes sizes old v new made posts
+  -- its page is linked: it looks again, and so do those that wait for a page
+  links : (page : PageId) (x : Pbn) (between : LogicalZone) → v.phase ≡ phase.Settle → v.page ≡ Some page → v.new ≡ At x → MayLink old.tree page x → IsLinked page x old between
+      → new ≡ woken between → made ≡ Sets (logged v) ∷ []
+      → posts ≡ (v.home, item.Request (vios.made v)) ∷ all_again old.lacking
+      → LogicalServes sizes old v new made posts
   -- its slot is set
-  settles : v.phase ≡ phase.Settle
+  settles : v.phase ≡ phase.Settle → v.page ≡ None
       → new ≡ released v.at.0 (with_slot old v) → made ≡ Sets (logged v) ∷ []
       → posts ≡ (id.Desk, item.Request (ended phase.Reply reply.Ok v)) ∷ granted v.at.0 old
       → LogicalServes sizes old v new made posts
@@ -196,12 +247,22 @@ pub data LogicalServes (sizes : Sizes) (old : LogicalZone) (v : Vio) (new : Logi
       → posts ≡ (id.Desk, item.Request (ended phase.Reply (reply.Bytes v.bytes) v)) ∷ granted v.at.0 old
       → LogicalServes sizes old v new made posts
   -- it is aborted
-  aborts : v.phase ≡ phase.Abort
+  aborts : v.phase ≡ phase.Abort → v.page ≡ None
       → new ≡ released v.at.0 old → made ≡ []
       → posts ≡ (id.Desk, item.Request (turned phase.Reply v)) ∷ granted v.at.0 old
       → LogicalServes sizes old v new made posts
+  -- so is the making of its page, by the next one that lacks it maybe made after all
+  unmakes : (page : PageId) → v.phase ≡ phase.Abort → v.page ≡ Some page
+      → new ≡ woken (unmade page (released v.at.0 old)) → made ≡ []
+      → posts ≡ (id.Desk, item.Request (vios.gives_up v)) ∷ (granted v.at.0 old ++ all_again old.lacking)
+      → LogicalServes sizes old v new made posts
+  -- the page whose entry was handed in is never linked; its maker's own address is as it was
+  drops : (page : PageId) → v.phase ≡ phase.AbortEntered → v.page ≡ Some page
+      → new ≡ woken (dropped page (released v.at.0 old)) → made ≡ Aborts (logged v) ∷ []
+      → posts ≡ (id.Desk, item.Request (vios.gives_up v)) ∷ (granted v.at.0 old ++ all_again old.lacking)
+      → LogicalServes sizes old v new made posts
   -- it is aborted with its entry handed in
-  aborts_entered : v.phase ≡ phase.AbortEntered
+  aborts_entered : v.phase ≡ phase.AbortEntered → v.page ≡ None
       → new ≡ retire v.at.0 old → made ≡ Aborts (logged v) ∷ []
       → posts ≡ (id.Desk, item.Request (turned phase.Reply v)) ∷ all_stopped (all_for v.at.0 old.waiting)
       → LogicalServes sizes old v new made posts

@@ -1,5 +1,6 @@
 -- The trees of a logical zone, as it keeps them: which pages of the path of an address are linked.
-use Rattle.std.specs.Prelude.{ℕ, zero, suc, ◌-◌, ◌≡◌, ◌<◌, ◌/◌, ◌%◌, Option, None, Some, is_some, List, if◌then◌else◌}
+use Rattle.std.specs.Prelude.{ℕ, zero, suc, ◌+◌, ◌-◌, ◌≡◌, ◌<◌, ◌/◌, ◌%◌, Bool, not, Option, None, Some, is_some, List, if◌then◌else◌}
+use Rattle.std.specs.List.{filter, list_any}
 use Rattle.blk_base.specs.Pages.{above, slot_of}
 use Rattle.blk_base.specs.declared.geometry.Geometry.{Geometry}
 use Rattle.blk_base.specs.declared.journal_entry.Entry.{Entry}
@@ -7,10 +8,12 @@ use Rattle.blk_base.specs.declared.place.Mapping.{Mapping}
 use Rattle.blk_base.specs.declared.place.Mapping.TheVariants.{At}
 use Rattle.blk_base.specs.declared.place.PageId.{PageId}
 use Rattle.blk_base.specs.declared.place.Pbn.{Pbn}
+use Rattle.blk_base.specs.declared.point.Point.{Point}
+use Rattle.blk_base.specs.Regions.{IsDataBlock}
 use Rattle.blk_base.specs.declared.sizes.TheConstants.{PAGE_SLOTS, TREES}
 use Rattle.block_map_tree.specs.Pages.{IsTreeOf}
-use Rattle.block_map_tree.specs.Tree.{Tree, IsLinkable, IsTree, mapping_of}
-use Rattle.image_model.specs.Pages.{page_above}
+use Rattle.block_map_tree.specs.Tree.{Tree, IsLinkable, IsThere, IsTree, mapping_of}
+use Rattle.image_model.specs.Pages.{is_page, page_above}
 use Rattle.data_vio.specs.declared.logged.Logged.{Logged}
 use Rattle.core_model.specs.PageLinks.{page_in}
 
@@ -36,6 +39,23 @@ missing_at tree a = missing_from (tree.forest.geometry.height - 1) tree a
 pub record HasPath (tree : Tree) (a : ℕ) : Type 0 where
   pub inside : a < tree.forest.geometry.logical
   pub own : IsTreeOf tree.forest (a / PAGE_SLOTS % TREES)
+
+-- whether a page is one of these, and these but that page
+abbrev pub is_listed : PageId → List PageId → Bool
+is_listed page pages = list_any (λ other. is_page other page) pages
+
+abbrev pub but_page : PageId → List PageId → List PageId
+but_page page pages = filter (λ other. not (is_page other page)) pages
+
+-- a page may be linked at this block: it is on a path through the zone's trees and no root, and the page above it is there
+pub record MayLink (tree : Tree) (page : PageId) (at : Pbn) : Type 0 where
+  pub linkable : IsLinkable tree page
+  pub up : IsThere tree (above page)
+  pub is_data : IsDataBlock tree.forest.geometry at.0
+
+-- no page is written as yet, so any point does for a link
+abbrev pub least_point : Point
+least_point = record { 0 = 0 }
 
 -- the trees of one of so many zones of an image, with the pages that these entries link, on top of the window
 pub record IsMapTree (g : Geometry) (zone zones : ℕ) (window : List Entry) (es : List Logged) (tree : Tree) : Type 0 where

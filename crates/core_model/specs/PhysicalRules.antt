@@ -15,7 +15,7 @@ use Rattle.data_vio.specs.Vios.{Post, turned, ended}
 pub data PhysicalServes (sizes : Sizes) (old : PhysicalZone) (v : Vio) (new : PhysicalZone) (made : Trace) (posts : List Post) : Type 0 where
   -- a write takes the first free block, or there is none
   claims : (x : Pbn) (others : List Pbn) → v.phase ≡ phase.Claim → old.free ≡ x ∷ others
-      → new ≡ record old { free = others } → made ≡ Takes v.request x ∷ [] → posts ≡ (id.Device, item.Request (record v { phase = phase.Store; new = At x })) ∷ []
+      → new ≡ record old { free = others } → made ≡ Takes v.request v.page x ∷ [] → posts ≡ (id.Device, item.Request (record v { phase = phase.Store; new = At x })) ∷ []
       → PhysicalServes sizes old v new made posts
   is_full : v.phase ≡ phase.Claim → old.free ≡ []
       → new ≡ old → made ≡ [] → posts ≡ (v.home, item.Request (ended phase.Abort reply.Full v)) ∷ []

@@ -1,11 +1,12 @@
 -- A right trace: each happening may follow those before it, and at each moment a stop leaves what it may.
-use Rattle.std.specs.Prelude.{ℕ, ◌+◌, ◌≡◌, ◌≢◌, ◌⊎◌, ◌<◌, ◌≤◌, true, false, None, Some, IsNone, IsSome, List, [], ◌∷◌, ◌++◌, length, slice_get, Contains}
+use Rattle.std.specs.Prelude.{ℕ, ◌+◌, ◌≡◌, ◌≢◌, ◌⊎◌, ◌<◌, ◌≤◌, true, false, Option, None, Some, IsNone, IsSome, List, [], ◌∷◌, ◌++◌, length, slice_get, Contains}
 use Rattle.std.specs.List.{AllByRecursion}
 use Rattle.blk_base.specs.Regions.{IsDataBlock}
 use Rattle.blk_base.specs.declared.place.Lba.{Lba}
 use Rattle.blk_base.specs.Sectors.{zero_block}
 use Rattle.blk_base.specs.declared.place.Mapping.{Mapping}
 use Rattle.blk_base.specs.declared.place.Mapping.TheVariants.{Unmapped, Zero, At}
+use Rattle.blk_base.specs.declared.place.PageId.{PageId}
 use Rattle.blk_base.specs.declared.place.Pbn.{Pbn}
 use Rattle.blk_base.specs.declared.request.Answer.{Answer}
 use Rattle.blk_base.specs.declared.request.Answer.TheVariants as reply
@@ -101,9 +102,18 @@ pub record NeedsBlock (t : Trace) (w : Writer) (bytes : List ℕ) : Type 0 where
 abbrev pub HasNoBlock : Session → Trace → Writer → List ℕ → Type 0
 HasNoBlock s t w bytes = NeedsBlock t w bytes × (length s.free ≤ taken t)
 
--- a write has no place in the journal, or no data block
-abbrev pub IsFull : Session → Trace → Writer → List ℕ → Type 0
-IsFull s t w bytes = HasFullJournal s t ⊎ HasNoBlock s t w bytes
+-- at one moment since a write had its place, a page of the path of its address wasn't there, and all blocks were taken
+pub record HasNoPage (s : Session) (t : Trace) (w : Writer) (a : ℕ) : Type 0 where
+  pub newer : Trace
+  pub older : Trace
+  pub moment : t ≡ newer ++ older
+  pub placed : IsSome (place_of (places older) w)
+  pub lacking : Lacks s.sizes.geometry.height s.window (applied older) a
+  pub all_taken : length s.free ≤ taken older
+
+-- a write has no place in the journal, or no data block, or none for a page of its path
+abbrev pub IsFull : Session → Trace → Writer → ℕ → List ℕ → Type 0
+IsFull s t w a bytes = HasFullJournal s t ⊎ HasNoBlock s t w bytes ⊎ HasNoPage s t w a
 
 -- Why a request may be answered so.
 abbrev pub HasCause : Session → Trace → Writer → Request → Answer → Type 0
@@ -119,7 +129,7 @@ HasCause s t w (request.Read at) other = ⊥
 HasCause s t w (request.Write at bytes fua) reply.Ok = IsSome (logged_of (done t) w)
 HasCause s t w (request.Write at bytes fua) reply.Range = s.sizes.geometry.logical ≤ at.0
 HasCause s t w (request.Write at bytes fua) reply.Stopped = (has_stopped t ≡ true) × IsSome (place_of (places t) w) × IsNone (logged_of (done t) w)
-HasCause s t w (request.Write at bytes fua) reply.Full = IsSome (place_of (places t) w) × IsNone (logged_of (entered t) w) × IsFull s t w bytes
+HasCause s t w (request.Write at bytes fua) reply.Full = IsSome (place_of (places t) w) × IsNone (logged_of (entered t) w) × IsFull s t w at.0 bytes
 HasCause s t w (request.Write at bytes fua) other = ⊥
 -- a discard: the same, but that it needs no data block
 HasCause s t w (request.Discard at) reply.Ok = IsSome (logged_of (done t) w)
@@ -237,10 +247,20 @@ pub record AbortMayFollow (s : Session) (e : Remapping) (t : Trace) : Type 0 whe
   pub unset : IsNone (logged_of (done t) e.request)
   pub stopped : has_stopped t ≡ true
 
--- a write that needs a data block may take the next free one
-pub record TakeMayFollow (s : Session) (w : Writer) (x : Pbn) (t : Trace) : Type 0 where
+-- a write needs a data block for its data, or for a page that it lacks, which no entry puts anywhere while the one above it is there
+pub record NeedsPage (s : Session) (t : Trace) (w : Writer) (page : PageId) : Type 0 where
+  pub lacked : (r : Request) × (request_at s.script w ≡ Some r) × MayLack s.sizes.geometry.height r page
+  pub up : IsThere s.sizes.geometry.height s.window (applied t) (above page)
+  pub unmade : page_in s.sizes.geometry.height s.window (journaled t) page ≡ None
+
+abbrev pub NeedsFor : Session → Trace → Writer → Option PageId → Type 0
+NeedsFor s t w None = (at : Lba) × (bytes : List ℕ) × (request_at s.script w ≡ Some (request.Write at bytes false)) × NeedsBlock t w bytes
+NeedsFor s t w (Some page) = NeedsPage s t w page
+
+-- one that needs a data block may take the next free one
+pub record TakeMayFollow (s : Session) (w : Writer) (page : Option PageId) (x : Pbn) (t : Trace) : Type 0 where
   pub is_open : IsOpen t w
-  pub asked : (at : Lba) × (bytes : List ℕ) × (request_at s.script w ≡ Some (request.Write at bytes false)) × NeedsBlock t w bytes
+  pub asked : NeedsFor s t w page
   pub next : slice_get s.free (taken t) ≡ Some x
 
 -- a read may be given its bytes
@@ -285,7 +305,7 @@ MayFollow s (Passes e) t = PassMayFollow s e t
 MayFollow s (Sets (Remaps e)) t = SlotMayFollow s e t
 MayFollow s (Sets (Makes p)) t = LinkMayFollow s p t
 MayFollow s (Gives g) t = GiftMayFollow s g t
-MayFollow s (Takes w x) t = TakeMayFollow s w x t
+MayFollow s (Takes w page x) t = TakeMayFollow s w page x t
 MayFollow s (Aborts (Remaps e)) t = AbortMayFollow s e t
 MayFollow s (Aborts (Makes p)) t = DropMayFollow s p t
 MayFollow s (Calls c) t = CallMayFollow c t

@@ -20,12 +20,13 @@ use Rattle.vdo_model.specs.Scripts.{Script, request_at, value_written}
 use Rattle.data_vio.specs.declared.sizes.Sizes.{Sizes}
 use Rattle.data_vio.specs.declared.logged.Logged.{Logged}
 use Rattle.data_vio.specs.declared.logged.Logged.TheVariants.{Remaps, Makes}
+use Rattle.data_vio.specs.declared.logged.NewPage.{NewPage}
 use Rattle.data_vio.specs.declared.logged.Remapping.{Remapping}
 use Rattle.core_model.specs.PageLinks.{empty_page}
 use Rattle.plain_laws.specs.Sums.{total}
 use Rattle.core_model.specs.SessionLimits.{IsLimited}
 use Rattle.core_model.specs.Tokens.{is_block}
-use Rattle.core_model.specs.Trace.{Calls, Trace, all_of, calls, durable, done, filled, sealed, of_address, newest, new_of, remappings, entry_of, entries_of}
+use Rattle.core_model.specs.Trace.{Calls, Trace, all_of, calls, durable, done, filled, sealed, of_address, newest, new_of, new_pages, remappings, entry_of, entries_of}
 use Rattle.journal_stops.specs.Rings.{IsAtRest, IsUnderWay, IsWritten}
 use Rattle.journal_stops.specs.Sealed.{Sealed, head_of}
 use Rattle.image_model.specs.Windows.{IsOfImage, IsWindow}
@@ -171,9 +172,13 @@ pub record StandsAsOpened (s : Session) (t : Trace) (blocks : List (List Logged)
 abbrev pub HasBlocks : Session → Trace → List (List Logged) → Type 0
 HasBlocks s t blocks = (HasWholeBlocks s × IsAtRest s.blocks (log s t) s.sizes.geometry s.sizes.start (blocks_of s blocks)) ⊎ StandsAsOpened s t blocks
 
--- and their map stands
+-- The pages among these entries stand as empty ones: as yet no page is written again.
+abbrev pub PagesStand : Session → Trace → List Logged → Type 0
+PagesStand s t es = AllByRecursion (λ (p : NewPage). Stands s t p.at.0 (empty_page s.sizes.geometry p)) (new_pages es)
+
+-- and their map stands, with its pages
 abbrev pub AtRest : Session → Trace → List (List Logged) → Type 0
-AtRest s t blocks = HasBlocks s t blocks × MapStands s t (all_of blocks)
+AtRest s t blocks = HasBlocks s t blocks × MapStands s t (all_of blocks) × PagesStand s t (all_of blocks)
 
 -- what each of these writes maps its address to stands; and a read gives it
 abbrev pub NewStands : Session → Trace → List Logged → Type 0
@@ -185,7 +190,7 @@ NewReads s t es = AllByRecursion (λ (e : Logged). OnBlock (λ x. ReadsAs s t x.
 -- besides, the block of these writes is under way, and what they map their addresses to stands
 abbrev pub OnItsWay : Session → Trace → List (List Logged) → List Logged → Type 0
 OnItsWay s t older es =
-    (HasWholeBlocks s × IsUnderWay s.blocks (log s t) s.sizes.geometry s.sizes.start (blocks_of s older) (sealed_with s es)) × MapStands s t (all_of older) × NewStands s t es
+    (HasWholeBlocks s × IsUnderWay s.blocks (log s t) s.sizes.geometry s.sizes.start (blocks_of s older) (sealed_with s es)) × MapStands s t (all_of older) × PagesStand s t (all_of older) × NewStands s t es
 
 -- and a read of that block's place gives it
 abbrev pub ReadsBlock : Session → Trace → List (List Logged) → List Logged → Type 0

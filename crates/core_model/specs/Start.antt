@@ -37,6 +37,9 @@ pub record IsFirstLogical (s : Session) (number : ℕ) (l : LogicalZone) : Type 
   pub waiting : l.waiting ≡ []
   pub retired : l.retired ≡ []
   pub tree : IsMapTree s.sizes.geometry l.zone s.sizes.zones s.window [] l.tree
+  pub making : l.making ≡ []
+  pub lacking : l.lacking ≡ []
+  pub unlinkable : l.unlinkable ≡ []
   pub window : l.window ≡ s.window
   pub slots : l.slots ≡ []
 

@@ -1,8 +1,10 @@
 -- Tokens: what is given out once and held once. Of each token as many are held as were given.
-use Rattle.std.specs.Prelude.{ℕ, ◌+◌, ◌≡◌, ◌≤◌, ◌==◌, Bool, false, ◌&&◌, not, List, [], ◌∷◌, ◌++◌, length, cond}
+use Rattle.std.specs.Prelude.{ℕ, ◌+◌, ◌≡◌, ◌≤◌, ◌==◌, Bool, false, ◌&&◌, not, Option, None, Some, is_some, List, [], ◌∷◌, ◌++◌, length, cond}
 use Rattle.blk_base.specs.declared.place.Mapping.{Mapping}
 use Rattle.blk_base.specs.declared.place.Mapping.TheVariants.{At}
+use Rattle.blk_base.specs.declared.place.PageId.{PageId}
 use Rattle.blk_base.specs.declared.place.Pbn.{Pbn}
+use Rattle.image_model.specs.Pages.{is_page}
 use Rattle.blk_base.specs.declared.request.Writer.{Writer}
 use Rattle.vdo_model.specs.Scripts.{same_writer}
 use Rattle.vdo_model.specs.declared.report.DeskLine.{DeskLine}
@@ -16,7 +18,7 @@ use Rattle.core_model.specs.declared.zones.ZoneData.{ZoneData}
 use Rattle.core_model.specs.declared.zones.ZoneData.TheVariants as at
 use Rattle.core_model.specs.LogicalData.{Lock}
 use Rattle.data_vio.specs.declared.logged.Logged.{Logged}
-use Rattle.core_model.specs.Trace.{new_of, remappings}
+use Rattle.core_model.specs.Trace.{new_of, new_pages, remappings}
 use Rattle.core_model.specs.declared.zones.Zone.{Zone}
 pub use Rattle.core_model.specs.DeskLines.{is_answer, is_begin}
 use Rattle.data_vio.specs.Phases.{row}
@@ -32,7 +34,7 @@ pub record Token : Type 0 where
 -- the requests that a zone keeps beside its lanes, all that it keeps, and what that weighs
 abbrev pub kept_by : ZoneData → List Vio
 kept_by (at.Desk desk) = desk.parked
-kept_by (at.Logical l) = l.waiting
+kept_by (at.Logical l) = l.waiting ++ l.lacking
 kept_by (at.Journal j) = j.filling ++ j.waiting
 kept_by other = []
 
@@ -125,7 +127,19 @@ entered_at (at.Journal j) = length (remappings j.entered)
 entered_at other = 0
 
 abbrev pub entry_token : Token
-entry_token = record { item = of_vio (λ v. bit (has_entry v.phase)); own = ended_at; gave = entered_at }
+entry_token = record { item = of_vio (λ v. bit (has_entry v.phase && not (is_some v.page))); own = ended_at; gave = entered_at }
+
+-- Entries of pages: one that was handed in is on its way, or its page is linked, or that is never linked.
+abbrev pub unlinkable_at : ZoneData → ℕ
+unlinkable_at (at.Logical l) = length l.unlinkable
+unlinkable_at other = 0
+
+abbrev pub pages_entered_at : ZoneData → ℕ
+pages_entered_at (at.Journal j) = length (new_pages j.entered)
+pages_entered_at other = 0
+
+abbrev pub page_entry_token : Token
+page_entry_token = record { item = of_vio (λ v. bit (has_entry v.phase && is_some v.page)); own = unlinkable_at; gave = pages_entered_at }
 
 -- Data blocks: one that is free, or taken by a write whose entry wasn't handed in, or named by an entry, is so once.
 abbrev pub claims : Phase → Bool
@@ -172,6 +186,18 @@ one_journal other = 0
 
 abbrev pub journal_token : Token
 journal_token = record { item = is_sealed; own = idle_at; gave = one_journal }
+
+-- Pages: one that is being made has one maker.
+abbrev pub is_same : PageId → Option PageId → Bool
+is_same page None = false
+is_same page (Some other) = is_page other page
+
+abbrev pub making_at : PageId → ZoneData → ℕ
+making_at page (at.Logical l) = total (λ other. bit (is_page other page)) l.making
+making_at page other = 0
+
+abbrev pub making_token : PageId → Token
+making_token page = record { item = of_vio (λ v. bit (is_same page v.page)); own = none; gave = making_at page }
 
 -- How many requests are under way, and how many stop notices.
 abbrev pub room_token : Token

@@ -4,6 +4,7 @@ use Rattle.std.specs.Prelude.{ℕ, suc, ◌==◌, Bool, true, false, not, ◌&&�
 use Rattle.blk_base.specs.declared.journal_entry.Entry.{Entry}
 use Rattle.blk_base.specs.declared.place.Mapping.{Mapping}
 use Rattle.blk_base.specs.declared.place.Mapping.TheVariants.{At}
+use Rattle.blk_base.specs.declared.place.PageId.{PageId}
 use Rattle.blk_base.specs.declared.place.Pbn.{Pbn}
 use Rattle.blk_base.specs.declared.request.Answer.TheVariants.{Ok}
 use Rattle.blk_base.specs.declared.request.Writer.{Writer}
@@ -38,8 +39,8 @@ pub data Happening : Type 0 where
   Seals : Happening
   -- a read is given its bytes
   Gives : Gift → Happening
-  -- a write takes a free data block
-  Takes : Writer → Pbn → Happening
+  -- a write takes a free data block, for the page that it makes, or for its data
+  Takes : Writer → Option PageId → Pbn → Happening
   -- a request whose entry was handed in is aborted: the slot of that is never set
   Aborts : Logged → Happening
   -- the device is called, and the call succeeds
@@ -165,13 +166,13 @@ gifts (other ∷ t) = gifts t
 -- how many free data blocks were taken
 abbrev pub taken : Trace → ℕ
 taken [] = 0
-taken (Takes w x ∷ t) = suc (taken t)
+taken (Takes w page x ∷ t) = suc (taken t)
 taken (other ∷ t) = taken t
 
--- whether a write took one
+-- whether a write took one for its data
 abbrev pub has_taken : Trace → Writer → Bool
 has_taken [] w = false
-has_taken (Takes v x ∷ t) w = same_writer v w || has_taken t w
+has_taken (Takes v None x ∷ t) w = same_writer v w || has_taken t w
 has_taken (other ∷ t) w = has_taken t w
 
 -- a call of the device that reads, and one that succeeds

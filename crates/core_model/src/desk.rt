@@ -82,6 +82,7 @@ fn blank() -> Vio {
         at: Lba(0),
         home: ZoneId::Desk,
         phase: Phase::Reply,
+        page: None,
         bytes: Block::zero(),
         place: 0,
         old: Mapping::Unmapped,

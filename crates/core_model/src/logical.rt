@@ -2,15 +2,17 @@ ghost use Rattle.std.specs.Prelude.{◌↔◌, IsTrue, ◌≡◌, ◌+◌, ◌-�
 ghost use Rattle.logical_locks.specs.Holders.{HasRoom};
 ghost use Rattle.core_model.specs.Limits.{IsLogicalWithin};
 ghost use Rattle.core_model.specs.LogicalRules as rows;
-ghost use Rattle.core_model.specs.PageTrees.{HasPath, missing_at};
-ghost use Rattle.core_model.specs.SessionLimits.{most_requests};
+ghost use Rattle.core_model.specs.PageTrees.{HasPath, MayLink, but_page, is_listed, missing_at};
+ghost use Rattle.core_model.specs.SessionLimits.{most_entries, most_items, most_requests};
 ghost use Rattle.core_model.specs.Waiters.{AreOwn, IsFree, vios};
 ghost use Rattle.data_vio.specs.Vios.{turned};
 ghost use Rattle.data_vio.specs.declared.items.Phase.TheVariants as phase;
 
-use crate::{MapTree, Slots};
-use blk_base::{Entry, Lba, PageId};
-use data_vio::{BoxedVio, LOCK_ROOM, Phase, REQUEST_ROOM, Register, Remapping};
+use crate::{MapTree, PageList, Slots};
+use blk_base::{Entry, Lba, PageId, Pbn};
+use data_vio::{
+    BoxedVio, ENTRY_ROOM, Fifo, LANE_ROOM, LOCK_ROOM, MAKING_ROOM, Phase, REQUEST_ROOM, Register, Remapping,
+};
 use logical_locks::Locks;
 use std::alloc::{AllocError, Global};
 use std::marker::Model;
@@ -29,6 +31,11 @@ pub struct LogicalZone {
     retired: Register<Lba, REQUEST_ROOM>,
     // The pages of its trees that are no leaves.
     tree: MapTree,
+    // The pages that are being made, each by one request, and who waits for one of these.
+    making: PageList<MAKING_ROOM>,
+    lacking: Fifo<BoxedVio, LANE_ROOM>,
+    // The pages whose entry was handed in and that are never linked.
+    unlinkable: PageList<ENTRY_ROOM>,
     // The entries of the journal when the session began.
     window: ReportList<Entry>,
     slots: Slots,
@@ -51,6 +58,9 @@ impl Model for LogicalZone {
       waiting = vios l.locks.waiting;
       retired = l.retired;
       tree = l.tree;
+      making = l.making;
+      lacking = l.lacking;
+      unlinkable = l.unlinkable;
       window = l.window;
       slots = l.slots;
     } };
@@ -80,6 +90,9 @@ impl LogicalZone {
           waiting = [];
           retired = [];
           tree = tree;
+          making = [];
+          lacking = [];
+          unlinkable = [];
           window = window;
           slots = [];
         }) }
@@ -87,6 +100,9 @@ impl LogicalZone {
         let places = Register::new(alloc)?;
         let locks = Locks::new(alloc, LOCK_ROOM)?;
         let retired = Register::new(alloc)?;
+        let making = PageList::new(alloc)?;
+        let lacking = Fifo::new(alloc)?;
+        let unlinkable = PageList::new(alloc)?;
         let slots = Slots::new(alloc)?;
         Ok(LogicalZone {
             zone,
@@ -95,6 +111,9 @@ impl LogicalZone {
             locks,
             retired,
             tree,
+            making,
+            lacking,
+            unlinkable,
             window,
             slots,
         })
@@ -134,6 +153,72 @@ impl LogicalZone {
         ensures { result ≡ missing_at self.now.tree at.0 }
     {
         self.tree.missing(at)
+    }
+
+    /// Whether a page is being made.
+    pub fn is_being_made(&self, page: PageId) -> bool
+        ensures { result ≡ is_listed page self.now.making }
+    {
+        self.making.has(page)
+    }
+
+    /// Whether a page is never linked.
+    pub fn is_unlinkable(&self, page: PageId) -> bool
+        ensures { result ≡ is_listed page self.now.unlinkable }
+    {
+        self.unlinkable.has(page)
+    }
+
+    /// A page is being made from now on.
+    pub fn make(&mut self, page: PageId)
+        requires { length self.old.making ≤ most_items }
+        ensures { self.new ≡ record self.old { making = self.old.making ++ page ∷ [] } }
+    {
+        self.making.push(page);
+    }
+
+    /// A request waits for a page that is being made.
+    pub fn lack(&mut self, vio: BoxedVio)
+        requires { length self.old.lacking < LANE_ROOM }
+        ensures { self.new ≡ record self.old { lacking = self.old.lacking ++ vio ∷ [] } }
+    {
+        self.lacking.push(vio);
+    }
+
+    /// The first that waits for a page comes out.
+    pub fn next_lacking(&mut self) -> Option<BoxedVio>
+        ensures some { IfSome result (λ vio. (self.old.lacking ≡ vio ∷ self.new.lacking)
+            × (self.new ≡ record self.old { lacking = self.new.lacking })) }
+        ensures none { IfNone result ((self.old.lacking ≡ []) × (self.new ≡ self.old)) }
+    {
+        self.lacking.pop()
+    }
+
+    /// A page is made: it is linked.
+    pub fn link(&mut self, page: PageId, at: Pbn)
+        requires { MayLink self.old.tree page at }
+        ensures { rows.IsLinked page at self.old self.new }
+    {
+        self.tree.link(page, at);
+        self.making.strike(page);
+    }
+
+    /// A page isn't made any more, as yet.
+    pub fn give_up(&mut self, page: PageId)
+        ensures { self.new ≡ record self.old { making = but_page page self.old.making } }
+    {
+        self.making.strike(page);
+    }
+
+    /// A page whose entry was handed in is never linked.
+    pub fn drop_page(&mut self, page: PageId)
+        requires { length self.old.unlinkable ≤ most_entries }
+        ensures { self.new
+            ≡ record self.old
+            { making = but_page page self.old.making; unlinkable = self.old.unlinkable ++ page ∷ [] } }
+    {
+        self.making.strike(page);
+        self.unlinkable.push(page);
     }
 
     /// Whether the lock of an address is never released.

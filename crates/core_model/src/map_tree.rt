@@ -1,9 +1,9 @@
 ghost use Rattle.std.specs.Prelude.{◌≡◌, ◌<◌, None, Some};
-ghost use Rattle.block_map_tree.specs.Tree.{IsTree};
-ghost use Rattle.core_model.specs.PageTrees.{HasPath, missing_at};
+ghost use Rattle.block_map_tree.specs.Tree.{IsTree, Links};
+ghost use Rattle.core_model.specs.PageTrees.{HasPath, MayLink, least_point, missing_at};
 ghost use Rattle.image_model.specs.Pages.{page_above};
 
-use blk_base::{Lba, PAGE_SLOTS, PageId, TREES};
+use blk_base::{Lba, PAGE_SLOTS, PageId, Pbn, Point, TREES};
 use block_map_tree::{Found, TreeNodes, path};
 use std::marker::Model;
 
@@ -37,6 +37,15 @@ impl MapTree {
         ensures { result ≡ nodes }
     {
         MapTree { height, nodes }
+    }
+
+    // No page is written as yet, so the point of a link is of no use: the least one does.
+    /// A page is linked: it stands at this data block from now on.
+    pub fn link(&mut self, page: PageId, at: Pbn)
+        requires { MayLink self.old page at }
+        ensures { Links self.old self.new page at least_point }
+    {
+        self.nodes.link(page, at, Point(0));
     }
 
     /// The highest page of the path of an address that isn't there; `None` where each is.

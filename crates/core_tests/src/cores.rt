@@ -17,6 +17,8 @@ pub(crate) enum Unplayed {
     Memory,
     TooLarge,
     Device,
+    /// An image that it left has a fault.
+    Refused,
 }
 
 impl From<AllocError> for Unplayed {

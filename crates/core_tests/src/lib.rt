@@ -1,5 +1,6 @@
 //! Tests of the core and of the schedules of its events: what requests are answered with, by events in several orders, by
-//! one stream and by many, with calls that fail; and what stops leave, opened again.
+//! one stream and by many, with calls that fail; and what stops leave, opened again, and by the map and the counts of its
+//! image.
 #![tactic(auto)]
 
 #[cfg(test)]
@@ -8,6 +9,8 @@ mod cores;
 mod full_blocks;
 #[cfg(test)]
 mod judging;
+#[cfg(test)]
+mod maps;
 #[cfg(test)]
 mod one_stream;
 #[cfg(test)]

@@ -20,13 +20,13 @@ struct Row {
     gives: &'static [Given],
 }
 
-const ROWS: [Row; 7] = [
+const ROWS: [Row; 9] = [
     Row {
         asks: &[Ask::Write(5, 0x61), Ask::Read(5)],
         fails: None,
         gives: &[Given::Ok, Given::Bytes(0x61)],
     },
-    // The journal has eight blocks, of which one stays free.
+    // The journal has eight blocks, of which one stays free, and the first write's leaf takes one.
     Row {
         asks: &[
             Ask::Write(1, 1),
@@ -49,7 +49,7 @@ const ROWS: [Row; 7] = [
             Given::Ok,
             Given::Ok,
             Given::Ok,
-            Given::Ok,
+            Given::Full,
             Given::Full,
             Given::Full,
             Given::Bytes(6),
@@ -80,7 +80,7 @@ const ROWS: [Row; 7] = [
             Given::Bytes(0),
         ],
     },
-    // The second block of the journal: the entry of a discard is handed in.
+    // The third block of the journal: the entry of a discard is handed in.
     Row {
         asks: &[
             Ask::Write(5, 0x61),
@@ -88,7 +88,7 @@ const ROWS: [Row; 7] = [
             Ask::Read(5),
             Ask::Read(6),
         ],
-        fails: Some(3),
+        fails: Some(4),
         gives: &[Given::Ok, Given::Stopped, Given::Stopped, Given::Bytes(0)],
     },
     // Discards without a leaf pass: the journal isn't written.
@@ -109,16 +109,28 @@ const ROWS: [Row; 7] = [
             Given::Stopped,
         ],
     },
-    // The first data block: the entry isn't handed in.
+    // The first data block: the entry of the leaf isn't handed in.
     Row {
         asks: &[Ask::Write(5, 0x61), Ask::Flush, Ask::Read(5)],
         fails: Some(85),
         gives: &[Given::Stopped, Given::Stopped, Given::Bytes(0)],
     },
-    // The first block of the journal: the entry is handed in.
+    // The second one: that of the write isn't.
+    Row {
+        asks: &[Ask::Write(5, 0x61), Ask::Flush, Ask::Read(5)],
+        fails: Some(86),
+        gives: &[Given::Stopped, Given::Stopped, Given::Bytes(0)],
+    },
+    // The first block of the journal: the entry of the leaf is handed in, and the address is as it was.
     Row {
         asks: &[Ask::Write(5, 0x61), Ask::Read(5), Ask::Read(6)],
         fails: Some(2),
+        gives: &[Given::Stopped, Given::Bytes(0), Given::Bytes(0)],
+    },
+    // The second one: the entry of the write is handed in.
+    Row {
+        asks: &[Ask::Write(5, 0x61), Ask::Read(5), Ask::Read(6)],
+        fails: Some(3),
         gives: &[Given::Stopped, Given::Stopped, Given::Bytes(0)],
     },
 ];
@@ -193,8 +205,8 @@ fn written(alloc: Global, events: &[Event], asks: &[Ask]) -> Result<Vec<Pbn>, Un
     Ok(written)
 }
 
-// Discards and writes of zeros take no data block, and the first discard of an address without a leaf takes no entry either:
-// seven of them fill the journal, and it alone is written.
+// Discards and writes of zeros take no data block, and a discard without a leaf takes no entry either: the leaf and six of them
+// fill the journal.
 #[test]
 fn discards_and_zeros(rt: HostRuntime) -> Result<(), Fail> {
     let events = in_order(rt.alloc(), 5)?;
@@ -210,8 +222,8 @@ fn discards_and_zeros(rt: HostRuntime) -> Result<(), Fail> {
         Ask::Discard(3),
     ];
     let written = written(rt.alloc(), &events, asks)?;
-    let journal = [2, 3, 4, 5, 6, 7, 8].map(Pbn);
-    assert_eq!(rt; written.as_slice(), journal.as_slice());
+    let blocks = [85, 2, 3, 4, 5, 6, 7, 8].map(Pbn);
+    assert_eq!(rt; written.as_slice(), blocks.as_slice());
     Ok(())
 }
 

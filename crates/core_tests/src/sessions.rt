@@ -15,12 +15,14 @@ use journal_window::window_of;
 use schedule::{Schedule, drive};
 use std::alloc::{AllocError, Global};
 use std::sync::Wait;
+use test_images::put_pages;
 use vdo_core::{Core, Setup};
 use vdo_model::{Requests, RunReport};
 
 /// Requests, and the core that serves them.
 #[derive(Clone, Copy)]
 pub(crate) struct Plan {
+    pub(crate) geometry: &'static Geometry,
     pub(crate) setup: Setup,
     pub(crate) streams: &'static [&'static [Ask]],
 }
@@ -34,9 +36,6 @@ pub(crate) enum Trouble {
     /// All calls fail behind so many.
     Cut(u64),
 }
-
-/// How many calls read the superblock and the journal, or the journal alone.
-pub(crate) const JOURNAL_READS: u64 = 8;
 
 /// A device with a fresh image of the default sizes, with which this goes wrong.
 pub(crate) fn troubled(alloc: Global, trouble: Trouble) -> Result<MemDisk, AllocError> {
@@ -52,7 +51,8 @@ pub(crate) fn troubled_of(
     requires { IsGeometry geometry.now }
 {
     let layout = Layout::of(geometry);
-    let blocks = first_image(alloc, geometry, &layout)?;
+    let mut blocks = first_image(alloc, geometry, &layout)?;
+    put_pages(&mut blocks, *geometry, &[]);
     let mut plan = Vec::new(alloc);
     if let Trouble::Fault(fault) = trouble {
         plan.push(fault)?;
@@ -66,8 +66,8 @@ pub(crate) fn troubled_of(
     Ok(device)
 }
 
-// A block of the device.
-fn read_block<D: Disk>(device: &mut D, at: Pbn) -> Result<Block, Unplayed>
+/// A block of the device.
+pub(crate) fn read_block<D: Disk>(device: &mut D, at: Pbn) -> Result<Block, Unplayed>
     requires { at.0 < (D.seen device.old).size }
     ensures size { (D.seen device.new).size ≡ (D.seen device.old).size }
 {
@@ -172,7 +172,7 @@ pub(crate) fn open_over<D: Disk>(
     begin(alloc, geometry, setup, &journal, requests)
 }
 
-/// A core over the image of the default sizes on a device.
+/// A core over the image of a plan's sizes on a device.
 pub(crate) fn open_core<D: Disk>(
     alloc: Global,
     plan: &Plan,
@@ -181,7 +181,7 @@ pub(crate) fn open_core<D: Disk>(
     ensures { IfOk result (λ core. Fits core.sizes (D.seen device.new)) }
 {
     let requests = script(alloc, plan.streams)?;
-    open_over(alloc, &Geometry::DEFAULT, &plan.setup, requests, device)
+    open_over(alloc, plan.geometry, &plan.setup, requests, device)
 }
 
 /// The report of a session by the schedule of a number.

@@ -1,7 +1,9 @@
 -- A request under way: what it asked, and what becomes of it.
-use Rattle.std.specs.Prelude.{ℕ, false, None, Some, List, [], ◌∷◌, ◌++◌}
+use Rattle.std.specs.Prelude.{ℕ, false, Option, None, Some, List, [], ◌∷◌, ◌++◌}
 use Rattle.blk_base.specs.declared.place.Lba.{Lba}
-use Rattle.blk_base.specs.declared.place.Mapping.TheVariants.{Unmapped}
+use Rattle.blk_base.specs.declared.place.Mapping.{Mapping}
+use Rattle.blk_base.specs.declared.place.Mapping.TheVariants.{Unmapped, At}
+use Rattle.blk_base.specs.declared.place.PageId.{PageId}
 use Rattle.blk_base.specs.declared.place.ZoneId.{ZoneId}
 use Rattle.blk_base.specs.declared.place.ZoneId.TheVariants as id
 use Rattle.blk_base.specs.declared.request.Answer.{Answer}
@@ -60,6 +62,7 @@ begun_vio sizes w asks at bytes =
       at = at;
       home = id.Logical (zone_of sizes.zones at.0);
       phase = phase.Arrive;
+      page = None;
       bytes = bytes;
       place = 0;
       old = Unmapped;
@@ -77,12 +80,28 @@ turned next v = record v { phase = next }
 abbrev pub ended : Phase → Answer → Vio → Vio
 ended next answer v = record v { phase = next; answer = Some answer }
 
--- how it maps its address anew, and the entry that it hands in
+-- it makes a page, and when that is made it looks up its own address again
+abbrev pub makes : PageId → Vio → Vio
+makes page v = record v { phase = phase.Claim; page = Some page }
+
+abbrev pub made : Vio → Vio
+made v = record v { phase = phase.Look; page = None; new = Unmapped }
+
+-- or it makes it no more, and is answered
+abbrev pub gives_up : Vio → Vio
+gives_up v = record v { phase = phase.Reply; page = None }
+
+-- how it maps its address anew
 abbrev pub remapping : Vio → Remapping
 remapping v = record { request = v.request; at = v.at; place = v.place; old = v.old; new = v.new }
 
+-- the entry that it hands in: its page's, where it makes one
+abbrev pub logged_for : Vio → Option PageId → Mapping → Logged
+logged_for v (Some page) (At x) = Makes (record { request = v.request; page = page; at = x })
+logged_for v page new = Remaps (remapping v)
+
 abbrev pub logged : Vio → Logged
-logged v = Remaps (remapping v)
+logged v = logged_for v v.page v.new
 
 -- the entries that requests hand in, the oldest request first: the newest entry first
 abbrev pub all_logged : List Vio → List Logged

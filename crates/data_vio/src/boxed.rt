@@ -1,10 +1,10 @@
 ghost use Rattle.std.specs.Prelude.{◌≡◌, None, Some, IfOk};
 ghost use Rattle.blk_base.specs.declared.request.Answer.TheVariants as reply;
 ghost use Rattle.data_vio.specs.declared.items.Phase.TheVariants as phase;
-ghost use Rattle.data_vio.specs.Vios.{ended, entry_of, logged, remapping, turned};
+ghost use Rattle.data_vio.specs.Vios.{ended, entry_of, gives_up, logged, made, makes, remapping, turned};
 
-use crate::{Logged, Phase, Remapping, Vio};
-use blk_base::{Answer, Block, Entry, Mapping};
+use crate::{Logged, NewPage, Phase, Remapping, Vio};
+use blk_base::{Answer, Block, Entry, Mapping, PageId};
 use std::alloc::{AllocError, Global};
 use std::marker::Model;
 
@@ -89,6 +89,34 @@ impl BoxedVio {
         self
     }
 
+    /// A write makes a page, for which it takes a block.
+    pub fn make(mut self, page: PageId) -> BoxedVio
+        ensures { result ≡ makes page self }
+    {
+        self.vio.phase = Phase::Claim;
+        self.vio.page = Some(page);
+        self
+    }
+
+    /// Its page is made: it looks up what is mapped at its own address.
+    pub fn made(mut self) -> BoxedVio
+        ensures { result ≡ made self }
+    {
+        self.vio.phase = Phase::Look;
+        self.vio.page = None;
+        self.vio.new = Mapping::Unmapped;
+        self
+    }
+
+    /// It doesn't make its page any more, and is answered.
+    pub fn give_up(mut self) -> BoxedVio
+        ensures { result ≡ gives_up self }
+    {
+        self.vio.phase = Phase::Reply;
+        self.vio.page = None;
+        self
+    }
+
     /// A read has got these bytes.
     pub fn load(mut self, bytes: Block) -> BoxedVio
         ensures { result ≡ record self { phase = phase.Loaded; bytes = bytes } }
@@ -121,11 +149,16 @@ impl BoxedVio {
     pub fn entry(&self) -> Entry
         ensures { result ≡ entry_of (logged self.now) }
     {
-        let vio = self.get();
-        Entry::Remap {
-            at: vio.at,
-            old: vio.old,
-            new: vio.new,
+        match self.logged() {
+            Logged::Remaps(remapping) => Entry::Remap {
+                at: remapping.at,
+                old: remapping.old,
+                new: remapping.new,
+            },
+            Logged::Makes(made) => Entry::NewPage {
+                page: made.page,
+                at: made.at,
+            },
         }
     }
 
@@ -133,7 +166,14 @@ impl BoxedVio {
     pub fn logged(&self) -> Logged
         ensures { result ≡ logged self.now }
     {
-        Logged::Remaps(self.remapping())
+        match (self.vio.page, self.vio.new) {
+            (Some(page), Mapping::At(at)) => Logged::Makes(NewPage {
+                request: self.vio.request,
+                page,
+                at,
+            }),
+            _ => Logged::Remaps(self.remapping()),
+        }
     }
 
     /// How it maps its address anew, with its request and place.

@@ -1,5 +1,5 @@
 use crate::{BLOCK_ENTRIES, BoxedVio, Fifo, Remapping};
-use blk_base::{Answer, Block, Lba, Mapping, Writer, ZoneId};
+use blk_base::{Answer, Block, Lba, Mapping, PageId, Writer, ZoneId};
 
 /// What a request asks for.
 #[derive(Clone, Copy)]
@@ -20,15 +20,15 @@ pub enum Phase {
     Wait,
     /// Logical: it has the lock of its address, and what is mapped there says where it goes.
     Look,
-    /// Physical: a write takes a free data block.
+    /// Physical: a write takes a free data block, for its data or for the page that it makes.
     Claim,
-    /// Device: the data of a write is written to its block.
+    /// Device: the data of a write, or its page, is written to its block.
     Store,
-    /// Journal: the entry of a write or a discard is handed in, or waits until there is room for it.
+    /// Journal: the entry of a write or a discard, or of its page, is handed in, or waits until there is room for it.
     Enter,
     /// Journal: its entry stands in the block being filled, or in one that is sealed and not committed.
     Pending,
-    /// Logical: the entry is committed: the slot of the address is set, and the lock released.
+    /// Logical: the entry is committed: the slot of the address is set, and the lock released; or the page is linked.
     Settle,
     /// Device: the block of a read is read.
     Load,
@@ -58,6 +58,9 @@ pub struct Vio {
     /// The logical zone of the address.
     pub home: ZoneId,
     pub phase: Phase,
+    /// The page of the block map that a write makes, which the path of its address lacks; `None` while it is about its own
+    /// address.
+    pub page: Option<PageId>,
     /// What a write gives its address, or what a read got.
     pub bytes: Block,
     /// The number that it drew in its logical zone.
@@ -66,8 +69,8 @@ pub struct Vio {
     pub old: Mapping,
     /// The last write of its address that was done in this session by then.
     pub latest: Option<Remapping>,
-    /// What a write or a discard maps its address to: the data block that it has taken, or none; `Unmapped` until that is
-    /// known.
+    /// What a write or a discard maps its address to, or where its page stands: the data block that it has taken, or none;
+    /// `Unmapped` until that is known.
     pub new: Mapping,
     /// What it is answered with, once that is known.
     pub answer: Option<Answer>,

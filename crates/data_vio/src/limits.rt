@@ -29,6 +29,9 @@ pub const BLOCK_ENTRIES: u32 = 192;
 /// The room of the list of what one step posts: each request that the zone keeps, those of a block, and a few items more.
 pub const POST_ROOM: u32 = MOST_ITEMS as u32 + 2 * BLOCK_ENTRIES + 16;
 
+/// The room of a list of pages that are being made, each by a request that is under way, and one more.
+pub const MAKING_ROOM: usize = MOST_ITEMS + 1;
+
 /// The room of a lane: for all items that are under way, and then for what one step posts, or a move brings.
 pub const LANE_ROOM: u32 = MOST_ITEMS as u32 + POST_ROOM;
 

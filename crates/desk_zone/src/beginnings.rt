@@ -29,6 +29,7 @@ fn begun_vio(sizes: &Sizes, request: Writer, asks: Asks, at: Lba, bytes: Block) 
         at,
         home: ZoneId::Logical(u32::from(tree % sizes.zones)),
         phase: Phase::Arrive,
+        page: None,
         bytes,
         place: 0,
         old: Mapping::Unmapped,

@@ -10,13 +10,42 @@ ghost use Rattle.device_zone.specs.Served.{CanServe, MayServe};
 
 use crate::device_calls::{flush, read_block, write_block};
 use crate::stop_notices::halt;
-use blk_base::{Answer, Block, Mapping, Pbn, ZoneId};
+use blk_base::{Answer, Block, Mapping, Mappings, PageId, Pbn, ZoneId};
 use core_model::DeviceZone;
-use data_vio::{BoxedVio, Item, Phase, Sizes};
+use data_vio::{BoxedVio, Item, Phase, Sizes, Vio};
 use disk_model::Disk;
+use page_codec::{MapPage, PageHead, encode};
 use step_parts::Posts;
 
-// The data of a write.
+// An empty page of the block map, at this block.
+fn put_page(sizes: &Sizes, page: PageId, at: Pbn, into: &mut Block)
+    ensures { into.new ≡ rows.page_at sizes.now page at }
+{
+    let page = MapPage {
+        head: PageHead {
+            geometry: sizes.geometry,
+            page,
+            at,
+        },
+        mappings: Mappings::new(),
+    };
+    encode(&page, into);
+}
+
+// What is written for a write: its data, or the page that it makes.
+fn stored<'a>(sizes: &Sizes, vio: &'a Vio, block: Pbn, empty: &'a mut Block) -> &'a Block
+    ensures { result.now ≡ rows.stored sizes.now vio.now block }
+{
+    match vio.page {
+        Some(page) => {
+            put_page(sizes, page, block, empty);
+            empty
+        }
+        None => &vio.bytes,
+    }
+}
+
+// The data of a write, or its page.
 fn store<D: Disk>(
     sizes: &Sizes,
     zone: &mut DeviceZone,
@@ -34,7 +63,9 @@ fn store<D: Disk>(
     ensures serves { (made : Trace) × DeviceServes sizes.now zone.old vio zone.new made posts.new
         × HasCalled D.tells D.honest (D.seen disk.old) (D.seen disk.new) made }
 {
-    let Ok(()) = write_block(disk, block, &vio.get().bytes) else {
+    let mut empty = Block::zero();
+    let bytes = stored(sizes, vio.get(), block, &mut empty);
+    let Ok(()) = write_block(disk, block, bytes) else {
         let failed = vio.end(Phase::AbortClaim, Answer::Stopped);
         halt(
             sizes,

@@ -7,7 +7,7 @@ use Rattle.data_vio.specs.declared.sizes.Sizes.{Sizes}
 use Rattle.core_model.specs.declared.zones.ZoneData.TheVariants as at
 use Rattle.core_model.specs.LogicalData.{LogicalZone}
 use Rattle.core_model.specs.LogicalRules.{LogicalServes}
-use Rattle.core_model.specs.LogicalRules.LogicalServes.{arrives_retired, arrives_free, arrives_held, looks, passes, settles, gives, aborts, aborts_entered}
+use Rattle.core_model.specs.LogicalRules.LogicalServes.{arrives_retired, arrives_free, arrives_held, looks, passes, is_dropped, waits, makes_page, links, settles, gives, aborts, unmakes, drops, aborts_entered}
 use Rattle.core_model.specs.Steps.Act.{serves, serves_notice}
 use Rattle.core_model.specs.Trace.{Trace}
 use Rattle.data_vio.specs.Vios.{Post}
@@ -18,12 +18,18 @@ makes_no_call : (sizes : Sizes) (old new : LogicalZone) (v : Vio) (made : Trace)
 makes_no_call sizes old new v made posts (arrives_retired h1 h2 h3 is h5) = silent _ _ is refl refl refl
 makes_no_call sizes old new v made posts (arrives_free h1 h2 h3 h4 is h6) = silent _ _ is refl refl refl
 makes_no_call sizes old new v made posts (arrives_held h1 h2 h3 h4 is h6) = silent _ _ is refl refl refl
-makes_no_call sizes old new v made posts (looks post h1 h2 h3 h4 h5 is h7) = silent _ _ is refl refl refl
+makes_no_call sizes old new v made posts (looks post h1 h2 h3 h4 h5 h6 is h8) = silent _ _ is refl refl refl
 makes_no_call sizes old new v made posts (passes h1 h2 h3 h4 is h6) = silent _ _ is refl refl refl
-makes_no_call sizes old new v made posts (settles h1 h2 is h4) = silent _ _ is refl refl refl
+makes_no_call sizes old new v made posts (is_dropped page h1 h2 h3 h4 h5 is h7) = silent _ _ is refl refl refl
+makes_no_call sizes old new v made posts (waits page h1 h2 h3 h4 h5 h6 is h8) = silent _ _ is refl refl refl
+makes_no_call sizes old new v made posts (makes_page page h1 h2 h3 h4 h5 h6 is h8) = silent _ _ is refl refl refl
+makes_no_call sizes old new v made posts (links page x between h1 h2 h3 h4 h5 h6 is h8) = silent _ _ is refl refl refl
+makes_no_call sizes old new v made posts (unmakes page h1 h2 h3 is h5) = silent _ _ is refl refl refl
+makes_no_call sizes old new v made posts (drops page h1 h2 h3 is h5) = silent _ _ is refl refl refl
+makes_no_call sizes old new v made posts (settles h1 h2 h3 is h5) = silent _ _ is refl refl refl
 makes_no_call sizes old new v made posts (gives h1 h2 is h4) = silent _ _ is refl refl refl
-makes_no_call sizes old new v made posts (aborts h1 h2 is h4) = silent _ _ is refl refl refl
-makes_no_call sizes old new v made posts (aborts_entered h1 h2 is h4) = silent _ _ is refl refl refl
+makes_no_call sizes old new v made posts (aborts h1 h2 h3 is h5) = silent _ _ is refl refl refl
+makes_no_call sizes old new v made posts (aborts_entered h1 h2 h3 is h5) = silent _ _ is refl refl refl
 
 pub acts : (sizes : Sizes) (old new : LogicalZone) (v : Vio) (posts : List Post)
     → ((made : Trace) × LogicalServes sizes old v new made posts) → ActsAlone sizes (at.Logical old) (item.Request v ∷ []) (at.Logical new) posts

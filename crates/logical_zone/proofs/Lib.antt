@@ -1,4 +1,5 @@
 mod ActLaws
+mod PageLaws
 mod ServedLaws
 mod TreeLaws
 mod WaitingLaws

@@ -17,12 +17,18 @@ serves : (sizes : Sizes) (old : LogicalZone) (v : Vio) (new : LogicalZone) (made
 serves sizes old v new made posts (logical.arrives_retired p d h1 h2 h3) = subst (CanServe sizes old v) (sym p) tt
 serves sizes old v new made posts (logical.arrives_free p d f h1 h2 h3) = subst (CanServe sizes old v) (sym p) tt
 serves sizes old v new made posts (logical.arrives_held p d f h1 h2 h3) = subst (CanServe sizes old v) (sym p) tt
-serves sizes old v new made posts (logical.looks post p path stays goes h1 h2 h3) = subst (CanServe sizes old v) (sym p) (path, λ again. (post, goes))
-serves sizes old v new made posts (logical.passes p path past h1 h2 h3) = subst (CanServe sizes old v) (sym p) (path, λ stays. absurd (let both = sym past ∙ stays in cc))
-serves sizes old v new made posts (logical.settles p h1 h2 h3) = subst (CanServe sizes old v) (sym p) tt
+serves sizes old v new made posts (logical.looks post p path stays leaf goes h1 h2 h3) = subst (CanServe sizes old v) (sym p) (path, λ again none. (post, goes))
+serves sizes old v new made posts (logical.passes p path past h1 h2 h3) = subst (CanServe sizes old v) (sym p) (path, λ stays none. absurd (let both = sym past ∙ stays in cc))
+serves sizes old v new made posts (logical.is_dropped page p path lack dropped h1 h2 h3) = subst (CanServe sizes old v) (sym p) (path, λ stays none. absurd (let both = sym lack ∙ none in cc))
+serves sizes old v new made posts (logical.waits page p path lack linkable made_yet h1 h2 h3) = subst (CanServe sizes old v) (sym p) (path, λ stays none. absurd (let both = sym lack ∙ none in cc))
+serves sizes old v new made posts (logical.makes_page page p path lack linkable unmade h1 h2 h3) = subst (CanServe sizes old v) (sym p) (path, λ stays none. absurd (let both = sym lack ∙ none in cc))
+serves sizes old v new made posts (logical.links page x between p some to may linked h1 h2 h3) = subst (CanServe sizes old v) (sym p) (rw (some, to) may)
+serves sizes old v new made posts (logical.settles p bare h1 h2 h3) = subst (CanServe sizes old v) (sym p) (rw bare tt)
+serves sizes old v new made posts (logical.unmakes page p some h1 h2 h3) = subst (CanServe sizes old v) (sym p) tt
+serves sizes old v new made posts (logical.drops page p some h1 h2 h3) = subst (CanServe sizes old v) (sym p) tt
 serves sizes old v new made posts (logical.gives p h1 h2 h3) = subst (CanServe sizes old v) (sym p) tt
-serves sizes old v new made posts (logical.aborts p h1 h2 h3) = subst (CanServe sizes old v) (sym p) tt
-serves sizes old v new made posts (logical.aborts_entered p h1 h2 h3) = subst (CanServe sizes old v) (sym p) tt
+serves sizes old v new made posts (logical.aborts p bare h1 h2 h3) = subst (CanServe sizes old v) (sym p) tt
+serves sizes old v new made posts (logical.aborts_entered p bare h1 h2 h3) = subst (CanServe sizes old v) (sym p) tt
 
 pub can_serve : (sizes : Sizes) (old : LogicalZone) (v : Vio) → HasAct sizes (at.Logical old) (item.Request v ∷ []) → CanServe sizes old v v.phase
 can_serve sizes old v (new, made, posts, steps.serves row) = serves sizes old v _ _ _ row

@@ -5,6 +5,7 @@
 #![tactic(auto)]
 
 mod dispatch;
+mod pages;
 mod requests;
 mod start;
 mod trees;

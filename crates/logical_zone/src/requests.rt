@@ -1,4 +1,4 @@
-ghost use Rattle.std.specs.Prelude.{◌≡◌, ◌-◌, ◌<◌, ◌≤◌, ◌^◌, List, [], ◌∷◌, ◌++◌, Some, true, false, length};
+ghost use Rattle.std.specs.Prelude.{◌≡◌, ◌-◌, ◌<◌, ◌≤◌, ◌^◌, List, [], ◌∷◌, ◌++◌, None, Some, true, false, length};
 ghost use Rattle.blk_base.specs.Sectors.{zero_block};
 ghost use Rattle.blk_base.specs.declared.place.ZoneId.TheVariants as id;
 ghost use Rattle.data_vio.specs.declared.items.Item.TheVariants as item;
@@ -10,6 +10,7 @@ ghost use Rattle.core_model.specs.Trace.{Trace, Aborts, Draws, Gives, Passes, Se
 ghost use Rattle.data_vio.specs.Vios as vios;
 ghost use Rattle.logical_zone.specs.Served.{CanServe, GoesOn};
 
+use crate::pages::{drop_page, lacks, link, make, unmake};
 use crate::waiters::stop_all;
 use blk_base::{Answer, Block, Lba, Mapping, ZoneId};
 use core_model::LogicalZone;
@@ -138,8 +139,8 @@ fn look_up(vio: BoxedVio) -> (ZoneId, Item)
     (home, Item::Request(looks))
 }
 
-// The lock of an address goes to the first that waits for it, or is released.
-fn release(zone: &mut LogicalZone, at: Lba, posts: &mut Posts)
+/// The lock of an address goes to the first that waits for it, or is released.
+pub(crate) fn release(zone: &mut LogicalZone, at: Lba, posts: &mut Posts)
     requires { length posts.old ≤ 1 }
     ensures zone { zone.new ≡ rows.released at.0 zone.old }
     ensures posts { posts.new ≡ posts.old ++ rows.granted at.0 zone.old }
@@ -172,6 +173,7 @@ fn go_on(sizes: &Sizes, zone: &LogicalZone, vio: BoxedVio, posts: &mut Posts)
     requires phase { vio.phase ≡ phase.Look }
     requires path { HasPath zone.now.tree vio.at.0 }
     requires stays { rows.passes_by zone.now vio ≡ false }
+    requires leaf { rows.lacks zone.now vio ≡ None }
     requires goes { GoesOn sizes.now zone.now vio }
     requires none { posts.old ≡ [] }
     ensures { rows.LogicalServes sizes.now zone.now vio zone.now [] posts.new }
@@ -203,11 +205,14 @@ fn pass(sizes: &Sizes, zone: &mut LogicalZone, vio: BoxedVio, posts: &mut Posts)
 fn look_on(sizes: &Sizes, zone: &mut LogicalZone, vio: BoxedVio, posts: &mut Posts)
     requires phase { vio.phase ≡ phase.Look }
     requires can { CanServe sizes.now zone.old vio phase.Look }
+    requires within { IsLogicalWithin (2 ^ 64 - 2) zone.old }
     requires none { posts.old ≡ [] }
     ensures { (made : Trace) × rows.LogicalServes sizes.now zone.old vio zone.new made posts.new }
 {
     if passes(zone, &vio) {
         pass(sizes, zone, vio, posts);
+    } else if let Some(page) = lacks(zone, &vio) {
+        make(sizes, zone, vio, page, posts);
     } else {
         go_on(sizes, zone, vio, posts);
     }
@@ -216,11 +221,16 @@ fn look_on(sizes: &Sizes, zone: &mut LogicalZone, vio: BoxedVio, posts: &mut Pos
 // The entry of a write is committed: its slot is set, and the lock released.
 fn settle(sizes: &Sizes, zone: &mut LogicalZone, vio: BoxedVio, posts: &mut Posts)
     requires phase { vio.phase ≡ phase.Settle }
+    requires can { CanServe sizes.now zone.old vio phase.Settle }
     requires within { IsLogicalWithin (2 ^ 64 - 2) zone.old }
     requires none { posts.old ≡ [] }
     ensures { rows.LogicalServes sizes.now zone.old vio zone.new
         (Sets (vios.logged vio) ∷ []) posts.new }
 {
+    if let Some(page) = vio.get().page {
+        link(sizes, zone, vio, page, posts);
+        return;
+    }
     let at = vio.get().at;
     zone.set(vio.remapping());
     posts.first(
@@ -255,6 +265,10 @@ fn abort(sizes: &Sizes, zone: &mut LogicalZone, vio: BoxedVio, posts: &mut Posts
     requires none { posts.old ≡ [] }
     ensures { rows.LogicalServes sizes.now zone.old vio zone.new [] posts.new }
 {
+    if let Some(page) = vio.get().page {
+        unmake(sizes, zone, vio, page, posts);
+        return;
+    }
     let at = vio.get().at;
     posts.first(ZoneId::Desk, Item::Request(vio.turn(Phase::Reply)));
     release(zone, at, posts);
@@ -268,6 +282,10 @@ fn abort_entered(sizes: &Sizes, zone: &mut LogicalZone, vio: BoxedVio, posts: &m
     ensures { rows.LogicalServes sizes.now zone.old vio zone.new
         (Aborts (vios.logged vio) ∷ []) posts.new }
 {
+    if let Some(page) = vio.get().page {
+        drop_page(sizes, zone, vio, page, posts);
+        return;
+    }
     let at = vio.get().at;
     posts.first(ZoneId::Desk, Item::Request(vio.turn(Phase::Reply)));
     stop_all(zone, at, posts);

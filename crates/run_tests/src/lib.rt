@@ -1,7 +1,9 @@
-//! Tests of whole runs of the program: scripts with faults, runs one after the other on one device, refused images, and
-//! stops.
+//! Tests of whole runs of the program: scripts with faults, runs one after the other on one device, refused images,
+//! stops, and audits of what they leave.
 #![tactic(auto)]
 
+#[cfg(test)]
+mod audits;
 #[cfg(test)]
 mod journals;
 #[cfg(test)]

@@ -1,7 +1,7 @@
-use crate::journals::{Standing, with_journal};
-use blk_base::{Block, Geometry, Layout, Pbn, Super};
+use crate::journals::{Standing, fresh_blocks, with_journal};
+use blk_base::{Block, Geometry, Pbn, Super};
 use disk_model::{Call, CallKind, FaultAt, MemDisk, MemSink, MemSource, OpenGate};
-use image_layout::{Field, SuperFault, first_image, write_super};
+use image_layout::{Field, SuperFault, write_super};
 use image_model::ImageFault;
 use std::alloc::{AllocError, Global};
 use std::process::Abort;
@@ -11,11 +11,21 @@ use std::thread::Threads;
 use stream_text::{LineFault, ScriptRefusal};
 use vdo_cli::{Ended, Fault, Words, put_fault, run};
 
+/// The default sizes, but for the height of the block map.
+const TALL: Geometry = Geometry {
+    height: 3,
+    ..Geometry::DEFAULT
+};
+
+// A device with a fresh image of these sizes.
+fn sized(alloc: Global, geometry: &Geometry) -> Result<MemDisk, AllocError> {
+    let blocks = fresh_blocks(alloc, geometry)?;
+    MemDisk::from_blocks(alloc, blocks)
+}
+
 // A device with a fresh image of the default sizes.
 pub(crate) fn fresh(alloc: Global) -> Result<MemDisk, AllocError> {
-    let layout = Layout::of(&Geometry::DEFAULT);
-    let blocks = first_image(alloc, &Geometry::DEFAULT, &layout)?;
-    MemDisk::from_blocks(alloc, blocks)
+    sized(alloc, &Geometry::DEFAULT)
 }
 
 // What a run has beside its device.
@@ -48,6 +58,8 @@ pub(crate) enum Device {
     With(&'static [Part]),
     /// A fresh image whose journal has blocks, with other blocks besides.
     Journal(&'static [Standing], &'static [Part]),
+    /// A fresh image with a block map of height 3.
+    Tall,
     /// A fresh image with another byte in its superblock.
     Changed(usize, u8),
     /// So many blocks of zeros.
@@ -102,6 +114,17 @@ pub(crate) fn run_on<R: Threads + Wait + Sync>(
     room: usize,
 ) -> Result<Ran, AllocError> {
     let outside = outside_of(alloc, &["run"], script, fails_at, room)?;
+    Ok(run_in(rt, outside, device))
+}
+
+/// A command that reads no script, on a device.
+pub(crate) fn command_on<R: Threads + Wait + Sync>(
+    rt: &R,
+    alloc: Global,
+    device: MemDisk,
+    command: &str,
+) -> Result<Ran, AllocError> {
+    let outside = outside_of(alloc, &[command], b"", None, 2000)?;
     Ok(run_in(rt, outside, device))
 }
 
@@ -208,7 +231,7 @@ fn with_parts(alloc: Global, journal: &[Standing], parts: &[Part]) -> Result<Mem
 }
 
 fn with_superblock(alloc: Global, head: &Super) -> Result<MemDisk, AllocError> {
-    let mut blocks = first_image(alloc, &Geometry::DEFAULT, &Layout::of(&Geometry::DEFAULT))?;
+    let mut blocks = fresh_blocks(alloc, &Geometry::DEFAULT)?;
     if let Some(first) = blocks.first_mut() {
         write_super(head, first);
     }
@@ -224,17 +247,19 @@ fn put_byte(blocks: &mut [Block], at: usize, byte: u8) {
 }
 
 fn changed(alloc: Global, at: usize, byte: u8) -> Result<MemDisk, AllocError> {
-    let mut blocks = first_image(alloc, &Geometry::DEFAULT, &Layout::of(&Geometry::DEFAULT))?;
+    let mut blocks = fresh_blocks(alloc, &Geometry::DEFAULT)?;
     put_byte(&mut blocks, at, byte);
     MemDisk::from_blocks(alloc, blocks)
 }
 
-fn made(alloc: Global, device: Device) -> Result<MemDisk, AllocError> {
+/// Such a device.
+pub(crate) fn made(alloc: Global, device: Device) -> Result<MemDisk, AllocError> {
     match device {
         Device::Fresh => fresh(alloc),
         Device::Failing(kind, at) => failing(alloc, kind, at),
         Device::With(parts) => with_parts(alloc, &[], parts),
         Device::Journal(journal, parts) => with_parts(alloc, journal, parts),
+        Device::Tall => sized(alloc, &TALL),
         Device::Changed(at, byte) => changed(alloc, at, byte),
         Device::Zeros(blocks) => MemDisk::zeroed(alloc, blocks),
     }
@@ -326,20 +351,20 @@ const NINE_WRITES: [Case; 1] = [(
     Device::Fresh,
     b"0 write 0 4096*61\n0 write 1 4096*61\n0 write 2 4096*61\n0 write 3 4096*61\n0 write 4 4096*61\n0 write 5 4096*61\n0 write 6 4096*61\n0 write 7 4096*61\n0 write 8 4096*61\n",
     (
-        b"0 0 write 0 ok z0:0\n0 1 write 1 ok z0:1\n0 2 write 2 ok z0:2\n0 3 write 3 ok z0:3\n0 4 write 4 ok z0:4\n0 5 write 5 ok z0:5\n0 6 write 6 ok z0:6\n0 7 write 7 full z0:7\n0 8 write 8 full z0:8\n",
+        b"0 0 write 0 ok z0:0\n0 1 write 1 ok z0:1\n0 2 write 2 ok z0:2\n0 3 write 3 ok z0:3\n0 4 write 4 ok z0:4\n0 5 write 5 ok z0:5\n0 6 write 6 full z0:6\n0 7 write 7 full z0:7\n0 8 write 8 full z0:8\n",
         1,
         Calls::Any,
     ),
 )];
 
-// Each journal block has one entry, and one block stays free.
+// Each journal block has one entry, the first one that of the leaf, and one block stays free.
 #[test]
 fn all_journal_blocks_are_used(rt: HostRuntime) -> Result<(), Fail> {
     each_is_right(&rt, rt.alloc(), &NINE_WRITES)
 }
 
-const FAILED_WRITES: [Case; 2] = [
-    // The first write of a data block fails.
+const FAILED_WRITES: [Case; 4] = [
+    // The first write of a data block fails: that of the leaf.
     (
         Device::Failing(CallKind::Write, 85),
         b"0 write 5 4096*61\n0 flush\n0 read 5\n0 write 6 4096*61\n",
@@ -349,9 +374,29 @@ const FAILED_WRITES: [Case; 2] = [
             Calls::Any,
         ),
     ),
-    // The write of a journal block fails: a stop may show either value, and a read of this address gives neither.
+    // The write of the journal block with the leaf's entry fails: nothing of the address was handed in, and it is as it was.
+    (
+        Device::Failing(CallKind::Write, 2),
+        b"0 write 5 4096*61\n0 read 5\n0 discard 5 1\n",
+        (
+            b"0 0 write 5 stopped z0:0\n0 1 read 5 4096*00 z0:1\n0 2 discard 5 stopped\n",
+            3,
+            Calls::Any,
+        ),
+    ),
+    // That of the write behind it: a stop may show either value, and a read of this address gives neither.
     (
         Device::Failing(CallKind::Write, 3),
+        b"0 write 5 4096*61\n0 read 5\n0 read 6\n",
+        (
+            b"0 0 write 5 stopped z0:0\n0 1 read 5 stopped z0:1\n0 2 read 6 4096*00 z0:2\n",
+            3,
+            Calls::Any,
+        ),
+    ),
+    // And that of the next one.
+    (
+        Device::Failing(CallKind::Write, 4),
         b"0 write 5 4096*61\n0 write 5 4096*62\n0 read 5\n",
         (
             b"0 0 write 5 ok z0:0\n0 1 write 5 stopped z0:1\n0 2 read 5 stopped z0:2\n",
@@ -376,9 +421,9 @@ const OTHER_FAILED_CALLS: [Case; 4] = [
             Calls::Any,
         ),
     ),
-    // A data block can't be read, once.
+    // A data block can't be read, once; the leaf stands before it.
     (
-        Device::Failing(CallKind::Read, 85),
+        Device::Failing(CallKind::Read, 86),
         b"0 write 5 4096*61\n0 read 5\n0 read 5\n",
         (
             b"0 0 write 5 ok z0:0\n0 1 read 5 read fault z0:1\n0 2 read 5 4096*61 z0:2\n",
@@ -424,7 +469,7 @@ fn lines_that_are_refused(rt: HostRuntime) -> Result<(), Fail> {
 
 // Lines that are served: zeros and discards, an address that isn't below the logical size, a number with many digits, and
 // several runs.
-const SERVED_LINES: [Case; 5] = [
+const SERVED_LINES: [Case; 6] = [
     (
         Device::Fresh,
         b"0 write 3 4096*07\n0 write 3 4096*00\n0 read 3\n0 discard 3 2\n0 discard 900 1\n0 read 3\n",
@@ -441,6 +486,17 @@ const SERVED_LINES: [Case; 5] = [
             b"0 0 write 999 ok z0:0\n0 1 discard 999 ok z0:1\n0 2 discard 1000 range\n0 3 read 999 4096*00 z0:2\n",
             0,
             Calls::Any,
+        ),
+    ),
+    // Below the root a leaf and the page above it are made, each with four calls of the device, as the write; address 999 is in
+    // another tree, which has none.
+    (
+        Device::Tall,
+        b"0 write 0 4096*61\n0 read 999\n",
+        (
+            b"0 0 write 0 ok z0:0\n0 1 read 999 4096*00 z0:1\n",
+            0,
+            Calls::Count(9 + 3 * 4),
         ),
     ),
     (

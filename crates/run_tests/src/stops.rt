@@ -1,7 +1,7 @@
-use crate::runs::{Ran, fresh, puts, run_on};
-use blk_base::{Block, Geometry, Layout};
+use crate::journals::fresh_blocks;
+use crate::runs::{Ran, command_on, fresh, puts, run_on};
+use blk_base::{Block, Geometry};
 use disk_model::{Call, MemDisk};
-use image_layout::first_image;
 use std::alloc::{AllocError, Global};
 use std::process::Abort;
 use std::sync::Wait;
@@ -17,8 +17,8 @@ const ANSWERS: &[u8] =
 /// A run reads the superblock and the eight blocks of the journal first.
 const OPENING: usize = 9;
 
-/// And then it makes four calls for each of the three writes, and one for each of the two flushes.
-const SESSION: usize = 14;
+/// And then it makes four calls for the leaf and for each of the three writes, and one for each of the two flushes.
+const SESSION: usize = 18;
 
 /// What reads of addresses 1 and 2 give.
 const ZEROS_ZEROS: &[u8] = b"0 0 read 1 4096*00 z0:0\n0 1 read 2 4096*00 z0:1\n";
@@ -31,14 +31,14 @@ const FIRST_THIRD: &[u8] = b"0 0 read 1 4096*61 z0:0\n0 1 read 2 4096*63 z0:1\n"
 
 const SECOND_THIRD: &[u8] = b"0 0 read 1 4096*62 z0:0\n0 1 read 2 4096*63 z0:1\n";
 
-// What a stop may show, from the first of these counts of calls to the last: the first flush is marked at the 5th call, the
-// second at the 14th.
+// What a stop may show, from the first of these counts of calls to the last: the first flush is marked at the 9th call, the
+// second at the 18th. The first write is made from the 5th call on, and the two others from the 10th on.
 const SHOWN: [(usize, usize, &[u8]); 5] = [
-    (0, 4, ZEROS_ZEROS),
-    (0, 13, FIRST_ZEROS),
-    (6, 13, SECOND_ZEROS),
-    (6, 13, FIRST_THIRD),
-    (6, 14, SECOND_THIRD),
+    (0, 8, ZEROS_ZEROS),
+    (5, 17, FIRST_ZEROS),
+    (10, 17, SECOND_ZEROS),
+    (10, 17, FIRST_THIRD),
+    (10, 18, SECOND_THIRD),
 ];
 
 // Whether a stop after so many calls of the session may show this.
@@ -103,7 +103,7 @@ fn apply_all(blocks: &mut [Block], calls: &[Call], reached: Reached) {
 
 // A device with what is on one with a fresh image after these calls.
 fn device_after(alloc: Global, calls: &[Call], reached: Reached) -> Result<MemDisk, AllocError> {
-    let mut blocks = first_image(alloc, &Geometry::DEFAULT, &Layout::of(&Geometry::DEFAULT))?;
+    let mut blocks = fresh_blocks(alloc, &Geometry::DEFAULT)?;
     apply_all(&mut blocks, calls, reached);
     MemDisk::from_blocks(alloc, blocks)
 }
@@ -113,7 +113,17 @@ fn shows_allowed(ran: &Ran, count: usize) -> bool {
     ran.status == 0 && is_allowed(count, ran.sink.bytes())
 }
 
-// Whether a run after these calls reads what a stop after so many calls may show.
+// Whether each block is counted as often as it is mapped.
+fn is_counted<R: Threads + Wait + Sync>(
+    rt: &R,
+    alloc: Global,
+    device: MemDisk,
+) -> Result<bool, AllocError> {
+    let audited = command_on(rt, alloc, device, "audit")?;
+    Ok(audited.status == 0 && audited.sink.bytes().starts_with(b"audit clean"))
+}
+
+// Whether a run after these calls reads what a stop after so many calls may show, on an image whose counts are right.
 fn is_open<R: Threads + Wait + Sync>(
     rt: &R,
     alloc: Global,
@@ -123,7 +133,9 @@ fn is_open<R: Threads + Wait + Sync>(
 ) -> Result<bool, AllocError> {
     let device = device_after(alloc, calls, reached)?;
     let ran = run_on(rt, alloc, device, b"0 read 1\n0 read 2\n", None, 2000)?;
-    Ok(shows_allowed(&ran, count))
+    let shows = shows_allowed(&ran, count);
+    let Ran { device, .. } = ran;
+    Ok(shows && is_counted(rt, alloc, device)?)
 }
 
 // What may be of the last write: nothing, or a sector alone is new, or old.

@@ -51,7 +51,7 @@ fn a_later_run_finds_what_an_earlier_one_wrote(rt: HostRuntime) -> Result<(), Fa
     )
 }
 
-// The journal's blocks are used over several runs.
+// The journal's blocks are used over several runs: two of the leaves, three of the first run, and two are left for the second.
 #[test]
 fn a_later_run_uses_the_last_journal_blocks(rt: HostRuntime) -> Result<(), Fail> {
     in_turn(
@@ -65,12 +65,12 @@ fn a_later_run_uses_the_last_journal_blocks(rt: HostRuntime) -> Result<(), Fail>
             ),
             (
                 b"0 write 0 4096*64\n0 write 1 4096*65\n0 write 2 4096*66\n0 write 3 4096*67\n0 write 4 4096*68\n0 write 6 4096*69\n0 read 5\n",
-                b"0 0 write 0 ok z0:0\n0 1 write 1 ok z0:1\n0 2 write 2 ok z0:2\n0 3 write 3 ok z0:3\n0 4 write 4 full z0:4\n0 5 write 6 full z0:5\n0 6 read 5 4096*62 z0:6\n",
+                b"0 0 write 0 ok z0:0\n0 1 write 1 ok z0:1\n0 2 write 2 full z0:2\n0 3 write 3 full z0:3\n0 4 write 4 full z0:4\n0 5 write 6 full z0:5\n0 6 read 5 4096*62 z0:6\n",
                 1,
             ),
             (
-                b"0 write 5 4096*61\n0 read 3\n0 read 4\n",
-                b"0 0 write 5 full z0:0\n0 1 read 3 4096*67 z0:1\n0 2 read 4 4096*00 z0:2\n",
+                b"0 write 5 4096*61\n0 read 1\n0 read 2\n",
+                b"0 0 write 5 full z0:0\n0 1 read 1 4096*65 z0:1\n0 2 read 2 4096*00 z0:2\n",
                 1,
             ),
         ],
@@ -134,10 +134,19 @@ const OF_1000: Entry = Entry::Remap {
     new: Mapping::Zero,
 };
 
-// A leaf of the first tree, and its root, as new pages.
+// The leaf of these addresses, one of another tree, and the root of the first tree, as new pages.
 const LEAF: Entry = Entry::NewPage {
     page: PageId {
         tree: 0,
+        level: 0,
+        index: 0,
+    },
+    at: Pbn(86),
+};
+
+const OTHER_LEAF: Entry = Entry::NewPage {
+    page: PageId {
+        tree: 1,
         level: 0,
         index: 0,
     },
@@ -172,17 +181,16 @@ const REFUSED_BLOCKS: [&[Standing]; 3] = [
     &[(4, (1, 1, &[TO_85], 8)), (3, (2, 1, &[TO_86], 8))],
 ];
 
-const REFUSED_ENTRIES: [&[Standing]; 6] = [
+const REFUSED_ENTRIES: [&[Standing]; 5] = [
     &[(2, (1, 1, &[TO_84], 8))],
     &[(2, (1, 1, &[FROM_84], 8))],
     &[(2, (1, 1, &[TO_149], 8))],
     &[(2, (1, 1, &[TO_85, OF_1000], 8))],
     &[(2, (1, 1, &[ROOT], 8))],
-    &[(2, (1, 1, &[LEAF], 1))],
 ];
 
-// Of each the oldest block that is wrong, or has an entry that isn't served yet, is named.
-const NAMED: [(&[Standing], End); 4] = [
+// Of each the oldest block that is wrong is named.
+const NAMED: [(&[Standing], End); 3] = [
     (&[(2, (1, 0, &[TO_85], 8))], WINDOW_0),
     (
         &[
@@ -192,15 +200,7 @@ const NAMED: [(&[Standing], End); 4] = [
         ],
         WINDOW_2,
     ),
-    (
-        &[
-            (2, (1, 1, &[TO_85], 8)),
-            (3, (2, 1, &[TO_86, LEAF], 8)),
-            (4, (3, 1, &[LEAF], 8)),
-        ],
-        WINDOW_2,
-    ),
-    // A block that isn't of the image comes before new pages.
+    // A new leaf isn't wrong, and a new root is.
     (
         &[(2, (1, 1, &[LEAF], 8)), (3, (2, 1, &[ROOT], 8))],
         WINDOW_2,
@@ -261,8 +261,8 @@ const IN_86: End = (b"0 0 read 5 1*6b+4095*00 z0:0\n", 0, Calls::Any);
 const ZEROS: End = (b"0 0 read 5 4096*00 z0:0\n", 0, Calls::Any);
 
 // What stands in the window is read, zeros and discards too: the newest entry counts, also of one block. A block in another
-// slot isn't read, nor one that the last block doesn't need.
-const READ_WINDOWS: [(&[Standing], End); 9] = [
+// slot isn't read, nor one that the last block doesn't need. A new leaf changes no mapping, not even one that comes twice.
+const READ_WINDOWS: [(&[Standing], End); 11] = [
     (&[(2, (1, 1, &[TO_85], 8))], IN_85),
     (&[(2, (1, 1, &[TO_85], 8)), (3, (2, 1, &[TO_86], 8))], IN_86),
     (&[(2, (1, 1, &[TO_85, TO_86], 8))], IN_86),
@@ -279,6 +279,11 @@ const READ_WINDOWS: [(&[Standing], End); 9] = [
     (
         &[(2, (1, 1, &[TO_85], 8)), (3, (2, 2, &[ANOTHER], 8))],
         ZEROS,
+    ),
+    (&[(2, (1, 1, &[LEAF, TO_85], 8))], IN_85),
+    (
+        &[(2, (1, 1, &[LEAF, TO_85], 8)), (3, (2, 1, &[LEAF], 8))],
+        IN_85,
     ),
     // Block 9 stands where block 1 stood.
     (
@@ -360,12 +365,19 @@ const SIXTH: Standing = (7, (6, 1, &[ANOTHER], 8));
 
 const SEVENTH: Standing = (8, (7, 1, &[ANOTHER], 8));
 
-// Where writes may follow the blocks that are there: one block of the eight stays free. They may not follow a part of a
-// block, nor one that lets go of the first block, nor where a sector of a later block is left anywhere.
-const FOLLOWED: [(&[Standing], End); 7] = [
+// The first block with the leaf of the addresses.
+const WITH_LEAF: Standing = (2, (1, 1, &[LEAF, TO_85], 8));
+
+// Where writes may follow the blocks that are there: one block of the eight stays free, and the leaf takes one where it isn't
+// there. They may not follow a part of a block, nor one that lets go of the first block, nor where a sector of a later block
+// is left anywhere.
+const FOLLOWED: [(&[Standing], End); 10] = [
     (&[FIRST], BOTH),
-    (&[FIRST, SECOND, THIRD, FOURTH, FIFTH], BOTH),
-    (&[FIRST, SECOND, THIRD, FOURTH, FIFTH, SIXTH], ONE),
+    (&[FIRST, SECOND, THIRD, FOURTH], BOTH),
+    (&[FIRST, SECOND, THIRD, FOURTH, FIFTH], ONE),
+    (&[FIRST, SECOND, THIRD, FOURTH, FIFTH, SIXTH], NONE),
+    (&[WITH_LEAF, SECOND, THIRD, FOURTH, FIFTH], BOTH),
+    (&[WITH_LEAF, SECOND, THIRD, FOURTH, FIFTH, SIXTH], ONE),
     (&[FIRST, SECOND, THIRD, FOURTH, FIFTH, SIXTH, SEVENTH], NONE),
     (&[(2, (1, 1, &[TO_85], 7))], NONE),
     (
@@ -382,6 +394,34 @@ fn writes_behind_a_window(rt: HostRuntime) -> Result<(), Fail> {
             &rt,
             rt.alloc(),
             &[(Device::Journal(journal, VALUES), TWO_WRITES, end)],
+        )?;
+    }
+    Ok(())
+}
+
+const WRITTEN_5: &[u8] = b"0 0 write 5 ok z0:0\n";
+
+/// A run reads the superblock and the journal; a write of it writes its block, and flushes before and behind its entry's.
+const WITHOUT_A_LEAF: End = (WRITTEN_5, 0, Calls::Count(9 + 4));
+
+/// The same for a leaf.
+const MAKES_A_LEAF: End = (WRITTEN_5, 0, Calls::Count(9 + 4 + 4));
+
+// A write makes its leaf where the window has none: neither one that it maps an address of, nor another one.
+const LEAVES: [(&[Standing], End); 4] = [
+    (&[(2, (1, 1, &[LEAF], 8))], WITHOUT_A_LEAF),
+    (&[WITH_LEAF, (3, (2, 1, &[LEAF], 8))], WITHOUT_A_LEAF),
+    (&[FIRST], MAKES_A_LEAF),
+    (&[(2, (1, 1, &[OTHER_LEAF], 8))], MAKES_A_LEAF),
+];
+
+#[test]
+fn leaves_that_a_window_has(rt: HostRuntime) -> Result<(), Fail> {
+    for &(journal, end) in &LEAVES {
+        each_is_right(
+            &rt,
+            rt.alloc(),
+            &[(Device::Journal(journal, VALUES), WRITE, end)],
         )?;
     }
     Ok(())

@@ -1,6 +1,6 @@
 -- Rows that pin what a step leaves of the device (`HasCalled`): for each clause some that it accepts, and some that break it
 -- alone.
-use Rattle.std.proofs.Common.{ℕ, ◌≡◌, ◌≢◌, ◌-◌, ◌^◌, true, false, List, [], ◌∷◌, length, refl, ap, inl, inr, arith}
+use Rattle.std.proofs.Common.{ℕ, ◌≡◌, ◌≢◌, ◌-◌, ◌^◌, true, false, None, List, [], ◌∷◌, length, refl, ap, inl, inr, arith}
 use Rattle.blk_base.specs.declared.request.Writer.{Writer}
 use Rattle.blk_base.specs.Sectors.{sector}
 use Rattle.disk_model.specs.declared.call.Call.{Call}
@@ -74,12 +74,12 @@ module _ (w : Writer) where
 
   -- idle: a device that isn't called is as it was, whether it tells or not
   abbrev silent : Trace
-  silent = Takes w (record { 0 = 90 }) ∷ []
+  silent = Takes w None (record { 0 = 90 }) ∷ []
 
   none_called : has_calls silent ≡ false
   none_called = refl
 
-  some_called : has_calls (Takes w (record { 0 = 90 }) ∷ three) ≡ true
+  some_called : has_calls (Takes w None (record { 0 = 90 }) ∷ three) ≡ true
   some_called = refl
 
   idle : HasCalled false true (seen [] 3 3) (seen [] 3 3) silent

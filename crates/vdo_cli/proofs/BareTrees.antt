@@ -24,7 +24,11 @@ use Rattle.block_map_tree.specs.Tree.{Tree, most_rows, row_of, trees_of}
 use Rattle.block_map_tree.specs.declared.forms.Forest.{Forest}
 use Rattle.core_model.specs.PageLinks.{opened_page}
 use Rattle.core_model.specs.PageTrees.{IsMapTree, block_in}
-use Rattle.vdo_cli.specs.Openings.{IsRemap}
+
+-- an entry that maps an address
+abbrev pub IsRemap : Entry → Type 0
+IsRemap (Remap at old new) = Unit {0}
+IsRemap (NewPage page at) = ⊥
 
 abbrev forest : Geometry → Forest
 forest g = record { geometry = g; zone = 0; zones = 1 }

@@ -1,6 +1,7 @@
 -- Rows that pin how a core served a session (`IsDriven`), what its report tells (`IsReported`), and what happened to the
 -- device on the way (`Happens`). Those that are accepted are of the session of a script that asks for nothing.
 use Rattle.std.proofs.Common.{ℕ, ◌≡◌, ◌≢◌, ◌<◌, ◌++◌, Bool, true, false, List, [], ◌∷◌, ◌*◌, length, replicate, slice_get, Some, None, IsSome, refl, sym, ◌∙◌, ap, subst, arith}
+use Rattle.std.specs.List.{AllByRecursion}
 use Rattle.blk_base.specs.declared.geometry.Super.{Super}
 use Rattle.blk_base.specs.declared.journal_entry.Entry.{Entry}
 use Rattle.blk_base.specs.declared.place.Pbn.{Pbn}
@@ -39,20 +40,22 @@ use Rattle.vdo_model.proofs.Example.{address, of_a}
 use Rattle.vdo_cli.specs.Openings.{IsOpened, opening_of, trust}
 use Rattle.vdo_cli.specs.Sessions.{IsDriven, IsOver, IsReported, run_sizes, task}
 use Rattle.vdo_cli.specs.Stops.{Happens}
+use Rattle.vdo_cli.proofs.BareTrees.{IsRemap}
 use Rattle.vdo_cli.proofs.EmptyScript.{empty_driven, empty_happens, empty_report, empty_reported}
 use Rattle.vdo_cli.proofs.PlayPins.{at, device}
 use Rattle.vdo_cli.proofs.SessionLaws.{answered, turns_call, turns_lead}
 
--- Accepted: of an image that was opened, all three parts of the session of no request.
-module _ (schedule : ℕ) (head : Super) (window : List Entry) (used : ℕ) (before opened : Seen) (is_opened : IsOpened (trust true true) before opened (opening_of head window used)) where
+-- Accepted: of an image that was opened, and whose window links no page, all three parts of the session of no request.
+module _ (schedule : ℕ) (head : Super) (window : List Entry) (used : ℕ) (before opened : Seen) (is_opened : IsOpened (trust true true) before opened (opening_of head window used))
+    (maps : AllByRecursion IsRemap window) where
   driven-empty : IsDriven (trust true true) schedule (task (opening_of head window used) no_requests) [] opened opened
-  driven-empty = empty_driven true true schedule head window used before opened is_opened
+  driven-empty = empty_driven true true schedule head window used before opened is_opened maps
 
   reported-empty : IsReported (opening_of head window used) empty_report [] opened opened
-  reported-empty = empty_reported true true schedule head window used before opened is_opened
+  reported-empty = empty_reported true true schedule head window used before opened is_opened maps
 
   happens-empty : Happens [] empty_report before opened opened
-  happens-empty = empty_happens true true schedule head window used before opened is_opened refl
+  happens-empty = empty_happens true true schedule head window used before opened is_opened maps refl
 
 -- IsDriven. By schedule 7 over some image.
 abbrev session_over : Super → List Entry → ℕ → Script → Session

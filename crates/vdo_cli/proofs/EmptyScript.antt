@@ -1,5 +1,5 @@
--- The session of a script that asks for nothing: over each image that was opened a core begins, is done at once, and tells
--- an empty report. So there is a session that was served, and the rows beside this file speak of it.
+-- The session of a script that asks for nothing: over each image that was opened, and whose window links no page, a core
+-- begins, is done at once, and tells an empty report. So there is a session that was served, and the rows beside this file speak of it.
 use Rattle.std.proofs.Common.{ℕ, zero, suc, ◌≡◌, Bool, false, IsTrue, List, [], ◌∷◌, None, Ok, refl, sym, ap, subst, arith}
 use Rattle.std.proofs.lemmas.Option.{same_Some}
 use Rattle.std.specs.List.{AllByRecursion}
@@ -29,11 +29,11 @@ use Rattle.vdo_core.specs.Plays.{core_with}
 use Rattle.vdo_model.specs.Scripts.{Script}
 use Rattle.vdo_model.specs.declared.report.RunReport.{RunReport}
 use Rattle.vdo_cli.specs.Endings.{RunsSession}
-use Rattle.vdo_cli.specs.Openings.{IsOpened, IsRemap, opening_of, trust}
+use Rattle.vdo_cli.specs.Openings.{IsOpened, opening_of, trust}
 use Rattle.vdo_cli.specs.Sessions.{IsDriven, IsOver, IsReported, run_sizes, task}
 use Rattle.vdo_cli.specs.Stops.{Happens}
 use Rattle.vdo_cli.specs.Outsides.{input_setting, inputs}
-use Rattle.vdo_cli.proofs.BareTrees.{bare, bare_is}
+use Rattle.vdo_cli.proofs.BareTrees.{IsRemap, bare, bare_is}
 use Rattle.vdo_cli.proofs.ScriptLaws.{can_begin}
 use Rattle.vdo_cli.proofs.SessionLaws.{happens, plays, reported}
 
@@ -49,7 +49,7 @@ module _ (head : Super) (window : List Entry) (used : ℕ) (script : Script) whe
   abbrev pub first_zones : List Zone
   first_zones =
       first_zone 0 (at.Desk (record { requests = script; log = []; marks = []; notices = 0; parked = [] }))
-      ∷ first_zone 1 (at.Logical (record { zone = 0; notified = false; next = 0; places = []; held = []; waiting = []; retired = []; tree = bare head.geometry; window = window; slots = [] }))
+      ∷ first_zone 1 (at.Logical (record { zone = 0; notified = false; next = 0; places = []; held = []; waiting = []; retired = []; tree = bare head.geometry; making = []; lacking = []; unlinkable = []; window = window; slots = [] }))
       ∷ first_zone 2 (at.Physical (record { notified = false; free = free_of head.geometry window }))
       ∷ first_zone 3 (at.Journal (record { notified = false; busy = false; broken = false; log = first_log (run_sizes head used); filling = []; waiting = []; entered = []; committed = [] }))
       ∷ first_zone 4 (at.Device (record { stopped = false; calls = 0 }))
@@ -73,6 +73,9 @@ module _ (head : Super) (window : List Entry) (used : ℕ) (script : Script) whe
       held = refl;
       waiting = refl;
       retired = refl;
+      making = refl;
+      lacking = refl;
+      unlinkable = refl;
       tree = rw (over.sizes_is, over.window_is) (bare_is head.geometry window sizes maps);
       window = sym over.window_is;
       slots = refl;
@@ -113,8 +116,9 @@ not_called tells honest seen = record {
 no_request : (P : Request → Type 0) → AllByRecursion (AllByRecursion P) no_requests
 no_request P = (tt, (tt, (tt, (tt, (tt, (tt, (tt, (tt, (tt, (tt, (tt, (tt, (tt, (tt, (tt, (tt, tt))))))))))))))))
 
--- Over an image that was opened.
-module _ (tells honest : Bool) (schedule : ℕ) (head : Super) (window : List Entry) (used : ℕ) (before opened : Seen) (is_opened : IsOpened (trust tells honest) before opened (opening_of head window used)) where
+-- Over an image that was opened, and whose window links no page.
+module _ (tells honest : Bool) (schedule : ℕ) (head : Super) (window : List Entry) (used : ℕ) (before opened : Seen) (is_opened : IsOpened (trust tells honest) before opened (opening_of head window used))
+    (maps : AllByRecursion IsRemap window) where
   can : CanBegin (run_sizes head used) no_requests window
   can = can_begin tells honest before opened head window used no_requests is_opened (record { rows = refl; few = omega arith; writes = no_request HasWholeBlock })
 
@@ -123,7 +127,7 @@ module _ (tells honest : Bool) (schedule : ℕ) (head : Super) (window : List En
   empty_driven = record {
     first = first_zones head window used no_requests;
     last = first_zones head window used no_requests;
-    begins = first_begins head window used no_requests can.geometry is_opened.serves.mapped.1;
+    begins = first_begins head window used no_requests can.geometry maps;
     events = [];
     state = schedule;
     drives = (refl, refl, refl, refl);
@@ -133,18 +137,18 @@ module _ (tells honest : Bool) (schedule : ℕ) (head : Super) (window : List En
   pub empty_reported : IsReported (opening_of head window used) empty_report [] opened opened
   empty_reported =
       reported tells honest head window used no_requests (first_zones head window used no_requests) (first_zones head window used no_requests) [] opened opened can
-      (first_begins head window used no_requests can.geometry is_opened.serves.mapped.1) rests (first_done head window used) (not_called tells honest opened)
+      (first_begins head window used no_requests can.geometry maps) rests (first_done head window used) (not_called tells honest opened)
 
   pub empty_happens : IsTrue tells → Happens [] empty_report before opened opened
   empty_happens =
       happens tells honest head window used no_requests (first_zones head window used no_requests) (first_zones head window used no_requests) [] opened opened can
-      (first_begins head window used no_requests can.geometry is_opened.serves.mapped.1) rests (first_done head window used) (not_called tells honest opened) before is_opened
+      (first_begins head window used no_requests can.geometry maps) rests (first_done head window used) (not_called tells honest opened) before is_opened
       (were_only_read tells honest 0 before opened _ is_opened.read.read)
 
   pub empty_plays : (source_tells : Bool) (source rest : SourceSeen) → (IsTrue source_tells → whole_script source.left ≡ Ok no_requests) → (IsTrue source_tells → rest.left ≡ [])
       → RunsSession (input_setting tells honest source_tells) schedule empty_report (inputs before source) (inputs opened rest)
   empty_plays source_tells source rest script_is whole =
       plays tells honest head window used no_requests (first_zones head window used no_requests) (first_zones head window used no_requests) [] opened opened can
-      (first_begins head window used no_requests can.geometry is_opened.serves.mapped.1) rests (first_done head window used) (not_called tells honest opened) before is_opened
+      (first_begins head window used no_requests can.geometry maps) rests (first_done head window used) (not_called tells honest opened) before is_opened
       (were_only_read tells honest 0 before opened _ is_opened.read.read) source_tells schedule schedule [] source rest
       (record { opening = refl; size = refl }) (refl, refl, refl, refl) script_is whole

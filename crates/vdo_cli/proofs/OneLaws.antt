@@ -9,8 +9,10 @@ use Rattle.image_layout.specs.Superblock.{super_of}
 use Rattle.image_model.specs.declared.fault.ImageFault.{ImageFault}
 use Rattle.image_model.specs.declared.fault.ImageFault.TheVariants.{Memory}
 use Rattle.image_layout.specs.declared.fault.SuperFault.{SuperFault}
-use Rattle.vdo_cli.specs.Openings.{CanServe, CantServe, IsRead, IsOpened, HasNoImage, HasFaulty, opening_of, trust}
-use Rattle.vdo_cli.proofs.ServeLaws.{one_reason, one_service, served_or_not}
+use Rattle.journal_window.specs.Windows.{IsRefused}
+use Rattle.journal_window.proofs.AnswerLaws.{one_refusal}
+use Rattle.vdo_cli.specs.Openings.{CanServe, IsRead, IsOpened, HasNoImage, HasFaulty, opening_of, trust}
+use Rattle.vdo_cli.proofs.ServeLaws.{one_service, served_or_not}
 
 module _ (tells honest : Bool) (before now : Seen) (told : IsTrue tells) where
   same_first : (first first' : List ℕ) (journal journal' : List (List ℕ)) → reverse (first ∷ journal) ≡ reverse (first' ∷ journal') → first ∷ journal ≡ first' ∷ journal'
@@ -42,13 +44,13 @@ module _ (tells honest : Bool) (before now : Seen) (told : IsTrue tells) where
       (heads, same.0, same.1)
 
   -- and so is the reason why none is served
-  moved_cause : (head head' : Super) (journal journal' : List (List ℕ)) (why : ImageFault) → head ≡ head' → journal ≡ journal' → CantServe head' journal' why → CantServe head journal why
+  moved_cause : (head head' : Super) (journal journal' : List (List ℕ)) (why : ImageFault) → head ≡ head' → journal ≡ journal' → IsRefused head' journal' why → IsRefused head journal why
   moved_cause head head' journal journal' why heads journals cause =
-      subst (λ (blocks : List (List ℕ)). CantServe head blocks why) (sym journals) (subst (λ (h : Super). CantServe h journal' why) (sym heads) cause)
+      subst (λ (blocks : List (List ℕ)). IsRefused head blocks why) (sym journals) (subst (λ (h : Super). CantServe h journal' why) (sym heads) cause)
 
   pub faulty_is_one : (why why' : ImageFault) → HasFaulty (trust tells honest) before now why → HasFaulty (trust tells honest) before now why' → (why ≡ why') ⊎ (why ≡ Memory) ⊎ (why' ≡ Memory)
   faulty_is_one why why' one other =
-      one_reason one.head one.journal why why' one.cause
+      one_refusal one.head one.journal why why' one.cause
       (moved_cause one.head other.head one.journal other.journal why' (head_is _ _ _ _ one.read other.read) (journal_is _ _ _ _ one.read other.read) other.cause)
 
   -- a journal can be served or not

@@ -19,9 +19,10 @@ use Rattle.image_model.specs.declared.fault.ImageFault.{ImageFault}
 use Rattle.image_model.specs.declared.fault.ImageFault.TheVariants as image
 use Rattle.image_model.specs.Looked.{HasOneImageButIndex, looked_in}
 use Rattle.image_model.proofs.LookedLaws.{looked_first, looked_in_place, looked_low}
+use Rattle.journal_window.specs.Windows.{IsRefused}
 use Rattle.vdo_cli.specs.declared.fault.Fault.{Fault}
 use Rattle.vdo_cli.specs.declared.fault.Fault.TheVariants as fault
-use Rattle.vdo_cli.specs.Openings.{CanServe, CantServe, IsRead, IsOpened, HasNoImage, HasFaulty, JournalFails, OpeningFails, ServingFails, opening_of, trust}
+use Rattle.vdo_cli.specs.Openings.{CanServe, IsRead, IsOpened, HasNoImage, HasFaulty, JournalFails, OpeningFails, ServingFails, opening_of, trust}
 
 module _ (tells honest : Bool) (before middle now : Seen) (head : Super) (first : List ℕ) (is_head : IsHead before.size first head) (was : WereRead tells honest 0 before middle (first ∷ [])) where
   -- the superblock and all of the journal
@@ -135,8 +136,8 @@ module _ (tells honest : Bool) (before now : Seen) (image : Blocks) (told : IsTr
   says_none why (inr (first, some, read, says)) = of_first image first [] before.size 0 (Err why) (first_read first [] read some) (size_is _ read) says
 
   pub faulty_journal : (why : ImageFault) → (faulty : HasFaulty (trust tells honest) before now why)
-      → (super_of_image image ≡ Ok faulty.head) × CantServe faulty.head (journal_of faulty.head.geometry image) why
+      → (super_of_image image ≡ Ok faulty.head) × IsRefused faulty.head (journal_of faulty.head.geometry image) why
   faulty_journal why faulty = (
     says_head faulty.head faulty.journal faulty.read,
-    subst (λ (journal : List (List ℕ)). CantServe faulty.head journal why) (sym (journal_is faulty.head faulty.journal faulty.read)) faulty.cause,
+    subst (λ (journal : List (List ℕ)). IsRefused faulty.head journal why) (sym (journal_is faulty.head faulty.journal faulty.read)) faulty.cause,
   )

@@ -18,13 +18,14 @@ use Rattle.image_layout.specs.Superblock.{super_of}
 use Rattle.image_model.specs.declared.fault.ImageFault.TheVariants as image
 use Rattle.image_layout.specs.declared.fault.SuperFault.{SuperFault}
 use Rattle.image_layout.specs.declared.fault.SuperFault.TheVariants.{NotAnImage, Version}
+use Rattle.journal_window.specs.Windows.{IsRefused}
 use Rattle.stream_text.specs.WholeScript.{whole_script}
 use Rattle.stream_text.specs.declared.refusal.ScriptRefusal.{ScriptRefusal}
 use Rattle.vdo_model.specs.Scripts.{Script}
 use Rattle.vdo_cli.specs.declared.fault.Fault.{Fault}
 use Rattle.vdo_cli.specs.declared.fault.Fault.TheVariants as fault
 use Rattle.vdo_cli.specs.Endings.{PlayFails}
-use Rattle.vdo_cli.specs.Openings.{CanServe, CantServe, HasFaulty, IsRead, IsOpened, HasNoImage, opening_of, trust}
+use Rattle.vdo_cli.specs.Openings.{CanServe, HasFaulty, IsRead, IsOpened, HasNoImage, opening_of, trust}
 use Rattle.vdo_cli.specs.Outsides.{input_setting, inputs}
 use Rattle.vdo_cli.proofs.OneLaws.{not_opened_and_faulty, not_read_and_refused, faulty_is_one}
 
@@ -204,7 +205,7 @@ module _ (honest : Bool) (before after : Seen) (head : Super) (journal : List (L
   Right window used = CanServe head journal window used
 
   abbrev Wrong : ℕ → Type 0
-  Wrong sequence = CantServe head journal (image.Window sequence)
+  Wrong sequence = IsRefused head journal (image.Window sequence)
 
   opened : (window : List Entry) (used : ℕ) → Right window used → IsOpened (trust true honest) before after (opening_of head window used)
   opened window used right = record { journal = journal; read = read; serves = right }
@@ -214,7 +215,7 @@ module _ (honest : Bool) (before after : Seen) (head : Super) (journal : List (L
   right_or_wrong other window used sequence is_opened faulty = absurd (let same = not_opened_and_faulty true honest before after refl other window used (image.Window sequence) is_opened faulty in cc)
 
   -- Image, of the journal's sequences: they are used up, and not of a journal that can be served
-  sequences-used_up : (why : SuperFault) → CantServe head journal (image.Super why) → Ends 0 0 (fault.Image (image.Super why))
+  sequences-used_up : (why : SuperFault) → IsRefused head journal (image.Super why) → Ends 0 0 (fault.Image (image.Super why))
   sequences-used_up why wrong = inr (record { head = head; journal = journal; read = read; cause = wrong })
 
   sequences-not_right : (window : List Entry) (used : ℕ) (why : SuperFault) → Right window used → Ends 0 0 (fault.Image (image.Super why)) → ⊥

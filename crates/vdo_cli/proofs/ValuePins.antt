@@ -1,6 +1,7 @@
 -- Rows that pin what a session says of the image that it opened (`reads_right` of `RunsSession`, `stops` of `Happens`): a run that
 -- is accepted, and for each one that isn't since it breaks this clause.
 use Rattle.std.proofs.Common.{ℕ, ◌≡◌, ◌<◌, ◌≤◌, ◌++◌, true, false, List, [], ◌∷◌, length, replicate, None, refl, sym, ◌∙◌, ap, subst, arith}
+use Rattle.std.specs.List.{AllByRecursion}
 use Rattle.blk_base.specs.declared.geometry.Super.{Super}
 use Rattle.blk_base.specs.declared.journal_entry.Entry.{Entry}
 use Rattle.blk_base.specs.declared.request.Answer.TheVariants as reply
@@ -28,6 +29,7 @@ use Rattle.vdo_model.proofs.Example.{address, of_a, placed, entry, block, blocks
 use Rattle.vdo_cli.specs.Openings.{CanServe, IsOpened, opening_of, trust}
 use Rattle.vdo_cli.specs.Outsides.{Outside, outcome, outside, setting}
 use Rattle.vdo_cli.specs.Runs.{EndsSo}
+use Rattle.vdo_cli.proofs.BareTrees.{IsRemap}
 use Rattle.vdo_cli.proofs.CommandPins.{run_words}
 use Rattle.vdo_cli.proofs.PlayPins.{source, sink}
 use Rattle.vdo_cli.proofs.EmptyScript.{empty_plays, empty_report}
@@ -65,10 +67,11 @@ write_report calls = record {
   histories = entry 1 (of_a 0) Settled ∷ [];
 }
 
--- A device has this image and nothing is pending on it, and it was opened: address 1 has block 11 there.
+-- A device has this image and nothing is pending on it, and it was opened: address 1 has block 11 there, and its window links
+-- no page.
 module _ (before opened : Seen) (head : Super) (window : List Entry) (used : ℕ) (is_opened : IsOpened (trust true true) before opened (opening_of head window used))
     (image : Blocks) (one : HasOneImageButIndex before.opening before.log image) (has_value : value_of image window 1 ≡ block 11)
-    (below : 1 < head.geometry.logical) where
+    (below : 1 < head.geometry.logical) (maps : AllByRecursion IsRemap window) where
   -- what was read of it is what the image has
   same_window : (opened' : Seen) (head' : Super) (window' : List Entry) (used' : ℕ) → IsOpened (trust true true) before opened' (opening_of head' window' used') → (head ≡ head') × (window ≡ window')
   same_window opened' head' window' used' is_opened' =
@@ -82,7 +85,7 @@ module _ (before opened : Seen) (head : Super) (window : List Entry) (used : ℕ
   -- a session that was served says nothing else of it, here that of no request
   served-empty : Served before [] (outside opened (source [] 0) (sink (answers_text empty_report.requests [] []) 0)) empty_report
   served-empty = record {
-    session = empty_plays true true 0 head window used before opened is_opened true (source [] 0) (source [] 0) (λ told. refl) (λ told. refl);
+    session = empty_plays true true 0 head window used before opened is_opened maps true (source [] 0) (source [] 0) (λ told. refl) (λ told. refl);
     closes = (refl, λ told. refl);
   }
 

@@ -1,13 +1,7 @@
 -- What opening an image finds, and why it can't be opened: by the bytes that the device gave.
-use Rattle.std.specs.Prelude.{ℕ, ◌≡◌, ◌⊎◌, ◌<◌, ◌/◌, ◌++◌, Bool, List, [], ◌∷◌, length, reverse, Err}
-use Rattle.std.specs.List.{AllByRecursion}
+use Rattle.std.specs.Prelude.{ℕ, ◌≡◌, ◌⊎◌, ◌<◌, Bool, List, [], ◌∷◌, length, reverse, Err}
 use Rattle.blk_base.specs.declared.geometry.Super.{Super}
-use Rattle.blk_base.specs.declared.journal_entry.CommittedEntry.{CommittedEntry}
 use Rattle.blk_base.specs.declared.journal_entry.Entry.{Entry}
-use Rattle.blk_base.specs.declared.journal_entry.Entry.TheVariants.{Remap, NewPage}
-use Rattle.blk_base.specs.declared.place.PageId.{PageId}
-use Rattle.blk_base.specs.declared.place.Pbn.{Pbn}
-use Rattle.blk_base.specs.declared.point.Point.{Point}
 use Rattle.core_model.specs.Sessions.{said_by}
 use Rattle.disk_model.specs.Seen.{Seen}
 use Rattle.disk_model.specs.Since.{WereRead, NextFailed, StopsBefore}
@@ -50,48 +44,12 @@ pub record IsRead (trust : Trust) (before now : Seen) (head : Super) (journal : 
 
 -- What a journal says.
 
--- an entry that maps an address
-abbrev pub IsRemap : Entry → Type 0
-IsRemap (Remap at old new) = Unit {0}
-IsRemap (NewPage page at) = ⊥
-
--- the entries of a window without their points, each of which maps an address
-abbrev pub AreMapped : List CommittedEntry → List Entry → Type 0
-AreMapped window entries = (entries ≡ said_by window) × AllByRecursion IsRemap entries
-
--- It can be served: these are the entries of its window, the newest first, each of which maps an address, and so many of its
--- blocks are used.
+-- It can be served: these are the entries of its window, the newest first, and so many of its blocks are used.
 pub record CanServe (head : Super) (journal : List (List ℕ)) (window : List Entry) (used : ℕ) : Type 0 where
   pub found : WindowState
   pub is_window : IsWindowOf head journal found
-  pub mapped : AreMapped found.entries window
+  pub entries_are : window ≡ said_by found.entries
   pub used_is : AreUsed head.geometry head.start journal found.last used
-
--- the sequence of the block whose entry has this point
-abbrev pub sequence_of : Point → ℕ
-sequence_of point = point.0 / 512
-
--- the oldest entry of a window for a new page of the block map is of the block with this sequence
-pub record IsFirstPage (window : List CommittedEntry) (sequence : ℕ) : Type 0 where
-  pub page : PageId
-  pub at : Pbn
-  pub point : Point
-  pub newer : List CommittedEntry
-  pub older : List CommittedEntry
-  pub parts : window ≡ newer ++ record { entry = NewPage page at; point = point } ∷ older
-  pub none_older : AllByRecursion IsRemap (said_by older)
-  pub block : sequence ≡ sequence_of point
-
--- its window has an entry for a new page, which isn't served yet; the oldest block with one has this sequence
-pub record HasNewPage (head : Super) (journal : List (List ℕ)) (sequence : ℕ) : Type 0 where
-  pub found : WindowState
-  pub is_window : IsWindowOf head journal found
-  pub first_page : IsFirstPage found.entries sequence
-
--- it can't be served for this reason: it has no window, or one with a new page
-abbrev pub CantServe : Super → List (List ℕ) → ImageFault → Type 0
-CantServe head journal (image.Window sequence) = IsRefused head journal (image.Window sequence) ⊎ HasNewPage head journal sequence
-CantServe head journal other = IsRefused head journal other
 
 -- What was read.
 
@@ -108,12 +66,12 @@ HasNoImage trust before now why =
     ⊎ ((first : List ℕ) × (0 < before.size)
     × WereRead trust.tells trust.honest 0 before now (first ∷ []) × (super_of first before.size ≡ Err why))
 
--- the superblock and the journal were read, and the journal can't be served for this reason
+-- the superblock and the journal were read, and the journal has no window for this reason
 pub record HasFaulty (trust : Trust) (before now : Seen) (why : ImageFault) : Type 0 where
   pub head : Super
   pub journal : List (List ℕ)
   pub read : IsRead trust before now head journal
-  pub cause : CantServe head journal why
+  pub cause : IsRefused head journal why
 
 -- blocks that are read before an image is opened: none yet of a device that has some, or a superblock and some of its journal
 abbrev pub IsBegun : ℕ → List (List ℕ) → Type 0
@@ -135,16 +93,10 @@ JournalFails trust slots before now fault.Device =
 JournalFails trust slots before now fault.Memory = Unit {0}
 JournalFails trust slots before now other = ⊥
 
--- why the entries of a window can't be served
-abbrev pub PagesFail : List CommittedEntry → Fault → Type 0
-PagesFail window (fault.Image (image.Window sequence)) = IsFirstPage window sequence
-PagesFail window fault.Memory = Unit {0}
-PagesFail window other = ⊥
-
 -- why no session can be begun with a journal that was read: of want of memory nothing
 abbrev pub ServingFails : Super → List (List ℕ) → Fault → Type 0
-ServingFails head journal (fault.Image (image.Super why)) = CantServe head journal (image.Super why)
-ServingFails head journal (fault.Image (image.Window sequence)) = CantServe head journal (image.Window sequence)
+ServingFails head journal (fault.Image (image.Super why)) = IsRefused head journal (image.Super why)
+ServingFails head journal (fault.Image (image.Window sequence)) = IsRefused head journal (image.Window sequence)
 ServingFails head journal fault.Memory = Unit {0}
 ServingFails head journal other = ⊥
 

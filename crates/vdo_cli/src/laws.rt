@@ -8,8 +8,9 @@ ghost use Rattle.image_layout.specs.declared.fault.SuperFault.{SuperFault};
 ghost use Rattle.image_model.specs.declared.fault.ImageFault.{ImageFault};
 ghost use Rattle.image_model.specs.declared.fault.ImageFault.TheVariants.{Memory};
 ghost use Rattle.image_model.specs.Looked.{HasOneImageButIndex};
+ghost use Rattle.journal_window.specs.Windows.{IsRefused};
 ghost use Rattle.vdo_cli.specs.Onward.{GoesOn};
-ghost use Rattle.vdo_cli.specs.Openings.{CanServe, CantServe, HasFaulty, HasNoImage, IsOpened, Opening, Trust};
+ghost use Rattle.vdo_cli.specs.Openings.{CanServe, HasFaulty, HasNoImage, IsOpened, Opening, Trust};
 ghost use Rattle.vdo_cli.specs.Outsides.{Outcome, Outside, Setting};
 ghost use Rattle.vdo_cli.specs.Runs.{EndsSo};
 
@@ -31,7 +32,7 @@ pub fn reads_show_the_image()
         → HasOneImageButIndex before.opening before.log image
         → HasFaulty trust before now why
         → (head : Super) × (super_of_image image ≡ Ok head)
-        × CantServe head (journal_of head.geometry image) why }
+        × IsRefused head (journal_of head.geometry image) why }
 {}
 
 /// Of a device that tells, what was read is one superblock with one window and one number of used blocks, or one thing is wrong

@@ -10,10 +10,10 @@
 //! where writes may follow a journal; one output of a script of one stream, and one of two, by the schedules 0 to 99.
 //!
 //! Not there: that a later run opens the image that a stop in a session leaves: a run refuses one whose sequences are
-//! used up (a `start` near 2^54), and one whose window has a new page of the block map. A session knows the entries of
-//! the journal alone, so of one on an image whose block map has mappings nothing is claimed. It doesn't write the
-//! superblock, so the promises of a recovery, which are about sound images, don't cover the images that a session
-//! leaves. Of an image on which writes are pending when it is opened nothing is claimed, those of the index aside.
+//! used up (a `start` near 2^54). A session knows the entries of the journal alone, and links the new pages of these,
+//! so of one on an image whose block map has mappings nothing is claimed. It doesn't write the superblock, so the
+//! promises of a recovery, which are about sound images, don't cover the images that a session leaves. Of an image on
+//! which writes are pending when it is opened nothing is claimed, those of the index aside.
 //!
 //! No rows yet: but through the definitions that use them: `OpensWith`, `NotBegun`, `PlayedOut` and `EndsAs`.
 #![tactic(auto)]
@@ -22,7 +22,6 @@ mod adapters;
 mod endings;
 mod fault;
 mod laws;
-mod mapped;
 mod new_image;
 mod runner;
 mod session;

@@ -261,18 +261,18 @@ fn status_of_device<D: Disk, S: Source, K: Sink>(
 /// On an honest device on which nothing was pending, a stop before or within any call leaves an image with the superblock
 /// that it had and a journal with a window. By that window each address has the value of one of its writes: of none older
 /// than the last one that was answered before a flush was begun which was answered too (docs/DESIGN.md, "A stop"). That a
-/// later run opens this image isn't claimed: a run refuses one whose sequences are used up, and one with a new page of the
-/// block map in its window. The report's marks say which calls of the device made the flushes last. A stop while an image is
-/// made leaves what the old image said, or no image, or an empty one. One while a sound image is recovered leaves a sound one
-/// that says the same. One while an image is rebuilt leaves one with the same map, which can be rebuilt again.
+/// later run opens this image isn't claimed: a run refuses one whose sequences are used up. The report's marks say which calls
+/// of the device made the flushes last. A stop while an image is made leaves what the old image said, or no image, or an empty
+/// one. One while a sound image is recovered leaves a sound one that says the same. One while an image is rebuilt leaves one
+/// with the same map, which can be rebuilt again.
 ///
 /// | Status | Comes where |
 /// |---|---|
 /// | 0 | each request was answered Ok, or with bytes; or the image was made; or recovered, or was closed; or rebuilt; or no block differs, or the status was told |
-/// | 1 | a request was answered Full: no journal block was left for its entry, or no data block |
+/// | 1 | a request was answered Full: no journal block was left for its entry or that of a page, or no data block |
 /// | 2 | the words are no command that is served (`Usage`) or a line of the script has a fault (`Script`) |
 /// | 3 | the device failed: before the script was read, or while an image was made, recovered, rebuilt or looked at (`Device`), or a request was answered Stopped or with a read fault |
-/// | 4 | the device has no image, or a block of its window can't be replayed or has a new page, or a recovery, a rebuild, an audit or a status met a page or a count that can't be (`Image`) |
+/// | 4 | the device has no image, or a block of its window can't be replayed, or a recovery, a rebuild, an audit or a status met a page or a count that can't be (`Image`) |
 /// | 5 | memory ran out before the first request was served, or while an image was looked at, or before the first write of a recovery or a rebuild (`Memory`) |
 /// | 6 | an audit found blocks that differ (`Differs`) |
 /// | 7 | the source or the sink failed (`Read`, `Sink`) |

@@ -1,6 +1,7 @@
 ghost use Rattle.std.specs.Prelude.{◌≡◌, ◌≤◌, ◌<◌, ◌∷◌, ◌^◌, [], ℕ, List, IfOk, IfErr, length, reverse, vec_len};
 ghost use Rattle.blk_base.specs.Limits.{IsGeometry};
 ghost use Rattle.blk_base.specs.Regions.{needed_blocks};
+ghost use Rattle.core_model.specs.Sessions.{said_by};
 ghost use Rattle.disk_model.specs.Since.{IsUntouched, WereRead};
 ghost use Rattle.image_layout.specs.Opened.{IsHead};
 ghost use Rattle.vdo_cli.specs.Openings.{CanServe, IsOpened, JournalFails, OpeningFails, ServingFails};
@@ -8,14 +9,13 @@ ghost use Rattle.vdo_cli.specs.Openings.{opening_of, trust};
 
 use crate::Fault;
 use crate::endings::fault_of;
-use crate::mapped::mapped_entries;
-use blk_base::{Block, Entry, Layout, Pbn, Super};
+use blk_base::{Block, CommittedEntry, Entry, Layout, Pbn, Super};
 use disk_model::{Disk, ReadError, read_block, read_blocks};
 use image_layout::{SuperFault, read_super};
 use image_model::ImageFault;
 use journal_room::used_blocks;
 use journal_window::window_of;
-use std::alloc::Global;
+use std::alloc::{AllocError, Global};
 
 /// What a session starts with: the superblock, how many blocks of the journal are used, and the entries of the window, the
 /// oldest first.
@@ -71,6 +71,19 @@ fn read_journal<D: Disk>(
     }
 }
 
+// The entries of a window, the oldest first, without their points; want of memory alone is in the way.
+fn entries_of(alloc: Global, window: &[CommittedEntry]) -> Result<Vec<Entry>, AllocError>
+    ensures { IfOk result (λ entries. reverse entries.items ≡ said_by (reverse window.now)) }
+{
+    let mut entries = Vec::new(alloc);
+    for committed in window {
+        let Ok(()) = entries.push(committed.entry) else {
+            return Err(AllocError);
+        };
+    }
+    Ok(entries)
+}
+
 // What a session starts with, by the blocks of the journal.
 fn serve(alloc: Global, head: Super, journal: &[Block]) -> Result<Opened, Fault>
     requires sizes { IsGeometry head.geometry }
@@ -86,7 +99,9 @@ fn serve(alloc: Global, head: Super, journal: &[Block]) -> Result<Opened, Fault>
         Err(why) => return Err(fault_of(why)),
     };
     let used = used_blocks(&head, journal, found.last());
-    let window = mapped_entries(alloc, found.entries())?;
+    let Ok(window) = entries_of(alloc, found.entries()) else {
+        return Err(Fault::Memory);
+    };
     Ok(Opened { head, used, window })
 }
 

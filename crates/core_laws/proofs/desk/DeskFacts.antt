@@ -12,7 +12,7 @@ use Rattle.data_vio.specs.declared.items.Item.TheVariants as item
 use Rattle.data_vio.specs.declared.items.Phase.TheVariants as phase
 use Rattle.core_model.specs.declared.zones.ZoneData.TheVariants as at
 use Rattle.core_model.specs.DeskRules.{DeskBegins, DeskServes, is_notified, at_once, vio_of, first_zone, is_marked, is_stopped, mark_of_vio, with_notice, woken}
-use Rattle.core_laws.proofs.kept.ActKept.{Known, unborn, ActKept, PostOk, act_none, act_one, own_request, plain_clears, reaches, line_kept, shown_plain, carries_at, unborn_place, unborn_entry, unborn_take, unborn_slot, vio_ok}
+use Rattle.core_laws.proofs.kept.ActKept.{Known, unborn, ActKept, PostOk, act_none, act_one, own_request, plain_clears, reaches, line_kept, shown_plain, in_bare, unborn_place, unborn_entry, unborn_take, unborn_slot, vio_ok}
 use Rattle.core_laws.proofs.trace.DeskOfTrace.{desk_log_right, answered_begun, shown_of}
 use Rattle.core_laws.proofs.physical.PhysicalFacts.{zone_below}
 
@@ -163,8 +163,8 @@ desk_begins {s} {t} {n} {old} known new made posts (DeskBegins.answers w r v a n
     let cause : MayAnswer s (began ∷ t) w r a = once_cause s (began ∷ t) w (is_notified s.sizes old) r v a t refl served (unborn_slot s t w known.right (late s t w known.session known.right next)) heard_so once in
     let all : (q : Request) → request_at s.script w ≡ Some q → MayAnswer s (began ∷ t) w q a =
     λ q had. subst (λ (x : Request). MayAnswer s (began ∷ t) w x a) (same_Some _ _ (sym asked ∙ had)) cause in
-    let first = plain_clears known began t tt own.number_is tt tt in
-    let second = plain_clears known answered (began ∷ t) tt own.number_is (unborn (late s t w known.session known.right next)) tt in
+    let first = plain_clears known began t tt own.number_is tt tt tt in
+    let second = plain_clears known answered (began ∷ t) tt own.number_is (unborn (late s t w known.session known.right next)) tt tt in
     rw (i, m, q) (record {
       right = (((open_now.is_begun, open_now.unanswered), all), shown_plain s (began ∷ t) answered tt begun_right.1, begun_right);
       gives = λ gives fair. gives (fair_before s began t (fair_before s answered (began ∷ t) fair));
@@ -189,7 +189,7 @@ desk_begins {s} {t} {n} {old} known new made posts (DeskBegins.sends w r v next_
     let next : IsNextLine s.sizes.depth s.script (line.Begin w) (lines t) = rw (own.sound.requests, own.lists.log_is) at next_line.may in
     let asked : request_at s.script w ≡ Some r = rw own.sound.requests at asks in
     let began = Says (line.Begin w) in
-    let clears = plain_clears known began t tt own.number_is tt tt in
+    let clears = plain_clears known began t tt own.number_is tt tt tt in
     rw (i, m, q) (act_one known began clears (λ gives fair. gives (fair_before s began t fair)) (begins_right s t w known.session known.right next)
     (record {
       number_is = own.number_is;
@@ -205,7 +205,7 @@ desk_begins {s} {t} {n} {old} known new made posts (DeskBegins.sends w r v next_
 module _ {s : Session} {t : Trace} {n : ℕ} {old : Desk} {v : Vio} (known : Known s t n (at.Desk old) (item.Request v ∷ [])) where
   earned : v.phase ≡ phase.Reply → (a : Reply) → v.answer ≡ Some a → IsEarned s t (mark_of_vio v) (request_of v) a (is_marked v.asks a)
   earned is a answer =
-      let may : MayReply s t v v.answer = carries_at s t v phase.Reply is known.front_ok.0.1 in
+      let may : MayReply s t v v.answer = (in_bare known phase.Reply is (λ page no. no)).1 in
       let k : MayReply s t v (Some a) = subst (λ (o : Option Reply). MayReply s t v o) answer may in k
 
   answer_cause : v.phase ≡ phase.Reply → (a : Reply) → v.answer ≡ Some a → is_marked v.asks a ≡ false → (r : Request) → request_at s.script v.request ≡ Some r → MayAnswer s t v.request r a
@@ -254,7 +254,7 @@ module _ {s : Session} {t : Trace} {n : ℕ} {old : Desk} {v : Vio} (known : Kno
   desk_serves new made posts (DeskServes.answers a is answer notified unmarked i m q) =
       let own = known.own in
       let h = Says (line.Answer v.request a) in
-      let clears = plain_clears known h t tt own.number_is (own_request known) tt in
+      let clears = plain_clears known h t tt own.number_is (own_request known) tt tt in
       rw (i, m, q) (act_one known h clears (λ gives fair. gives (fair_before s h t fair))
       ((((vio_ok known).is_open.is_begun, (vio_ok known).is_open.unanswered), answer_cause is a answer unmarked), shown_plain s t h tt (shown_of s t known.right), known.right)
       (record {
@@ -273,7 +273,7 @@ module _ {s : Session} {t : Trace} {n : ℕ} {old : Desk} {v : Vio} (known : Kno
       let own = known.own in
       let mark : FlushMark = mark_of_vio v in
       let h = Flushes mark in
-      let clears = plain_clears known h t tt own.number_is (own_request known) tt in
+      let clears = plain_clears known h t tt own.number_is (own_request known) tt tt in
       rw (i, m, q) (act_one known h clears (λ gives fair. gives (fair_before s h t fair))
       ((((vio_ok known).is_open.is_begun, (vio_ok known).is_open.unanswered), flush_asked flush, flush_mark is flush answer), shown_plain s t h tt (shown_of s t known.right), known.right)
       (record {

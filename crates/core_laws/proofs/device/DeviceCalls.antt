@@ -24,7 +24,7 @@ use Rattle.byte_fields.specs.Mappings.{HoldsMapping}
 use Rattle.journal_codec.specs.Grammar.{HoldsEntry}
 use Rattle.core_laws.proofs.kept.ActKept.{shown_kept}
 use Rattle.core_laws.proofs.kept.Keys.{Key, OfBlock, OfJournal, Spares, Clears}
-use Rattle.core_laws.proofs.kept.StandsOn.{AreElsewhere, IsCallOf, SparesBlocks, block_spared, call_sealed, entered_parts, failed, journal_spared, map_kept, new_kept, new_reads_kept, on_each, spares_all, stands_kept, succeeded, write_spares}
+use Rattle.core_laws.proofs.kept.StandsOn.{AreElsewhere, IsCallOf, SparesBlocks, block_spared, call_sealed, entered_parts, failed, journal_spared, map_kept, new_kept, new_reads_kept, on_each, pages_kept, spares_all, stands_kept, succeeded, write_spares}
 use Rattle.blk_base.specs.declared.request.Request.TheVariants as request
 use Rattle.disk_model.specs.Log as device
 use Rattle.data_vio.specs.declared.items.Asks.TheVariants as asks
@@ -183,8 +183,8 @@ module _ (s : Session) (t : Trace) (session : IsSession s) (right : RightTrace s
 -- what a call is about: no request, no address
 pub call_clears : {s : Session} {t : Trace} {n : ℕ} {mine : Key → Type 0} {h : Happening} {c : Call} → IsCallOf h c → n ≡ device_number s.sizes → ((x : ℕ) → mine (OfBlock x) ⊎ Spares s t h (OfBlock x)) → mine OfJournal ⊎ Spares s t h OfJournal
     → Clears s n mine h t
-call_clears succeeded here block journal = record { zone = here; request = tt; address = tt; block = block; journal = journal }
-call_clears failed here block journal = record { zone = here; request = tt; address = tt; block = block; journal = journal }
+call_clears succeeded here block journal = record { zone = here; request = tt; address = tt; page = tt; block = block; journal = journal }
+call_clears failed here block journal = record { zone = here; request = tt; address = tt; page = tt; block = block; journal = journal }
 
 -- a call hands in no entry
 pub call_filled : (t : Trace) {h : Happening} {c : Call} → IsCallOf h c → filled (h ∷ t) ≡ filled t
@@ -357,6 +357,7 @@ module _ (s : Session) (t : Trace) (older : List (List Logged)) (es : List Logge
       let h = Calls (Write slot bytes ok) in (
         (sealed_rest.0, begins s.blocks (log s t) s.sizes.geometry s.sizes.start (blocks_of s older) (sealed_with s es) slot bytes ok place can_seal says sealed_rest.1),
         map_kept s h t (all_of older) (window_spared, data_spared h ok succeeded (all_of older) older_data) rest.1,
+        pages_kept s h t (all_of older) (data_spared h ok succeeded (all_of older) older_data) rest.2,
         new_kept s h t es (data_spared h ok succeeded es (every-map {P = λ (e : Logged). OnBlock (IsFresh s) (new_of e)} {Q = HasBlock s} (λ e has. on_each (new_of e) (λ x to free. free.is_data) has) es fresh)) keeps,
       )
 

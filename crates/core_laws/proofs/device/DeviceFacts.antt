@@ -1,23 +1,28 @@
 -- What the acts of the device zone owe: it stores, loads and flushes for requests, and flushes and writes for sealed blocks.
-use Rattle.std.proofs.Common.{◌≡◌, ℕ, zero, suc, ◌+◌, ◌<◌, ◌≤◌, Bool, true, false, Some, IsSome, List, [], ◌∷◌, ◌++◌, map, refl, ap, sym, ◌∙◌, subst, inl, inr, arith, ◌⊎◌}
-use Rattle.core_laws.proofs.Common.{all_logged, all_of, AllByRecursion, asked, Asks, AtRest, Call, calls, Calls, DataOk, DeviceZone, each_at, ended, Entry, entry_of, eqb_tells, every-map, Fails, FailureMayFollow, fair_before, Happening, has_read_fault, has_stopped, HasAddress, HasCause, HasWholeBlocks, is_ok, is_read, IsAsOpened, IsChange, IsEarned, IsFair, IsFresh, IsMadeFor, IsOpen, IsSealed, IsSession, IsToFresh, KeptOk, Lba, log, logged, logical_zones, Mapping, MapsTo, moments, NewReads, NewStands, notified, OnBlock, OnItsWay, Pbn, place_of, places, Post, ReadsAs, ReadsBlock, request_of, RightTrace, same_self, same_Some, SealedBlock, Session, Shown, Sizes, some_is, Stage, StandsAt, Trace, value_at, value_from, Vio, VioOk, Writer, zone_count, zone_number, applied, journaled, Logged, new_of, remappings, passed, every-front}
+use Rattle.std.proofs.Common.{◌≡◌, ℕ, zero, suc, ◌+◌, ◌<◌, ◌≤◌, Bool, true, false, Some, IsSome, List, [], ◌∷◌, ◌++◌, map, refl, ap, sym, ◌∙◌, subst, inl, inr, arith, ◌⊎◌, Option, None}
+use Rattle.core_laws.proofs.Common.{all_logged, all_of, AllByRecursion, asked, Asks, AtRest, Call, calls, Calls, DataOk, DeviceZone, each_at, ended, Entry, entry_of, eqb_tells, every-map, Fails, FailureMayFollow, fair_before, Happening, has_read_fault, has_stopped, HasAddress, HasCause, HasWholeBlocks, is_ok, is_read, IsAsOpened, IsChange, IsEarned, IsFair, IsFresh, IsMadeFor, IsOpen, IsSealed, IsSession, IsToFresh, KeptOk, Lba, log, logged, logical_zones, Mapping, MapsTo, moments, NewReads, NewStands, notified, OnBlock, OnItsWay, Pbn, place_of, places, Post, ReadsAs, ReadsBlock, request_of, RightTrace, same_self, same_Some, SealedBlock, Session, Shown, Sizes, some_is, Stage, StandsAt, Trace, value_at, value_from, Vio, VioOk, Writer, zone_count, zone_number, applied, journaled, Logged, new_of, remappings, passed, every-front, MayReply, turned}
 use Rattle.core_laws.proofs.trace.PassesOfTrace.{value_past}
 use Rattle.image_layout.specs.Values.{mapping_of}
 use Rattle.vdo_model.specs.FlushMarks.{IsMark, successes}
+use Rattle.blk_base.specs.declared.place.PageId.{PageId}
+use Rattle.image_model.specs.Pages.{IsBelowRoot}
+use Rattle.core_model.specs.Facts.{CarriesFor, CarriesOwn}
+use Rattle.core_model.specs.PageLinks.{MayLack}
+use Rattle.data_vio.specs.Vios.{logged_for}
 use Rattle.data_vio.specs.declared.items.Asks.TheVariants.{Read, Write, Discard, Flush}
 use Rattle.core_model.specs.DeskRules.{is_marked, mark_of_vio}
-use Rattle.core_model.specs.DeviceRules.{DeviceServes, counted, stop_notices, DeviceWorks, journal_bytes, IsItsSlot, call_of, next_stage, next_zone}
+use Rattle.core_model.specs.DeviceRules.{DeviceServes, counted, page_at, stop_notices, stored, stored_for, DeviceWorks, journal_bytes, IsItsSlot, call_of, next_stage, next_zone}
 use Rattle.core_model.specs.LogicalRules.{mapped_by}
-use Rattle.core_laws.proofs.kept.ActKept.{Known, Mine, weighed, PostOk, ActKept, act_none, act_one, vio_ok, in_phase, carries_at}
+use Rattle.core_laws.proofs.kept.ActKept.{Known, Mine, weighed, PostOk, ActKept, act_none, act_one, vio_ok, in_bare, in_phase, carries_at, carries_own, unentered_slot}
 use Rattle.core_laws.proofs.kept.Keys.{OfBlock, Clears, claim_one}
 use Rattle.core_laws.proofs.device.DeviceCalls.{CanStand, can_fresh, call_clears, data_misses, old_data, quiet_call, quiet_journal, read_value, slot_misses, slot_reads, slot_shown, slot_way, spelled_sealed, store_call, store_reads, whole_opening}
 use Rattle.core_laws.proofs.journal.SealedBlocks.{blocks_length, entries_in_order, every_logged, logged_length}
 use Rattle.image_model.specs.Windows.{LeadsToData}
 use Rattle.disk_model.specs.Log.{Misses}
-use Rattle.core_laws.proofs.kept.Carried.{holds_kept, looks_kept, pending_over, sealed_kept, vio_kept}
-use Rattle.core_laws.proofs.journal.JournalFacts.{home_within, stopped_post}
+use Rattle.core_laws.proofs.kept.Carried.{by_all, looks_kept, pending_over, sealed_kept, vio_kept}
+use Rattle.core_laws.proofs.journal.JournalFacts.{home_within, may_stop, writes_change}
 use Rattle.core_laws.proofs.kept.Spared.{mapping_by}
-use Rattle.core_laws.proofs.kept.StandsOn.{AreElsewhere, IsCallOf, block_spared, call_sealed, failed, journal_spared, map_kept, map_more, new_kept, on_each, rests_kept, rests_unlogged, spares_all, succeeded, way_kept, write_spares}
+use Rattle.core_laws.proofs.kept.StandsOn.{AreElsewhere, IsCallOf, block_spared, call_sealed, failed, journal_spared, map_kept, map_more, new_kept, on_each, pages_kept, pages_more, rests_kept, rests_unlogged, spares_all, succeeded, way_kept, write_spares}
 use Rattle.blk_base.specs.Regions.{journal_slot_of, IsDataBlock}
 use Rattle.journal_codec.specs.Spelling.{block_bytes}
 use Rattle.stop_laws.specs.Journals.{block_of_slot}
@@ -36,10 +41,6 @@ use Rattle.journal_stops.proofs.StepLaws.{spelled_whole, ends}
 use Rattle.core_model.specs.Sessions.{blocks_of, sealed_with}
 use Rattle.core_laws.proofs.trace.DeskOfTrace.{HasData, all_done, committed_data, shown_of}
 use Rattle.journal_stops.specs.Sealed.{IsSealed as IsSealedBlock}
-
--- a write changes its block
-write_changes : (q : Asks) → q ≡ Write → IsChange q
-write_changes q is = rw is tt
 
 -- the stop notices
 logical_ok : (s : Session) (t : Trace) (n : ℕ) → n ≤ s.sizes.zones → has_stopped t ≡ true → AllByRecursion (PostOk s t) (stop_notices (logical_zones n))
@@ -60,8 +61,8 @@ cause_fault s t w q at bytes is some faulty = rw is (some, faulty)
 cause_unflushed : (s : Session) (t : Trace) (w : Writer) (q : Asks) (at : Lba) (bytes : List ℕ) → q ≡ Flush → has_stopped t ≡ true → HasCause s t w (asked q at bytes) reply.Stopped
 cause_unflushed s t w q at bytes is stopped = rw is stopped
 
-unflushed_post : (s : Session) (t : Trace) (v : Vio) → has_stopped t ≡ true → VioOk s t v → v.asks ≡ Flush → PostOk s t (id.Desk, item.Request (ended phase.Reply reply.Stopped v))
-unflushed_post s t v stopped ok is = (omega arith, (ok, cause_unflushed s t v.request v.asks v.at v.bytes is stopped, refl))
+unflushed_post : (s : Session) (t : Trace) (v : Vio) → has_stopped t ≡ true → VioOk s t v → v.asks ≡ Flush → v.page ≡ None → PostOk s t (id.Desk, item.Request (ended phase.Reply reply.Stopped v))
+unflushed_post s t v stopped ok is bare = (omega arith, (ok, carries_own s t (ended phase.Reply reply.Stopped v) phase.Reply bare (cause_unflushed s t v.request v.asks v.at v.bytes is stopped), refl))
 
 abbrev answered_flush : DeviceZone → Vio → Vio
 answered_flush d v = record v { phase = phase.Reply; answer = Some reply.Ok; calls = d.calls + 1 }
@@ -97,6 +98,13 @@ module _ {s : Session} {t : Trace} {n : ℕ} {old : DeviceZone} {v : Vio} (known
   home : zone_number s.sizes v.home < zone_count s.sizes
   home = home_within s t v known.session (vio_ok known)
 
+  -- a read and a flush make no page
+  looks_at : v.phase ≡ phase.Load → (v.page ≡ None) × CarriesOwn s t v phase.Load
+  looks_at is = in_bare known phase.Load is (λ page none. none)
+
+  flushes_at : v.phase ≡ phase.Flush → (v.page ≡ None) × (v.asks ≡ Flush)
+  flushes_at is = in_bare known phase.Flush is (λ page none. none)
+
   -- a call that writes nothing is about nothing
   quiet : {h : Happening} (c : Call) → IsCallOf h c → ((x : ℕ) → Misses c x) → Clears s n (Mine s t (at.Device old) (item.Request v ∷ [])) h t
   quiet c is misses = call_clears is known.own.number_is (λ x. inr (λ inside. block_spared is x (misses x))) (inr (quiet_journal s t c is misses))
@@ -105,62 +113,89 @@ module _ {s : Session} {t : Trace} {n : ℕ} {old : DeviceZone} {v : Vio} (known
   unnamed : (x : Pbn) → v.phase ≡ phase.Store → v.new ≡ At x → AreElsewhere x.0 (journaled t)
   unnamed x is to = known.unnamed old v x refl refl (rw is refl) to
 
-  stored : {h : Happening} (x : Pbn) (success : Bool) → IsCallOf h (call.Write x v.bytes success) → v.phase ≡ phase.Store → v.new ≡ At x → IsFresh s x → Clears s n (Mine s t (at.Device old) (item.Request v ∷ [])) h t
-  stored x success is store to fresh = call_clears is known.own.number_is
+  store_clears : {h : Happening} (x : Pbn) (bytes : List ℕ) (success : Bool) → IsCallOf h (call.Write x bytes success) → v.phase ≡ phase.Store → v.new ≡ At x → IsFresh s x
+      → Clears s n (Mine s t (at.Device old) (item.Request v ∷ [])) h t
+  store_clears x bytes success is store to fresh = call_clears is known.own.number_is
       (λ y. elim (eqb_tells x.0 y) [
         | inl same ↦ inl (subst (λ (z : ℕ). Mine s t (at.Device old) (item.Request v ∷ []) (OfBlock z)) same.1 (weighed (omega (arith, claim_one v x (rw store refl) to))))
         | inr other ↦ inr (λ inside. block_spared is y other.1)
       ])
-      (inr (call_sealed s t is, journal_spared s is (data_misses s.sizes.geometry x v.bytes success fresh.is_data), ((λ a y named. block_spared is y.0 (λ same. fresh.unnamed a y named (sym same))), write_spares is (journaled t) (unnamed x store to))))
+      (inr (call_sealed s t is, journal_spared s is (data_misses s.sizes.geometry x bytes success fresh.is_data), ((λ a y named. block_spared is y.0 (λ same. fresh.unnamed a y named (sym same))), write_spares is (journaled t) (unnamed x store to))))
 
-  -- what it carries then to the journal
-  stored_carries : (u : Trace) (x : Pbn) (q : Asks) (m : Mapping) → q ≡ Write → m ≡ At x → IsFresh s x → ReadsAs s u x.0 v.bytes → MapsTo q v.bytes m × OnBlock (IsFresh s) m × (IsFair s u → OnBlock (λ y. ReadsAs s u y.0 v.bytes) m)
-  stored_carries u x q m is to fresh reads = rw (is, to) (tt, fresh, λ fair. reads)
+  -- its block is a fresh one, whatever it stores
+  store_fresh : (x : Pbn) (o : Option PageId) → CarriesFor s t v phase.Store o → v.new ≡ At x → IsFresh s x
+  store_fresh x None k to = subst (IsToFresh s) to k.2
+  store_fresh x (Some page) k to = subst (IsToFresh s) to k.2
+
+  -- what it carries then to the journal: that a read gives its data, or the page that it makes
+  data_stored : (u : Trace) (x : Pbn) (q : Asks) (m : Mapping) → q ≡ Write → m ≡ At x → IsFresh s x → ReadsAs s u x.0 v.bytes → MapsTo q v.bytes m × OnBlock (IsFresh s) m × (IsFair s u → OnBlock (λ y. ReadsAs s u y.0 v.bytes) m)
+  data_stored u x q m is to fresh reads = rw (is, to) (tt, fresh, λ fair. reads)
+
+  stored_carries : (u : Trace) (x : Pbn) (o : Option PageId) → CarriesFor s u v phase.Store o → v.new ≡ At x → ReadsAs s u x.0 (stored_for s.sizes o v.bytes x) → CarriesFor s u (turned phase.Enter v) phase.Enter o
+  stored_carries u x None k to reads = let on = data_stored u x v.asks v.new k.1 to (subst (IsToFresh s) to k.2) reads in (k.0, on.0, on.1, on.2)
+  stored_carries u x (Some page) k to reads = (k.0, k.1, k.2, λ fair. subst (OnBlock (λ y. ReadsAs s u y.0 (page_at s.sizes page y))) (sym to) reads)
+
+  -- and to the zone of its claim, where the session is stopped
+  refused_carries : (u : Trace) (o : Option PageId) → RightTrace s u → has_stopped u ≡ true → CarriesFor s u v phase.Store o → CarriesFor s u (ended phase.AbortClaim reply.Stopped v) phase.AbortClaim o
+  refused_carries u None right stopped k =
+      let placed = k.0.turn.is_placed in (k.0, may_stop s u v (writes_change v.asks k.1) stopped placed.placed (unentered_slot s u v.request right placed.not_entered))
+  refused_carries u (Some page) right stopped k =
+      let placed = k.0.turn.is_placed in (k.0, k.1, may_stop s u v (writes_change v.asks k.0.is_write) stopped placed.placed (unentered_slot s u v.request right placed.not_entered))
+
+  refused_post : (u : Trace) → RightTrace s u → has_stopped u ≡ true → VioOk s u v → CarriesFor s u v phase.Store v.page → PostOk s u (id.Physical 0, item.Request (ended phase.AbortClaim reply.Stopped v))
+  refused_post u right stopped ok k = (omega arith, (ok, refused_carries u v.page right stopped k, refl))
+
+  -- what it carries to the device stays over its call
+  store_over : {h : Happening} {c : Call} → IsCallOf h c → CarriesFor s t v phase.Store v.page → CarriesFor s (h ∷ t) v phase.Store v.page
+  store_over {h} succeeded k = by_all s h t v phase.Store v.page tt (λ held. tt) (λ page is. tt) (λ enters. absurd cc) k
+  store_over {h} failed k = by_all s h t v phase.Store v.page tt (λ held. tt) (λ page is. tt) (λ enters. absurd cc) k
 
   -- the read of its block is made for it
   made_for : (x : Pbn) (bytes : List ℕ) (success : Bool) → v.phase ≡ phase.Load → v.old ≡ At x → IsMadeFor s t v.request (call.Read x bytes success)
   made_for x bytes success is from =
-      let carries = in_phase known phase.Load is in
+      let carries = (looks_at is).1 in
       (v.at, (vio_ok known).asked ∙ ap (λ q. Some (asked q v.at v.bytes)) carries.0.is_read, sym carries.0.held.old_is ∙ from)
 
   load_value : (x : Pbn) (bytes : List ℕ) → v.phase ≡ phase.Load → v.old ≡ At x → IsFair s (Calls (call.Read x bytes true) ∷ t) → bytes ≡ value_at s t v.at.0
   load_value x bytes is from fair =
-      let carries = in_phase known phase.Load is in
+      let carries = (looks_at is).1 in
       let maps = ap (λ o. mapped_by o (mapping_of s.window v.at.0)) carries.0.latest ∙ sym (mapping_by s.window (applied t) v.at.0) ∙ sym carries.0.held.old_is ∙ from in
       read_value s t known.session known.right (fair_before s (Calls (call.Read x bytes true)) t fair) v.at.0 v.latest x bytes carries.0.held.turn.quiet carries.0.latest maps fair.honest.0 fair.honest.1 ∙ ap (value_from s v.at.0) carries.0.latest
       ∙ sym (value_past s t v.at.0 known.right (remappings (applied t)))
 
   pub device_serves : (new : DeviceZone) (made : Trace) (posts : List Post) → DeviceServes s.sizes old v new made posts → ActKept s t n (at.Device old) (item.Request v ∷ []) (at.Device new) made posts
   device_serves new made posts (device.stores x is to runs inside e m p) =
-      let h = Calls (call.Write x v.bytes true) in
+      let bytes = stored s.sizes v x in
+      let c = call.Write x bytes true in
+      let h = Calls c in
       let carries = in_phase known phase.Store is in
-      let fresh : IsFresh s x = subst (IsToFresh s) to carries.2 in
-      let stored_now = stored_carries (h ∷ t) x v.asks v.new carries.1 to fresh (store_reads s t x v.bytes) in
-      rw (e, m, p) (act_one known h (stored x true succeeded is to fresh) (λ g fair. g (fair_before s h t fair))
-      (store_call s t x v.bytes true succeeded (record { succeeds = refl; goes_on = λ writes. goes runs }) fresh (unnamed x is to) known.right) (after_call known.own (call.Write x v.bytes true) refl)
-      ((omega arith, (vio_kept s h t v tt (vio_ok known), (holds_kept s h t v tt tt carries.0, stored_now.0, stored_now.1, stored_now.2), refl)), tt))
+      let fresh = store_fresh x v.page carries to in
+      rw (e, m, p) (act_one known h (store_clears x bytes true succeeded is to fresh) (λ g fair. g (fair_before s h t fair))
+      (store_call s t x bytes true succeeded (record { succeeds = refl; goes_on = λ writes. goes runs }) fresh (unnamed x is to) known.right) (after_call known.own c refl)
+      ((omega arith, (vio_kept s h t v tt (vio_ok known), stored_carries (h ∷ t) x v.page (store_over succeeded carries) to (store_reads s t x bytes), refl)), tt))
   device_serves new made posts (device.store_fails x kept is to runs inside e m p) =
-      let c = call.Write x v.bytes false in
+      let bytes = stored s.sizes v x in
+      let c = call.Write x bytes false in
       let h = Fails v.request c kept in
       let carries = in_phase known phase.Store is in
-      let fresh : IsFresh s x = subst (IsToFresh s) to carries.2 in
-      let now = store_call s t x v.bytes false failed (record { is_open = (vio_ok known).is_open; fails = refl; goes_on = λ writes. goes runs; made_for = tt }) fresh (unnamed x is to) known.right in
-      rw (e, m, p) (act_one known h (stored x false failed is to fresh) (λ g fair. g (fair_before s h t fair)) now (after_failure known.own v.request c kept true refl refl)
-      (stopped_post s (h ∷ t) v now refl (vio_kept s h t v tt (vio_ok known)) (holds_kept s h t v tt tt carries.0) (write_changes v.asks carries.1), notices_ok s (h ∷ t) refl))
+      let fresh = store_fresh x v.page carries to in
+      let now = store_call s t x bytes false failed (record { is_open = (vio_ok known).is_open; fails = refl; goes_on = λ writes. goes runs; made_for = tt }) fresh (unnamed x is to) known.right in
+      rw (e, m, p) (act_one known h (store_clears x bytes false failed is to fresh) (λ g fair. g (fair_before s h t fair)) now (after_failure known.own v.request c kept true refl refl)
+      (refused_post (h ∷ t) now refl (vio_kept s h t v tt (vio_ok known)) (store_over failed carries), notices_ok s (h ∷ t) refl))
   device_serves new made posts (device.store_unmade is halts e m p) =
-      let carries = in_phase known phase.Store is in
-      rw (e, m, p) (act_none known known.own (stopped_post s t v known.right (sym known.own.lists.stopped_is ∙ halts) (vio_ok known) carries.0 (write_changes v.asks carries.1), tt))
+      rw (e, m, p) (act_none known known.own (refused_post t known.right (sym known.own.lists.stopped_is ∙ halts) (vio_ok known) (in_phase known phase.Store is), tt))
   device_serves new made posts (device.loads x bytes is from inside e m p) =
       let c = call.Read x bytes true in
-      let carries = in_phase known phase.Load is in
+      let carries = (looks_at is).1 in
       let here = vio_kept s (Calls c) t v tt (vio_ok known) in
+      let looked : CarriesOwn s (Calls c ∷ t) (record v { phase = phase.Loaded; bytes = bytes }) phase.Loaded = (looks_kept s (Calls c) t v tt tt carries.0, λ fair. load_value x bytes is from fair) in
       rw (e, m, p) (act_one known (Calls c) (quiet c succeeded (λ y. tt)) (λ g fair. g (fair_before s (Calls c) t fair))
       (quiet_call s t c succeeded (record { succeeds = refl; goes_on = λ (writes : true ≡ false). absurd cc }) (λ x. tt) known.right) (after_call known.own c refl) (
         (
           home,
           (
             record { asked = here.asked ∙ ap Some (asks_same v.asks v.at v.bytes bytes carries.0.is_read); is_open = here.is_open; address = here.address; home = here.home },
-            (looks_kept s (Calls c) t v tt tt carries.0, λ fair. load_value x bytes is from fair),
+            carries_own s (Calls c ∷ t) (record v { phase = phase.Loaded; bytes = bytes }) phase.Loaded (looks_at is).0 looked,
             refl,
           ),
         ),
@@ -169,34 +204,38 @@ module _ {s : Session} {t : Trace} {n : ℕ} {old : DeviceZone} {v : Vio} (known
   device_serves new made posts (device.load_fails x bytes kept is from inside e m p) =
       let c = call.Read x bytes false in
       let h = Fails v.request c kept in
-      let k = looks_kept s h t v tt tt (in_phase known phase.Load is).0 in
+      let k = looks_kept s h t v tt tt (looks_at is).1.0 in
+      let aborted : CarriesOwn s (h ∷ t) (ended phase.Abort reply.ReadFault v) phase.Abort
+      = (k.held, cause_fault s (h ∷ t) v.request v.asks v.at v.bytes k.is_read (some_is _ _ k.held.turn.is_placed.placed) (rw (same_self v.request) refl)) in
       let may : FailureMayFollow s v.request c t = record { is_open = (vio_ok known).is_open; fails = refl; goes_on = λ (writes : true ≡ false). absurd cc; made_for = made_for x bytes false is from } in
       rw (e, m, p) (act_one known h (quiet c failed (λ x. tt)) (λ g fair. g (fair_before s h t fair)) (quiet_call s t c failed may (λ x. tt) known.right) (after_failure known.own v.request c kept old.stopped refl known.own.lists.stopped_is)
-      ((home, (vio_kept s h t v tt (vio_ok known), (k.held, cause_fault s (h ∷ t) v.request v.asks v.at v.bytes k.is_read (some_is _ _ k.held.turn.is_placed.placed) (rw (same_self v.request) refl)), refl)), tt))
+      ((home, (vio_kept s h t v tt (vio_ok known), carries_own s (h ∷ t) (ended phase.Abort reply.ReadFault v) phase.Abort (looks_at is).0 aborted, refl)), tt))
   device_serves new made posts (device.flushes is runs e m p) =
       let c = call.Flush true in
       let h = Calls c in
       let mark : IsMark (moments (h ∷ t)) (mark_of_vio (answered_flush old v))
       = record { later = []; older = moments t; at = refl; calls = ap (λ m. m + 1) known.own.lists.calls_is; begun_by_then = (vio_ok known).is_open.is_begun; not_answered = (vio_ok known).is_open.unanswered } in
+      let earned : MayReply s (h ∷ t) (answered_flush old v) (Some reply.Ok)
+      = subst (λ (q : Asks). IsEarned s (h ∷ t) (mark_of_vio (answered_flush old v)) (request_of v) reply.Ok (is_marked q reply.Ok)) (sym (flushes_at is).1) mark in
       rw (e, m, p) (act_one known h (quiet c succeeded (λ x. tt)) (λ g fair. g (fair_before s h t fair)) (quiet_call s t c succeeded (record { succeeds = refl; goes_on = λ writes. goes runs }) (λ x. tt) known.right)
       (after_call known.own c refl)
-      ((omega arith, (vio_kept s h t v tt (vio_ok known), subst (λ (q : Asks). IsEarned s (h ∷ t) (mark_of_vio (answered_flush old v)) (request_of v) reply.Ok (is_marked q reply.Ok)) (sym (in_phase known phase.Flush is)) mark, refl)), tt))
+      ((omega arith, (vio_kept s h t v tt (vio_ok known), carries_own s (h ∷ t) (answered_flush old v) phase.Reply (flushes_at is).0 earned, refl)), tt))
   device_serves new made posts (device.flush_fails kept is runs e m p) =
       let c = call.Flush false in
       let h = Fails v.request c kept in
       let may : FailureMayFollow s v.request c t = record { is_open = (vio_ok known).is_open; fails = refl; goes_on = λ writes. goes runs; made_for = tt } in
       rw (e, m, p) (act_one known h (quiet c failed (λ x. tt)) (λ g fair. g (fair_before s h t fair)) (quiet_call s t c failed may (λ x. tt) known.right) (after_failure known.own v.request c kept true refl refl)
-      (unflushed_post s (h ∷ t) v refl (vio_kept s h t v tt (vio_ok known)) (in_phase known phase.Flush is), notices_ok s (h ∷ t) refl))
+      (unflushed_post s (h ∷ t) v refl (vio_kept s h t v tt (vio_ok known)) (flushes_at is).1 (flushes_at is).0, notices_ok s (h ∷ t) refl))
   device_serves new made posts (device.flush_unmade is halts e m p) =
-      rw (e, m, p) (act_none known known.own (unflushed_post s t v (sym known.own.lists.stopped_is ∙ halts) (vio_ok known) (in_phase known phase.Flush is), tt))
+      rw (e, m, p) (act_none known known.own (unflushed_post s t v (sym known.own.lists.stopped_is ∙ halts) (vio_ok known) (flushes_at is).1 (flushes_at is).0, tt))
 
 -- the requests of a block over a call
 vios_over : (s : Session) (t : Trace) {h : Happening} {c : Call} → IsCallOf h c → (vs : List Vio) → AllByRecursion (KeptOk s t phase.Pending) vs → AllByRecursion (KeptOk s (h ∷ t) phase.Pending) vs
 vios_over s t {h} is vs all = every-map {P = KeptOk s t phase.Pending} {Q = KeptOk s (h ∷ t) phase.Pending} (λ v k. over is v k) vs all
   where
     over : {h : Happening} {c : Call} → IsCallOf h c → (v : Vio) → KeptOk s t phase.Pending v → KeptOk s (h ∷ t) phase.Pending v
-    over {h} succeeded v k = pending_over s h t v tt tt k
-    over {h} failed v k = pending_over s h t v tt tt k
+    over {h} succeeded v k = pending_over s h t v tt tt (λ page is. tt) k
+    over {h} failed v k = pending_over s h t v tt tt (λ page is. tt) k
 
 abbrev sealed_over : (s : Session) (t : Trace) {h : Happening} {c : Call} → IsCallOf h c → (vs : List Vio) (n : ℕ) → IsSealed s t vs n → IsSealed s (h ∷ t) vs n
 sealed_over s t {h} is vs n k = sealed_kept s h t vs n (call_sealed s t is) k
@@ -219,16 +258,27 @@ below_logical s v Discard is k = k
 below_logical s v Read is k = absurd is
 below_logical s v Flush is k = absurd is
 
+-- a page that a write lacks is below a root of its trees
+below_root : (s : Session) (q : Asks) (at : Lba) (bytes : List ℕ) (page : PageId) → q ≡ Write → MayLack s.sizes.geometry.height (asked q at bytes) page → at.0 < s.sizes.geometry.logical → IsBelowRoot s.sizes.geometry page
+below_root s Write at bytes page is lacked below = record { address = at.0; inside = below; level = lacked.1; there = lacked.0 }
+below_root s other at bytes page is lacked below = absurd cc
+
 -- what the form of the journal needs of the entry of a request in a block
 spelled : (s : Session) (t : Trace) (v : Vio) → IsSession s → RightTrace s t → KeptOk s t phase.Pending v → CanStand s (logged v)
-spelled s t v session right k =
-    let has = carries_at s t v phase.Pending k.2 k.1 in
-    record {
+spelled s t v session right k = by v.page v.new refl (carries_at s t v phase.Pending k.2 k.1)
+  where
+    by : (o : Option PageId) (m : Mapping) → v.new ≡ m → CarriesFor s t v phase.Pending o → CanStand s (logged_for v o m)
+    by None m to has = record {
       below = below_logical s v v.asks has.is_entered.is_change k.0.address;
       old_held = has.old_held;
       old_led = subst (LeadsToData s.sizes.geometry) (sym has.old_is) (old_data s (applied t) v.at.0 _ session (every-front (HasData s) (remappings (applied t)) (passed t) (all_done (HasData s) s t right (committed_data s t right))).0 refl);
       fresh = has.fresh;
     }
+    by (Some page) (At x) to has = record {
+      below = below_root s v.asks v.at v.bytes page has.0.is_write has.0.lacked (below_logical s v v.asks (writes_change v.asks has.0.is_write) k.0.address);
+      fresh = subst (IsToFresh s) to has.1;
+    }
+    by (Some page) other to has = absurd (subst (IsToFresh s) to has.1)
 
 module _ (s : Session) (t : Trace) (b : SealedBlock) (session : IsSession s) (vios : AllByRecursion (KeptOk s t phase.Pending) b.vios) (right : RightTrace s t) (k : IsSealed s t b.vios b.sequence)
     (head : b.head ≡ s.sizes.start) (as_opened : IsAsOpened s) where
@@ -320,10 +370,11 @@ module _ (s : Session) (t : Trace) (b : SealedBlock) (session : IsSession s) (vi
         let h = Calls (call.Flush true) in
         let on : IsFair s (h ∷ t) → AtRest s (h ∷ t) (all_logged b.vios ∷ k.older) = (λ (fair : IsFair s (h ∷ t)).
         let before = stands (fair_before s h t fair) in
-        let way = before.0 in (
+        let way = before.0 in
+        let new = new_kept s h t (all_logged b.vios) (spares_all h (λ x. tt) (all_logged b.vios)) way.3 in (
           inl (way.0.0, ends s.blocks (log s t) s.sizes.geometry s.sizes.start (blocks_of s k.older) (sealed_with s (all_logged b.vios)) before.1 way.0.1),
-          map_more s (h ∷ t) (all_logged b.vios) (all_of k.older) (map_kept s h t (all_of k.older) ((λ a x named. tt), spares_all h (λ x. tt) (all_of k.older)) way.1)
-              (new_kept s h t (all_logged b.vios) (spares_all h (λ x. tt) (all_logged b.vios)) way.2),
+          map_more s (h ∷ t) (all_logged b.vios) (all_of k.older) (map_kept s h t (all_of k.older) ((λ a x named. tt), spares_all h (λ x. tt) (all_of k.older)) way.1) new,
+          pages_more s (h ∷ t) (all_logged b.vios) (all_of k.older) (pages_kept s h t (all_of k.older) (spares_all h (λ x. tt) (all_of k.older)) way.2) new,
         )) in
         rw (sym (same_Some _ _ is)) (record {
           right = quiet_call s t (call.Flush true) succeeded (record { succeeds = refl; goes_on = λ writes. goes }) (λ x. tt) right;

@@ -1,22 +1,26 @@
 -- What the acts of the journal owe: entries are handed in, wait, or are refused; a block is sealed, and its entries are
 -- committed, or it failed.
-use Rattle.std.proofs.Common.{◌≡◌, ◌≢◌, ◌++◌, ◌≤◌, suc, Option, append_assoc, length-append, ℕ, ◌<◌, true, Some, IsNone, IsSome, List, [], ◌∷◌, refl, ap, arith, ◌+◌, Bool, false, length, sym, ◌∙◌, inl, inr, subst}
-use Rattle.core_laws.proofs.Common.{all_logged, all_of, AllByRecursion, asked, Asks, AtRest, bit, BlockOk, Carries, Commits, committed, DataOk, done, each_at, entered, Enters, entry_of, every-append, fair_before, filled, Happening, has_stopped, HasCause, HasFullJournal, HasPendingEntry, HasPlace, holder_weight, Holds, IsChange, IsFair, IsFull, IsPlaced, IsSession, JournalLists, JournalZone, KeptEach, KeptOk, Lba, logged, logged_of, ltb-false, ltb-true, Mapping, MapsTo, MayReply, NewReads, OnBlock, or_parts, place_of, places, Post, ReadsAs, Request, RestsAt, RightTrace, same_self, same_tells, same_writer, sealed, SealedBlock, Seals, Session, Shown, some_is, Stage, StandsAt, total, Trace, turned, value_written, Vio, VioOk, Writer, zone_count, zone_number, zone_of, zone_of_stage, applied, durable, journaled, remapping, Logged, Remaps, Makes, passed, remappings}
+use Rattle.std.proofs.Common.{◌≡◌, ◌≢◌, ◌++◌, ◌≤◌, suc, Option, None, append_assoc, length-append, ℕ, ◌<◌, true, Some, IsNone, IsSome, List, [], ◌∷◌, refl, ap, arith, ◌+◌, Bool, false, length, sym, ◌∙◌, inl, inr, subst}
+use Rattle.core_laws.proofs.Common.{all_logged, all_of, AllByRecursion, Answer, asked, Asks, AtRest, bit, BlockOk, Carries, Commits, committed, DataOk, done, each_at, ended, entered, Enters, entry_of, every-append, fair_before, filled, Happening, has_stopped, HasCause, HasFullJournal, HasPendingEntry, HasPlace, holder_weight, IsChange, IsFair, IsFull, IsOpen, IsPlaced, IsSession, JournalLists, JournalZone, KeptEach, KeptOk, Lba, logged, logged_of, ltb-false, ltb-true, Mapping, MapsTo, MayReply, NewReads, OnBlock, or_parts, Pbn, place_of, places, Post, ReadsAs, Request, RestsAt, RightTrace, same_self, same_tells, same_writer, sealed, SealedBlock, Seals, Session, Shown, some_is, Stage, StandsAt, total, Trace, turned, value_written, Vio, VioOk, Writer, zone_count, zone_number, zone_of, zone_of_stage, applied, durable, journaled, remapping, Logged, Remaps, Makes, passed, remappings}
 use Rattle.core_laws.proofs.trace.PassesOfTrace.{cut_passed}
 use Rattle.std.proofs.Math.Nat.{mod-lt}
 use Rattle.data_vio.specs.declared.items.Asks.TheVariants.{Read, Write, Discard, Flush}
 use Rattle.core_model.specs.JournalRules.{JournalEnds, JournalServes, all_again, all_dropped, all_refused, entered_by, hands_out, has_block, has_room, is_closed, next_block, refused}
-use Rattle.core_laws.proofs.kept.ActKept.{PostOk, carries_at, unentered_slot, Known, Mine, weighed, ActKept, act_none, act_one, own_request, own_address, line_kept, vio_over, vio_ok, in_phase}
+use Rattle.core_laws.proofs.kept.ActKept.{PostOk, carries_at, unentered_slot, Known, Mine, weighed, ActKept, act_none, act_one, own_request, own_address, own_page, carries_own, line_kept, vio_over, vio_ok, in_phase}
 use Rattle.core_laws.proofs.lists.Changes.{maps_change}
 use Rattle.core_laws.proofs.trace.DeskOfTrace.{shown_of}
 use Rattle.core_laws.proofs.trace.AbortsOfTrace.{unentered_abort}
-use Rattle.core_laws.proofs.kept.Keys.{Clears, Key, OfAddress, OfJournal, OfRequest, any, holder_one, idle_none, own_name, token_of}
+use Rattle.core_laws.proofs.kept.Keys.{Clears, IfAny, Key, OfAddress, OfJournal, OfPage, OfRequest, any, holder_one, idle_none, own_name, token_of}
 use Rattle.core_laws.proofs.journal.LogLaws.{filling_length, log_committed, log_entered, log_sealed}
 use Rattle.core_laws.proofs.journal.SealedBlocks.{logged_length}
-use Rattle.core_laws.proofs.kept.Spared.{mapping_same, of_same}
+use Rattle.core_laws.proofs.kept.Spared.{OffNumber, below_kept, mapping_same, of_same, quiet_kept}
 use Rattle.core_laws.proofs.kept.StandsOn.{SparesBlock, SparesMap, journal_kept, new_reads_kept, on_each, reads_kept, rests_kept, spares_all, stands_kept}
-use Rattle.core_laws.proofs.kept.Carried.{pending_over}
+use Rattle.core_laws.proofs.kept.Carried.{logged_request, pending_over}
 use Rattle.blk_base.specs.declared.place.Mapping.TheVariants.{At, Unmapped, Zero}
+use Rattle.blk_base.specs.declared.place.PageId.{PageId}
+use Rattle.core_model.specs.Facts.{CarriesFor, CarriesOwn, CarriesPage, MakesPage}
+use Rattle.core_laws.proofs.journal.LoggedEntries.{fresh_at, logged_makes, logged_own, on_address, on_page}
+use Rattle.core_laws.proofs.journal.PageEntries.{page_pending, page_right}
 use Rattle.blk_base.specs.declared.request.Answer.TheVariants as reply
 use Rattle.data_vio.specs.declared.items.Phase.TheVariants as phase
 use Rattle.blk_base.specs.declared.place.ZoneId.TheVariants as id
@@ -43,14 +47,14 @@ cause_full s t w Read at bytes is none some full = absurd is
 cause_full s t w Flush at bytes is none some full = absurd is
 
 -- a write, where no data block is left
-cause_taken : (s : Session) (t : Trace) (w : Writer) (q : Asks) (at : Lba) (bytes : List ℕ) → q ≡ Write → IsNone (logged_of (entered t) w) → IsSome (place_of (places t) w) → IsFull s t w bytes
+cause_taken : (s : Session) (t : Trace) (w : Writer) (q : Asks) (at : Lba) (bytes : List ℕ) → q ≡ Write → IsNone (logged_of (entered t) w) → IsSome (place_of (places t) w) → IsFull s t w at.0 bytes
     → HasCause s t w (asked q at bytes) reply.Full
 cause_taken s t w q at bytes is none some full = rw is (some, none, full)
 
 pub may_stop : (s : Session) (t : Trace) (v : Vio) → IsChange v.asks → has_stopped t ≡ true → HasPlace s t v.request v.at.0 v.place → IsNone (logged_of (done t) v.request) → MayReply s t v (Some reply.Stopped)
 may_stop s t v is stopped placed none = cause_stopped s t v.request v.asks v.at v.bytes is stopped (some_is _ _ placed) none
 
-pub write_full : (s : Session) (t : Trace) (v : Vio) → v.asks ≡ Write → IsPlaced s t v → IsFull s t v.request v.bytes → MayReply s t v (Some reply.Full)
+pub write_full : (s : Session) (t : Trace) (v : Vio) → v.asks ≡ Write → IsPlaced s t v → IsFull s t v.request v.at.0 v.bytes → MayReply s t v (Some reply.Full)
 write_full s t v is k full = cause_taken s t v.request v.asks v.at v.bytes is k.not_entered (some_is _ _ k.placed) full
 
 pub may_fill : (s : Session) (t : Trace) (v : Vio) → IsChange v.asks → IsPlaced s t v → HasFullJournal s t → MayReply s t v (Some reply.Full)
@@ -63,23 +67,29 @@ home_within s t v session ok =
     let home = ap (zone_number s.sizes) ok.home in
     omega (arith, below, home)
 
-module _ (s : Session) (t : Trace) where
-  -- a write or a discard that holds its lock is aborted
-  pub stopped_post : (v : Vio) → RightTrace s t → has_stopped t ≡ true → VioOk s t v → Holds s t v → IsChange v.asks → PostOk s t (refused s.sizes reply.Stopped v)
-  stopped_post v right stopped ok k is = (omega arith, (ok, (k, may_stop s t v is stopped k.turn.is_placed.placed (unentered_slot s t v.request right k.turn.is_placed.not_entered)), refl))
+pub writes_change : (q : Asks) → q ≡ Write → IsChange q
+writes_change q is = rw is tt
 
-  pub full_post : (v : Vio) → HasFullJournal s t → VioOk s t v → Holds s t v → IsChange v.asks → PostOk s t (refused s.sizes reply.Full v)
-  full_post v full ok k is = (omega arith, (ok, (k, may_fill s t v is k.turn.is_placed full), refl))
+module _ (s : Session) (t : Trace) where
+  -- a write or a discard that holds its lock is aborted, where it may be answered so
+  refused_carries : (v : Vio) (a : Answer) → Carries s t v phase.Enter → (IsPlaced s t v → IsChange v.asks → MayReply s t v (Some a)) → Carries s t (ended phase.AbortClaim a v) phase.AbortClaim
+  refused_carries v a carries may = by v.page carries
+    where
+      by : (o : Option PageId) → CarriesFor s t v phase.Enter o → CarriesFor s t (ended phase.AbortClaim a v) phase.AbortClaim o
+      by None k = (k.0, may k.0.turn.is_placed (maps_change v.asks v.bytes v.new k.1))
+      by (Some page) k = (k.0, k.1, may k.0.turn.is_placed (writes_change v.asks k.0.is_write))
+
+  pub stopped_post : (v : Vio) → RightTrace s t → has_stopped t ≡ true → VioOk s t v → Carries s t v phase.Enter → PostOk s t (refused s.sizes reply.Stopped v)
+  stopped_post v right stopped ok carries =
+      (omega arith, (ok, refused_carries v reply.Stopped carries (λ placed is. may_stop s t v is stopped placed.placed (unentered_slot s t v.request right placed.not_entered)), refl))
+
+  pub full_post : (v : Vio) → HasFullJournal s t → VioOk s t v → Carries s t v phase.Enter → PostOk s t (refused s.sizes reply.Full v)
+  full_post v full ok carries = (omega arith, (ok, refused_carries v reply.Full carries (λ placed is. may_fill s t v is placed full), refl))
 
   -- all that wait do
   pub stopped_posts : (vs : List Vio) → RightTrace s t → has_stopped t ≡ true → AllByRecursion (KeptOk s t phase.Enter) vs → AllByRecursion (PostOk s t) (all_refused s.sizes reply.Stopped vs)
   stopped_posts [] right stopped all = tt
-  stopped_posts (v ∷ vs) right stopped all =
-      let k = carries_at s t v phase.Enter all.0.2 all.0.1 in (stopped_post v right stopped all.0.0 k.0 (maps_change v.asks v.bytes v.new k.1), stopped_posts vs right stopped all.1)
-
-  pub full_posts : (vs : List Vio) → HasFullJournal s t → AllByRecursion (KeptOk s t phase.Enter) vs → AllByRecursion (PostOk s t) (all_refused s.sizes reply.Full vs)
-  full_posts [] full all = tt
-  full_posts (v ∷ vs) full all = let k = carries_at s t v phase.Enter all.0.2 all.0.1 in (full_post v full all.0.0 k.0 (maps_change v.asks v.bytes v.new k.1), full_posts vs full all.1)
+  stopped_posts (v ∷ vs) right stopped all = (stopped_post v right stopped all.0.0 (carries_at s t v phase.Enter all.0.2 all.0.1), stopped_posts vs right stopped all.1)
 
 -- The block being filled.
 
@@ -124,11 +134,11 @@ reads_now s t Discard place bytes (At x) maps reads = absurd maps
 reads_now s t Read place bytes m maps reads = absurd maps
 reads_now s t Flush place bytes m maps reads = absurd maps
 
--- The entry of a write or a discard is handed in.
-module _ (s : Session) (t : Trace) (v : Vio) (right : RightTrace s t) (ok : VioOk s t v) (carries : Carries s t v phase.Enter)
+-- The entry of a write or a discard is handed in, of its own address.
+module _ (s : Session) (t : Trace) (v : Vio) (right : RightTrace s t) (ok : VioOk s t v) (bare : v.page ≡ None) (carries : CarriesOwn s t v phase.Enter)
     (left : s.sizes.opened + length (sealed t) + 1 < s.sizes.geometry.journal) (room : length (filled t) < 192) where
   abbrev enters : Happening
-  enters = Enters (logged v)
+  enters = Enters (Remaps (remapping v))
 
   shown_on : IsFair s (enters ∷ t) → Shown s (enters ∷ t)
   shown_on fair =
@@ -144,8 +154,8 @@ module _ (s : Session) (t : Trace) (v : Vio) (right : RightTrace s t) (ok : VioO
         );
       }
 
-  pub enter_right : RightTrace s (enters ∷ t)
-  enter_right = (
+  own_right : RightTrace s (enters ∷ t)
+  own_right = (
     record {
       is_open = ok.is_open;
       is_write = record { asks = v.asks; bytes = v.bytes; asked = ok.asked; maps = carries.1; placed = carries.0.turn.is_placed.placed };
@@ -161,10 +171,10 @@ module _ (s : Session) (t : Trace) (v : Vio) (right : RightTrace s t) (ok : VioO
     right,
   )
 
-  pub enter_pending : KeptOk s (enters ∷ t) phase.Pending (turned phase.Pending v)
-  enter_pending = (
+  own_pending : KeptOk s (enters ∷ t) phase.Pending (turned phase.Pending v)
+  own_pending = (
     vio_over s enters t v refl ok,
-    record {
+    carries_own s (enters ∷ t) (turned phase.Pending v) phase.Pending bare (record {
       is_entered = record {
         is_change = maps_change v.asks v.bytes v.new carries.1;
         placed = carries.0.turn.is_placed.placed;
@@ -178,9 +188,30 @@ module _ (s : Session) (t : Trace) (v : Vio) (right : RightTrace s t) (ok : VioO
       fresh = carries.2;
       old_held = carries.0.old_held;
       old_is = carries.0.old_is;
-    },
+    }),
     refl,
   )
+
+-- or of the page that it makes
+module _ (s : Session) (t : Trace) (v : Vio) (right : RightTrace s t) (ok : VioOk s t v) (carries : Carries s t v phase.Enter)
+    (left : s.sizes.opened + length (sealed t) + 1 < s.sizes.geometry.journal) (room : length (filled t) < 192) where
+  abbrev Handed : Logged → Type 0
+  Handed e = RightTrace s (Enters e ∷ t) × KeptOk s (Enters e ∷ t) phase.Pending (turned phase.Pending v)
+
+  handed_in : Handed (logged v)
+  handed_in = by v.page refl carries
+    where
+      by : (o : Option PageId) → v.page ≡ o → CarriesFor s t v phase.Enter o → Handed (logged v)
+      by None bare k = subst Handed (sym (logged_own v bare)) (own_right s t v right ok bare k left room, own_pending s t v right ok bare k left room)
+      by (Some page) some k =
+          let block = fresh_at s v.new k.2 in
+          subst Handed (sym (logged_makes v page block.0 some block.1)) (page_right s t v page block.0 right ok some block.1 k left room, page_pending s t v page block.0 right ok some block.1 k left room)
+
+  pub enter_right : RightTrace s (Enters (logged v) ∷ t)
+  enter_right = handed_in.0
+
+  pub enter_pending : KeptOk s (Enters (logged v) ∷ t) phase.Pending (turned phase.Pending v)
+  enter_pending = handed_in.1
 
 rests_idle : (s : Session) (t : Trace) (busy broken : Bool) → busy ≡ false → broken ≡ false → RestsAt s t busy broken → (all_of (sealed t) ≡ durable t) × (IsFair s t → AtRest s t (sealed t))
 rests_idle s t busy broken p q k = let here : RestsAt s t false false = rw (p, q) at k in here
@@ -224,8 +255,9 @@ module _ {s : Session} {t : Trace} {n : ℕ} {old : JournalZone} {v : Vio} (know
     entry_clears : Clears s n (Mine s t (at.Journal old) (item.Request v ∷ [])) (Enters (logged v)) t
     entry_clears = record {
       zone = known.own.number_is;
-      request = own_request known;
-      address = own_address known phase.Enter is refl;
+      request = subst (λ (w : Writer). Mine s t (at.Journal old) (item.Request v ∷ []) (OfRequest w)) (sym (logged_request v)) (own_request known);
+      address = on_address (IfAny (λ a. Mine s t (at.Journal old) (item.Request v ∷ []) (OfAddress a))) v (own_address known phase.Enter is refl) tt;
+      page = on_page (IfAny (λ p. Mine s t (at.Journal old) (item.Request v ∷ []) (OfPage p))) v (own_page known) tt;
       block = λ x. inr (λ inside. tt);
       journal = inr (record { sealed_same = refl; committed_same = refl }, tt, silent s t (Enters (logged v)) (λ x. tt) (journaled t));
     }
@@ -264,9 +296,9 @@ module _ {s : Session} {t : Trace} {n : ℕ} {old : JournalZone} {v : Vio} (know
 
   pub journal_serves : (new : JournalZone) (made : Trace) (posts : List Post) → JournalServes s.sizes old v new made posts → ActKept s t n (at.Journal old) (item.Request v ∷ []) (at.Journal new) made posts
   journal_serves new made posts (journal.is_stopped is closed e m p) =
-      rw (e, m, p) (act_none known known.own (stopped_post s t v known.right (known.own.told closed) (vio_ok known) (in_phase known phase.Enter is).0 (maps_change v.asks v.bytes v.new (in_phase known phase.Enter is).1), tt))
+      rw (e, m, p) (act_none known known.own (stopped_post s t v known.right (known.own.told closed) (vio_ok known) (in_phase known phase.Enter is), tt))
   journal_serves new made posts (journal.is_full is closed full e m p) =
-      rw (e, m, p) (act_none known known.own (full_post s t v (full_now s t old known.own.lists full) (vio_ok known) (in_phase known phase.Enter is).0 (maps_change v.asks v.bytes v.new (in_phase known phase.Enter is).1), tt))
+      rw (e, m, p) (act_none known known.own (full_post s t v (full_now s t old known.own.lists full) (vio_ok known) (in_phase known phase.Enter is), tt))
   journal_serves new made posts (journal.waits is closed block full e m p) =
       let k = known.own in
       rw (e, m, p) (act_none known (record {
@@ -323,7 +355,7 @@ others_kept : (s : Session) (t : Trace) (v : Vio) (vs : List Vio) → total (λ 
     → AllByRecursion (KeptOk s t phase.Pending) vs → AllByRecursion (KeptOk s (Commits (logged v) ∷ t) phase.Pending) vs
 others_kept s t v [] names addresses all = tt
 others_kept s t v (w ∷ vs) names addresses all = (
-  pending_over s (Commits (logged v)) t w apart elsewhere all.0,
+  pending_over s (Commits (logged v)) t w (subst (λ (x : Writer). same_writer x w.request ≡ false) (sym (logged_request v)) apart) (on_address (λ o. OffNumber o w.at.0) v elsewhere tt) (λ page is. tt) all.0,
   others_kept s t v vs (omega (arith, names)) (omega (arith, addresses)) all.1,
 )
   where
@@ -337,11 +369,19 @@ others_kept s t v (w ∷ vs) names addresses all = (
     elsewhere same = let one = holder_one w (rw all.0.2 refl) in let here : holder_weight v.at.0 any w ≡ 1 = subst (λ (a : ℕ). holder_weight a any w ≡ 1) (sym same) one in omega (arith, addresses, here)
 
 -- one whose entry was handed in is aborted
-dropped_posts : (s : Session) (t : Trace) (vs : List Vio) → has_stopped t ≡ true → AllByRecursion (KeptOk s t phase.Pending) vs → AllByRecursion (PostOk s t) (all_dropped vs)
-dropped_posts s t [] stopped all = tt
-dropped_posts s t (v ∷ vs) stopped all =
-    let has = carries_at s t v phase.Pending all.0.2 all.0.1 in
-    ((omega arith, (all.0.0, (has.is_entered, may_stop s t v has.is_entered.is_change stopped has.is_entered.placed has.is_entered.unset, stopped), refl)), dropped_posts s t vs stopped all.1)
+dropped_carries : (s : Session) (t : Trace) (v : Vio) → RightTrace s t → has_stopped t ≡ true → Carries s t v phase.Pending → Carries s t (ended phase.AbortEnteredClaim reply.Stopped v) phase.AbortEnteredClaim
+dropped_carries s t v right stopped carries = by v.page carries
+  where
+    by : (o : Option PageId) → CarriesFor s t v phase.Pending o → CarriesFor s t (ended phase.AbortEnteredClaim reply.Stopped v) phase.AbortEnteredClaim o
+    by None k = (k.is_entered, may_stop s t v k.is_entered.is_change stopped k.is_entered.placed k.is_entered.unset, stopped)
+    by (Some page) k =
+        let placed = k.0.turn.is_placed in
+        (k.0, k.1, k.2, may_stop s t v (writes_change v.asks k.0.is_write) stopped placed.placed (unentered_slot s t v.request right placed.not_entered), stopped)
+
+dropped_posts : (s : Session) (t : Trace) (vs : List Vio) → RightTrace s t → has_stopped t ≡ true → AllByRecursion (KeptOk s t phase.Pending) vs → AllByRecursion (PostOk s t) (all_dropped vs)
+dropped_posts s t [] right stopped all = tt
+dropped_posts s t (v ∷ vs) right stopped all =
+    ((omega arith, (all.0.0, dropped_carries s t v right stopped (carries_at s t v phase.Pending all.0.2 all.0.1), refl)), dropped_posts s t vs right stopped all.1)
 
 -- those that waited come again
 again_posts : (s : Session) (t : Trace) (vs : List Vio) → AllByRecursion (KeptOk s t phase.Enter) vs → AllByRecursion (PostOk s t) (all_again vs)
@@ -376,7 +416,7 @@ module _ {s : Session} {t : Trace} {n : ℕ} {old : JournalZone} {b : SealedBloc
     mine : KeptOk s t phase.Pending v × AllByRecursion (KeptOk s t phase.Pending) vs
     mine = each_at (KeptOk s t phase.Pending) v vs b.vios vios vios_ok
 
-    has : HasPendingEntry s t v.asks v.bytes (remapping v)
+    has : Carries s t v phase.Pending
     has = carries_at s t v phase.Pending mine.0.2 mine.0.1
 
     stands : (all_of (sealed t) ≡ all_logged b.vios ++ durable t) × (IsFair s t → AtRest s t (sealed t))
@@ -398,7 +438,7 @@ module _ {s : Session} {t : Trace} {n : ℕ} {old : JournalZone} {b : SealedBloc
         }
 
     commit_right : RightTrace s (commits ∷ t)
-    commit_right = (record { is_open = mine.0.0.is_open; rest = all_logged vs; next = next }, commit_shown, known.right)
+    commit_right = (record { is_open = subst (IsOpen t) (sym (logged_request v)) mine.0.0.is_open; rest = all_logged vs; next = next }, commit_shown, known.right)
 
     weighs : (k : Key) → total (λ w. (token_of s.sizes k).item (item.Request w)) b.vios ≡ (token_of s.sizes k).item (item.Request v) + total (λ w. (token_of s.sizes k).item (item.Request w)) vs
     weighs k = ap (total (λ w. (token_of s.sizes k).item (item.Request w))) vios
@@ -406,26 +446,50 @@ module _ {s : Session} {t : Trace} {n : ℕ} {old : JournalZone} {b : SealedBloc
     clears : Clears s n (Mine s t (at.Journal old) (item.Block b ∷ [])) commits t
     clears = record {
       zone = known.own.number_is;
-      request = weighed (omega (arith, own_name v, weighs (OfRequest v.request)));
-      address = weighed (omega (arith, holder_one v (rw mine.0.2 refl), weighs (OfAddress v.at.0)));
+      request = subst (λ (w : Writer). Mine s t (at.Journal old) (item.Block b ∷ []) (OfRequest w)) (sym (logged_request v)) (weighed (omega (arith, own_name v, weighs (OfRequest v.request))));
+      address = on_address (IfAny (λ a. Mine s t (at.Journal old) (item.Block b ∷ []) (OfAddress a))) v (weighed (omega (arith, holder_one v (rw mine.0.2 refl), weighs (OfAddress v.at.0)))) tt;
+      page = tt;
       block = λ x. inr (λ inside. tt);
       journal = inl (weighed (omega arith));
     }
 
-    settle_post : PostOk s (commits ∷ t) (hands_out v)
-    settle_post = (
-      home_within s t v known.session mine.0.0,
-      (
-        vio_over s commits t v refl mine.0.0,
-        (
-          record { is_change = has.is_entered.is_change; placed = has.is_entered.placed; entry = has.is_entered.entry; unset = has.is_entered.unset; unaborted = has.is_entered.unaborted },
-          record { all_committed = has.pending.last ∙ sym (of_same (remapping v) (committed t)); last = of_same (remapping v) (committed t) ∙ ap (λ es. remapping v ∷ es) has.pending.others },
-          record { writes = has.below.writes; reads = has.below.reads },
-          has.fresh,
-        ),
-        refl,
-      ),
+    -- its slot is to be set
+    own_settles : v.page ≡ None → HasPendingEntry s t v.asks v.bytes (remapping v) → CarriesOwn s (commits ∷ t) (turned phase.Settle v) phase.Settle
+    own_settles bare k = subst (λ (e : Logged). CarriesOwn s (Commits e ∷ t) (turned phase.Settle v) phase.Settle) (sym (logged_own v bare)) (
+      record { is_change = k.is_entered.is_change; placed = k.is_entered.placed; entry = k.is_entered.entry; unset = k.is_entered.unset; unaborted = k.is_entered.unaborted },
+      record { all_committed = k.pending.last ∙ sym (of_same (remapping v) (committed t)); last = of_same (remapping v) (committed t) ∙ ap (λ es. remapping v ∷ es) k.pending.others },
+      record { writes = k.below.writes; reads = k.below.reads },
+      k.fresh,
     )
+
+    -- or its page is to be linked
+    page_settles : (page : PageId) (x : Pbn) → v.page ≡ Some page → v.new ≡ At x → CarriesPage s t v page phase.Pending → CarriesPage s (commits ∷ t) (turned phase.Settle v) page phase.Settle
+    page_settles page x some to k =
+        let turn = k.0.turn in
+        let entry = logged_makes v page x some to in
+        let making : MakesPage s (Commits (Makes (record { request = v.request; page = page; at = x })) ∷ t) v page = record {
+          turn = record {
+            is_placed = record { for_block = turn.is_placed.for_block; placed = turn.is_placed.placed; not_entered = turn.is_placed.not_entered };
+            quiet = quiet_kept (Commits (Makes (record { request = v.request; page = page; at = x }))) t v.at.0 tt turn.quiet;
+            below = below_kept (Commits (Makes (record { request = v.request; page = page; at = x }))) t v.at.0 v.place tt turn.below;
+          };
+          is_write = k.0.is_write;
+          none_taken = k.0.none_taken;
+          lacked = k.0.lacked;
+          up = k.0.up;
+        } in (
+          subst (λ (e : Logged). MakesPage s (Commits e ∷ t) v page) (sym entry) making,
+          k.1,
+          record { handed_in = k.2.handed_in; unlinked = k.2.unlinked; undropped = k.2.undropped },
+          (0, omega arith, refl),
+        )
+
+    settles_for : (o : Option PageId) → v.page ≡ o → CarriesFor s t v phase.Pending o → CarriesFor s (commits ∷ t) (turned phase.Settle v) phase.Settle o
+    settles_for None bare k = own_settles bare k
+    settles_for (Some page) some k = let block = fresh_at s v.new k.1 in page_settles page block.0 some block.1 k
+
+    settle_post : PostOk s (commits ∷ t) (hands_out v)
+    settle_post = (home_within s t v known.session mine.0.0, (vio_over s commits t v refl mine.0.0, settles_for v.page refl has, refl))
 
     others : AllByRecursion (KeptOk s (commits ∷ t) phase.Pending) vs
     others =
@@ -461,7 +525,7 @@ module _ {s : Session} {t : Trace} {n : ℕ} {old : JournalZone} {b : SealedBloc
     seal_right = (record { some = omega (arith, count); all_committed = all_there.0; left = left }, seal_shown, known.right)
 
     seal_clears : Clears s n (Mine s t (at.Journal old) (item.Block b ∷ [])) Seals t
-    seal_clears = record { zone = known.own.number_is; request = tt; address = tt; block = λ x. inr (λ inside. tt); journal = inl (weighed (omega arith)) }
+    seal_clears = record { zone = known.own.number_is; request = tt; address = tt; page = tt; block = λ x. inr (λ inside. tt); journal = inl (weighed (omega arith)) }
 
     kept_sealed : KeptEach (KeptOk s (Seals ∷ t)) (at.Journal old)
     kept_sealed = line_kept known Seals t seal_clears known.own.kept
@@ -565,5 +629,5 @@ module _ {s : Session} {t : Trace} {n : ℕ} {old : JournalZone} {b : SealedBloc
         answers = tt;
         told = λ closed. stopped;
       })
-      (every-append (PostOk s t) (all_dropped b.vios) (all_dropped old.filling ++ all_refused s.sizes reply.Stopped old.waiting) (dropped_posts s t b.vios stopped vios_ok)
-      (every-append (PostOk s t) (all_dropped old.filling) (all_refused s.sizes reply.Stopped old.waiting) (dropped_posts s t old.filling stopped k.kept.0) (stopped_posts s t old.waiting known.right stopped k.kept.1))))
+      (every-append (PostOk s t) (all_dropped b.vios) (all_dropped old.filling ++ all_refused s.sizes reply.Stopped old.waiting) (dropped_posts s t b.vios known.right stopped vios_ok)
+      (every-append (PostOk s t) (all_dropped old.filling) (all_refused s.sizes reply.Stopped old.waiting) (dropped_posts s t old.filling known.right stopped k.kept.0) (stopped_posts s t old.waiting known.right stopped k.kept.1))))

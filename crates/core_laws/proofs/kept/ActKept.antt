@@ -1,16 +1,18 @@
 -- What each act may use and what it owes.
-use Rattle.std.proofs.Common.{◌≡◌, ℕ, ◌+◌, ◌<◌, ◌≤◌, true, Some, IsNone, List, [], ◌∷◌, ◌++◌, refl, subst, inl, inr, arith, false}
+use Rattle.std.proofs.Common.{◌≡◌, ℕ, ◌+◌, ◌<◌, ◌≤◌, true, Option, None, Some, IsNone, List, [], ◌∷◌, ◌++◌, refl, sym, subst, inl, inr, arith, false}
 use Rattle.core_laws.proofs.Common.{all_of, AllByRecursion, begun, Calls, Carries, claims, Commits, DataOk, DeviceZone, done, entered, Enters, Fails, fair_before, filled, GivesRight, Happening, holds, IsFair, IsSession, IsWrite, Item, ItemOk, kept_by, KeptEach, KeptOk, lines, logged_of, LogicalZone, none_is, not_both, option_cases, Pbn, Phase, place_of, Placed, places, Post, RightTrace, same_Some, same_tells, sealed, Seals, Session, Shown, total, Trace, Vio, VioOk, Writer, zone_count, zone_number, ZoneData, cases_Bool, has_taken, Says, Flushes, Takes, journaled}
 use Rattle.blk_base.specs.declared.place.Mapping.TheVariants.{At}
 use Rattle.data_vio.specs.declared.items.Item.TheVariants as item
 use Rattle.data_vio.specs.declared.items.Phase.TheVariants as phase
 use Rattle.core_model.specs.declared.zones.ZoneData.TheVariants as at
+use Rattle.blk_base.specs.declared.place.PageId.{PageId}
+use Rattle.core_model.specs.Facts.{CarriesFor, CarriesOwn, CarriesPage}
 use Rattle.core_model.specs.Legal.{ComesAfter}
 use Rattle.core_laws.proofs.trace.DeskOfTrace.{logged_has, entered_writes, done_is_entered}
 use Rattle.core_laws.proofs.trace.PlacesOfTrace.{IsBegun, places_begun}
 use Rattle.core_laws.proofs.trace.Growth.{begun_stays}
 use Rattle.core_laws.proofs.kept.Frame.{kept_each}
-use Rattle.core_laws.proofs.kept.Keys.{Key, OfRequest, OfAddress, OfJournal, token_of, Spares, happens_in, IfAny, Clears, clears_with, mine_or_spared, own_name, holder_one}
+use Rattle.core_laws.proofs.kept.Keys.{Key, OfRequest, OfAddress, OfJournal, OfPage, token_of, Spares, happens_in, IfAny, Clears, clears_with, mine_or_spared, own_name, holder_one, maker_one}
 use Rattle.core_laws.proofs.kept.Spared.{about}
 use Rattle.core_laws.proofs.tokens.Known.{LeasedIn}
 use Rattle.core_laws.proofs.kept.StandsOn.{AreElsewhere, SparesBlock, SparesBlocks, SparesJournal, SparesMap, SparesSealed, entered_parts, journal_kept, new_reads_kept, spares_all, spares_parts, stands_kept}
@@ -107,6 +109,20 @@ vio_over s h t v same ok = record { asked = ok.asked; is_open = record { is_begu
 pub carries_at : (s : Session) (t : Trace) (v : Vio) (q : Phase) → v.phase ≡ q → Carries s t v v.phase → Carries s t v q
 carries_at s t v q is k = subst (λ (p : Phase). Carries s t v p) is k
 
+-- In a phase where none makes a page it makes none; and what it carries of its own, or of its page, it carries.
+pub bare_of : (s : Session) (t : Trace) (v : Vio) (q : Phase) → ((page : PageId) → CarriesPage s t v page q → ⊥) → Carries s t v q → (v.page ≡ None) × CarriesOwn s t v q
+bare_of s t v q none k = by v.page refl k
+  where
+    by : (o : Option PageId) → v.page ≡ o → CarriesFor s t v q o → (v.page ≡ None) × CarriesOwn s t v q
+    by None is own = (is, own)
+    by (Some page) is made = absurd (none page made)
+
+pub carries_own : (s : Session) (t : Trace) (v : Vio) (q : Phase) → v.page ≡ None → CarriesOwn s t v q → Carries s t v q
+carries_own s t v q bare k = subst (CarriesFor s t v q) (sym bare) k
+
+pub carries_page : (s : Session) (t : Trace) (v : Vio) (page : PageId) (q : Phase) → v.page ≡ Some page → CarriesPage s t v page q → Carries s t v q
+carries_page s t v page q some k = subst (CarriesFor s t v q) (sym some) k
+
 module _ {s : Session} {t : Trace} {n : ℕ} {d : ZoneData} {front : List Item} (known : Known s t n d front) where
   -- what is in its hands, nothing that it keeps weighs for
   pub alone : (k : Key) → Mine s t d front k → line_of s k (kept_by d) ≡ 0
@@ -129,10 +145,10 @@ module _ {s : Session} {t : Trace} {n : ℕ} {d : ZoneData} {front : List Item} 
       → DataOk s (h ∷ t) n new → AllByRecursion (PostOk s (h ∷ t)) posts → ActKept s t n d front new (h ∷ []) posts
   act_one h clears gives right own posts = record { right = right; gives = gives; owns = (reaches clears, tt); own = own; posts_ok = posts }
 
-  -- a plain happening is its own where the request and the address that it is about are
+  -- a plain happening is its own where the request, the address and the page that it is about are
   pub plain_clears : (h : Happening) (u : Trace) → IsPlain h → n ≡ happens_in s.sizes h → IfAny (λ w. Mine s t d front (OfRequest w)) (about h).request → IfAny (λ a. Mine s t d front (OfAddress a)) (about h).address
-      → Clears s n (Mine s t d front) h u
-  plain_clears h u plain here request address = record { zone = here; request = request; address = address; block = λ x. inr (λ inside. no_block h plain x); journal = inr (plain_journal s u h plain) }
+      → IfAny (λ p. Mine s t d front (OfPage p)) (about h).page → Clears s n (Mine s t d front) h u
+  plain_clears h u plain here request address page = record { zone = here; request = request; address = address; page = page; block = λ x. inr (λ inside. no_block h plain x); journal = inr (plain_journal s u h plain) }
     where
       no_block : (g : Happening) → IsPlain g → (x : ℕ) → SparesBlock g x
       no_block (Calls c) is x = absurd is
@@ -153,6 +169,20 @@ module _ {s : Session} {t : Trace} {n : ℕ} {d : ZoneData} {v : Vio} (known : K
   pub own_address : (q : Phase) → v.phase ≡ q → holds q ≡ true → Mine s t d (item.Request v ∷ []) (OfAddress v.at.0)
   own_address q is holds_it = weighed (omega (arith, holder_one v (rw is holds_it)))
 
+  pub own_page : (page : PageId) → v.page ≡ Some page → Mine s t d (item.Request v ∷ []) (OfPage page)
+  own_page page is = weighed (omega (arith, maker_one s.sizes v page is))
+
+  -- while it makes no page, and while it makes one
+  pub in_own : (q : Phase) → v.phase ≡ q → v.page ≡ None → CarriesOwn s t v q
+  in_own q is bare = subst (CarriesFor s t v q) bare (in_phase q is)
+
+  pub in_page : (q : Phase) (page : PageId) → v.phase ≡ q → v.page ≡ Some page → CarriesPage s t v page q
+  in_page q page is some = subst (CarriesFor s t v q) some (in_phase q is)
+
+  -- in a phase where none makes a page
+  pub in_bare : (q : Phase) → v.phase ≡ q → ((page : PageId) → CarriesPage s t v page q → ⊥) → (v.page ≡ None) × CarriesOwn s t v q
+  in_bare q is none = bare_of s t v q none (in_phase q is)
+
 -- what holds of all places holds of a request's
 pub place_has : (P : Placed → Type 0) (ps : List Placed) (w : Writer) (p : Placed) → place_of ps w ≡ Some p → AllByRecursion P ps → P p × (p.request ≡ w)
 place_has P [] w p had all = absurd cc
@@ -164,7 +194,8 @@ place_has P (q ∷ ps) w p had all = elim (same_tells q.request w) [
 -- whoever took a block was begun
 taken_begun : (s : Session) (t : Trace) (w : Writer) → RightTrace s t → has_taken t w ≡ true → w.number < begun w.stream (lines t)
 taken_begun s [] w right some = absurd cc
-taken_begun s (Takes v x ∷ t) w right some = elim (same_tells v w) [
+taken_begun s (Takes v (Some page) x ∷ t) w right some = taken_begun s t w right.2 some
+taken_begun s (Takes v None x ∷ t) w right some = elim (same_tells v w) [
   | inl same ↦ subst (λ (u : Writer). u.number < begun u.stream (lines t)) same.1 right.0.is_open.is_begun
   | inr other ↦ taken_begun s t w right.2 (rw other.0 at some)
 ]

@@ -25,7 +25,7 @@ use Rattle.core_model.specs.Steps.{Act}
 use Rattle.core_model.specs.Steps as steps
 use Rattle.core_model.specs.Streams.{counted}
 use Rattle.core_laws.proofs.desk.DeskFacts.{begun_now}
-use Rattle.core_laws.proofs.kept.ActKept.{unborn_place}
+use Rattle.core_laws.proofs.kept.ActKept.{bare_of, unborn_place}
 use Rattle.core_laws.proofs.kept.Streams.{Keeps, items_to}
 use Rattle.core_laws.proofs.tokens.Posts.{goes_by}
 use Rattle.core_laws.proofs.tokens.Known.{IsIn, KeptIn}
@@ -77,6 +77,10 @@ again_still : (vs : List Vio) → AllByRecursion (IsIn phase.Enter) vs → AllBy
 again_still [] h = tt
 again_still (v ∷ vs) h = (arrives v phase.Enter h.0, again_still vs h.1)
 
+looks_still : (vs : List Vio) → AllByRecursion (IsIn phase.Look) vs → AllByRecursion Still (logical.all_again vs)
+looks_still [] h = tt
+looks_still (v ∷ vs) h = (arrives v phase.Look h.0, looks_still vs h.1)
+
 woken_still : (vs : List Vio) → AllByRecursion (IsIn phase.Reply) vs → AllByRecursion Still (woken vs)
 woken_still [] h = tt
 woken_still (v ∷ vs) h = (arrives v phase.Reply h.0, woken_still vs h.1)
@@ -114,16 +118,24 @@ pub data Course (s : Session) (t : Trace) (old : ZoneData) (front : List Item) (
       → Course s t old front made posts
 
 module _ (s : Session) (t : Trace) where
-  logical_course : (old : LogicalZone) (v : Vio) (new : LogicalZone) (made : Trace) (posts : List Post) → LogicalServes s.sizes old v new made posts → Course s t (at.Logical old) (item.Request v ∷ []) made posts
-  logical_course old v new made posts (logical.arrives_retired p d n m q) = draws old v refl refl p (rw q (refl, tt)) (rw m refl) (λ zone. rw m refl)
-  logical_course old v new made posts (logical.arrives_free p d f n m q) = draws old v refl refl p (rw q (refl, tt)) (rw m refl) (λ zone. rw m refl)
-  logical_course old v new made posts (logical.arrives_held p d f n m q) = draws old v refl refl p (rw q tt) (rw m refl) (λ zone. rw m refl)
-  logical_course old v new made posts (logical.looks post p path stays goes n m q) = still (past v p) (rw q (goes_still s.sizes old v post goes, tt)) (rw m refl) (λ zone. rw m refl)
-  logical_course old v new made posts (logical.passes p path passes n m q) = still (past v p) (rw q (refl, passes_still (first_for v.at.0 old.waiting))) (rw m refl) (λ zone. rw m refl)
-  logical_course old v new made posts (logical.settles p n m q) = still (past v p) (rw q (refl, passes_still (first_for v.at.0 old.waiting))) (rw m refl) (λ zone. rw m refl)
-  logical_course old v new made posts (logical.gives p n m q) = still (past v p) (rw q (refl, passes_still (first_for v.at.0 old.waiting))) (rw m refl) (λ zone. rw m refl)
-  logical_course old v new made posts (logical.aborts p n m q) = still (past v p) (rw q (refl, passes_still (first_for v.at.0 old.waiting))) (rw m refl) (λ zone. rw m refl)
-  logical_course old v new made posts (logical.aborts_entered p n m q) = still (past v p) (rw q (refl, stopped_still (all_for v.at.0 old.waiting))) (rw m refl) (λ zone. rw m refl)
+  logical_course : (old : LogicalZone) (v : Vio) (new : LogicalZone) (made : Trace) (posts : List Post) → KeptIn (at.Logical old) → LogicalServes s.sizes old v new made posts → Course s t (at.Logical old) (item.Request v ∷ []) made posts
+  logical_course old v new made posts kept (logical.arrives_retired p d n m q) = draws old v refl refl p (rw q (refl, tt)) (rw m refl) (λ zone. rw m refl)
+  logical_course old v new made posts kept (logical.arrives_free p d f n m q) = draws old v refl refl p (rw q (refl, tt)) (rw m refl) (λ zone. rw m refl)
+  logical_course old v new made posts kept (logical.arrives_held p d f n m q) = draws old v refl refl p (rw q tt) (rw m refl) (λ zone. rw m refl)
+  logical_course old v new made posts kept (logical.looks post p path stays leaf goes n m q) = still (past v p) (rw q (goes_still s.sizes old v post goes, tt)) (rw m refl) (λ zone. rw m refl)
+  logical_course old v new made posts kept (logical.passes p path passes n m q) = still (past v p) (rw q (refl, passes_still (first_for v.at.0 old.waiting))) (rw m refl) (λ zone. rw m refl)
+  logical_course old v new made posts kept (logical.settles p bare n m q) = still (past v p) (rw q (refl, passes_still (first_for v.at.0 old.waiting))) (rw m refl) (λ zone. rw m refl)
+  logical_course old v new made posts kept (logical.gives p n m q) = still (past v p) (rw q (refl, passes_still (first_for v.at.0 old.waiting))) (rw m refl) (λ zone. rw m refl)
+  logical_course old v new made posts kept (logical.aborts p bare n m q) = still (past v p) (rw q (refl, passes_still (first_for v.at.0 old.waiting))) (rw m refl) (λ zone. rw m refl)
+  logical_course old v new made posts kept (logical.aborts_entered p bare n m q) = still (past v p) (rw q (refl, stopped_still (all_for v.at.0 old.waiting))) (rw m refl) (λ zone. rw m refl)
+  logical_course old v new made posts kept (logical.is_dropped page p path lack dropped n m q) = still (past v p) (rw q (refl, passes_still (first_for v.at.0 old.waiting))) (rw m refl) (λ zone. rw m refl)
+  logical_course old v new made posts kept (logical.waits page p path lack linkable made_yet n m q) = still (past v p) (rw q tt) (rw m refl) (λ zone. rw m refl)
+  logical_course old v new made posts kept (logical.makes_page page p path lack linkable unmade n m q) = still (past v p) (rw q (refl, tt)) (rw m refl) (λ zone. rw m refl)
+  logical_course old v new made posts kept (logical.links page x between p some to may linked n m q) = still (past v p) (rw q (refl, looks_still old.lacking kept.1)) (rw m refl) (λ zone. rw m refl)
+  logical_course old v new made posts kept (logical.unmakes page p some n m q) =
+      still (past v p) (rw q (refl, every-append Still (logical.granted v.at.0 old) (logical.all_again old.lacking) (passes_still (first_for v.at.0 old.waiting)) (looks_still old.lacking kept.1))) (rw m refl) (λ zone. rw m refl)
+  logical_course old v new made posts kept (logical.drops page p some n m q) =
+      still (past v p) (rw q (refl, every-append Still (logical.granted v.at.0 old) (logical.all_again old.lacking) (passes_still (first_for v.at.0 old.waiting)) (looks_still old.lacking kept.1))) (rw m refl) (λ zone. rw m refl)
 
   physical_course : (old : PhysicalZone) (v : Vio) (new : PhysicalZone) (made : Trace) (posts : List Post) → PhysicalServes s.sizes old v new made posts → Course s t (at.Physical old) (item.Request v ∷ []) made posts
   physical_course old v new made posts (physical.claims x xs p f n m q) = still (past v p) (rw q (refl, tt)) (rw m refl) (λ zone. rw m refl)
@@ -217,7 +229,7 @@ module _ (s : Session) (t : Trace) (right : RightTrace s t) where
     where
       earned : (a : Answer) → v.phase ≡ phase.Reply → v.answer ≡ Some a → is_marked v.asks a ≡ false → HasCause s t v.request (request_of v) a
       earned a p h k =
-          let reply : MayReply s t v v.answer = subst (λ (q : Phase). Carries s t v q) p ok.1 in
+          let reply : MayReply s t v v.answer = (bare_of s t v phase.Reply (λ page no. no) (subst (λ (q : Phase). Carries s t v q) p ok.1)).1 in
           let has : IsEarned s t (mark_of_vio v) (request_of v) a (is_marked v.asks a) = subst (λ (o : Option Answer). MayReply s t v o) h reply in
           subst (λ (b : Bool). IsEarned s t (mark_of_vio v) (request_of v) a b) k has
   desk_course old v new made posts ok (desk.marks p k h n m q) = still (past v p) (rw q tt) (rw m refl) (λ zone. rw m refl)
@@ -228,7 +240,7 @@ module _ (s : Session) (t : Trace) (right : RightTrace s t) where
   course n old front new made posts (steps.begins act) ok fronts kept = begin_course _ _ _ _ ok.sound.requests act
   course n old front new made posts (steps.answers {v = v} act) ok fronts kept = desk_course _ v _ _ _ (subst (λ (m : ℕ). ItemOk s t m (item.Request v)) ok.number_is fronts.0) act
   course n old front new made posts (steps.hears {old = d}) ok fronts kept = still refl (woken_still d.parked kept) refl (λ zone. refl)
-  course n old front new made posts (steps.serves act) ok fronts kept = logical_course s t _ _ _ _ _ act
+  course n old front new made posts (steps.serves act) ok fronts kept = logical_course s t _ _ _ _ _ kept act
   course n old front new made posts steps.serves_notice ok fronts kept = still refl (refl, tt) refl (λ zone. refl)
   course n old front new made posts (steps.takes act) ok fronts kept = physical_course s t _ _ _ _ _ act
   course n old front new made posts steps.takes_notice ok fronts kept = still refl (refl, tt) refl (λ zone. refl)

@@ -1,6 +1,6 @@
 -- What requests and sealed blocks carry stays where the next happening is about something else.
 use Rattle.std.proofs.Common.{◌≡◌, ℕ, ◌≤◌, Bool, true, false, Option, None, Some, List, [], ◌∷◌, ◌++◌, refl, ap, sym, ◌∙◌, subst, arith}
-use Rattle.core_laws.proofs.Common.{AllByRecursion, Answer, BlockOk, Carries, Happening, HasCause, Holds, IsEarned, IsEntered, IsInTurn, IsPlaced, IsSealed, IsUndrawn, Item, ItemOk, KeptOk, Looks, MayReply, Pbn, Phase, Request, SealedBlock, Session, Stage, StandsAt, Trace, Vio, VioOk, Writer, all_logged, all_of, done, entered, fair_before, gift_of, gifts, has_taken, holds, logged_of, newest, place_of, places, request_of, sealed, total, applied, remapping, Logged}
+use Rattle.core_laws.proofs.Common.{AllByRecursion, Answer, BlockOk, Carries, Happening, HasCause, Holds, IsEarned, IsEntered, IsInTurn, IsFresh, IsPlaced, IsSealed, IsToFresh, IsUndrawn, Item, ItemOk, KeptOk, Looks, MayReply, Pbn, Phase, Request, SealedBlock, Session, Stage, StandsAt, Trace, Vio, VioOk, Writer, all_logged, all_of, done, entered, fair_before, gift_of, gifts, has_taken, holds, logged_of, newest, place_of, places, request_of, sealed, total, applied, remapping, request_in, Logged, Mapping, OnBlock, logged}
 use Rattle.blk_base.specs.declared.place.Mapping.TheVariants.{At}
 use Rattle.blk_base.specs.declared.request.Answer.TheVariants as reply
 use Rattle.blk_base.specs.declared.request.Request.TheVariants as request
@@ -8,9 +8,14 @@ use Rattle.image_layout.specs.Values.{mapping_of}
 use Rattle.data_vio.specs.declared.items.Item.TheVariants as item
 use Rattle.data_vio.specs.declared.items.Phase.TheVariants as phase
 use Rattle.data_vio.specs.declared.items.Stage.TheVariants as stage
+use Rattle.blk_base.specs.Pages.{above}
+use Rattle.blk_base.specs.declared.place.PageId.{PageId}
+use Rattle.data_vio.specs.Vios.{logged_for}
 use Rattle.core_model.specs.DeskRules.{is_marked, mark_of_vio}
-use Rattle.core_laws.proofs.kept.Keys.{Key, OfRequest, OfAddress, OfBlock, OfJournal, token_of, Spares, own_name, holder_one, claim_one}
-use Rattle.core_laws.proofs.kept.Spared.{applied_at, SparesRequest, SparesAddress, open_kept, place_same, entry_same, slot_same, abort_same, gift_same, take_same, stop_kept, fault_kept, abort_kept, full_kept, needs_kept, journal_full_kept, mapping_same, quiet_kept, committed_kept, below_kept, pending_kept, mark_kept, value_same}
+use Rattle.core_model.specs.DeviceRules.{page_at}
+use Rattle.core_model.specs.Facts.{CarriesFor, CarriesOwn, CarriesPage, HasPageEntry, IsUnmade, MakesPage}
+use Rattle.core_laws.proofs.kept.Keys.{Key, OfRequest, OfAddress, OfBlock, OfJournal, OfPage, token_of, Spares, own_name, holder_one, claim_one, maker_one}
+use Rattle.core_laws.proofs.kept.Spared.{applied_at, SparesRequest, SparesAddress, SparesPage, open_kept, durable_has, journaled_has, link_same, put_same, there_kept, undropped_kept, place_same, entry_same, slot_same, abort_same, gift_same, take_same, stop_kept, fault_kept, abort_kept, full_kept, needs_kept, journal_full_kept, mapping_same, quiet_kept, committed_kept, below_kept, pending_kept, mark_kept, value_same}
 use Rattle.core_laws.proofs.kept.StandsOn.{SparesBlock, SparesBlocks, SparesJournal, SparesMap, SparesSealed, block_reads_kept, comes_stands, new_kept, new_reads_kept, on_both, reads_kept, rests_kept, sealed_spared, spares_parts, way_kept}
 
 none_weigh : (vs : List Vio) → total (λ v. 0) vs ≡ 0
@@ -24,6 +29,33 @@ last_spared s h t vs n k map = subst (λ (blocks : List (List Logged)). SparesMa
 blocks_spared : (s : Session) (h : Happening) (t : Trace) (vs : List Vio) (n : ℕ) (k : IsSealed s t vs n) → SparesMap s h (all_of (sealed t))
     → ((a : ℕ) (x : Pbn) → mapping_of s.window a ≡ At x → SparesBlock h x.0) × (SparesBlocks h (all_logged vs) × SparesBlocks h (all_of k.older))
 blocks_spared s h t vs n k map = let last = last_spared s h t vs n k map in (last.0, spares_parts h (all_logged vs) (all_of k.older) last.1)
+
+-- the entry that a request hands in is its own
+pub logged_request : (v : Vio) → request_in (logged v) ≡ v.request
+logged_request v = by v.page v.new
+  where
+    by : (o : Option PageId) (new : Mapping) → request_in (logged_for v o new) ≡ v.request
+    by None new = refl
+    by (Some page) (At x) = refl
+    by (Some page) other = refl
+
+-- while a write makes a page it holds the lock of its address
+pub page_locks : (s : Session) (t : Trace) (v : Vio) (page : PageId) (q : Phase) → CarriesPage s t v page q → holds q ≡ true
+page_locks s t v page phase.Claim k = refl
+page_locks s t v page phase.Store k = refl
+page_locks s t v page phase.Enter k = refl
+page_locks s t v page phase.Pending k = refl
+page_locks s t v page phase.Settle k = refl
+page_locks s t v page phase.AbortClaim k = refl
+page_locks s t v page phase.Abort k = refl
+page_locks s t v page phase.AbortEnteredClaim k = refl
+page_locks s t v page phase.AbortEntered k = refl
+page_locks s t v page other k = absurd k
+
+-- what holds of the block of a mapping that has one, or follows from what holds of it
+pub on_fresh : {s : Session} {Q R : Pbn → Type 0} (m : Mapping) → ((x : Pbn) → m ≡ At x → IsFresh s x → Q x → R x) → IsToFresh s m → OnBlock Q m → OnBlock R m
+on_fresh (At x) so fresh q = so x refl fresh q
+on_fresh other so fresh q = absurd fresh
 
 -- the parts of the trace say the same of a request
 pub record SaysSame (h : Happening) (t : Trace) (w : Writer) : Type 0 where
@@ -47,7 +79,7 @@ module _ (s : Session) (h : Happening) (t : Trace) where
   cause_kept w (request.Write at bytes fua) reply.Ok same k = rw (same.of_slot) k
   cause_kept w (request.Write at bytes fua) reply.Range same k = k
   cause_kept w (request.Write at bytes fua) reply.Stopped same k = (stop_kept h t k.0, rw (same.of_place) k.1, rw (same.of_slot) k.2)
-  cause_kept w (request.Write at bytes fua) reply.Full same k = (rw (same.of_place) k.0, rw (same.of_entry) k.1, full_kept s h t w bytes same.of_take k.2)
+  cause_kept w (request.Write at bytes fua) reply.Full same k = (rw (same.of_place) k.0, rw (same.of_entry) k.1, full_kept s h t w at.0 bytes same.of_take k.2)
   cause_kept w (request.Write at bytes fua) other same k = absurd k
   cause_kept w (request.Discard at) reply.Ok same k = rw (same.of_slot) k
   cause_kept w (request.Discard at) reply.Range same k = k
@@ -116,9 +148,9 @@ module _ (s : Session) (h : Happening) (t : Trace) where
     unaborted = rw (abort_same h t v.request apart) k.unaborted;
   }
 
-  -- by the phase
+  -- by the phase, while it is about its own address
   by_phase : (v : Vio) (q : Phase) → SparesRequest h v.request → (holds q ≡ true → SparesAddress h v.at.0) → (q ≡ phase.Enter → (x : Pbn) → v.new ≡ At x → Spares s t h (OfBlock x.0))
-      → Carries s t v q → Carries s (h ∷ t) v q
+      → CarriesOwn s t v q → CarriesOwn s (h ∷ t) v q
   by_phase v phase.Arrive r a b k = unplaced_kept v r k
   by_phase v phase.Wait r a b k = (placed_kept v r k.0, take_same h t v.request r ∙ k.1)
   by_phase v phase.Look r a b k = (turn_kept v r (a refl) k.0, take_same h t v.request r ∙ k.1)
@@ -144,6 +176,49 @@ module _ (s : Session) (h : Happening) (t : Trace) where
   by_phase v phase.Flush r a b k = k
   by_phase v phase.Reply r a b k = reply_kept v v.answer r k
 
+  -- and while it makes a page
+  module _ (v : Vio) (page : PageId) (r : SparesRequest h v.request) (a : SparesAddress h v.at.0) (p : SparesPage h page) where
+    making_kept : MakesPage s t v page → MakesPage s (h ∷ t) v page
+    making_kept k = record {
+      turn = turn_kept v r a k.turn;
+      is_write = k.is_write;
+      none_taken = take_same h t v.request r ∙ k.none_taken;
+      lacked = k.lacked;
+      up = there_kept s.sizes.geometry.height s.window h t (above page) k.up;
+    }
+
+    unmade_kept : IsUnmade s t page → IsUnmade s (h ∷ t) page
+    unmade_kept k = put_same s.sizes.geometry.height s.window h t page p ∙ k
+
+    page_entry_kept : HasPageEntry s t (logged v) page → HasPageEntry s (h ∷ t) (logged v) page
+    page_entry_kept k = record {
+      handed_in = journaled_has h t (logged v) k.handed_in;
+      unlinked = link_same s.sizes.geometry.height s.window h t page p ∙ k.unlinked;
+      undropped = undropped_kept h t (logged v) (subst (SparesRequest h) (sym (logged_request v)) r) k.undropped;
+    }
+
+    by_page : (q : Phase) → (q ≡ phase.Enter → (x : Pbn) → v.new ≡ At x → Spares s t h (OfBlock x.0)) → CarriesPage s t v page q → CarriesPage s (h ∷ t) v page q
+    by_page phase.Claim b k = (making_kept k.0, unmade_kept k.1)
+    by_page phase.Store b k = (making_kept k.0, unmade_kept k.1, k.2)
+    by_page phase.Enter b k = (
+      making_kept k.0,
+      unmade_kept k.1,
+      k.2,
+      λ fair. on_fresh v.new (λ x to fresh reads. reads_kept s h t x.0 (page_at s.sizes page x) (b refl x to fresh.is_data) reads) k.2 (k.3 (fair_before s h t fair)),
+    )
+    by_page phase.Pending b k = (making_kept k.0, k.1, page_entry_kept k.2)
+    by_page phase.Settle b k = (making_kept k.0, k.1, page_entry_kept k.2, durable_has h t (logged v) k.3)
+    by_page phase.AbortClaim b k = (making_kept k.0, unmade_kept k.1, reply_kept v v.answer r k.2)
+    by_page phase.Abort b k = (making_kept k.0, unmade_kept k.1, reply_kept v v.answer r k.2)
+    by_page phase.AbortEnteredClaim b k = (making_kept k.0, k.1, page_entry_kept k.2, reply_kept v v.answer r k.3, stop_kept h t k.4)
+    by_page phase.AbortEntered b k = (making_kept k.0, k.1, page_entry_kept k.2, reply_kept v v.answer r k.3, stop_kept h t k.4)
+    by_page other b k = absurd k
+
+  pub by_all : (v : Vio) (q : Phase) (o : Option PageId) → SparesRequest h v.request → (holds q ≡ true → SparesAddress h v.at.0) → ((page : PageId) → o ≡ Some page → SparesPage h page)
+      → (q ≡ phase.Enter → (x : Pbn) → v.new ≡ At x → Spares s t h (OfBlock x.0)) → CarriesFor s t v q o → CarriesFor s (h ∷ t) v q o
+  by_all v q None r a p b k = by_phase v q r a b k
+  by_all v q (Some page) r a p b k = by_page v page r (a (page_locks s t v page q k)) (p page refl) q b k
+
   -- A happening that spares what a request, a block, an item weighs for.
   abbrev pub SparesItem : Item → Type 0
   SparesItem it = (k : Key) → 1 ≤ (token_of s.sizes k).item it → Spares s t h k
@@ -153,17 +228,18 @@ module _ (s : Session) (h : Happening) (t : Trace) where
 
   carries_kept : (v : Vio) → SparesItem (item.Request v) → Carries s t v v.phase → Carries s (h ∷ t) v v.phase
   carries_kept v spares k =
-      by_phase v v.phase (own_spared v spares) (λ held. spares (OfAddress v.at.0) (omega (arith, holder_one v held)))
+      by_all v v.phase v.page (own_spared v spares) (λ held. spares (OfAddress v.at.0) (omega (arith, holder_one v held)))
+      (λ page is. spares (OfPage page) (omega (arith, maker_one s.sizes v page is)))
       (λ is x to. spares (OfBlock x.0) (omega (arith, claim_one v x (rw is refl) to))) k
 
   pub kept_kept : (q : Phase) (v : Vio) → SparesItem (item.Request v) → KeptOk s t q v → KeptOk s (h ∷ t) q v
   kept_kept q v spares k = (vio_kept v (own_spared v spares) k.0, carries_kept v spares k.1, k.2)
 
-  -- one whose entry is pending, where the happening is about another request and another address
-  pub pending_over : (v : Vio) → SparesRequest h v.request → SparesAddress h v.at.0 → KeptOk s t phase.Pending v → KeptOk s (h ∷ t) phase.Pending v
-  pending_over v own address k = (
+  -- one whose entry is pending, where the happening is about another request, another address and another page
+  pub pending_over : (v : Vio) → SparesRequest h v.request → SparesAddress h v.at.0 → ((page : PageId) → v.page ≡ Some page → SparesPage h page) → KeptOk s t phase.Pending v → KeptOk s (h ∷ t) phase.Pending v
+  pending_over v own address pages k = (
     vio_kept v own k.0,
-    subst (λ (q : Phase). Carries s (h ∷ t) v q) (sym k.2) (by_phase v phase.Pending own (λ held. address) (λ is. absurd cc) (subst (λ (q : Phase). Carries s t v q) k.2 k.1)),
+    subst (λ (q : Phase). Carries s (h ∷ t) v q) (sym k.2) (by_all v phase.Pending v.page own (λ held. address) pages (λ is. absurd cc) (subst (λ (q : Phase). Carries s t v q) k.2 k.1)),
     k.2,
   )
 
@@ -219,6 +295,7 @@ module _ (s : Session) (h : Happening) (t : Trace) where
   block_weighs b (OfRequest w) = omega arith
   block_weighs b (OfAddress a) = omega arith
   block_weighs b (OfBlock x) = omega arith
+  block_weighs b (OfPage page) = omega arith
   block_weighs b OfJournal = omega (arith, none_weigh b.vios)
 
   block_kept : (b : SealedBlock) → SparesItem (item.Block b) → BlockOk s t b → BlockOk s (h ∷ t) b

@@ -1,5 +1,5 @@
 -- A logical zone draws one place a step at most, and the device's zone makes one call.
-use Rattle.std.proofs.Common.{ℕ, ◌+◌, ◌≡◌, ◌≤◌, Option, None, Some, List, refl, arith}
+use Rattle.std.proofs.Common.{ℕ, ◌+◌, ◌≡◌, ◌≤◌, Option, None, Some, List, refl, ap, arith}
 use Rattle.core_laws.proofs.Common.{DeviceZone, Item, LogicalZone, Post, SealedBlock, Sizes, Trace, Vio, ZoneData, made_by}
 use Rattle.core_model.specs.DeviceRules as device
 use Rattle.core_model.specs.DeviceRules.{DeviceServes, DeviceWorks}
@@ -17,12 +17,18 @@ module _ (sizes : Sizes) where
   logical_once old v new made posts (logical.arrives_retired p among n m q) = rw n (omega arith)
   logical_once old v new made posts (logical.arrives_free p among held n m q) = rw n (omega arith)
   logical_once old v new made posts (logical.arrives_held p among held n m q) = rw n (omega arith)
-  logical_once old v new made posts (logical.looks post p path stays goes n m q) = rw n (omega arith)
+  logical_once old v new made posts (logical.looks post p path stays leaf goes n m q) = rw n (omega arith)
   logical_once old v new made posts (logical.passes p path past n m q) = rw n (omega (arith, passed_next v.at.0 old (first_for v.at.0 old.waiting)))
-  logical_once old v new made posts (logical.settles p n m q) = rw n (omega (arith, passed_next v.at.0 (logical.with_slot old v) (first_for v.at.0 old.waiting)))
+  logical_once old v new made posts (logical.is_dropped page p path lack dropped n m q) = rw n (omega (arith, passed_next v.at.0 old (first_for v.at.0 old.waiting)))
+  logical_once old v new made posts (logical.waits page p path lack linkable made_yet n m q) = rw n (omega arith)
+  logical_once old v new made posts (logical.makes_page page p path lack linkable unmade n m q) = rw n (omega arith)
+  logical_once old v new made posts (logical.links page x between p some to may linked n m q) = let same = ap (λ (l : LogicalZone). l.next) linked.rest in rw n (omega (arith, same))
+  logical_once old v new made posts (logical.unmakes page p some n m q) = rw n (omega (arith, passed_next v.at.0 old (first_for v.at.0 old.waiting)))
+  logical_once old v new made posts (logical.drops page p some n m q) = rw n (omega (arith, passed_next v.at.0 old (first_for v.at.0 old.waiting)))
+  logical_once old v new made posts (logical.settles p bare n m q) = rw n (omega (arith, passed_next v.at.0 (logical.with_slot old v) (first_for v.at.0 old.waiting)))
   logical_once old v new made posts (logical.gives p n m q) = rw n (omega (arith, passed_next v.at.0 old (first_for v.at.0 old.waiting)))
-  logical_once old v new made posts (logical.aborts p n m q) = rw n (omega (arith, passed_next v.at.0 old (first_for v.at.0 old.waiting)))
-  logical_once old v new made posts (logical.aborts_entered p n m q) = rw n (omega arith)
+  logical_once old v new made posts (logical.aborts p bare n m q) = rw n (omega (arith, passed_next v.at.0 old (first_for v.at.0 old.waiting)))
+  logical_once old v new made posts (logical.aborts_entered p bare n m q) = rw n (omega arith)
 
   device_once : (old : DeviceZone) (v : Vio) (new : DeviceZone) (made : Trace) (posts : List Post) → DeviceServes sizes old v new made posts → new.calls ≤ old.calls + 1
   device_once old v new made posts (device.stores x p to going inside n m q) = rw n (omega arith)

@@ -101,7 +101,7 @@ abbrev empty_zone : ℕ → ZoneData → Zone
 empty_zone number keeps = record { number = number; steps = 0; keeps = keeps; ports = record { inbox = []; outboxes = no_lanes } }
 
 abbrev logical : ℕ → LogicalZone
-logical zone = record { zone = zone; notified = false; next = 0; places = []; held = []; waiting = []; retired = []; tree = bare geometry zone 2; window = []; slots = [] }
+logical zone = record { zone = zone; notified = false; next = 0; places = []; held = []; waiting = []; retired = []; tree = bare geometry zone 2; making = []; lacking = []; unlinkable = []; window = []; slots = [] }
 
 abbrev small_desk : Desk
 small_desk = record { requests = script; log = []; marks = []; notices = 0; parked = [] }
@@ -142,7 +142,7 @@ empty_first : (number : ℕ) (keeps : ZoneData) → IsFirstData small_session nu
 empty_first number keeps own = record { number_is = refl; steps = refl; lanes = refl; inbox = refl; outboxes = all_empty (zone_count sizes); own = own }
 
 logical_first : (zone : ℕ) → zone < 2 → IsFirstLogical small_session (1 + zone) (logical zone)
-logical_first zone below = record { number_is = refl; among = below; notified = refl; next = refl; places = refl; held = refl; waiting = refl; retired = refl; tree = bare_is geometry zone 2 geometry_ok below (omega arith) refl; window = refl; slots = refl }
+logical_first zone below = record { number_is = refl; among = below; notified = refl; next = refl; places = refl; held = refl; waiting = refl; retired = refl; tree = bare_is geometry zone 2 geometry_ok below (omega arith) refl; making = refl; lacking = refl; unlinkable = refl; window = refl; slots = refl }
 
 -- The core of this session at its start ..
 pub small_first : IsFirst small_session small_core

@@ -6,7 +6,11 @@ use Rattle.blk_base.specs.declared.place.Mapping.TheVariants.{Unmapped, Zero, At
 use Rattle.image_layout.specs.Values.{mapping_of, value_in}
 use Rattle.journal_stops.proofs.StepLaws.{opened}
 use Rattle.core_model.specs.declared.zones.ZoneData.TheVariants as at
+use Rattle.blk_base.specs.declared.place.PageId.{PageId}
+use Rattle.block_map_tree.specs.Tree.{Tree}
 use Rattle.core_model.specs.Arrivals.{arrivals_at}
+use Rattle.core_model.specs.Facts.{PagesOk}
+use Rattle.core_model.specs.Tokens.{making_at, making_token, page_entry_token}
 use Rattle.core_model.specs.Legal.{Legal}
 use Rattle.core_model.specs.Sessions.{HasNoneLeft}
 use Rattle.stop_laws.specs.Journals.{block_of_slot}
@@ -41,7 +45,7 @@ none_made s n other h = refl
 
 none_queued : (w : Item → ℕ) (s : Session) (n : ℕ) (d : ZoneData) → IsFirstData s n d → queued w d ≡ 0
 none_queued w s n (at.Desk d) h = ap (λ vs. total w (as_items vs)) h.parked
-none_queued w s n (at.Logical l) h = ap (λ vs. total w (as_items vs)) h.waiting
+none_queued w s n (at.Logical l) h = ap (λ vs. total w (as_items (vs ++ l.lacking))) h.waiting ∙ ap (λ vs. total w (as_items vs)) h.lacking
 none_queued w s n (at.Journal j) h = ap (λ vs. total w (as_items (vs ++ j.waiting))) h.filling ∙ ap (λ vs. total w (as_items vs)) h.waiting
 none_queued w s n other h = refl
 
@@ -75,6 +79,14 @@ no_entries s n (at.Logical l) h = omega (arith, ap (λ (slots : List Remapping).
 no_entries s n (at.Journal j) h = sym (ap (λ (es : List Logged). length (remappings es)) h.entered)
 no_entries s n other h = refl
 
+none_making : (page : PageId) (s : Session) (n : ℕ) (d : ZoneData) → IsFirstData s n d → (making_token page).own d ≡ (making_token page).gave d
+none_making page s n (at.Logical l) h = sym (ap (λ pages. making_at page (at.Logical (record l { making = pages }))) h.making)
+none_making page s n other h = refl
+
+none_dropped : (s : Session) (n : ℕ) (d : ZoneData) → IsFirstData s n d → page_entry_token.own d ≤ page_entry_token.gave d
+none_dropped s n (at.Logical l) h = omega (arith, ap (λ (pages : List PageId). length pages) h.unlinkable)
+none_dropped s n other h = omega arith
+
 free_once : (x : ℕ) (s : Session) → IsSession s → (n : ℕ) (d : ZoneData) → IsFirstData s n d → blocks_at x d ≤ one_physical d
 free_once x s session n (at.Physical p) h = let once = session.distinct x in omega (arith, once, ap (total (is_block x)) h.free)
 free_once x s session n (at.Journal j) h = omega (arith, ap (total (is_entry x)) h.entered)
@@ -106,7 +118,7 @@ module _ (s : Session) (session : IsSession s) (as_opened : IsAsOpened s) where
   first_blocks (inr none) = inr (record { none = refl; opening = none; same = λ slot below. as_opened.one_image.only (block_of_slot slot) (omega (arith, as_opened.room, below)) (looked_low s.sizes.geometry (block_of_slot slot) (omega (arith, below))) })
 
   at_rest : AtRest s [] []
-  at_rest = (first_blocks as_opened.journal, λ a. first_stands a (mapping_of s.window a) refl)
+  at_rest = (first_blocks as_opened.journal, (λ a. first_stands a (mapping_of s.window a) refl), tt)
 
   pub shown_at_start : Shown s []
   shown_at_start = record {
@@ -146,12 +158,15 @@ module _ (s : Session) (session : IsSession s) where
   locks_at_start : (zone next : ℕ) (held : List Lock) (waiting : List Vio) → held ≡ [] → waiting ≡ [] → LocksOk s zone next held waiting
   locks_at_start zone next held waiting none nobody = rw (none, nobody) (record { locks_are = tt; once = λ a. omega arith; waits = tt; in_line = tt; in_order = tt })
 
+  pages_at_start : (zone : ℕ) (tree : Tree) (making : List PageId) (lacking : List Vio) → making ≡ [] → lacking ≡ [] → PagesOk zone tree making lacking
+  pages_at_start zone tree making lacking none nobody = rw (none, nobody) (record { linkable = tt; once = λ page. omega arith; waits = tt; at_home = tt })
+
   nobody : (P : Vio → Type 0) (vs : List Vio) → vs ≡ [] → AllByRecursion P vs
   nobody P vs none = subst (λ (us : List Vio). AllByRecursion P us) (sym none) tt
 
   nobody_at_start : (n : ℕ) (d : ZoneData) → IsFirstData s n d → KeptEach (KeptOk s []) d
   nobody_at_start n (at.Desk d) h = nobody _ d.parked h.parked
-  nobody_at_start n (at.Logical l) h = nobody _ l.waiting h.waiting
+  nobody_at_start n (at.Logical l) h = (nobody _ l.waiting h.waiting, nobody _ l.lacking h.lacking)
   nobody_at_start n (at.Journal j) h = (nobody _ j.filling h.filling, nobody _ j.waiting h.waiting)
   nobody_at_start n (at.Physical p) h = tt
   nobody_at_start n (at.Device d) h = tt
@@ -172,10 +187,10 @@ module _ (s : Session) (session : IsSession s) where
   data_at_start n (at.Logical l) h = record {
     number_is = h.number_is;
     lists = record { places_is = h.places; next_is = h.next; slots_are = λ a e. ap (of_address a) h.slots; below = λ a e. record { writes = tt; reads = tt }; tree_is = h.tree };
-    sound = record { among = h.among; map = map_at_start l h.slots h.window; locks = locks_at_start l.zone l.next l.held l.waiting h.held h.waiting };
+    sound = record { among = h.among; map = map_at_start l h.slots h.window; locks = locks_at_start l.zone l.next l.held l.waiting h.held h.waiting; pages = pages_at_start l.zone l.tree l.making l.lacking h.making h.lacking };
     kept = nobody_at_start n (at.Logical l) h;
-    answers = λ a e free living. record { all_committed = refl; all_done = refl };
-    told = λ a retired. absurd (let none = ap (is_among a) h.retired in cc);
+    answers = ((λ a e free living. record { all_committed = refl; all_done = refl }), λ page linkable unlinked unmade yet. sym (h.tree.linked page linkable) ∙ unlinked);
+    told = ((λ a retired. absurd (let none = ap (is_among a) h.retired in cc)), λ some. let none = ap (λ (pages : List PageId). length pages) h.unlinkable in absurd (omega (arith, some, none)));
   }
   data_at_start n (at.Physical p) h =
       record { number_is = h.number_is; lists = record { left = h.free }; sound = subst (λ (xs : List Pbn). AllByRecursion (IsFresh s) xs) (sym h.free) session.free; kept = tt; answers = tt; told = tt }
@@ -223,6 +238,8 @@ module _ (s : Session) (session : IsSession s) where
     leases = λ a test. balanced_at_start s zones first (lease_token a test) (no_locks a test s);
     holders = balanced_at_start s zones first holder_token (no_holders s);
     entries = balanced_at_start s zones first entry_token (no_entries s);
+    making = λ page. balanced_at_start s zones first (making_token page) (none_making page s);
+    dropped = at_most_at_start s zones first page_entry_token (none_dropped s);
     blocks = λ x. at_most_at_start s zones first (block_token x) (free_once x s session);
     journal = balanced_at_start s zones first journal_token (journal_idle s);
     room = balanced_at_start s zones first room_token (no_lines is_answer is_begin s);

@@ -1,5 +1,5 @@
 -- A zone that weighs nothing for what a happening is about keeps all its facts. Paid once for all kinds of zone and item.
-use Rattle.std.proofs.Common.{◌≡◌, ◌≢◌, ◌⊎◌, ℕ, ◌≤◌, ◌==◌, Bool, true, false, Some, List, [], ◌∷◌, ◌++◌, slice_get, refl, ap, sym, ◌∙◌, subst, inl, inr, arith, ◌<◌}
+use Rattle.std.proofs.Common.{◌≡◌, ◌≢◌, ◌⊎◌, ℕ, ◌≤◌, ◌==◌, Bool, true, false, Some, is_some, List, [], ◌∷◌, ◌++◌, slice_get, refl, ap, sym, ◌∙◌, subst, inl, inr, arith, ◌<◌}
 use Rattle.core_laws.proofs.Common.{all_of, AllBelow, AllByRecursion, Answers, calls, Calls, Commits, durable, desk_number, device_number, drawn, Draws, Each, journaled, Enters, eq-eqb, eqb_tells, every-front, Fails, fair_before, filled, Flushes, Gives, Happening, has_stopped, HasLists, Item, ItemOk, journal_number, kept_by, KeptEach, KeptOk, lines, logical_number, marks, name_of, of_address, Phase, physical_number, places, RestsAt, Says, sealed, Seals, Session, Remaps, Sets, Sizes, taken, Takes, Token, total, total-append, total-get, Trace, Vio, WasTold, weight, Zone, zone_number, zone_of, ZoneData, ZoneOk, Passes, applied, passed, remappings, Remapping}
 use Rattle.core_laws.proofs.lists.Between.{every_between}
 use Rattle.vdo_model.specs.FlushMarks.{successes}
@@ -9,9 +9,9 @@ use Rattle.data_vio.specs.declared.items.Phase.TheVariants as phase
 use Rattle.core_model.specs.declared.zones.ZoneData.TheVariants as at
 use Rattle.core_laws.proofs.journal.LogLaws.{log_over}
 use Rattle.core_laws.proofs.kept.Carried.{kept_kept, item_kept}
-use Rattle.core_laws.proofs.kept.Keys.{Key, OfAddress, OfJournal, token_of, Spares, happens_in, Clears, mine_or_spared, free_one}
-use Rattle.core_laws.proofs.logical.PageFacts.{tree_over}
-use Rattle.core_laws.proofs.kept.Spared.{of_other, quiet_kept, stop_kept, abort_kept}
+use Rattle.core_laws.proofs.kept.Keys.{Key, OfAddress, OfJournal, OfPage, token_of, Spares, happens_in, Clears, mine_or_spared, free_one, unmade_one}
+use Rattle.core_laws.proofs.logical.PageFacts.{tree_home, tree_over}
+use Rattle.core_laws.proofs.kept.Spared.{of_other, put_same, quiet_kept, stop_kept, abort_kept}
 use Rattle.core_laws.proofs.kept.StandsOn.{rests_kept, sealed_spared}
 use Rattle.core_laws.proofs.tokens.Lift.{items_total}
 
@@ -49,7 +49,7 @@ module _ (sizes : Sizes) where
   still_below other t a place off b = record { writes = b.writes; reads = b.reads }
 
   taken_same : (h : Happening) (t : Trace) → physical_number sizes ≢ happens_in sizes h → taken (h ∷ t) ≡ taken t
-  taken_same (Takes w x) t off = absurd (off refl)
+  taken_same (Takes w page x) t off = absurd (off refl)
   taken_same other t off = refl
 
   entries_same : (h : Happening) (t : Trace) → journal_number sizes ≢ happens_in sizes h
@@ -90,7 +90,7 @@ module _ (s : Session) (h : Happening) (t : Trace) where
   -- What it was told stays over everything.
   pub told_kept : (d : ZoneData) → WasTold t d → WasTold (h ∷ t) d
   told_kept (at.Desk desk) k = λ heard. stop_kept h t (k heard)
-  told_kept (at.Logical l) k = λ a retired. (stop_kept h t (k a retired).0, abort_kept h t a l.next (k a retired).1)
+  told_kept (at.Logical l) k = ((λ a retired. (stop_kept h t (k.0 a retired).0, abort_kept h t a l.next (k.0 a retired).1)), λ some. stop_kept h t (k.1 some))
   told_kept (at.Journal j) k = λ closed. stop_kept h t (k closed)
   told_kept other k = tt
 
@@ -103,10 +103,14 @@ module _ (s : Session) (h : Happening) (t : Trace) where
       (ap all_of same.0.sealed_same ∙ k.0 ∙ sym same.0.committed_same, λ fair. rw same.0.sealed_same (rests_kept s h t (sealed t) same.1 blocks (k.1 (fair_before s h t fair))))
   rests_on false true spares k = tt
 
-  pub answers_kept : (d : ZoneData) → ((k : Key) → 1 ≤ (token_of s.sizes k).own d → Spares s t h k) → Answers s t d → Answers s (h ∷ t) d
-  answers_kept (at.Logical l) spares k = λ a zone free alive. quiet_kept h t a (spares (OfAddress a) (free_one _ _ _ (eq-eqb _ _ zone) free alive)) (k a zone free alive)
-  answers_kept (at.Journal j) spares k = rests_on j.busy j.broken (λ idle. spares OfJournal (rw idle (omega arith))) k
-  answers_kept other spares k = tt
+  pub answers_kept : (d : ZoneData) → HasLists s t d → ((k : Key) → 1 ≤ (token_of s.sizes k).own d → Spares s t h k) → Answers s t d → Answers s (h ∷ t) d
+  answers_kept (at.Logical l) lists spares k = (
+    λ a zone free alive. quiet_kept h t a (spares (OfAddress a) (free_one _ _ _ (eq-eqb _ _ zone) free alive)) (k.0 a zone free alive),
+    λ page linkable unlinked unmade linkable_yet. put_same s.sizes.geometry.height s.window h t page
+        (spares (OfPage page) (unmade_one _ _ _ _ (eq-eqb _ _ (tree_home s l.zone l.tree t page lists.tree_is linkable)) (ap is_some unlinked) unmade linkable_yet)) ∙ k.1 page linkable unlinked unmade linkable_yet,
+  )
+  answers_kept (at.Journal j) lists spares k = rests_on j.busy j.broken (λ idle. spares OfJournal (rw idle (omega arith))) k
+  answers_kept other lists spares k = tt
 
   -- Of things with a weight each: where they weigh nothing for a key, or it is spared, each has its fact as before.
   abbrev pub Weighs : (Key → ℕ) → Type 0
@@ -126,14 +130,18 @@ module _ (s : Session) (h : Happening) (t : Trace) where
   pub kept_on : (q : Phase) (vs : List Vio) → Weighs (λ k. total (λ v. (token_of s.sizes k).item (Request v)) vs) → AllByRecursion (KeptOk s t q) vs → AllByRecursion (KeptOk s (h ∷ t) q) vs
   kept_on q vs spares has = each_on (KeptOk s t q) (KeptOk s (h ∷ t) q) (λ k v. (token_of s.sizes k).item (Request v)) (kept_kept s h t q) vs spares has
 
+  kept_both : (q : Phase) (vs : List Vio) (p : Phase) (ws : List Vio) → Weighs (λ k. total (λ v. (token_of s.sizes k).item (Request v)) (vs ++ ws)) → AllByRecursion (KeptOk s t q) vs × AllByRecursion (KeptOk s t p) ws
+      → AllByRecursion (KeptOk s (h ∷ t) q) vs × AllByRecursion (KeptOk s (h ∷ t) p) ws
+  kept_both q vs p ws spares has = (
+    kept_on q vs (λ k. elim (spares k) [ inl none ↦ let both = total-append (λ v. (token_of s.sizes k).item (Request v)) vs ws in inl (omega (arith, none, both)) | inr spared ↦ inr spared ]) has.0,
+    kept_on p ws (λ k. elim (spares k) [ inl none ↦ let both = total-append (λ v. (token_of s.sizes k).item (Request v)) vs ws in inl (omega (arith, none, both)) | inr spared ↦ inr spared ]) has.1,
+  )
+
   -- the requests that a zone keeps
   pub kept_each : (d : ZoneData) → Weighs (λ k. total (λ v. (token_of s.sizes k).item (Request v)) (kept_by d)) → KeptEach (KeptOk s t) d → KeptEach (KeptOk s (h ∷ t)) d
   kept_each (at.Desk desk) spares has = kept_on phase.Reply desk.parked spares has
-  kept_each (at.Logical l) spares has = kept_on phase.Wait l.waiting spares has
-  kept_each (at.Journal j) spares has = (
-    kept_on phase.Pending j.filling (λ k. elim (spares k) [ inl none ↦ let both = total-append (λ v. (token_of s.sizes k).item (Request v)) j.filling j.waiting in inl (omega (arith, none, both)) | inr spared ↦ inr spared ]) has.0,
-    kept_on phase.Enter j.waiting (λ k. elim (spares k) [ inl none ↦ let both = total-append (λ v. (token_of s.sizes k).item (Request v)) j.filling j.waiting in inl (omega (arith, none, both)) | inr spared ↦ inr spared ]) has.1,
-  )
+  kept_each (at.Logical l) spares has = kept_both phase.Wait l.waiting phase.Look l.lacking spares has
+  kept_each (at.Journal j) spares has = kept_both phase.Pending j.filling phase.Enter j.waiting spares has
   kept_each (at.Physical p) spares has = tt
   kept_each (at.Device d) spares has = tt
 
@@ -156,7 +164,7 @@ module _ (s : Session) (h : Happening) (t : Trace) where
       lists = lists_kept z.keeps (λ is. off (ok.own.number_is ∙ is)) ok.own.lists;
       sound = ok.own.sound;
       kept = kept_each z.keeps (part (λ k. total (λ v. (token_of s.sizes k).item (Request v)) (kept_by z.keeps)) (λ k. omega (arith, items_total (token_of s.sizes k).item (kept_by z.keeps)))) ok.own.kept;
-      answers = answers_kept z.keeps (λ k some. elim (spares k) [ inl none ↦ absurd (omega (arith, none, some)) | inr spared ↦ spared ]) ok.own.answers;
+      answers = answers_kept z.keeps ok.own.lists (λ k some. elim (spares k) [ inl none ↦ absurd (omega (arith, none, some)) | inr spared ↦ spared ]) ok.own.answers;
       told = told_kept z.keeps ok.own.told;
     };
     counted = ok.counted;

@@ -1,17 +1,22 @@
 -- Of each key at most one is held in a legal core; so whoever has it in hand has it alone.
-use Rattle.std.proofs.Common.{◌≡◌, ◌≢◌, ℕ, zero, suc, ◌+◌, ◌≤◌, ◌==◌, ◌&&◌, ◌++◌, Bool, true, false, not, List, [], ◌∷◌, Some, slice_get, refl, sym, ◌∙◌, ap, subst, inl, inr, arith}
-use Rattle.core_laws.proofs.Common.{DataOk, Item, Logged, Session, Trace, Writer, Zone, ZoneData, begins_of, begun, bit, block_token, blocks_at, cases_Bool, eqb_tells, given, in_log, is_entry, journal_number, kept_by, lease_token, lines, lock_weight, locks_at, nobody_else, request_token, total, total-append, total-get, total_zero, weight, zone_of, Mapping, names, OnBlock, journaled, new_of}
+use Rattle.std.proofs.Common.{◌≡◌, ◌≢◌, ℕ, zero, suc, ◌+◌, ◌≤◌, ◌==◌, ◌%◌, ◌&&◌, ◌++◌, Bool, true, false, not, is_some, List, [], ◌∷◌, Some, slice_get, refl, sym, ◌∙◌, ap, subst, inl, inr, arith}
+use Rattle.core_laws.proofs.Common.{Balanced, DataOk, Each, Item, Logged, Session, Trace, Writer, Zone, ZoneData, ZoneOk, begins_of, begun, bit, block_token, blocks_at, cases_Bool, eqb_tells, given, in_log, is_entry, journal_number, kept_by, lease_token, lines, lock_weight, locks_at, nobody_else, request_token, Sizes, total, total-append, total-get, total_zero, weight, zone_of, Mapping, names, OnBlock, journaled, new_of}
 use Rattle.blk_base.specs.declared.place.Mapping.TheVariants.{Unmapped, Zero, At}
 use Rattle.core_model.specs.declared.zones.ZoneData.TheVariants as at
 use Rattle.core_model.specs.Legal.{Legal}
+use Rattle.blk_base.specs.declared.place.PageId.{PageId}
 use Rattle.core_model.specs.LogicalRules.{is_among, is_held}
+use Rattle.core_model.specs.PageTrees.{is_listed, link_at}
+use Rattle.core_model.specs.Tokens.{making_at, making_token}
 use Rattle.core_model.specs.Steps.{Core}
 use Rattle.core_laws.proofs.kept.ActKept.{weighed, unborn, Reached, in_hand, in_line, line_of}
 use Rattle.core_laws.proofs.kept.Frame.{HasNoneBeside}
-use Rattle.core_laws.proofs.kept.Keys.{Key, OfRequest, OfAddress, OfBlock, OfJournal, any, token_of, slot_token, free_at}
+use Rattle.core_laws.proofs.kept.Keys.{Key, OfRequest, OfAddress, OfBlock, OfPage, OfJournal, any, token_of, slot_token, free_at, page_token, unmade_at}
 use Rattle.core_laws.proofs.kept.ZoneKinds.{block_once, journal_once, journal_sits, total_once}
 use Rattle.core_laws.proofs.lists.CoreLists.{counts_held}
 use Rattle.core_laws.proofs.tokens.Owners.{home_of, locks_elsewhere, not_begun, request_once}
+use Rattle.core_laws.proofs.tokens.PageOwners.{none_elsewhere, page_home}
+use Rattle.core_laws.proofs.tokens.PageTokens.{times_listed}
 use Rattle.core_laws.proofs.tokens.Lift.{items_total}
 use Rattle.core_laws.proofs.trace.DeskOfTrace.{desk_log_right}
 use Rattle.core_laws.proofs.kept.StandsOn.{AreElsewhere}
@@ -48,6 +53,45 @@ module _ (s : Session) (t : Trace) (a : ℕ) where
   )
   one_slot_at n other ok = (omega arith, λ ne. refl)
 
+-- A page weighs with its maker, or at its home.
+pages_split : (sizes : Sizes) (page : PageId) (zones : List Zone) → total (weight (page_token sizes page)) zones ≡ total (weight (making_token page)) zones + total (λ z. unmade_at sizes page z.keeps) zones
+pages_split sizes page [] = refl
+pages_split sizes page (z ∷ zones) = omega (arith, pages_split sizes page zones)
+
+pages_given : (sizes : Sizes) (page : PageId) (zones : List Zone) → total (λ z. making_at page z.keeps + unmade_at sizes page z.keeps) zones ≡ total (given (making_token page)) zones + total (λ z. unmade_at sizes page z.keeps) zones
+pages_given sizes page [] = refl
+pages_given sizes page (z ∷ zones) = omega (arith, pages_given sizes page zones)
+
+one_page : (zone linked listed never : Bool) (made : ℕ) → made ≤ 1 → (1 ≤ made → listed ≡ true) → made + bit (zone && (not linked && (not listed && not never))) ≤ 1
+one_page zone linked true never made once lists = let off : (zone && (not linked && false)) ≡ false = none zone linked in rw off (omega (arith, once))
+  where
+    none : (b c : Bool) → (b && (not c && false)) ≡ false
+    none true true = refl
+    none true false = refl
+    none false c = refl
+one_page zone linked false never made once lists = by made lists (zone && (not linked && (true && not never)))
+  where
+    by : (n : ℕ) → (1 ≤ n → false ≡ true) → (b : Bool) → n + bit b ≤ 1
+    by zero lists true = omega arith
+    by zero lists false = omega arith
+    by (suc n) lists b = absurd (let bad = lists (omega arith) in cc)
+
+module _ (s : Session) (t : Trace) (page : PageId) where
+  one_page_at : (n : ℕ) (d : ZoneData) → DataOk s t n d → (making_at page d + unmade_at s.sizes page d ≤ 1) × ((n ≡ page_home s.sizes page → ⊥) → making_at page d + unmade_at s.sizes page d ≡ 0)
+  one_page_at n (at.Logical l) ok = (
+    one_page (page.tree % s.sizes.zones == l.zone) (is_some (link_at l.tree page)) (is_listed page l.making) (is_listed page l.unlinkable) (making_at page (at.Logical l)) (ok.sound.pages.once page) (times_listed page l.making),
+    λ ne. elim (eqb_tells (page.tree % s.sizes.zones) l.zone) [
+      | inl same ↦ absurd (ne (let number = ok.number_is in let zone = same.1 in omega (arith, number, zone)))
+      | inr other ↦ rw other.0 (omega (arith, none_elsewhere s t page n (at.Logical l) ok ne))
+    ],
+  )
+  one_page_at n other ok = (omega arith, λ ne. refl)
+
+  pub page_once : (zones : List Zone) → Each (ZoneOk s t) zones → Balanced (making_token page) zones → total (weight (page_token s.sizes page)) zones ≤ 1
+  page_once zones each balance =
+      let once = total_once (λ z. making_at page z.keeps + unmade_at s.sizes page z.keeps) zones (page_home s.sizes page) (λ n z had. one_page_at n z.keeps (each n z had).own) in
+      omega (arith, once, pages_given s.sizes page zones, pages_split s.sizes page zones, balance)
+
 module _ (s : Session) (core : Core) (legal : Legal s core) where
   pub key_once : (k : Key) → total (weight (token_of s.sizes k)) core.zones ≤ 1
   key_once (OfRequest w) = let once = request_once s core.trace legal.right core.zones legal.each w in let balance = legal.requests w in omega (arith, once, balance)
@@ -56,6 +100,7 @@ module _ (s : Session) (core : Core) (legal : Legal s core) where
       let balance = legal.leases a any in
       omega (arith, once, slots_given s a core.zones, slots_split s a core.zones, balance)
   key_once (OfBlock x) = let once = block_once s core.trace core.zones legal.each x in let most = legal.blocks x in omega (arith, once, most)
+  key_once (OfPage page) = page_once s core.trace page core.zones legal.each (legal.making page)
   key_once OfJournal = let once = journal_once s core.trace core.zones legal.each in let balance = legal.journal in omega (arith, once, balance)
 
   -- nobody has a request that isn't begun

@@ -1,10 +1,10 @@
 -- Each step and each move keeps a core legal, and so does each list of events.
-use Rattle.std.proofs.Common.{◌≡◌, ℕ, zero, suc, ◌+◌, ◌<◌, ◌≤◌, Bool, true, false, Some, List, [], ◌∷◌, ◌++◌, length, nat_eq, slice_get, slice_set, refl, ap, sym, ◌∙◌, subst, arith}
-use Rattle.core_laws.proofs.Common.{AllByRecursion, Balanced, Each, Each-put_other, GivesRight, IsFair, IsSession, Item, ItemOk, Post, RightTrace, Session, Token, Trace, Writer, Zone, ZoneData, ZoneOk, block_token, entry_token, eq-eqb, eqb-true, every-append, every-map, holder_token, idle_at, is_sealed, journal_token, lease_token, length-put, made_by, notice_token, request_token, room_token, same_Some, total, zone_number}
+use Rattle.std.proofs.Common.{◌≡◌, ℕ, zero, suc, ◌+◌, ◌<◌, ◌≤◌, Bool, true, false, Some, List, [], ◌∷◌, ◌++◌, length, nat_eq, slice_get, slice_set, refl, ap, sym, ◌∙◌, subst, inl, inr, arith}
+use Rattle.core_laws.proofs.Common.{AllByRecursion, Balanced, Carries, Each, Each-put_other, GivesRight, IsFair, IsSession, Item, ItemOk, Post, RightTrace, Session, Token, Trace, Vio, Writer, Zone, ZoneData, ZoneOk, block_token, entry_token, eq-eqb, eqb-true, every-append, every-map, holder_token, idle_at, is_sealed, journal_token, lease_token, length-put, made_by, notice_token, request_token, room_token, same_Some, total, zone_number}
 use Rattle.core_model.specs.Arrivals.{arrivals_at}
 use Rattle.core_model.specs.Legal.{Legal}
 use Rattle.core_model.specs.Steps.{Act, Core, StepOf, sent_to, sent, delivered, posted}
-use Rattle.core_laws.proofs.kept.ActKept.{Known, ActKept, PostOk}
+use Rattle.core_laws.proofs.kept.ActKept.{Known, ActKept, PostOk, bare_of, carries_at}
 use Rattle.core_laws.proofs.kept.Frame.{Sides}
 use Rattle.core_laws.proofs.kept.Keys.{OfJournal, idle_none}
 use Rattle.core_laws.proofs.kept.StepActs.{by_act, known, sides}
@@ -12,11 +12,14 @@ use Rattle.core_laws.proofs.kept.Arrivals.{arrivals_kept, course}
 use Rattle.core_laws.proofs.kept.Streams.{flows_step}
 use Rattle.core_laws.proofs.kept.Counted.{made_once}
 use Rattle.core_laws.proofs.tokens.ActSums.{IsRow, act_row}
-use Rattle.core_laws.proofs.tokens.Known.{KeptIn, kept_in, phases}
+use Rattle.core_model.specs.Tokens.{making_token, page_entry_token}
+use Rattle.data_vio.specs.declared.items.Item.TheVariants as item
+use Rattle.core_laws.proofs.tokens.Known.{KeptIn, counts, kept_in, phases}
+use Rattle.core_laws.proofs.tokens.PageOwners.{made_front}
 use Rattle.data_vio.specs.declared.items.Phase.TheVariants as phase
 use Rattle.core_laws.proofs.tokens.Known as tokens
 use Rattle.core_laws.proofs.tokens.Lift.{Within, Conserves, balance_step, at_most_step}
-use Rattle.core_laws.proofs.tokens.TokenLaws.{requests_law, room_law, notices_law, journal_law, blocks_law, leases_law, holders_law, entries_law}
+use Rattle.core_laws.proofs.tokens.TokenLaws.{requests_law, room_law, notices_law, journal_law, blocks_law, leases_law, holders_law, entries_law, making_law, page_entries_law}
 use Rattle.core_laws.proofs.lists.CoreLists.{length-posted}
 
 -- What a zone has stays while posts are delivered that carry what they must.
@@ -117,6 +120,9 @@ module _ (s : Session) (session : IsSession s) (old new : Core) (legal : Legal s
   kept_here : KeptIn st.zone.keeps
   kept_here = kept_in s old.trace st.zone.keeps zone_ok.own.kept
 
+  front_carries : (v : Vio) → st.step.front ≡ item.Request v ∷ [] → Carries s old.trace v v.phase
+  front_carries v is = (subst (λ (items : List Item). AllByRecursion (ItemOk s old.trace st.number) items) is here.front_ok).0.1
+
   for_tokens : tokens.Known st.zone.keeps st.step.front
   for_tokens = record {
     kept = kept_here;
@@ -127,6 +133,12 @@ module _ (s : Session) (session : IsSession s) (old new : Core) (legal : Legal s
         let idle = ap idle_at keeps in
         idle_none j.busy (omega (arith, most, sealed, idle)));
     leased = here.leased;
+    made = λ l v page keeps is is_page. made_front s old.trace page old.zones st.number st.zone l v st.step.rest legal.each (legal.making page) st.had (st.step.taken ∙ ap (λ (items : List Item). items ++ st.step.rest) is) keeps is_page;
+    makes_none = λ v is at. elim at [
+      | inl looks ↦ (bare_of s old.trace v phase.Look (λ page no. no) (carries_at s old.trace v phase.Look looks (front_carries v is))).0
+      | inr replies ↦ (bare_of s old.trace v phase.Reply (λ page no. no) (carries_at s old.trace v phase.Reply replies (front_carries v is))).0
+    ];
+    counted = λ v is at. counts s old.trace v at (front_carries v is);
   }
 
   the_row : IsRow s.sizes st.zone.keeps st.step.front st.zone'.keeps st.step.posts
@@ -143,6 +155,8 @@ module _ (s : Session) (session : IsSession s) (old new : Core) (legal : Legal s
     leases = λ a test. balanced (lease_token a test) (leases_law s.sizes a test the_row.row) (legal.leases a test);
     holders = balanced holder_token (holders_law s.sizes the_row.row) legal.holders;
     entries = balanced entry_token (entries_law s.sizes the_row.row) legal.entries;
+    making = λ page. balanced (making_token page) (making_law s.sizes page the_row.row) (legal.making page);
+    dropped = at_most_step page_entry_token s.sizes old new st lanes_there the_row (page_entries_law s.sizes the_row.row) legal.dropped;
     blocks = λ x. at_most_step (block_token x) s.sizes old new st lanes_there the_row (blocks_law s.sizes x the_row.row) (legal.blocks x);
     journal = balanced journal_token (journal_law s.sizes the_row.row) legal.journal;
     room = balanced room_token (room_law s.sizes the_row.row) legal.room;

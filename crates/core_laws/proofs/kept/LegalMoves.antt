@@ -4,6 +4,7 @@ use Rattle.core_laws.proofs.Common.{AllByRecursion, Each, Each-put, GivesRight, 
 use Rattle.core_model.specs.Arrivals.{arrivals_at}
 use Rattle.core_model.specs.Legal.{Legal}
 use Rattle.core_model.specs.Steps as steps
+use Rattle.core_model.specs.Tokens.{making_token, page_entry_token}
 use Rattle.core_model.specs.Steps.{Core, MoveOf, Leads}
 use Rattle.core_laws.proofs.kept.Streams.{flows_move}
 use Rattle.core_laws.proofs.kept.LegalKept.{legal_step}
@@ -67,6 +68,8 @@ module _ (s : Session) (old new : Core) (m : MoveOf old new) (legal : Legal s ol
     leases = λ a test. balance_move (lease_token a test) old new m (legal.leases a test);
     holders = balance_move holder_token old new m legal.holders;
     entries = balance_move entry_token old new m legal.entries;
+    making = λ page. balance_move (making_token page) old new m (legal.making page);
+    dropped = at_most_move page_entry_token old new m legal.dropped;
     blocks = λ x. at_most_move (block_token x) old new m (legal.blocks x);
     journal = balance_move journal_token old new m legal.journal;
     room = balance_move room_token old new m legal.room;

@@ -14,7 +14,17 @@ use Rattle.core_model.specs.DeskRules.{BeginsNext, DeskBegins, DeskServes, parks
 use Rattle.core_model.specs.DeviceRules.{DeviceServes, DeviceWorks, counted, halted, stop_notices, next_stage, next_zone}
 use Rattle.core_model.specs.PhysicalRules.{PhysicalServes}
 use Rattle.core_model.specs.JournalRules.{JournalServes, JournalEnds, is_closed, has_block, has_room, next_block, refused, all_refused, all_again, all_dropped, entered_by, committed_by, sealed_by, hands_out}
-use Rattle.core_model.specs.LogicalRules.{LogicalServes, is_among, is_held, lock_of, all_for, placed, place_of_vio, drawn_by, goes_on, granted, pass_of, passes_by, looks_up, released, retire, all_stopped, with_slot}
+use Rattle.blk_base.specs.declared.place.Mapping.{Mapping}
+use Rattle.blk_base.specs.declared.place.PageId.{PageId}
+use Rattle.block_map_tree.specs.Tree.{Tree}
+use Rattle.data_vio.specs.declared.items.Asks.{Asks}
+use Rattle.data_vio.specs.declared.items.Asks.TheVariants.{Write}
+use Rattle.data_vio.specs.Vios as vios
+use Rattle.data_vio.specs.Vios.{makes}
+use Rattle.core_model.specs.LogicalRules as logical
+use Rattle.core_model.specs.LogicalRules.{LogicalServes, is_among, is_discard, is_held, lacks, lacks_for, lock_of, all_for, placed, place_of_vio, drawn_by, goes_on, granted, pass_of, passes_by, looks_up, released, retire, all_stopped, unmade, with_slot, woken}
+use Rattle.core_model.specs.PageTrees.{but_page, is_listed}
+use Rattle.core_laws.proofs.logical.PageFacts.{linked_tree}
 use Rattle.core_model.specs.Steps.{Act, CallsDevice}
 use Rattle.core_laws.proofs.desk.BeginLaws.{begins_one}
 use Rattle.core_model.specs.Steps as steps
@@ -70,7 +80,7 @@ begin_is sizes desk new made posts (DeskBegins.sends w r v next asked served onc
 -- the physical zone
 abbrev claim_at : Sizes → PhysicalZone → Vio → List Pbn → Result PhysicalZone
 claim_at sizes p v [] = (p, [], (v.home, item.Request (ended phase.Abort reply.Full v)) ∷ [])
-claim_at sizes p v (x ∷ others) = (record p { free = others }, Takes v.request x ∷ [], (id.Device, item.Request (record v { phase = phase.Store; new = At x })) ∷ [])
+claim_at sizes p v (x ∷ others) = (record p { free = others }, Takes v.request v.page x ∷ [], (id.Device, item.Request (record v { phase = phase.Store; new = At x })) ∷ [])
 
 abbrev physical_at : Sizes → PhysicalZone → Vio → Phase → Result PhysicalZone
 physical_at sizes p v phase.Claim = claim_at sizes p v p.free
@@ -100,30 +110,78 @@ abbrev onward_at : LogicalZone → Option Post → Result LogicalZone
 onward_at l (Some post) = (l, [], post ∷ [])
 onward_at l None = (l, [], [])
 
+-- or it lacks a page: that is never linked, or is being made, or it makes it
+abbrev lack_at : LogicalZone → Vio → PageId → (dropped made : Bool) → Result LogicalZone
+lack_at l v page true made = passes l v.at.0 [] (id.Desk, item.Request (ended phase.Reply reply.Stopped v))
+lack_at l v page false true = (record l { lacking = l.lacking ++ v ∷ [] }, [], [])
+lack_at l v page false false = (record l { making = l.making ++ page ∷ [] }, [], (id.Physical 0, item.Request (makes page v)) ∷ [])
+
+abbrev stay_at : Sizes → LogicalZone → Vio → Option PageId → Result LogicalZone
+stay_at sizes l v None = onward_at l (goes_on sizes l v)
+stay_at sizes l v (Some page) = lack_at l v page (is_listed page l.unlinkable) (is_listed page l.making)
+
 abbrev look_at : Sizes → LogicalZone → Vio → Bool → Result LogicalZone
 look_at sizes l v true = passes l v.at.0 (Passes (pass_of v) ∷ []) (id.Desk, item.Request (ended phase.Reply reply.Ok v))
-look_at sizes l v false = onward_at l (goes_on sizes l v)
+look_at sizes l v false = stay_at sizes l v (lacks l v)
+
+-- its slot is set, or its page linked
+abbrev with_link : LogicalZone → PageId → Pbn → LogicalZone
+with_link l page x = record l { tree = linked_tree l.tree page x; making = but_page page l.making }
+
+abbrev settle_at : LogicalZone → Vio → Option PageId → Mapping → Result LogicalZone
+settle_at l v None new = passes (with_slot l v) v.at.0 (Sets (logged v) ∷ []) (id.Desk, item.Request (ended phase.Reply reply.Ok v))
+settle_at l v (Some page) (At x) = (woken (with_link l page x), Sets (logged v) ∷ [], (v.home, item.Request (vios.made v)) ∷ logical.all_again l.lacking)
+settle_at l v (Some page) other = (l, [], [])
+
+-- it is aborted, or its page isn't made any more
+abbrev abort_at : LogicalZone → Vio → Option PageId → Result LogicalZone
+abort_at l v None = passes l v.at.0 [] (to_desk phase.Reply v)
+abort_at l v (Some page) = (woken (unmade page (released v.at.0 l)), [], (id.Desk, item.Request (vios.gives_up v)) ∷ (granted v.at.0 l ++ logical.all_again l.lacking))
+
+abbrev drop_at : LogicalZone → Vio → Option PageId → Result LogicalZone
+drop_at l v None = (retire v.at.0 l, Aborts (logged v) ∷ [], to_desk phase.Reply v ∷ all_stopped (all_for v.at.0 l.waiting))
+drop_at l v (Some page) = (woken (logical.dropped page (released v.at.0 l)), Aborts (logged v) ∷ [], (id.Desk, item.Request (vios.gives_up v)) ∷ (granted v.at.0 l ++ logical.all_again l.lacking))
 
 abbrev logical_at : Sizes → LogicalZone → Vio → Phase → Result LogicalZone
 logical_at sizes l v phase.Arrive = arrival_at l v (is_among v.at.0 l.retired) (is_held v.at.0 l.held)
 logical_at sizes l v phase.Look = look_at sizes l v (passes_by l v)
-logical_at sizes l v phase.Settle = passes (with_slot l v) v.at.0 (Sets (logged v) ∷ []) (id.Desk, item.Request (ended phase.Reply reply.Ok v))
+logical_at sizes l v phase.Settle = settle_at l v v.page v.new
 logical_at sizes l v phase.Loaded = passes l v.at.0 (Gives (gift v) ∷ []) (id.Desk, item.Request (ended phase.Reply (reply.Bytes v.bytes) v))
-logical_at sizes l v phase.Abort = passes l v.at.0 [] (to_desk phase.Reply v)
-logical_at sizes l v phase.AbortEntered = (retire v.at.0 l, Aborts (logged v) ∷ [], to_desk phase.Reply v ∷ all_stopped (all_for v.at.0 l.waiting))
+logical_at sizes l v phase.Abort = abort_at l v v.page
+logical_at sizes l v phase.AbortEntered = drop_at l v v.page
 logical_at sizes l v other = (l, [], [])
+
+-- a request that lacks a page doesn't pass
+stays_by : (l : LogicalZone) (a : ℕ) (q : Asks) (page : PageId) (b : Bool) → lacks_for l a q ≡ Some page → (is_discard q && b) ≡ false
+stays_by l a Write page b lack = refl
+stays_by l a other page b lack = absurd cc
+
+three : {Z : Type 0} (a b : Z) (made made' : Trace) (posts posts' : List Post) → a ≡ b → made ≡ made' → posts ≡ posts' → ◌≡◌ {A = Result Z} (a, made, posts) (b, made', posts')
+three a b made made' posts posts' p q r = rw (p, q, r) refl
 
 logical_is : (sizes : Sizes) (l : LogicalZone) (v : Vio) (new : LogicalZone) (made : Trace) (posts : List Post) → LogicalServes sizes l v new made posts
     → (new, made, posts) ≡ logical_at sizes l v v.phase
 logical_is sizes l v new made posts (LogicalServes.arrives_retired is retired n m q) = rw (n, m, q, is, retired) refl
 logical_is sizes l v new made posts (LogicalServes.arrives_free is alive free n m q) = rw (n, m, q, is, alive, free) refl
 logical_is sizes l v new made posts (LogicalServes.arrives_held is alive held n m q) = rw (n, m, q, is, alive, held) refl
-logical_is sizes l v new made posts (LogicalServes.looks post is path stays next n m q) = rw (n, m, q, is, stays, next) refl
+logical_is sizes l v new made posts (LogicalServes.looks post is path stays leaf next n m q) = rw (n, m, q, is, stays, leaf, next) refl
 logical_is sizes l v new made posts (LogicalServes.passes is path past n m q) = rw (n, m, q, is, past) refl
-logical_is sizes l v new made posts (LogicalServes.settles is n m q) = rw (n, m, q, is) refl
+logical_is sizes l v new made posts (LogicalServes.is_dropped page is path lack dropped n m q) = rw (n, m, q, is, stays_by l v.at.0 v.asks page _ lack, lack, dropped) refl
+logical_is sizes l v new made posts (LogicalServes.waits page is path lack linkable made_yet n m q) = rw (n, m, q, is, stays_by l v.at.0 v.asks page _ lack, lack, linkable, made_yet) refl
+logical_is sizes l v new made posts (LogicalServes.makes_page page is path lack linkable unmade_yet n m q) = rw (n, m, q, is, stays_by l v.at.0 v.asks page _ lack, lack, linkable, unmade_yet) refl
+logical_is sizes l v new made posts (LogicalServes.links page x between is some to may linked n m q) =
+    let tree : between ≡ with_link l page x = linked.rest ∙ ap (λ (t : Tree). record l { tree = t; making = but_page page l.making }) linked.links.set in
+    three new _ made _ posts _ (n ∙ ap woken tree) m q ∙ sym (at_settle is some to)
+  where
+    at_settle : v.phase ≡ phase.Settle → v.page ≡ Some page → v.new ≡ At x
+        → logical_at sizes l v v.phase ≡ (woken (with_link l page x), Sets (logged v) ∷ [], (v.home, item.Request (vios.made v)) ∷ logical.all_again l.lacking)
+    at_settle is some to = ap (logical_at sizes l v) is ∙ ap (λ (o : Option PageId). settle_at l v o v.new) some ∙ ap (settle_at l v (Some page)) to
+logical_is sizes l v new made posts (LogicalServes.settles is bare n m q) = three new _ made _ posts _ n m q ∙ sym (ap (logical_at sizes l v) is ∙ ap (λ (o : Option PageId). settle_at l v o v.new) bare)
 logical_is sizes l v new made posts (LogicalServes.gives is n m q) = rw (n, m, q, is) refl
-logical_is sizes l v new made posts (LogicalServes.aborts is n m q) = rw (n, m, q, is) refl
-logical_is sizes l v new made posts (LogicalServes.aborts_entered is n m q) = rw (n, m, q, is) refl
+logical_is sizes l v new made posts (LogicalServes.aborts is bare n m q) = three new _ made _ posts _ n m q ∙ sym (ap (logical_at sizes l v) is ∙ ap (abort_at l v) bare)
+logical_is sizes l v new made posts (LogicalServes.unmakes page is some n m q) = three new _ made _ posts _ n m q ∙ sym (ap (logical_at sizes l v) is ∙ ap (abort_at l v) some)
+logical_is sizes l v new made posts (LogicalServes.drops page is some n m q) = three new _ made _ posts _ n m q ∙ sym (ap (logical_at sizes l v) is ∙ ap (drop_at l v) some)
+logical_is sizes l v new made posts (LogicalServes.aborts_entered is bare n m q) = three new _ made _ posts _ n m q ∙ sym (ap (logical_at sizes l v) is ∙ ap (drop_at l v) bare)
 
 -- the journal
 abbrev entry_at : Sizes → JournalZone → Vio → (closed block room busy : Bool) → Result JournalZone

@@ -2,7 +2,7 @@
 use Rattle.std.proofs.Common.{◌≡◌, ℕ, ◌<◌, ◌≤◌, true, false, None, Some, Option, List, [], ◌∷◌, ◌++◌, length, slice_get, refl, ap, sym, ◌∙◌, subst, inl, inr, arith}
 use Rattle.std.proofs.lemmas.Option.{slice_get_within}
 use Rattle.core_laws.proofs.journal.LogLaws.{has_next, is_sealable}
-use Rattle.core_laws.proofs.Common.{HasAddress, all_logged, all_of, AllByRecursion, Answer, Asks, Call, Carries, cases_Bool, DataOk, Desk, desk_number, device_number, DeviceZone, IsForBlock, IsServed, IsSession, IsToFresh, IsToInside, Item, ItemOk, journal_number, JournalLists, JournalZone, logical_number, LogicalZone, Mapping, MayReply, notified_zones, option_cases, Pbn, Phase, physical_number, PhysicalZone, Post, Request, request_at, Script, sealed, SealedBlock, Session, some_of, Stage, StandsAt, Trace, Vio, VioOk, Writer, Zone, zone_at, zone_count, zone_number, zone_of, zone_of_stage, ZoneData, durable}
+use Rattle.core_laws.proofs.Common.{HasAddress, all_logged, all_of, AllByRecursion, Answer, Asks, Call, cases_Bool, DataOk, Desk, desk_number, device_number, DeviceZone, IsForBlock, IsFresh, IsServed, IsSession, IsToFresh, IsToInside, Item, ItemOk, journal_number, JournalLists, JournalZone, logical_number, LogicalZone, Mapping, MayReply, notified_zones, option_cases, Pbn, Phase, physical_number, PhysicalZone, Post, Request, request_at, Script, sealed, SealedBlock, Session, some_of, Stage, StandsAt, Trace, Vio, VioOk, Writer, Zone, zone_at, zone_count, zone_number, zone_of, zone_of_stage, ZoneData, applied, durable}
 use Rattle.blk_base.specs.Regions.{journal_slot_of}
 use Rattle.blk_base.specs.declared.request.Answer.TheVariants as reply
 use Rattle.blk_base.specs.declared.request.Request.TheVariants as request
@@ -18,9 +18,12 @@ use Rattle.core_model.specs.DeviceRules.{DeviceServes, DeviceWorks, IsInside, ca
 use Rattle.core_model.specs.PhysicalRules.{PhysicalServes}
 use Rattle.core_model.specs.JournalRules.{JournalServes, JournalEnds, is_closed, has_block, has_room}
 use Rattle.core_model.specs.Legal.{Legal}
-use Rattle.core_model.specs.LogicalRules.{LogicalServes, is_among, is_held, next_for, goes_on, passes_by}
-use Rattle.core_model.specs.PageTrees.{HasPath}
-use Rattle.core_laws.proofs.logical.PageFacts.{has_path}
+use Rattle.core_model.specs.LogicalRules.{LogicalServes, is_among, is_held, lacks, next_for, goes_on, passes_by}
+use Rattle.blk_base.specs.declared.place.PageId.{PageId}
+use Rattle.core_model.specs.Facts.{CarriesFor, CarriesOwn, CarriesPage}
+use Rattle.core_model.specs.PageTrees.{HasPath, but_page, is_listed}
+use Rattle.core_laws.proofs.journal.LoggedEntries.{fresh_at}
+use Rattle.core_laws.proofs.logical.PageFacts.{has_path, lacked_path, link_made, linked_tree, may_link}
 use Rattle.core_model.specs.Steps as steps
 use Rattle.core_model.specs.Steps.{Act, HasAct, MayBegin, Core}
 use Rattle.core_laws.proofs.desk.BeginLaws.{begins_some}
@@ -95,7 +98,16 @@ module _ (s : Session) (session : IsSession s) (t : Trace) where
   looks : (l : LogicalZone) (v : Vio) → v.phase ≡ phase.Look → IsForBlock v.asks → HasPath l.tree v.at.0 → HasAct s.sizes (at.Logical l) (item.Request v ∷ [])
   looks l v is block path = elim (cases_Bool (passes_by l v)) [
     | inl passes ↦ (_, _, _, steps.serves (LogicalServes.passes is path passes refl refl refl))
-    | inr stays ↦ let goes = goes_some l v block in (_, _, _, steps.serves (LogicalServes.looks goes.0 is path stays goes.1 refl refl refl))
+    | inr stays ↦ elim (option_cases (lacks l v)) [
+      | inl leaf ↦ let goes = goes_some l v block in (_, _, _, steps.serves (LogicalServes.looks goes.0 is path stays leaf goes.1 refl refl refl))
+      | inr page ↦ elim (cases_Bool (is_listed page.0 l.unlinkable)) [
+        | inl dropped ↦ (_, _, _, steps.serves (LogicalServes.is_dropped page.0 is path page.1 dropped refl refl refl))
+        | inr linkable ↦ elim (cases_Bool (is_listed page.0 l.making)) [
+          | inl made ↦ (_, _, _, steps.serves (LogicalServes.waits page.0 is path page.1 linkable made refl refl refl))
+          | inr unmade ↦ (_, _, _, steps.serves (LogicalServes.makes_page page.0 is path page.1 linkable unmade refl refl refl))
+        ]
+      ]
+    ]
   ]
 
   -- the path of its address leads through its home
@@ -108,6 +120,18 @@ module _ (s : Session) (session : IsSession s) (t : Trace) where
       inside Write block low = low
       inside Discard block low = low
       inside Flush block low = absurd block
+
+  -- the entry of its page is committed: that may be linked
+  links : (l : LogicalZone) (v : Vio) (page : PageId) → v.phase ≡ phase.Settle → v.page ≡ Some page → VioOk s t v → CarriesPage s t v page phase.Settle
+      → DataOk s t (logical_number (zone_of s.sizes.zones v.at.0)) (at.Logical l) → HasAct s.sizes (at.Logical l) (item.Request v ∷ [])
+  links l v page is some ok carries here =
+      let block = fresh_at s v.new carries.1 in
+      let lacked = lacked_path s.sizes.geometry.height v.asks v.at v.bytes page carries.0.is_write carries.0.lacked in
+      let path = path_of l v ok carries.0.turn.is_placed.for_block here in
+      let fresh : IsFresh s block.0 = subst (IsToFresh s) block.1 carries.1 in
+      let may = may_link s.sizes.geometry l.zone s.sizes.zones s.window (applied t) l.tree v.at.0 here.lists.tree_is path page lacked.0 lacked.1 carries.0.up block.0 fresh.is_data in
+      let between : LogicalZone = record l { tree = linked_tree l.tree page block.0; making = but_page page l.making } in
+      (_, _, _, steps.serves (LogicalServes.links page block.0 between is some block.1 may (record { links = link_made l.tree page block.0 here.lists.tree_is.form may; rest = refl }) refl refl refl))
 
   -- the physical zone
   claims : (p : PhysicalZone) (v : Vio) (free : List Pbn) → p.free ≡ free → v.phase ≡ phase.Claim → HasAct s.sizes (at.Physical p) (item.Request v ∷ [])
@@ -215,22 +239,39 @@ module _ (s : Session) (session : IsSession s) (t : Trace) where
         in_kind at.Logical (logical_number zone) (item.Request v) (is ∙ ap (zone_number s.sizes) ok.home) (logical_keeps s t zone (zone_below s.sizes.zones v.at.0 session.zones)) rule
 
     -- a request, by its phase; one that waits is in no lane
-    by_phase : (v : Vio) (q : Phase) → v.phase ≡ q → VioOk s t v → Carries s t v q → n ≡ zone_at s.sizes v.home q → Has (item.Request v)
-    by_phase v phase.Arrive is ok carries to = in_home v ok to (λ l here. arrives l v is)
-    by_phase v phase.Look is ok carries to = in_home v ok to (λ l here. looks l v is carries.0.is_placed.for_block (path_of l v ok carries.0.is_placed.for_block here))
-    by_phase v phase.Claim is ok carries to = in_physical _ to (λ p. claims p v p.free refl is)
-    by_phase v phase.Store is ok carries to = in_device _ to (λ dev. stores_by dev v v.new is refl carries.2)
-    by_phase v phase.Enter is ok carries to = in_journal _ to (λ j lists. enters j v is)
-    by_phase v phase.Settle is ok carries to = in_home v ok to (λ l here. (_, _, _, steps.serves (LogicalServes.settles is refl refl refl)))
-    by_phase v phase.Load is ok carries to = in_device _ to (λ dev. loads_by dev v v.old is refl carries.1)
-    by_phase v phase.Loaded is ok carries to = in_home v ok to (λ l here. (_, _, _, steps.serves (LogicalServes.gives is refl refl refl)))
-    by_phase v phase.AbortClaim is ok carries to = in_physical _ to (λ p. (_, _, _, steps.takes (PhysicalServes.aborts_claim is refl refl refl)))
-    by_phase v phase.Abort is ok carries to = in_home v ok to (λ l here. (_, _, _, steps.serves (LogicalServes.aborts is refl refl refl)))
-    by_phase v phase.AbortEnteredClaim is ok carries to = in_physical _ to (λ p. (_, _, _, steps.takes (PhysicalServes.aborts_entered_claim is refl refl refl)))
-    by_phase v phase.AbortEntered is ok carries to = in_home v ok to (λ l here. (_, _, _, steps.serves (LogicalServes.aborts_entered is refl refl refl)))
-    by_phase v phase.Flush is ok carries to = in_device _ to (λ dev. flushes dev v is)
-    by_phase v phase.Reply is ok carries to = in_desk _ to (λ desk. replies desk v v.answer refl is carries)
-    by_phase v other is ok carries to = absurd (omega (arith, to, there))
+    by_phase : (v : Vio) (q : Phase) → v.phase ≡ q → v.page ≡ None → VioOk s t v → CarriesOwn s t v q → n ≡ zone_at s.sizes v.home q → Has (item.Request v)
+    by_phase v phase.Arrive is bare ok carries to = in_home v ok to (λ l here. arrives l v is)
+    by_phase v phase.Look is bare ok carries to = in_home v ok to (λ l here. looks l v is carries.0.is_placed.for_block (path_of l v ok carries.0.is_placed.for_block here))
+    by_phase v phase.Claim is bare ok carries to = in_physical _ to (λ p. claims p v p.free refl is)
+    by_phase v phase.Store is bare ok carries to = in_device _ to (λ dev. stores_by dev v v.new is refl carries.2)
+    by_phase v phase.Enter is bare ok carries to = in_journal _ to (λ j lists. enters j v is)
+    by_phase v phase.Settle is bare ok carries to = in_home v ok to (λ l here. (_, _, _, steps.serves (LogicalServes.settles is bare refl refl refl)))
+    by_phase v phase.Load is bare ok carries to = in_device _ to (λ dev. loads_by dev v v.old is refl carries.1)
+    by_phase v phase.Loaded is bare ok carries to = in_home v ok to (λ l here. (_, _, _, steps.serves (LogicalServes.gives is refl refl refl)))
+    by_phase v phase.AbortClaim is bare ok carries to = in_physical _ to (λ p. (_, _, _, steps.takes (PhysicalServes.aborts_claim is refl refl refl)))
+    by_phase v phase.Abort is bare ok carries to = in_home v ok to (λ l here. (_, _, _, steps.serves (LogicalServes.aborts is bare refl refl refl)))
+    by_phase v phase.AbortEnteredClaim is bare ok carries to = in_physical _ to (λ p. (_, _, _, steps.takes (PhysicalServes.aborts_entered_claim is refl refl refl)))
+    by_phase v phase.AbortEntered is bare ok carries to = in_home v ok to (λ l here. (_, _, _, steps.serves (LogicalServes.aborts_entered is bare refl refl refl)))
+    by_phase v phase.Flush is bare ok carries to = in_device _ to (λ dev. flushes dev v is)
+    by_phase v phase.Reply is bare ok carries to = in_desk _ to (λ desk. replies desk v v.answer refl is carries)
+    by_phase v other is bare ok carries to = absurd (omega (arith, to, there))
+
+    -- one that makes a page
+    by_page : (v : Vio) (page : PageId) (q : Phase) → v.phase ≡ q → v.page ≡ Some page → VioOk s t v → CarriesPage s t v page q → n ≡ zone_at s.sizes v.home q → Has (item.Request v)
+    by_page v page phase.Claim is some ok carries to = in_physical _ to (λ p. claims p v p.free refl is)
+    by_page v page phase.Store is some ok carries to = in_device _ to (λ dev. stores_by dev v v.new is refl carries.2)
+    by_page v page phase.Enter is some ok carries to = in_journal _ to (λ j lists. enters j v is)
+    by_page v page phase.Settle is some ok carries to = in_home v ok to (λ l here. links l v page is some ok carries here)
+    by_page v page phase.AbortClaim is some ok carries to = in_physical _ to (λ p. (_, _, _, steps.takes (PhysicalServes.aborts_claim is refl refl refl)))
+    by_page v page phase.Abort is some ok carries to = in_home v ok to (λ l here. (_, _, _, steps.serves (LogicalServes.unmakes page is some refl refl refl)))
+    by_page v page phase.AbortEnteredClaim is some ok carries to = in_physical _ to (λ p. (_, _, _, steps.takes (PhysicalServes.aborts_entered_claim is refl refl refl)))
+    by_page v page phase.AbortEntered is some ok carries to = in_home v ok to (λ l here. (_, _, _, steps.serves (LogicalServes.drops page is some refl refl refl)))
+    by_page v page phase.Pending is some ok carries to = absurd (omega (arith, to, there))
+    by_page v page other is some ok carries to = absurd carries
+
+    by_both : (v : Vio) (o : Option PageId) → v.page ≡ o → VioOk s t v → CarriesFor s t v v.phase o → n ≡ zone_at s.sizes v.home v.phase → Has (item.Request v)
+    by_both v None bare ok carries to = by_phase v v.phase refl bare ok carries to
+    by_both v (Some page) some ok carries to = by_page v page v.phase refl some ok carries to
 
     -- a sealed block, by its stage
     by_stage : (b : SealedBlock) (q : Stage) → b.stage ≡ q → StandsAt s t b.vios b.sequence q → n ≡ zone_of_stage s.sizes q → Has (item.Block b)
@@ -249,7 +290,7 @@ module _ (s : Session) (session : IsSession s) (t : Trace) where
     by_kind other here few = absurd (omega (arith, here.number_is, few))
 
     item_rule : (it : Item) → ItemOk s t n it → Has it
-    item_rule (item.Request v) ok = by_phase v v.phase refl ok.0 ok.1 ok.2
+    item_rule (item.Request v) ok = by_both v v.page refl ok.0 ok.1 ok.2
     item_rule (item.Block b) ok = by_stage b b.stage refl ok.0.1 ok.1
     item_rule item.StopNotice ok = by_kind d own ok.1
 

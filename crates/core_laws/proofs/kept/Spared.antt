@@ -1,39 +1,53 @@
 -- Facts on the trace stay where the next happening is about something else.
-use Rattle.std.proofs.Common.{◌≡◌, ◌≢◌, ℕ, ◌+◌, ◌<◌, ◌==◌, Bool, true, false, not, ◌&&◌, ◌||◌, if◌then◌else◌, Option, None, Some, List, [], ◌∷◌, ◌≤◌, length, refl, ap, sym, ◌∙◌, inl, inr, arith}
-use Rattle.core_laws.proofs.Common.{Aborts, AllBelow, Calls, Commits, DeskLine, Draws, Enters, Entry, Fails, Flushes, FlushMark, Gives, Happening, HasBelow, IsCommitted, HasFullJournal, IsFull, IsOpen, IsPending, Logged, Makes, Remapping, Remaps, NeedsBlock, Quiet, Says, Seals, Session, Sets, Takes, Trace, Writer, aborted, begun, committed, done, entered, entries_of, eqb_tells, gift_of, gifts, has_read_fault, has_stopped, has_taken, is_read, lines, logged_of, moments, newest, of_address, place_of, places, remappings, request_in, same_writer, taken, value_at, Passes, applied, durable, journaled, passed}
+use Rattle.std.proofs.Common.{◌≡◌, ◌≢◌, ◌⊎◌, ℕ, zero, suc, ◌+◌, ◌<◌, ◌==◌, Bool, true, false, not, ◌&&◌, ◌||◌, if◌then◌else◌, Option, None, Some, IsSome, List, [], ◌∷◌, ◌≤◌, length, Contains, refl, ap, sym, ◌∙◌, inl, inr, arith}
+use Rattle.core_laws.proofs.Common.{Aborts, AllBelow, Calls, Commits, DeskLine, Draws, Enters, Entry, Fails, Flushes, FlushMark, Gives, Happening, HasBelow, IsCommitted, HasFullJournal, IsFull, IsOpen, IsPending, Logged, Makes, Pbn, Remapping, Remaps, NeedsBlock, Quiet, Says, Seals, Session, Sets, Takes, Trace, Writer, aborted, begun, committed, done, dropped, entered, entries_of, eqb_tells, gift_of, gifts, has_read_fault, has_stopped, has_taken, is_read, lines, logged_of, moments, newest, of_address, place_of, places, remappings, request_in, same_self, same_writer, taken, value_at, Passes, applied, durable, journaled, passed}
 use Rattle.core_laws.proofs.lists.Between.{address_between, every_between, logged_between}
 use Rattle.blk_base.specs.declared.request.Answer.TheVariants as reply
 use Rattle.image_layout.specs.Values.{mapping_of}
 use Rattle.vdo_model.specs.FlushMarks.{Moment, Desk, Device, IsMark}
 use Rattle.vdo_model.specs.declared.report.DeskLine.TheVariants.{Begin, Answer}
+use Rattle.blk_base.specs.declared.place.PageId.{PageId}
+use Rattle.image_model.specs.Pages.{is_page}
 use Rattle.core_model.specs.LogicalRules.{mapped_by}
+use Rattle.core_model.specs.PageLinks.{IsThere, page_in}
 
--- What a happening is about: a request, an address.
+-- What a happening is about: a request, an address, a page of the block map.
 pub record About : Type 0 where
   pub request : Option Writer
   pub address : Option ℕ
+  pub page : Option PageId
 
 abbrev pub answered_by : DeskLine → Option Writer
 answered_by (Answer w a) = Some w
 answered_by (Begin w) = None
 
--- the address that an entry maps anew
+-- the address that an entry maps anew, and the page that it makes
 abbrev pub address_in : Logged → Option ℕ
 address_in (Remaps e) = Some e.at.0
 address_in (Makes p) = None
 
+abbrev pub page_named : Logged → Option PageId
+page_named (Remaps e) = None
+page_named (Makes p) = Some p.page
+
+abbrev about_request : Writer → About
+about_request w = record { request = Some w; address = None; page = None }
+
+abbrev about_both : Writer → ℕ → About
+about_both w a = record { request = Some w; address = Some a; page = None }
+
 abbrev pub about : Happening → About
-about (Says line) = record { request = answered_by line; address = None }
-about (Flushes m) = record { request = Some m.request; address = None }
-about (Draws p) = record { request = Some p.request; address = None }
-about (Enters e) = record { request = Some (request_in e); address = address_in e }
-about (Commits e) = record { request = Some (request_in e); address = address_in e }
-about (Sets e) = record { request = Some (request_in e); address = address_in e }
-about (Gives g) = record { request = Some g.request; address = Some g.at.0 }
-about (Aborts e) = record { request = Some (request_in e); address = None }
-about (Passes e) = record { request = Some e.request; address = Some e.at.0 }
-about (Takes w x) = record { request = Some w; address = None }
-about other = record { request = None; address = None }
+about (Says line) = record { request = answered_by line; address = None; page = None }
+about (Flushes m) = about_request m.request
+about (Draws p) = about_request p.request
+about (Enters e) = record { request = Some (request_in e); address = address_in e; page = page_named e }
+about (Commits e) = record { request = Some (request_in e); address = address_in e; page = None }
+about (Sets e) = record { request = Some (request_in e); address = address_in e; page = page_named e }
+about (Gives g) = about_both g.request g.at.0
+about (Aborts e) = record { request = Some (request_in e); address = None; page = page_named e }
+about (Passes e) = about_both e.request e.at.0
+about (Takes w page x) = about_request w
+about other = record { request = None; address = None; page = None }
 
 abbrev pub OffRequest : Option Writer → Writer → Type 0
 OffRequest None w = Unit {0}
@@ -43,12 +57,19 @@ abbrev pub OffNumber : Option ℕ → ℕ → Type 0
 OffNumber None a = Unit {0}
 OffNumber (Some b) a = b ≢ a
 
--- it is about another request, or address, or none
+abbrev pub OffPage : Option PageId → PageId → Type 0
+OffPage None page = Unit {0}
+OffPage (Some other) page = is_page other page ≡ false
+
+-- it is about another request, or address, or page, or none
 abbrev pub SparesRequest : Happening → Writer → Type 0
 SparesRequest h w = OffRequest (about h).request w
 
 abbrev pub SparesAddress : Happening → ℕ → Type 0
 SparesAddress h a = OffNumber (about h).address a
+
+abbrev pub SparesPage : Happening → PageId → Type 0
+SparesPage h page = OffPage (about h).page page
 
 begun_later : (b : Bool) (n m : ℕ) → n < m → n < (if b then m + 1 else m)
 begun_later true n m h = omega (arith, h)
@@ -85,7 +106,7 @@ gift_same (Gives g) t w apart = rw apart refl
 gift_same other t w apart = refl
 
 pub take_same : (h : Happening) (t : Trace) (w : Writer) → SparesRequest h w → has_taken (h ∷ t) w ≡ has_taken t w
-take_same (Takes v x) t w apart = rw apart refl
+take_same (Takes v None x) t w apart = rw apart refl
 take_same other t w apart = refl
 
 -- what they say of an address
@@ -138,6 +159,50 @@ below_kept (Passes e) t a place apart b = record { writes = every_between (λ (f
 below_kept (Gives g) t a place apart b = record { writes = b.writes; reads = ((λ same. absurd (apart same)), b.reads) }
 below_kept other t a place apart b = record { writes = b.writes; reads = b.reads }
 
+-- What they say of a page: where an entry puts it, where it is linked, whether it is dropped. A page that is there stays there.
+module _ (height : ℕ) (window : List Entry) where
+  pub put_same : (h : Happening) (t : Trace) (page : PageId) → SparesPage h page → page_in height window (journaled (h ∷ t)) page ≡ page_in height window (journaled t) page
+  put_same (Enters (Makes p)) t page apart = rw apart refl
+  put_same other t page apart = refl
+
+  pub link_same : (h : Happening) (t : Trace) (page : PageId) → SparesPage h page → page_in height window (applied (h ∷ t)) page ≡ page_in height window (applied t) page
+  link_same (Sets (Makes p)) t page apart = rw apart refl
+  link_same other t page apart = refl
+
+  some_more : (b : Bool) (x : Pbn) (o : Option Pbn) → IsSome o → IsSome (if b then Some x else o)
+  some_more true x o some = refl
+  some_more false x o some = some
+
+  pub there_kept : (h : Happening) (t : Trace) (page : PageId) → IsThere height window (applied t) page → IsThere height window (applied (h ∷ t)) page
+  there_kept h t page (inl root) = inl root
+  there_kept (Sets (Makes p)) t page (inr some) = inr (some_more (is_page p.page page) p.at (page_in height window (applied t) page) some)
+  there_kept other t page (inr some) = inr some
+
+-- an element of a list with one more in front
+pub contains_more : {X : Type 0} (y : X) (xs : List X) (x : X) → Contains xs x → Contains (y ∷ xs) x
+contains_more y xs x (k, low, is) = (suc k, omega (arith, low), is)
+
+pub contains_cut : {X : Type 0} (y : X) (xs : List X) (x : X) → Contains (y ∷ xs) x → (y ≡ x) ⊎ Contains xs x
+contains_cut y xs x (zero, low, is) = inl is
+contains_cut y xs x (suc k, low, is) = inr (k, omega (arith, low), is)
+
+-- an entry that was handed in or committed is so from then on
+pub journaled_has : (h : Happening) (t : Trace) (e : Logged) → Contains (journaled t) e → Contains (journaled (h ∷ t)) e
+journaled_has (Enters f) t e has = contains_more f (journaled t) e has
+journaled_has other t e has = has
+
+pub durable_has : (h : Happening) (t : Trace) (e : Logged) → Contains (durable t) e → Contains (durable (h ∷ t)) e
+durable_has (Commits f) t e has = contains_more f (durable t) e has
+durable_has other t e has = has
+
+-- one that isn't dropped is dropped by its own request alone
+pub undropped_kept : (h : Happening) (t : Trace) (e : Logged) → SparesRequest h (request_in e) → (Contains (dropped t) e → ⊥) → Contains (dropped (h ∷ t)) e → ⊥
+undropped_kept (Aborts f) t e apart off has = elim (contains_cut f (dropped t) e has) [
+  | inl same ↦ let own : same_writer (request_in f) (request_in e) ≡ true = ap (λ (g : Logged). same_writer (request_in f) (request_in g)) (sym same) ∙ same_self (request_in f) in absurd cc
+  | inr rest ↦ off rest
+]
+undropped_kept other t e apart off has = off has
+
 -- a mark stays
 pub mark_later : (moment : Moment) (older : List Moment) (m : FlushMark) → IsMark older m → IsMark (moment ∷ older) m
 mark_later moment older m k = record {
@@ -178,16 +243,18 @@ journal_full_kept s Seals t full = omega (arith, full)
 journal_full_kept s other t full = full
 
 taken_kept : (s : Session) (h : Happening) (t : Trace) → length s.free ≤ taken t → length s.free ≤ taken (h ∷ t)
-taken_kept s (Takes w x) t all = omega (arith, all)
+taken_kept s (Takes w page x) t all = omega (arith, all)
 taken_kept s other t all = all
 
 -- and a write that took none needs one, where it takes none then
 pub needs_kept : (h : Happening) (t : Trace) (w : Writer) (bytes : List ℕ) → has_taken (h ∷ t) w ≡ has_taken t w → NeedsBlock t w bytes → NeedsBlock (h ∷ t) w bytes
 needs_kept h t w bytes same needs = record { not_zeros = needs.not_zeros; none_taken = same ∙ needs.none_taken }
 
-pub full_kept : (s : Session) (h : Happening) (t : Trace) (w : Writer) (bytes : List ℕ) → has_taken (h ∷ t) w ≡ has_taken t w → IsFull s t w bytes → IsFull s (h ∷ t) w bytes
-full_kept s h t w bytes same (inl full) = inl (journal_full_kept s h t full)
-full_kept s h t w bytes same (inr full) = inr (needs_kept h t w bytes same full.0, taken_kept s h t full.1)
+pub full_kept : (s : Session) (h : Happening) (t : Trace) (w : Writer) (a : ℕ) (bytes : List ℕ) → has_taken (h ∷ t) w ≡ has_taken t w → IsFull s t w a bytes → IsFull s (h ∷ t) w a bytes
+full_kept s h t w a bytes same (inl journal) = inl (journal_full_kept s h t journal)
+full_kept s h t w a bytes same (inr (inl block)) = inr (inl (needs_kept h t w bytes same block.0, taken_kept s h t block.1))
+full_kept s h t w a bytes same (inr (inr page)) =
+    inr (inr (record { newer = h ∷ page.newer; older = page.older; moment = ap (λ (u : Trace). h ∷ u) page.moment; placed = page.placed; lacking = page.lacking; all_taken = page.all_taken }))
 
 -- what an address is mapped to, by the writes of it
 pub mapping_by : (window : List Entry) (es : List Logged) (a : ℕ) → mapping_of (entries_of window es) a ≡ mapped_by (newest (of_address a (remappings es))) (mapping_of window a)

@@ -1,6 +1,6 @@
 -- What stands on the device goes on over each call that misses it.
 use Rattle.std.proofs.Common.{◌≡◌, ◌≢◌, ◌⊎◌, ℕ, ◌<◌, Bool, true, false, List, [], ◌∷◌, ◌++◌, refl, inl, inr, subst, sym, ap, ◌∙◌, arith}
-use Rattle.core_laws.proofs.Common.{AllByRecursion, AreAllThere, AtRest, Call, Calls, ComesLast, Enters, Fails, Happening, HasBlocks, Logged, Makes, MapStands, Mapping, NewReads, NewStands, OnBlock, OnItsWay, Pbn, ReadsAs, ReadsBlock, Remaps, Seals, Session, Stands, Trace, Writer, all_of, durable, journaled, entries_of, eqb_tells, filled, log, new_of, sealed}
+use Rattle.core_laws.proofs.Common.{AllByRecursion, AreAllThere, AtRest, Call, Calls, ComesLast, Enters, Fails, Happening, HasBlocks, Logged, Makes, MapStands, Mapping, NewReads, NewStands, OnBlock, OnItsWay, PagesStand, Pbn, ReadsAs, ReadsBlock, Remaps, Seals, Session, Stands, Trace, Writer, all_of, durable, journaled, entries_of, eqb_tells, filled, log, new_of, sealed}
 use Rattle.blk_base.specs.declared.place.Mapping.TheVariants.{Unmapped, Zero, At}
 use Rattle.disk_model.specs.Log.{Misses}
 use Rattle.disk_model.specs.declared.call.Call.TheVariants.{Write}
@@ -117,6 +117,12 @@ module _ (s : Session) where
   new_reads_kept h t [] apart k = tt
   new_reads_kept h t (e ∷ es) apart k = (on_both (new_of e) (λ x to spared reads. reads_kept h t x.0 _ spared reads) apart.0 k.0, new_reads_kept h t es apart.1 k.1)
 
+  -- so does each new page among them
+  pub pages_kept : (h : Happening) (t : Trace) (es : List Logged) → SparesBlocks h es → PagesStand s t es → PagesStand s (h ∷ t) es
+  pages_kept h t [] apart k = tt
+  pages_kept h t (Remaps e ∷ es) apart k = pages_kept h t es apart.1 k
+  pages_kept h t (Makes p ∷ es) apart k = (stands_kept h t p.at.0 _ apart.0 k.0, pages_kept h t es apart.1 k.1)
+
   -- so does each block of the journal, over one that misses the journal
   opened_kept : (h : Happening) (t : Trace) (blocks : List (List Logged)) → ((slot : ℕ) → slot < s.sizes.geometry.journal → SparesBlock h (block_of_slot slot)) → StandsAsOpened s t blocks → StandsAsOpened s (h ∷ t) blocks
   opened_kept h t blocks apart k = record { none = k.none; opening = k.opening; same = λ slot below. stands_kept h t (block_of_slot slot) _ (apart slot below) (k.same slot below) }
@@ -137,18 +143,26 @@ module _ (s : Session) where
   blocks_unlogged h t blocks same (inr k) = inr (record { none = k.none; opening = k.opening; same = λ slot below. rw same (k.same slot below) })
 
   pub rests_kept : (h : Happening) (t : Trace) (blocks : List (List Logged)) → SparesJournal s h → SparesMap s h (all_of blocks) → AtRest s t blocks → AtRest s (h ∷ t) blocks
-  rests_kept (Calls c) t blocks journal apart k = (blocks_kept c t (Calls c) blocks journal refl journal k.0, map_kept (Calls c) t (all_of blocks) apart k.1)
-  rests_kept (Fails w c true) t blocks journal apart k = (blocks_kept c t (Fails w c true) blocks journal refl journal k.0, map_kept (Fails w c true) t (all_of blocks) apart k.1)
-  rests_kept other t blocks journal apart k = (blocks_unlogged other t blocks refl k.0, map_kept other t (all_of blocks) apart k.1)
+  rests_kept (Calls c) t blocks journal apart k = (
+    blocks_kept c t (Calls c) blocks journal refl journal k.0,
+    map_kept (Calls c) t (all_of blocks) apart k.1,
+    pages_kept (Calls c) t (all_of blocks) apart.1 k.2,
+  )
+  rests_kept (Fails w c true) t blocks journal apart k = (
+    blocks_kept c t (Fails w c true) blocks journal refl journal k.0,
+    map_kept (Fails w c true) t (all_of blocks) apart k.1,
+    pages_kept (Fails w c true) t (all_of blocks) apart.1 k.2,
+  )
+  rests_kept other t blocks journal apart k = (blocks_unlogged other t blocks refl k.0, map_kept other t (all_of blocks) apart k.1, pages_kept other t (all_of blocks) apart.1 k.2)
 
   -- what stands is so still after a call that failed and isn't in the log
   pub rests_unlogged : (w : Writer) (c : Call) (t : Trace) (blocks : List (List Logged)) → AtRest s t blocks → AtRest s (Fails w c false ∷ t) blocks
-  rests_unlogged w c t blocks k = (blocks_unlogged (Fails w c false) t blocks refl k.0, k.1)
+  rests_unlogged w c t blocks k = (blocks_unlogged (Fails w c false) t blocks refl k.0, k.1, k.2)
 
   pub way_kept : (h : Happening) (t : Trace) (older : List (List Logged)) (es : List Logged) → SparesJournal s h → SparesMap s h (es ++ all_of older) → OnItsWay s t older es → OnItsWay s (h ∷ t) older es
   way_kept h t older es journal apart k =
       let parts = spares_parts h es (all_of older) apart.1 in
-      ((k.0.0, way h journal k.0.1), map_kept h t (all_of older) (apart.0, parts.1) k.1, new_kept h t es parts.0 k.2)
+      ((k.0.0, way h journal k.0.1), map_kept h t (all_of older) (apart.0, parts.1) k.1, pages_kept h t (all_of older) parts.1 k.2, new_kept h t es parts.0 k.3)
     where
       way : (h : Happening) → SparesJournal s h → IsUnderWay s.blocks (log s t) s.sizes.geometry s.sizes.start (blocks_of s older) (sealed_with s es)
           → IsUnderWay s.blocks (log s (h ∷ t)) s.sizes.geometry s.sizes.start (blocks_of s older) (sealed_with s es)
@@ -161,6 +175,12 @@ module _ (s : Session) where
   map_more t [] older k new = k
   map_more t (Makes p ∷ es) older k new = map_more t es older k new.1
   map_more t (Remaps e ∷ es) older k new = λ a. elim (eqb_tells e.at.0 a) [ inl same ↦ rw same.0 new.0 | inr other ↦ rw other.0 (map_more t es older k new.1 a) ]
+
+  -- and so do their pages
+  pub pages_more : (t : Trace) (es older : List Logged) → PagesStand s t older → NewStands s t es → PagesStand s t (es ++ older)
+  pages_more t [] older k new = k
+  pages_more t (Remaps e ∷ es) older k new = pages_more t es older k new.1
+  pages_more t (Makes p ∷ es) older k new = (new.0, pages_more t es older k new.1)
 
   -- the slot of the block, over a call that misses the journal
   block_missed : (c : Call) (t : Trace) (older : List (List Logged)) (es : List Logged) → MissesJournal s.sizes.geometry c → OnItsWay s t older es → ReadsBlock s t older es → ReadsBlock s (Calls c ∷ t) older es

@@ -20,7 +20,7 @@ use Rattle.core_laws.proofs.kept.Frame.{Sides, sides_before, sides_after}
 use Rattle.core_laws.proofs.kept.Keys.{OfBlock, claim_one, clears_with}
 use Rattle.core_laws.proofs.kept.KeysOnce.{most_here, unborn_here, none_beside, block_unnamed}
 use Rattle.core_laws.proofs.kept.ZoneKinds.{stood, desk_sits}
-use Rattle.core_laws.proofs.logical.LogicalFacts.{logical_serves, logical_notified}
+use Rattle.core_laws.proofs.logical.LogicalActs.{logical_serves, logical_notified}
 use Rattle.core_laws.proofs.physical.PhysicalFacts.{physical_serves, physical_notified}
 use Rattle.core_laws.proofs.tokens.Owners.{leased_front}
 use Rattle.blk_base.specs.declared.place.Mapping.TheVariants.{At}

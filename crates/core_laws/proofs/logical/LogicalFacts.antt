@@ -1,13 +1,13 @@
 -- What the acts of a logical zone owe: a request draws its place, and is done with its lock.
 use Rattle.std.proofs.Common.{◌≡◌, ℕ, ◌+◌, ◌==◌, Bool, true, false, not, if◌then◌else◌, Option, None, Some, is_some, length, length-append, IsNone, List, [], ◌∷◌, ◌++◌, refl, ap, sym, ◌∙◌, inl, inr, arith, ◌<◌, IsSome, subst}
 use Rattle.std.proofs.lemmas.Bool.{and_parts, cases_Bool}
-use Rattle.core_laws.proofs.Common.{Aborts, Entry, IsInTurn, Mapping, Passes, applied, durable, has_taken, journaled, newest, of_address, passed, remappings, AllBelow, AllByRecursion, Asks, DataOk, DeskLine, Draws, FlushMark, Follows, Gives, GivesRight, Happening, HasAddress, HasEarned, IsChange, IsCommitted, IsEntered, IsFair, IsForBlock, IsFresh, IsOfZone, IsPlaced, IsUndrawn, KeptOk, Lba, Lock, LocksOk, Remapping, LogicalZone, Looks, MayReply, OnBlock, Pbn, Phase, Placed, PlaceMayFollow, Post, Quiet, RightTrace, Session, Sets, Trace, Vio, VioOk, Writer, aborted, answer_of, asked, before_begin, done, ended, eq-eqb, eqb_tells, every-append, every-map, fair_before, gift, gift_of, gifts, has_stopped, holds, lines, logged, logged_of, logical_number, mapping_in, places, request_at, same_self, same_writer, some_is, turned, value_at, zone_number, zone_of, Remaps, remapping}
+use Rattle.core_laws.proofs.Common.{Aborts, Entry, IsInTurn, Mapping, Passes, applied, durable, has_taken, journaled, newest, of_address, passed, remappings, AllBelow, AllByRecursion, Asks, DataOk, DeskLine, Draws, FlushMark, Follows, Gives, GivesRight, Happening, HasAddress, HasEarned, IsChange, IsCommitted, IsEntered, IsFair, IsForBlock, IsFresh, IsOfZone, IsPlaced, IsUndrawn, KeptEach, KeptOk, Lba, Lock, LocksOk, Remapping, LogicalZone, Looks, MayReply, OnBlock, Pbn, Phase, Placed, PlaceMayFollow, Post, Quiet, RightTrace, Session, Sets, Trace, Vio, VioOk, Writer, aborted, answer_of, asked, before_begin, done, ended, eq-eqb, eqb_tells, every-append, every-map, fair_before, gift, gift_of, gifts, has_stopped, holds, lines, logged_of, logical_number, mapping_in, places, request_at, same_self, same_writer, some_is, turned, value_at, zone_number, zone_of, Remaps, remapping}
 use Rattle.data_vio.specs.declared.items.Asks.TheVariants.{Read, Write, Discard, Flush}
 use Rattle.core_model.specs.Legal.{ComesAfter}
-use Rattle.core_model.specs.LogicalRules.{is_among, is_held, lock_of, placed, place_of_vio, drawn_by, goes_on, is_discard, is_unknown, is_unmapped, latest_at, pass_of, passes_by, LogicalServes, arrives_retired, arrives_free, arrives_held, looks, looks_up, passes, settles, gives, aborts, aborts_entered, released, granted, retire, all_stopped, all_for, with_slot}
+use Rattle.core_model.specs.LogicalRules.{is_among, is_held, lock_of, placed, place_of_vio, drawn_by, goes_on, is_discard, is_unknown, is_unmapped, latest_at, pass_of, passes_by, looks_up, released, granted, retire, all_stopped, all_for, with_slot}
 use Rattle.core_laws.proofs.trace.DeskOfTrace.{of_address_append, shown_of}
-use Rattle.core_laws.proofs.kept.ActKept.{Known, Mine, ActKept, act_one, own_request, plain_clears, line_kept, shown_plain, vio_over, carries_at, IsPlain, act_none, own_address, vio_ok, in_phase}
-use Rattle.core_laws.proofs.kept.Keys.{Clears, OfRequest, OfAddress, IfAny, happens_in}
+use Rattle.core_laws.proofs.kept.ActKept.{Known, Mine, ActKept, act_one, own_request, plain_clears, line_kept, shown_plain, vio_over, IsPlain, act_none, own_address, vio_ok, in_bare, in_own, carries_own}
+use Rattle.core_laws.proofs.kept.Keys.{Clears, OfRequest, OfAddress, OfPage, IfAny, happens_in}
 use Rattle.core_laws.proofs.kept.Spared.{quiet_kept, below_kept, about, of_same}
 use Rattle.core_laws.proofs.logical.LockLaws.{more_drawn, one_waits, one_takes}
 use Rattle.core_laws.proofs.tokens.Owners.{at_home}
@@ -17,7 +17,7 @@ use Rattle.core_laws.proofs.logical.Releases.{below_more, has_below_more, goes_o
 use Rattle.core_model.specs.PageTrees.{HasPath, missing_at}
 use Rattle.image_layout.specs.Values.{mapping_of}
 use Rattle.core_laws.proofs.lists.Between.{every_between}
-use Rattle.core_laws.proofs.logical.PageFacts.{lacks_page, same_tree}
+use Rattle.core_laws.proofs.logical.PageFacts.{lacks_some, same_tree}
 use Rattle.blk_base.specs.declared.place.Mapping.TheVariants.{Unmapped, Zero, At}
 use Rattle.byte_fields.specs.Mappings.{HoldsMapping}
 use Rattle.core_model.specs.DeskRules.{mark_of_vio}
@@ -60,7 +60,7 @@ module _ {s : Session} {t : Trace} {n : ℕ} {l : LogicalZone} {v : Vio} (known 
       let name = ap (zone_number s.sizes) front_ok.home in
       omega (arith, here, name, number)
 
-  home_is : v.home ≡ id.Logical l.zone
+  pub home_is : v.home ≡ id.Logical l.zone
   home_is = front_ok.home ∙ ap (λ zone. id.Logical zone) zone_is
 
   -- Over an arrival.
@@ -74,8 +74,14 @@ module _ {s : Session} {t : Trace} {n : ℕ} {l : LogicalZone} {v : Vio} (known 
     abbrev v' : Vio
     v' = placed l v
 
+    arriving_now : (v.page ≡ None) × IsUndrawn t v.request v.asks
+    arriving_now = in_bare known phase.Arrive arrives (λ page no. no)
+
+    bare : v.page ≡ None
+    bare = arriving_now.0
+
     unplaced : IsUndrawn t v.request v.asks
-    unplaced = carries_at s t v phase.Arrive arrives known.front_ok.0.1
+    unplaced = arriving_now.1
 
     of_zone : (asks : Asks) → IsForBlock asks → HasAddress s.sizes v.at asks → request_at s.script v.request ≡ Some (asked asks v.at v.bytes) → IsOfZone s.sizes.zones s.sizes.geometry.logical s.script p
     of_zone Read block low is = (request.Read v.at, v.at.0, is, refl, low, sym zone_is)
@@ -106,10 +112,13 @@ module _ {s : Session} {t : Trace} {n : ℕ} {l : LogicalZone} {v : Vio} (known 
     placed_ok = vio_over s (Draws p) t v refl front_ok
 
     clears : Clears s n (Mine s t (at.Logical l) (item.Request v ∷ [])) (Draws p) t
-    clears = plain_clears known (Draws p) t tt known.own.number_is (own_request known) tt
+    clears = plain_clears known (Draws p) t tt known.own.number_is (own_request known) tt tt
 
     quiet' : (a : ℕ) → zone_of s.sizes.zones a ≡ l.zone → is_held a l.held ≡ false → is_among a l.retired ≡ false → Quiet t' a
-    quiet' a zone free alive = quiet_kept (Draws p) t a tt (known.own.answers a zone free alive)
+    quiet' a zone free alive = quiet_kept (Draws p) t a tt (known.own.answers.0 a zone free alive)
+
+    others_kept : KeptEach (KeptOk s t') (at.Logical l)
+    others_kept = line_kept known (Draws p) t clears known.own.kept
 
     -- The zone with one more place drawn: the request waits with it, or has a lock, or neither.
     drawn_ok : (held : List Lock) (waiting : List Vio) → LocksOk s l.zone (l.next + 1) held waiting → AllByRecursion (KeptOk s t' phase.Wait) waiting → ((a : ℕ) → is_held a held ≡ false → is_held a l.held ≡ false)
@@ -125,35 +134,35 @@ module _ {s : Session} {t : Trace} {n : ℕ} {l : LogicalZone} {v : Vio} (known 
             below = λ a zone. below_more t' a l.next (l.next + 1) (omega arith) (below_kept (Draws p) t a l.next tt (k.lists.below a zone));
             tree_is = k.lists.tree_is;
           };
-          sound = record { among = k.sound.among; map = k.sound.map; locks = locks };
-          kept = kept;
-          answers = λ a zone free alive. quiet' a zone (free_before a free) alive;
-          told = λ a retired. ((k.told a retired).0, has_below_more a l.next (l.next + 1) (aborted t) (omega arith) (k.told a retired).1);
+          sound = record { among = k.sound.among; map = k.sound.map; locks = locks; pages = k.sound.pages };
+          kept = (kept, others_kept.1);
+          answers = ((λ a zone free alive. quiet' a zone (free_before a free) alive), k.answers.1);
+          told = ((λ a retired. ((k.told.0 a retired).0, has_below_more a l.next (l.next + 1) (aborted t) (omega arith) (k.told.0 a retired).1)), k.told.1);
         }
 
     others_wait : AllByRecursion (KeptOk s t' phase.Wait) l.waiting
-    others_wait = line_kept known (Draws p) t clears known.own.kept
+    others_wait = others_kept.0
 
     gives_same : (IsFair s t → GivesRight s t) → IsFair s t' → GivesRight s t'
     gives_same f fair = f (fair_before s (Draws p) t fair)
 
     pub retired_kept : is_among v.at.0 l.retired ≡ true → ActKept s t n (at.Logical l) (item.Request v ∷ []) (at.Logical (drawn_by l v)) (Draws p ∷ []) ((id.Desk, item.Request (ended phase.Reply reply.Stopped v')) ∷ [])
     retired_kept retired =
-        let stopped = known.own.told v.at.0 retired in
-        act_one known (Draws p) clears gives_same right' (drawn_ok l.held l.waiting (more_drawn s l.zone l.next l.held l.waiting known.own.sound.locks) others_wait (λ a free. free)) (stopped_ok s t' v' right' stopped.0 stopped.1 placed_ok is_placed, tt)
+        let stopped = known.own.told.0 v.at.0 retired in
+        act_one known (Draws p) clears gives_same right' (drawn_ok l.held l.waiting (more_drawn s l.zone l.next l.held l.waiting known.own.sound.locks) others_wait (λ a free. free)) (stopped_ok s t' v' right' stopped.0 stopped.1 placed_ok bare is_placed, tt)
 
     pub held_kept : is_held v.at.0 l.held ≡ true → ActKept s t n (at.Logical l) (item.Request v ∷ []) (at.Logical (record (drawn_by l v) { waiting = l.waiting ++ turned phase.Wait v' ∷ [] })) (Draws p ∷ []) []
     held_kept held =
         let w : Vio = turned phase.Wait v' in
         act_one known (Draws p) clears gives_same right'
-        (drawn_ok l.held (l.waiting ++ w ∷ []) (one_waits s l.zone l.next l.held l.waiting known.own.sound.locks w home_is refl held) (every-append (KeptOk s t' phase.Wait) l.waiting (w ∷ []) others_wait ((placed_ok, (is_placed, unplaced.none_taken), refl), tt)) (λ a free. free)) tt
+        (drawn_ok l.held (l.waiting ++ w ∷ []) (one_waits s l.zone l.next l.held l.waiting known.own.sound.locks w home_is refl held) (every-append (KeptOk s t' phase.Wait) l.waiting (w ∷ []) others_wait ((placed_ok, carries_own s t' w phase.Wait bare (is_placed, unplaced.none_taken), refl), tt)) (λ a free. free)) tt
 
     pub free_kept : is_among v.at.0 l.retired ≡ false → is_held v.at.0 l.held ≡ false
         → ActKept s t n (at.Logical l) (item.Request v ∷ []) (at.Logical (record (drawn_by l v) { held = lock_of v' ∷ l.held })) (Draws p ∷ []) (looks_up v' ∷ [])
     free_kept alive free =
         act_one known (Draws p) clears gives_same right'
         (drawn_ok (lock_of v' ∷ l.held) l.waiting (one_takes s l.zone l.next l.held l.waiting known.own.sound.locks v' zone_is refl free) others_wait (λ a none. (or_none (v.at.0 == a) (is_held a l.held) none).1)) (
-          looks_ok s t' l.zone known.own.sound.among v' placed_ok home_is
+          looks_ok s t' l.zone known.own.sound.among v' placed_ok home_is bare
               (record { is_placed = is_placed; quiet = quiet' v.at.0 zone_is free alive; below = below_kept (Draws p) t v.at.0 l.next tt (known.own.lists.below v.at.0 zone_is) }) unplaced.none_taken,
           tt,
         )
@@ -201,29 +210,30 @@ there_between [] fs e = rw (same_self e.request) refl
 there_between (f ∷ es) fs e = elim (cases_Bool (same_writer f.request e.request)) [ inl same ↦ rw same refl | inr other ↦ rw other (there_between es fs e) ]
 
 module _ {s : Session} {t : Trace} {n : ℕ} {l : LogicalZone} {v : Vio} (known : Known s t n (at.Logical l) (item.Request v ∷ [])) where
-  abbrev After : LogicalZone → Trace → List Post → Type 0
+  abbrev pub After : LogicalZone → Trace → List Post → Type 0
   After new made posts = ActKept s t n (at.Logical l) (item.Request v ∷ []) (at.Logical new) made posts
 
-  home : zone_of s.sizes.zones v.at.0 ≡ l.zone
+  pub home : zone_of s.sizes.zones v.at.0 ≡ l.zone
   home = zone_is known
 
-  leased : (q : Phase) → v.phase ≡ q → holds q ≡ true → Leased l v
+  pub leased : (q : Phase) → v.phase ≡ q → holds q ≡ true → Leased l v
   leased q is held = known.leased l v refl refl (rw is held)
 
   -- what happens is its own, at its address
-  own_clears : (h : Happening) → IsPlain h → happens_in s.sizes h ≡ logical_number (zone_of s.sizes.zones v.at.0) → IfAny (λ w. Mine s t (at.Logical l) (item.Request v ∷ []) (OfRequest w)) (about h).request
-      → IfAny (λ a. Mine s t (at.Logical l) (item.Request v ∷ []) (OfAddress a)) (about h).address → Clears s n (Mine s t (at.Logical l) (item.Request v ∷ [])) h t
-  own_clears h plain here request address = plain_clears known h t plain (known.own.number_is ∙ ap logical_number (sym home) ∙ sym here) request address
+  pub own_clears : (h : Happening) → IsPlain h → happens_in s.sizes h ≡ logical_number (zone_of s.sizes.zones v.at.0) → IfAny (λ w. Mine s t (at.Logical l) (item.Request v ∷ []) (OfRequest w)) (about h).request
+      → IfAny (λ a. Mine s t (at.Logical l) (item.Request v ∷ []) (OfAddress a)) (about h).address → IfAny (λ p. Mine s t (at.Logical l) (item.Request v ∷ []) (OfPage p)) (about h).page
+      → Clears s n (Mine s t (at.Logical l) (item.Request v ∷ [])) h t
+  own_clears h plain here request address page = plain_clears known h t plain (known.own.number_is ∙ ap logical_number (sym home) ∙ sym here) request address page
 
   -- whoever did what is done or given at its address had a place that was drawn
   drawn_here : (q : Phase) → v.phase ≡ q → holds q ≡ true → v.place < l.next
   drawn_here q is held = drawn_before s t n l known.session known.right known.own v (leased q is held) home
 
   -- It goes where the map says.
-  looks_kept : v.phase ≡ phase.Look → (post : Post) → goes_on s.sizes l v ≡ Some post → After l [] (post ∷ [])
+  pub looks_kept : v.phase ≡ phase.Look → (post : Post) → goes_on s.sizes l v ≡ Some post → After l [] (post ∷ [])
   looks_kept is post goes =
-      let carries = in_phase known phase.Look is in
-      act_none known known.own (goes_ok s t n l known.session known.right known.own v (vio_ok known) carries.0 carries.1 (home_is known) post goes, tt)
+      let carries = in_bare known phase.Look is (λ page no. no) in
+      act_none known known.own (goes_ok s t n l known.session known.right known.own v (vio_ok known) carries.0 carries.1.0 carries.1.1 (home_is known) post goes, tt)
 
   -- Or it passes, a discard of an address of which nothing is known.
   module _ (is : v.phase ≡ phase.Look) (path : HasPath l.tree v.at.0) (passes_it : passes_by l v ≡ true) where
@@ -233,8 +243,11 @@ module _ {s : Session} {t : Trace} {n : ℕ} {l : LogicalZone} {v : Vio} (known 
     abbrev past_t : Trace
     past_t = Passes gap ∷ t
 
+    looking : (v.page ≡ None) × (IsInTurn s t v × (has_taken t v.request ≡ false))
+    looking = in_bare known phase.Look is (λ page no. no)
+
     turn : IsInTurn s t v × (has_taken t v.request ≡ false)
-    turn = in_phase known phase.Look is
+    turn = looking.1
 
     parts : (is_discard v.asks ≡ true) × (is_unknown l v.at.0 ≡ true) × (is_some (missing_at l.tree v.at.0) ≡ true)
     parts = let first = and_parts (is_discard v.asks) _ passes_it in let rest = and_parts (is_unknown l v.at.0) _ first.1 in (first.0, rest.0, rest.1)
@@ -252,7 +265,7 @@ module _ {s : Session} {t : Trace} {n : ℕ} {l : LogicalZone} {v : Vio} (known 
         ∙ of_address_append v.at.0 (remappings (applied t)) (passed t) ∙ ap (λ (es : List Remapping). es ++ of_address v.at.0 (passed t)) none_set)
 
     clears_pass : Clears s n (Mine s t (at.Logical l) (item.Request v ∷ [])) (Passes gap) t
-    clears_pass = own_clears (Passes gap) tt refl (own_request known) (own_address known phase.Look is refl)
+    clears_pass = own_clears (Passes gap) tt refl (own_request known) (own_address known phase.Look is refl) tt
 
     right_pass : RightTrace s past_t
     right_pass = (
@@ -263,7 +276,7 @@ module _ {s : Session} {t : Trace} {n : ℕ} {l : LogicalZone} {v : Vio} (known 
         maps = (refl, refl);
         once = turn.0.is_placed.not_entered;
         below = turn.0.below;
-        lacking = lacks_page s.sizes.geometry l.zone s.sizes.zones s.window (applied t) l.tree v.at.0 known.own.lists.tree_is path parts.2;
+        lacking = lacks_some s.sizes.geometry l.zone s.sizes.zones s.window (applied t) l.tree v.at.0 known.own.lists.tree_is path parts.2;
         first = first_there;
         unmapped = ap (λ (w : List Entry). mapping_of w v.at.0) (sym known.own.sound.map.window_is) ∙ unknown.1;
       },
@@ -305,36 +318,40 @@ module _ {s : Session} {t : Trace} {n : ℕ} {l : LogicalZone} {v : Vio} (known 
           };
           sound = k.sound;
           kept = line_kept known (Passes gap) t clears_pass k.kept;
-          answers = λ a zone free alive. elim (eqb_tells v.at.0 a) [
-            | inl same ↦ subst (λ (b : ℕ). Quiet past_t b) same.1 quiet_pass
-            | inr other ↦ quiet_kept (Passes gap) t a other.1 (k.answers a zone free alive)
-          ];
+          answers = (
+            λ a zone free alive. elim (eqb_tells v.at.0 a) [
+              | inl same ↦ subst (λ (b : ℕ). Quiet past_t b) same.1 quiet_pass
+              | inr other ↦ quiet_kept (Passes gap) t a other.1 (k.answers.0 a zone free alive)
+            ],
+            k.answers.1,
+          );
           told = k.told;
         }
 
     done_pass : IsSome (logged_of (done past_t) v.request)
     done_pass = there_between (remappings (applied t)) (passed t) gap
 
-    passes_kept : After (released v.at.0 l) (Passes gap ∷ []) ((id.Desk, item.Request (ended phase.Reply reply.Ok v)) ∷ granted v.at.0 l)
+    pub passes_kept : After (released v.at.0 l) (Passes gap ∷ []) ((id.Desk, item.Request (ended phase.Reply reply.Ok v)) ∷ granted v.at.0 l)
     passes_kept =
-        let both = release_ok s past_t n l known.session right_pass passed_ok v (leased phase.Look is refl) home quiet_pass
+        let bare = looking.0 in
+        let let_go = release_ok s past_t n l known.session right_pass passed_ok v (leased phase.Look is refl) home quiet_pass
         (under_pass v.at.0 (v.place + 1) (omega arith) (below_more t v.at.0 v.place (v.place + 1) (omega arith) turn.0.below)) in
-        act_one known (Passes gap) clears_pass (λ f fair. f (fair_before s (Passes gap) t fair)) right_pass both.0
-        ((omega arith, (vio_over s (Passes gap) t v refl (vio_ok known), done_earned s past_t (mark_of_vio v) v.asks v.at v.bytes (changes_it v.asks parts.0) done_pass, refl)), both.1)
+        act_one known (Passes gap) clears_pass (λ f fair. f (fair_before s (Passes gap) t fair)) right_pass let_go.0
+        ((omega arith, (vio_over s (Passes gap) t v refl (vio_ok known), carries_own s past_t (ended phase.Reply reply.Ok v) phase.Reply bare (done_earned s past_t (mark_of_vio v) v.asks v.at v.bytes (changes_it v.asks parts.0) done_pass), refl)), let_go.1)
 
   -- Its slot is set.
-  module _ (is : v.phase ≡ phase.Settle) where
+  module _ (is : v.phase ≡ phase.Settle) (bare : v.page ≡ None) where
     abbrev e : Remapping
     e = remapping v
 
     abbrev set_t : Trace
-    set_t = Sets (logged v) ∷ t
+    set_t = Sets (Remaps e) ∷ t
 
     facts : IsEntered s t v × IsCommitted t (remapping v) × AllBelow t v.at.0 v.place × OnBlock (IsFresh s) v.new
-    facts = in_phase known phase.Settle is
+    facts = in_own known phase.Settle is bare
 
     clears_set : Clears s n (Mine s t (at.Logical l) (item.Request v ∷ [])) (Sets (Remaps e)) t
-    clears_set = own_clears (Sets (Remaps e)) tt refl (own_request known) (own_address known phase.Settle is refl)
+    clears_set = own_clears (Sets (Remaps e)) tt refl (own_request known) (own_address known phase.Settle is refl) tt
 
     right_set : RightTrace s set_t
     right_set = (record { is_open = (vio_ok known).is_open; is_committed = facts.1; below = facts.2; unaborted = facts.0.unaborted }, shown_plain s t (Sets (Remaps e)) tt (shown_of s t known.right), known.right)
@@ -372,20 +389,23 @@ module _ {s : Session} {t : Trace} {n : ℕ} {l : LogicalZone} {v : Vio} (known 
             below = λ a zone. let old = k.lists.below a zone in record { writes = ((λ same. drawn_here phase.Settle is refl), old.writes); reads = old.reads };
             tree_is = same_tree s l.zone l.tree t set_t (λ page. refl) k.lists.tree_is;
           };
-          sound = record { among = k.sound.among; map = record { window_is = k.sound.map.window_is; mapped = mapped_set; inside = inside_set }; locks = k.sound.locks };
+          sound = record { among = k.sound.among; map = record { window_is = k.sound.map.window_is; mapped = mapped_set; inside = inside_set }; locks = k.sound.locks; pages = k.sound.pages };
           kept = line_kept known (Sets (Remaps e)) t clears_set k.kept;
-          answers = λ a zone free alive. elim (eqb_tells v.at.0 a) [
-            | inl same ↦ subst (λ (b : ℕ). Quiet set_t b) same.1 quiet_set
-            | inr other ↦ quiet_kept (Sets (Remaps e)) t a other.1 (k.answers a zone free alive)
-          ];
+          answers = (
+            λ a zone free alive. elim (eqb_tells v.at.0 a) [
+              | inl same ↦ subst (λ (b : ℕ). Quiet set_t b) same.1 quiet_set
+              | inr other ↦ quiet_kept (Sets (Remaps e)) t a other.1 (k.answers.0 a zone free alive)
+            ],
+            k.answers.1,
+          );
           told = k.told;
         }
 
-    settles_kept : After (released v.at.0 (with_slot l v)) (Sets (logged v) ∷ []) ((id.Desk, item.Request (ended phase.Reply reply.Ok v)) ∷ granted v.at.0 l)
+    pub settles_kept : After (released v.at.0 (with_slot l v)) (Sets (Remaps e) ∷ []) ((id.Desk, item.Request (ended phase.Reply reply.Ok v)) ∷ granted v.at.0 l)
     settles_kept =
         let both = release_ok s set_t n (with_slot l v) known.session right_set slot_ok v (leased phase.Settle is refl) home quiet_set below_set in
         act_one known (Sets (Remaps e)) clears_set (λ f fair. f (fair_before s (Sets (Remaps e)) t fair)) right_set both.0
-        ((omega arith, (vio_over s (Sets (Remaps e)) t v refl (vio_ok known), done_earned s set_t (mark_of_vio v) v.asks v.at v.bytes facts.0.is_change (rw (same_self v.request) (some_is (Some e) e refl)), refl)), both.1)
+        ((omega arith, (vio_over s (Sets (Remaps e)) t v refl (vio_ok known), carries_own s set_t (ended phase.Reply reply.Ok v) phase.Reply bare (done_earned s set_t (mark_of_vio v) v.asks v.at v.bytes facts.0.is_change (rw (same_self v.request) (some_is (Some e) e refl))), refl)), both.1)
 
   -- It is given its bytes.
   module _ (is : v.phase ≡ phase.Loaded) where
@@ -393,10 +413,10 @@ module _ {s : Session} {t : Trace} {n : ℕ} {l : LogicalZone} {v : Vio} (known 
     u = Gives (gift v) ∷ t
 
     looked : Looks s t v × (IsFair s t → v.bytes ≡ value_at s t v.at.0)
-    looked = in_phase known phase.Loaded is
+    looked = (in_bare known phase.Loaded is (λ page no. no)).1
 
     clears_give : Clears s n (Mine s t (at.Logical l) (item.Request v ∷ [])) (Gives (gift v)) t
-    clears_give = own_clears (Gives (gift v)) tt refl (own_request known) (own_address known phase.Loaded is refl)
+    clears_give = own_clears (Gives (gift v)) tt refl (own_request known) (own_address known phase.Loaded is refl) tt
 
     right_give : RightTrace s u
     right_give =
@@ -428,75 +448,56 @@ module _ {s : Session} {t : Trace} {n : ℕ} {l : LogicalZone} {v : Vio} (known 
           };
           sound = k.sound;
           kept = line_kept known (Gives (gift v)) t clears_give k.kept;
-          answers = λ a zone free alive. quiet_same a (k.answers a zone free alive);
+          answers = ((λ a zone free alive. quiet_same a (k.answers.0 a zone free alive)), k.answers.1);
           told = k.told;
         }
 
-    gives_kept : After (released v.at.0 l) (Gives (gift v) ∷ []) ((id.Desk, item.Request (ended phase.Reply (reply.Bytes v.bytes) v)) ∷ granted v.at.0 l)
+    pub gives_kept : After (released v.at.0 l) (Gives (gift v) ∷ []) ((id.Desk, item.Request (ended phase.Reply (reply.Bytes v.bytes) v)) ∷ granted v.at.0 l)
     gives_kept =
+        let bare = (in_bare known phase.Loaded is (λ page no. no)).0 in
         let both = release_ok s u n l known.session right_give given_ok v (leased phase.Loaded is refl) home (quiet_same v.at.0 looked.0.held.turn.quiet) below_give in
         act_one known (Gives (gift v)) clears_give (λ f fair. let before = fair_before s (Gives (gift v)) t fair in (looked.1 before, f before)) right_give both.0
-        ((omega arith, (vio_over s (Gives (gift v)) t v refl (vio_ok known), given_earned s u (mark_of_vio v) v.asks v.at v.bytes v.place looked.0.is_read (rw (same_self v.request) refl), refl)), both.1)
+        ((omega arith, (vio_over s (Gives (gift v)) t v refl (vio_ok known), carries_own s u (ended phase.Reply (reply.Bytes v.bytes) v) phase.Reply bare (given_earned s u (mark_of_vio v) v.asks v.at v.bytes v.place looked.0.is_read (rw (same_self v.request) refl)), refl)), both.1)
 
   -- It is aborted, before its entry was handed in ..
-  aborts_kept : v.phase ≡ phase.Abort → After (released v.at.0 l) [] ((id.Desk, item.Request (turned phase.Reply v)) ∷ granted v.at.0 l)
-  aborts_kept is =
-      let facts = in_phase known phase.Abort is in
+  pub aborts_kept : v.phase ≡ phase.Abort → v.page ≡ None → After (released v.at.0 l) [] ((id.Desk, item.Request (turned phase.Reply v)) ∷ granted v.at.0 l)
+  aborts_kept is bare =
+      let facts = in_own known phase.Abort is bare in
       let both = release_ok s t n l known.session known.right known.own v (leased phase.Abort is refl) home facts.0.turn.quiet (below_more t v.at.0 v.place (v.place + 1) (omega arith) facts.0.turn.below) in
-      act_none known both.0 ((omega arith, ((vio_ok known), facts.1, refl)), both.1)
+      act_none known both.0 ((omega arith, ((vio_ok known), carries_own s t (turned phase.Reply v) phase.Reply bare facts.1, refl)), both.1)
 
   -- .. or after.
-  module _ (is : v.phase ≡ phase.AbortEntered) where
+  module _ (is : v.phase ≡ phase.AbortEntered) (bare : v.page ≡ None) where
     abbrev gone : Happening
-    gone = Aborts (logged v)
+    gone = Aborts (Remaps (remapping v))
 
     carries_it : IsEntered s t v × MayReply s t v v.answer × (has_stopped t ≡ true)
-    carries_it = in_phase known phase.AbortEntered is
+    carries_it = in_own known phase.AbortEntered is bare
 
-    right_abort : RightTrace s (Aborts (logged v) ∷ t)
+    right_abort : RightTrace s (gone ∷ t)
     right_abort = (
       record { is_open = (vio_ok known).is_open; handed_in = carries_it.0.entry; unset = carries_it.0.unset; stopped = carries_it.2 },
-      shown_plain s t (Aborts (logged v)) tt (shown_of s t known.right),
+      shown_plain s t gone tt (shown_of s t known.right),
       known.right,
     )
 
-    clears_abort : Clears s n (Mine s t (at.Logical l) (item.Request v ∷ [])) (Aborts (logged v)) t
-    clears_abort = own_clears (Aborts (logged v)) tt refl (own_request known) tt
+    clears_abort : Clears s n (Mine s t (at.Logical l) (item.Request v ∷ [])) gone t
+    clears_abort = own_clears gone tt refl (own_request known) tt tt
 
-    gone_ok : DataOk s (Aborts (logged v) ∷ t) n (at.Logical l)
+    gone_ok : DataOk s (gone ∷ t) n (at.Logical l)
     gone_ok =
         let k = known.own in
         record {
           number_is = k.number_is;
-          lists = record { places_is = k.lists.places_is; next_is = k.lists.next_is; slots_are = k.lists.slots_are; below = λ a zone. below_kept (Aborts (logged v)) t a l.next tt (k.lists.below a zone); tree_is = k.lists.tree_is };
+          lists = record { places_is = k.lists.places_is; next_is = k.lists.next_is; slots_are = k.lists.slots_are; below = λ a zone. below_kept gone t a l.next tt (k.lists.below a zone); tree_is = k.lists.tree_is };
           sound = k.sound;
-          kept = line_kept known (Aborts (logged v)) t clears_abort k.kept;
-          answers = λ a zone free alive. quiet_kept (Aborts (logged v)) t a tt (k.answers a zone free alive);
-          told = told_kept s (Aborts (logged v)) t (at.Logical l) k.told;
+          kept = line_kept known gone t clears_abort k.kept;
+          answers = ((λ a zone free alive. quiet_kept gone t a tt (k.answers.0 a zone free alive)), k.answers.1);
+          told = told_kept s gone t (at.Logical l) k.told;
         }
 
-    aborts_entered_kept : After (retire v.at.0 l) (Aborts (logged v) ∷ []) ((id.Desk, item.Request (turned phase.Reply v)) ∷ all_stopped (all_for v.at.0 l.waiting))
+    pub aborts_entered_kept : After (retire v.at.0 l) (gone ∷ []) ((id.Desk, item.Request (turned phase.Reply v)) ∷ all_stopped (all_for v.at.0 l.waiting))
     aborts_entered_kept =
         let both = retire_ok s (gone ∷ t) n l known.session right_abort gone_ok v (leased phase.AbortEntered is refl) home carries_it.2 (λ place less. inl (refl, less)) in
         act_one known gone clears_abort (λ f fair. f (fair_before s gone t fair)) right_abort both.0
-        ((omega arith, (vio_over s gone t v refl (vio_ok known), reply_said s gone t v v.answer (record { of_place = refl; of_entry = refl; of_slot = refl; of_gift = refl; of_take = refl }) carries_it.1, refl)), both.1)
-
-  -- each act of a logical zone
-  pub logical_serves : (new : LogicalZone) (made : Trace) (posts : List Post) → LogicalServes s.sizes l v new made posts → After new made posts
-  logical_serves new made posts (arrives_retired p d i m q) = rw (i, m, q) (retired_kept known p d)
-  logical_serves new made posts (arrives_free p d f i m q) = rw (i, m, q) (free_kept known p d f)
-  logical_serves new made posts (arrives_held p d f i m q) = rw (i, m, q) (held_kept known p f)
-  logical_serves new made posts (looks post p path stays goes i m q) = rw (i, m, q) (looks_kept p post goes)
-  logical_serves new made posts (passes p path past i m q) = rw (i, m, q) (passes_kept p path past)
-  logical_serves new made posts (settles p i m q) = rw (i, m, q) (settles_kept p)
-  logical_serves new made posts (gives p i m q) = rw (i, m, q) (gives_kept p)
-  logical_serves new made posts (aborts p i m q) = rw (i, m, q) (aborts_kept p)
-  logical_serves new made posts (aborts_entered p i m q) = rw (i, m, q) (aborts_entered_kept p)
-
--- a stop notice
-pub logical_notified : {s : Session} {t : Trace} {n : ℕ} {l : LogicalZone} → Known s t n (at.Logical l) (item.StopNotice ∷ [])
-    → ActKept s t n (at.Logical l) (item.StopNotice ∷ []) (at.Logical (record l { notified = true })) [] ((id.Desk, item.StopNotice) ∷ [])
-logical_notified known =
-    let k = known.own in
-    act_none known (record { number_is = k.number_is; lists = k.lists; sound = record { among = k.sound.among; map = k.sound.map; locks = k.sound.locks }; kept = k.kept; answers = k.answers; told = k.told })
-    ((omega arith, (known.front_ok.0.0, omega arith)), tt)
+        ((omega arith, (vio_over s gone t v refl (vio_ok known), carries_own s (gone ∷ t) (turned phase.Reply v) phase.Reply bare (reply_said s gone t v v.answer (record { of_place = refl; of_entry = refl; of_slot = refl; of_gift = refl; of_take = refl }) carries_it.1), refl)), both.1)

@@ -1,6 +1,6 @@
 -- A lock is passed on to the first that waits for it, or released, or never released.
 use Rattle.std.proofs.Common.{◌≡◌, ◌≢◌, ℕ, ◌+◌, ◌<◌, ◌≤◌, ◌==◌, true, false, Option, None, Some, List, [], ◌∷◌, refl, ap, sym, ◌∙◌, subst, inl, inr, arith}
-use Rattle.core_laws.proofs.Common.{AllBelow, AllByRecursion, Asks, DataOk, Gift, HasBelow, HasCause, Holds, IsForBlock, IsInTurn, IsPlaced, IsSession, IsToInside, KeptOk, Remapping, LogicalZone, Looks, Mapping, MapsTo, Pbn, Post, Quiet, Request, RightTrace, Session, Trace, Vio, VioOk, WaitsOk, aborted, asked, done, each_both, ended, eqb_tells, every-map, gifts, has_stopped, newest, of_address, request_at, some_is, value_at, zone_count, zone_number, zone_of, has_taken, applied, remappings}
+use Rattle.core_laws.proofs.Common.{AllBelow, AllByRecursion, Asks, DataOk, Gift, HasBelow, HasCause, Holds, IsForBlock, IsInTurn, IsPlaced, IsSession, IsToInside, KeptOk, Remapping, LogicalZone, Looks, Mapping, MapsTo, Pbn, Post, Quiet, Request, RightTrace, Session, Trace, Vio, VioOk, WaitsOk, aborted, turned, asked, done, each_both, ended, eqb_tells, every-map, gifts, has_stopped, newest, of_address, request_at, some_is, value_at, zone_count, zone_number, zone_of, has_taken, applied, remappings}
 use Rattle.core_laws.proofs.trace.PassesOfTrace.{mapped_past}
 use Rattle.blk_base.specs.Sectors.{zero_block}
 use Rattle.blk_base.specs.declared.place.Mapping.TheVariants.{Unmapped, Zero, At}
@@ -12,8 +12,9 @@ use Rattle.data_vio.specs.declared.items.Asks.TheVariants.{Read, Write, Discard,
 use Rattle.data_vio.specs.declared.items.Item.TheVariants as item
 use Rattle.data_vio.specs.declared.items.Phase.TheVariants as phase
 use Rattle.core_model.specs.declared.zones.ZoneData.TheVariants as at
+use Rattle.core_model.specs.Facts.{CarriesOwn}
 use Rattle.core_model.specs.LogicalRules.{are_zeros, is_among, is_held, without, first_for, all_for, none_for, latest_at, mapped_by, mapping_at, looked, looks_up, passes_on, read_next, goes_on, passed_to, released, granted, retire, all_stopped}
-use Rattle.core_laws.proofs.kept.ActKept.{PostOk, carries_at, unentered_slot}
+use Rattle.core_laws.proofs.kept.ActKept.{PostOk, bare_of, carries_at, carries_own, unentered_slot}
 use Rattle.core_laws.proofs.logical.LockLaws.{place_drawn, waits_behind, one_back, one_passed, one_retired}
 use Rattle.core_laws.proofs.tokens.Known.{Leased}
 use Rattle.core_laws.proofs.lists.CoreLists.{or_none, held_without, every_but_first, every_none_for, every_all_for, first_has}
@@ -36,13 +37,13 @@ pub asked_read : (asks : Asks) (v : Vio) (bytes : List ℕ) → asks ≡ Read �
 asked_read asks v bytes is = rw is refl
 
 -- whoever gets a lock may look up what is mapped there
-pub looks_ok : (s : Session) (t : Trace) (zone : ℕ) → zone < s.sizes.zones → (u : Vio) → VioOk s t u → u.home ≡ id.Logical zone → IsInTurn s t u → has_taken t u.request ≡ false → PostOk s t (looks_up u)
-looks_ok s t zone among u ok home turn none_taken =
+pub looks_ok : (s : Session) (t : Trace) (zone : ℕ) → zone < s.sizes.zones → (u : Vio) → VioOk s t u → u.home ≡ id.Logical zone → u.page ≡ None → IsInTurn s t u → has_taken t u.request ≡ false → PostOk s t (looks_up u)
+looks_ok s t zone among u ok home bare turn none_taken =
     let here = ap (zone_number s.sizes) home in
-    (omega (arith, among, here), (record { asked = ok.asked; is_open = ok.is_open; address = ok.address; home = ok.home }, (turn, none_taken), refl))
+    (omega (arith, among, here), (record { asked = ok.asked; is_open = ok.is_open; address = ok.address; home = ok.home }, carries_own s t (turned phase.Look u) phase.Look bare (turn, none_taken), refl))
 
 -- Whoever has looked goes where the map says.
-module _ (s : Session) (t : Trace) (n : ℕ) (l : LogicalZone) (session : IsSession s) (right : RightTrace s t) (k : DataOk s t n (at.Logical l)) (u : Vio) (ok : VioOk s t u) (turn : IsInTurn s t u) (none_taken : has_taken t u.request ≡ false)
+module _ (s : Session) (t : Trace) (n : ℕ) (l : LogicalZone) (session : IsSession s) (right : RightTrace s t) (k : DataOk s t n (at.Logical l)) (u : Vio) (ok : VioOk s t u) (bare : u.page ≡ None) (turn : IsInTurn s t u) (none_taken : has_taken t u.request ≡ false)
     (home : u.home ≡ id.Logical l.zone) where
   among : 1 + l.zone < zone_count s.sizes
   among = let a = k.sound.among in omega (arith, a)
@@ -78,13 +79,13 @@ module _ (s : Session) (t : Trace) (n : ℕ) (l : LogicalZone) (session : IsSess
       among,
       (
         record { asked = ok.asked ∙ ap (λ (r : Request). Some r) (asked_read u.asks u zero_block is_read); is_open = ok.is_open; address = ok.address; home = ok.home },
-        (looks, λ fair. is),
+        carries_own s t (record (looked l u) { phase = phase.Loaded; bytes = zero_block }) phase.Loaded bare (looks, λ fair. is),
         ap (zone_number s.sizes) (sym home),
       ),
     )
 
     read_ok : (m : Mapping) → mapping_at l u.at.0 ≡ m → PostOk s t (read_next s.sizes l (looked l u) m)
-    read_ok (At x) is = (omega arith, (ok, (looks, subst (IsToInside s) (sym is) (k.sound.map.inside u.at.0 x is)), refl))
+    read_ok (At x) is = (omega arith, (ok, carries_own s t (turned phase.Load (looked l u)) phase.Load bare (looks, subst (IsToInside s) (sym is) (k.sound.map.inside u.at.0 x is)), refl))
     read_ok Unmapped is = zero_ok (zeros Unmapped (λ x is_at. cc) refl is)
     read_ok Zero is = zero_ok (zeros Zero (λ x is_at. cc) refl is)
 
@@ -103,15 +104,19 @@ module _ (s : Session) (t : Trace) (n : ℕ) (l : LogicalZone) (session : IsSess
   -- whoever has the lock goes on
   pub goes_ok : (post : Post) → goes_on s.sizes l u ≡ Some post → PostOk s t post
   goes_ok post goes = goes_by (PostOk s t) s.sizes l u post goes (λ reads. read_ok reads (mapping_at l u.at.0) refl)
-      (λ writes zero. (omega arith, (ok, (holds, zeros_mapped u.asks writes (zero_bytes u.asks writes ok.asked zero), tt, λ fair. tt), refl)))
-      (λ writes others. (omega arith, (ok, (holds, writes, record { not_zeros = others_are u.bytes others; none_taken = none_taken }), refl)))
-      (λ discards. (omega arith, (ok, (holds, discard_mapped u.asks discards, tt, λ fair. tt), refl)))
+      (λ writes zero. (omega arith, (ok, carries_own s t (record (looked l u) { phase = phase.Enter; new = Zero }) phase.Enter bare (holds, zeros_mapped u.asks writes (zero_bytes u.asks writes ok.asked zero), tt, λ fair. tt), refl)))
+      (λ writes others. (omega arith, (ok, carries_own s t (turned phase.Claim (looked l u)) phase.Claim bare (holds, writes, record { not_zeros = others_are u.bytes others; none_taken = none_taken }), refl)))
+      (λ discards. (omega arith, (ok, carries_own s t (record (looked l u) { phase = phase.Enter; new = Unmapped }) phase.Enter bare (holds, discard_mapped u.asks discards, tt, λ fair. tt), refl)))
 
 -- A greater place has a lower one still.
 pub has_below_more : (a m n : ℕ) (es : List Remapping) → m ≤ n → HasBelow a m es → HasBelow a n es
 has_below_more a m n [] less below = below
 has_below_more a m n (e ∷ es) less (inl here) = inl (here.0, (let p = here.1 in omega (arith, p, less)))
 has_below_more a m n (e ∷ es) less (inr there) = inr (has_below_more a m n es less there)
+
+-- whoever waits for a lock makes no page
+kept_wait : (s : Session) (t : Trace) (v : Vio) → KeptOk s t phase.Wait v → (v.page ≡ None) × CarriesOwn s t v phase.Wait
+kept_wait s t v k = bare_of s t v phase.Wait (λ page no. no) (carries_at s t v phase.Wait k.2 k.1)
 
 -- A block request at an address whose lock is never released may be answered as stopped.
 stopped_cause : (s : Session) (t : Trace) (v : Vio) (asks : Asks) → RightTrace s t → has_stopped t ≡ true → HasBelow v.at.0 v.place (aborted t) → IsForBlock asks → IsPlaced s t v
@@ -121,13 +126,15 @@ stopped_cause s t v Write right stopped behind block place = (stopped, some_is _
 stopped_cause s t v Discard right stopped behind block place = (stopped, some_is _ _ place.placed, unentered_slot s t v.request right place.not_entered)
 stopped_cause s t v Flush right stopped behind block place = absurd block
 
-pub stopped_ok : (s : Session) (t : Trace) (v : Vio) → RightTrace s t → has_stopped t ≡ true → HasBelow v.at.0 v.place (aborted t) → VioOk s t v → IsPlaced s t v → PostOk s t (id.Desk, item.Request (ended phase.Reply reply.Stopped v))
-stopped_ok s t v right stopped behind ok place = (omega arith, (ok, stopped_cause s t v v.asks right stopped behind place.for_block place, refl))
+pub stopped_ok : (s : Session) (t : Trace) (v : Vio) → RightTrace s t → has_stopped t ≡ true → HasBelow v.at.0 v.place (aborted t) → VioOk s t v → v.page ≡ None → IsPlaced s t v → PostOk s t (id.Desk, item.Request (ended phase.Reply reply.Stopped v))
+stopped_ok s t v right stopped behind ok bare place = (omega arith, (ok, carries_own s t (ended phase.Reply reply.Stopped v) phase.Reply bare (stopped_cause s t v v.asks right stopped behind place.for_block place), refl))
 
 pub all_stopped_ok : (s : Session) (t : Trace) (vs : List Vio) → RightTrace s t → has_stopped t ≡ true → AllByRecursion (λ v. KeptOk s t phase.Wait v × HasBelow v.at.0 v.place (aborted t)) vs
     → AllByRecursion (PostOk s t) (all_stopped vs)
 all_stopped_ok s t [] right stopped all = tt
-all_stopped_ok s t (v ∷ vs) right stopped all = (stopped_ok s t v right stopped all.0.1 all.0.0.0 (carries_at s t v phase.Wait all.0.0.2 all.0.0.1).0, all_stopped_ok s t vs right stopped all.1)
+all_stopped_ok s t (v ∷ vs) right stopped all =
+    let waits = kept_wait s t v all.0.0 in
+    (stopped_ok s t v right stopped all.0.1 all.0.0.0 waits.0 waits.1.0, all_stopped_ok s t vs right stopped all.1)
 
 -- What a zone has once a lock of it is given back, by a holder with the lock's place.
 module _ (s : Session) (t : Trace) (n : ℕ) (l : LogicalZone) (session : IsSession s) (right : RightTrace s t) (k : DataOk s t n (at.Logical l)) (v : Vio) (leased : Leased l v) (home : zone_of s.sizes.zones v.at.0 ≡ l.zone) where
@@ -147,22 +154,22 @@ module _ (s : Session) (t : Trace) (n : ℕ) (l : LogicalZone) (session : IsSess
     quiet_without : (b : ℕ) → zone_of s.sizes.zones b ≡ l.zone → is_held b (without v.at.0 l.held) ≡ false → is_among b l.retired ≡ false → Quiet t b
     quiet_without b zone free alive = elim (eqb_tells v.at.0 b) [
       | inl same ↦ subst (λ (c : ℕ). Quiet t c) same.1 quiet
-      | inr other ↦ k.answers b zone (other_free b other.1 free) alive
+      | inr other ↦ k.answers.0 b zone (other_free b other.1 free) alive
     ]
 
     passes_ok : (w : Vio) → first_for v.at.0 l.waiting ≡ Some w → PostOk s t (looks_up w)
     passes_ok w is =
-        let kept = first_has (KeptOk s t phase.Wait) v.at.0 l.waiting w is k.kept in
+        let kept = first_has (KeptOk s t phase.Wait) v.at.0 l.waiting w is k.kept.0 in
         let waits = first_has (WaitsOk l.zone l.next l.held) v.at.0 l.waiting w is k.sound.locks.waits in
         let later = first_has (λ u. u.at.0 ≡ v.at.0 → v.place < u.place) v.at.0 l.waiting w is behind in
         let above = later.0 kept.1 in
-        let carries = carries_at s t w phase.Wait kept.0.2 kept.0.1 in
-        looks_ok s t l.zone k.sound.among w kept.0.0 waits.0.at_home
+        let carries = kept_wait s t w kept.0 in
+        looks_ok s t l.zone k.sound.among w kept.0.0 waits.0.at_home carries.0
         (record {
-          is_placed = carries.0;
+          is_placed = carries.1.0;
           quiet = subst (λ (c : ℕ). Quiet t c) (sym kept.1) quiet;
           below = subst (λ (c : ℕ). AllBelow t c w.place) (sym kept.1) (below_more t v.at.0 (v.place + 1) w.place (omega (arith, above)) below);
-        }) carries.1
+        }) carries.1.1
 
     pub release_ok : DataOk s t n (at.Logical (released v.at.0 l)) × AllByRecursion (PostOk s t) (granted v.at.0 l)
     release_ok = by (first_for v.at.0 l.waiting) refl
@@ -172,9 +179,9 @@ module _ (s : Session) (t : Trace) (n : ℕ) (l : LogicalZone) (session : IsSess
           record {
             number_is = k.number_is;
             lists = k.lists;
-            sound = record { among = k.sound.among; map = k.sound.map; locks = one_back s l.zone l.next l.held l.waiting k.sound.locks v.at.0 is };
+            sound = record { among = k.sound.among; map = k.sound.map; locks = one_back s l.zone l.next l.held l.waiting k.sound.locks v.at.0 is; pages = k.sound.pages };
             kept = k.kept;
-            answers = quiet_without;
+            answers = (quiet_without, k.answers.1);
             told = k.told;
           },
           tt,
@@ -183,9 +190,9 @@ module _ (s : Session) (t : Trace) (n : ℕ) (l : LogicalZone) (session : IsSess
           record {
             number_is = k.number_is;
             lists = k.lists;
-            sound = record { among = k.sound.among; map = k.sound.map; locks = one_passed s l.zone l.next l.held l.waiting k.sound.locks v.at.0 w home is };
-            kept = every_but_first (KeptOk s t phase.Wait) v.at.0 l.waiting k.kept;
-            answers = λ b zone free alive. quiet_without b zone (or_none (w.at.0 == b) (is_held b (without v.at.0 l.held)) free).1 alive;
+            sound = record { among = k.sound.among; map = k.sound.map; locks = one_passed s l.zone l.next l.held l.waiting k.sound.locks v.at.0 w home is; pages = k.sound.pages };
+            kept = (every_but_first (KeptOk s t phase.Wait) v.at.0 l.waiting k.kept.0, k.kept.1);
+            answers = ((λ b zone free alive. quiet_without b zone (or_none (w.at.0 == b) (is_held b (without v.at.0 l.held)) free).1 alive), k.answers.1);
             told = k.told;
           },
           (passes_ok w is, tt),
@@ -197,18 +204,24 @@ module _ (s : Session) (t : Trace) (n : ℕ) (l : LogicalZone) (session : IsSess
     record {
       number_is = k.number_is;
       lists = k.lists;
-      sound = record { among = k.sound.among; map = k.sound.map; locks = one_retired s l.zone l.next l.held l.waiting k.sound.locks v.at.0 };
-      kept = every-map {P = λ (u : Vio). KeptOk s t phase.Wait u × (u.at.0 ≢ v.at.0)} {Q = KeptOk s t phase.Wait} (λ u w. w.0) (none_for v.at.0 l.waiting) (every_none_for (KeptOk s t phase.Wait) v.at.0 l.waiting k.kept);
-      answers = λ b zone free alive.
-          let both = or_none (v.at.0 == b) (is_among b l.retired) alive in
-          elim (eqb_tells v.at.0 b) [ inl same ↦ absurd (let e = same.0 in let f = both.0 in cc) | inr other ↦ k.answers b zone (other_free b other.1 free) both.1 ];
-      told = λ a retired. elim (eqb_tells v.at.0 a) [
-        | inl same ↦ (stopped, subst (λ (b : ℕ). HasBelow b l.next (aborted t)) same.1 (aborts l.next drawn_before))
-        | inr other ↦ k.told a (rw other.0 at retired)
-      ];
+      sound = record { among = k.sound.among; map = k.sound.map; locks = one_retired s l.zone l.next l.held l.waiting k.sound.locks v.at.0; pages = k.sound.pages };
+      kept = (every-map {P = λ (u : Vio). KeptOk s t phase.Wait u × (u.at.0 ≢ v.at.0)} {Q = KeptOk s t phase.Wait} (λ u w. w.0) (none_for v.at.0 l.waiting) (every_none_for (KeptOk s t phase.Wait) v.at.0 l.waiting k.kept.0), k.kept.1);
+      answers = (
+        λ b zone free alive.
+            let both = or_none (v.at.0 == b) (is_among b l.retired) alive in
+            elim (eqb_tells v.at.0 b) [ inl same ↦ absurd (let e = same.0 in let f = both.0 in cc) | inr other ↦ k.answers.0 b zone (other_free b other.1 free) both.1 ],
+        k.answers.1,
+      );
+      told = (
+        λ a retired. elim (eqb_tells v.at.0 a) [
+          | inl same ↦ (stopped, subst (λ (b : ℕ). HasBelow b l.next (aborted t)) same.1 (aborts l.next drawn_before))
+          | inr other ↦ k.told.0 a (rw other.0 at retired)
+        ],
+        k.told.1,
+      );
     },
     all_stopped_ok s t (all_for v.at.0 l.waiting) right stopped
         (every-map {P = λ (u : Vio). (KeptOk s t phase.Wait u × (u.at.0 ≡ v.at.0 → v.place < u.place)) × (u.at.0 ≡ v.at.0)} {Q = λ (u : Vio). KeptOk s t phase.Wait u × HasBelow u.at.0 u.place (aborted t)}
         (λ u w. (w.0.0, subst (λ (a : ℕ). HasBelow a u.place (aborted t)) (sym w.1) (aborts u.place (w.0.1 w.1)))) (all_for v.at.0 l.waiting)
-        (every_all_for (λ u. KeptOk s t phase.Wait u × (u.at.0 ≡ v.at.0 → v.place < u.place)) v.at.0 l.waiting (each_both (KeptOk s t phase.Wait) (λ u. u.at.0 ≡ v.at.0 → v.place < u.place) l.waiting k.kept behind))),
+        (every_all_for (λ u. KeptOk s t phase.Wait u × (u.at.0 ≡ v.at.0 → v.place < u.place)) v.at.0 l.waiting (each_both (KeptOk s t phase.Wait) (λ u. u.at.0 ≡ v.at.0 → v.place < u.place) l.waiting k.kept.0 behind))),
   )

@@ -1,6 +1,6 @@
 -- The rows of the table of phases as the tokens see them: what a zone's data was and is, and the items that were there
 -- (the front, and those that are kept) and are there (those that are posted, and those that are kept), by their sum.
-use Rattle.std.proofs.Common.{◌≡◌, ℕ, ◌+◌, ◌*◌, true, false, Option, Some, List, [], ◌∷◌, length, map, ◌&&◌}
+use Rattle.std.proofs.Common.{◌≡◌, ℕ, ◌+◌, ◌*◌, true, false, not, Option, None, Some, is_some, List, [], ◌∷◌, ◌++◌, length, map, ◌&&◌}
 use Rattle.core_laws.proofs.Common.{Answer, Desk, DeviceZone, FlushMark, Item, JournalZone, Remapping, LogicalZone, Mapping, Pbn, Phase, PhysicalZone, SealedBlock, Sizes, Stage, Vio, Writer, ZoneData, bit, claims, ended, has_entry, holds, notified_zones, staged, total, turned, names}
 use Rattle.blk_base.specs.declared.request.Answer.TheVariants as reply
 use Rattle.vdo_model.specs.declared.report.DeskLine.TheVariants as line
@@ -12,7 +12,11 @@ use Rattle.core_model.specs.DeskRules.{with_notice}
 use Rattle.core_model.specs.DeviceRules.{counted, halted}
 use Rattle.core_model.specs.JournalRules.{committed_by, entered_by, next_block, sealed_by}
 use Rattle.core_model.specs.LogicalRules.{drawn_by, placed, lock_of, without, all_for, none_for, retire}
-use Rattle.core_laws.proofs.tokens.Known.{Leased}
+use Rattle.core_model.specs.PageTrees.{but_page}
+use Rattle.blk_base.specs.declared.place.PageId.{PageId}
+use Rattle.block_map_tree.specs.Tree.{Tree}
+use Rattle.data_vio.specs.Vios as vios
+use Rattle.core_laws.proofs.tokens.Known.{IsCounted, Leased, MadeIn}
 use Rattle.blk_base.specs.declared.place.Mapping.TheVariants.{At}
 
 -- what items have together of what one may have
@@ -51,18 +55,32 @@ onward on v = record v { phase = on.phase; old = on.old; latest = on.latest; new
 abbrev pub replied : Option Answer → Vio → Vio
 replied answer v = record v { phase = phase.Reply; answer = answer }
 
--- whoever leaves a lock with an entry sets a slot
-abbrev pub IsSetBy : LogicalZone → Phase → List Remapping → Type 0
-IsSetBy l q slots = length slots ≡ bit (has_entry q) + length l.slots
+-- whoever leaves a lock with an entry of its own sets a slot
+abbrev pub IsSetBy : LogicalZone → Vio → Phase → List Remapping → Type 0
+IsSetBy l v q slots = length slots ≡ bit (has_entry q && not (is_some v.page)) + length l.slots
+
+-- whoever leaves its page with an entry of it makes it one that is never linked
+abbrev pub IsDroppedBy : LogicalZone → Phase → List PageId → Type 0
+IsDroppedBy l q unlinkable = length unlinkable ≡ bit (has_entry q) + length l.unlinkable
+
+-- a request whose page isn't made any more is aborted
+abbrev pub without_page : Vio → Vio
+without_page v = record v { phase = phase.Abort; page = None }
+
+-- a zone with these trees and unlinkable pages, that makes this page no more: nobody waits for a page there
+abbrev pub unmaking : LogicalZone → Tree → List PageId → PageId → LogicalZone
+unmaking l tree unlinkable page = record l { tree = tree; making = but_page page l.making; lacking = []; unlinkable = unlinkable }
 
 pub data Row (sizes : Sizes) : ZoneData → ZoneData → Sum → Sum → Type 0 where
   -- the desk
   says : (d : Desk) (w : Writer) (a : Answer) → Row sizes (at.Desk d) (at.Desk (record d { log = line.Answer w a ∷ line.Begin w ∷ d.log })) (all_in phase.Reply d.parked) (all_in phase.Reply d.parked)
-  begins : (d : Desk) (v : Vio) → Row sizes (at.Desk d) (at.Desk (record d { log = line.Begin v.request ∷ d.log })) (all_in phase.Reply d.parked) (λ f. f (Request (turned phase.Arrive v)) + all_in phase.Reply d.parked f)
-  begins_flush : (d : Desk) (v : Vio) → Row sizes (at.Desk d) (at.Desk (record d { log = line.Begin v.request ∷ d.log })) (all_in phase.Reply d.parked) (λ f. f (Request (turned phase.Flush v)) + all_in phase.Reply d.parked f)
+  begins : (d : Desk) (v : Vio) → v.page ≡ None
+      → Row sizes (at.Desk d) (at.Desk (record d { log = line.Begin v.request ∷ d.log })) (all_in phase.Reply d.parked) (λ f. f (Request (turned phase.Arrive v)) + all_in phase.Reply d.parked f)
+  begins_flush : (d : Desk) (v : Vio) → v.page ≡ None
+      → Row sizes (at.Desk d) (at.Desk (record d { log = line.Begin v.request ∷ d.log })) (all_in phase.Reply d.parked) (λ f. f (Request (turned phase.Flush v)) + all_in phase.Reply d.parked f)
   parks : (d : Desk) (v : Vio) (parked : List Vio)
       → Row sizes (at.Desk d) (at.Desk (record d { parked = parked })) (λ f. f (Request (turned phase.Reply v)) + all_in phase.Reply d.parked f) (λ f. f (Request (turned phase.Reply v)) + all_in phase.Reply d.parked f)
-  answers : (d : Desk) (v : Vio) (a : Answer) (marks : List FlushMark)
+  answers : (d : Desk) (v : Vio) (a : Answer) (marks : List FlushMark) → v.page ≡ None
       → Row sizes (at.Desk d) (at.Desk (record d { log = line.Answer v.request a ∷ d.log; marks = marks })) (λ f. f (Request (turned phase.Reply v)) + all_in phase.Reply d.parked f) (all_in phase.Reply d.parked)
   hears : (d : Desk) → Row sizes (at.Desk d) (at.Desk (with_notice d)) (λ f. f StopNotice + all_in phase.Reply d.parked f) (all_in phase.Reply d.parked)
   -- a logical zone
@@ -76,14 +94,23 @@ pub data Row (sizes : Sizes) : ZoneData → ZoneData → Sum → Sum → Type 0 
   looks : (l : LogicalZone) (v : Vio) (on : Onward)
       → Row sizes (at.Logical l) (at.Logical l) (λ f. f (Request (turned phase.Look v)) + all_in phase.Wait l.waiting f) (λ f. f (Request (onward on v)) + all_in phase.Wait l.waiting f)
   -- a request leaves its lock, and nobody waits for it, or one does
-  leaves : (l : LogicalZone) (slots : List Remapping) (v : Vio) (q : Phase) (a : Option Answer) → holds q ≡ true → IsSetBy l q slots → Leased l v
+  leaves : (l : LogicalZone) (slots : List Remapping) (v : Vio) (q : Phase) (a : Option Answer) → holds q ≡ true → IsSetBy l v q slots → Leased l v
       → Row sizes (at.Logical l) (at.Logical (record l { slots = slots; held = without v.at.0 l.held })) (λ f. f (Request (turned q v)) + all_in phase.Wait l.waiting f) (λ f. f (Request (replied a v)) + all_in phase.Wait l.waiting f)
-  hands_on : (l : LogicalZone) (slots : List Remapping) (v : Vio) (q : Phase) (a : Option Answer) (w : Vio) (others : List Vio) → holds q ≡ true → IsSetBy l q slots → Leased l v
+  hands_on : (l : LogicalZone) (slots : List Remapping) (v : Vio) (q : Phase) (a : Option Answer) (w : Vio) (others : List Vio) → holds q ≡ true → IsSetBy l v q slots → Leased l v
       → Row sizes (at.Logical l) (at.Logical (record l { slots = slots; held = lock_of w ∷ without v.at.0 l.held; waiting = others }))
       (λ f. f (Request (turned q v)) + (f (Request (turned phase.Wait w)) + all_in phase.Wait others f)) (λ f. f (Request (replied a v)) + (f (Request (turned phase.Look w)) + all_in phase.Wait others f))
-  retires : (l : LogicalZone) (v : Vio) → Leased l v
+  retires : (l : LogicalZone) (v : Vio) → v.page ≡ None → Leased l v
       → Row sizes (at.Logical l) (at.Logical (retire v.at.0 l)) (λ f. f (Request (turned phase.AbortEntered v)) + (all_in phase.Wait (all_for v.at.0 l.waiting) f + all_in phase.Wait (none_for v.at.0 l.waiting) f))
       (λ f. f (Request (turned phase.Reply v)) + (all_ended phase.Reply reply.Stopped (all_for v.at.0 l.waiting) f + all_in phase.Wait (none_for v.at.0 l.waiting) f))
+  -- it makes a page, or waits for one; the page is linked, or isn't made any more
+  makes : (l : LogicalZone) (v : Vio) (page : PageId) → v.page ≡ None
+      → Row sizes (at.Logical l) (at.Logical (record l { making = l.making ++ page ∷ [] })) (λ f. f (Request (turned phase.Look v)) + all_in phase.Wait l.waiting f) (λ f. f (Request (vios.makes page v)) + all_in phase.Wait l.waiting f)
+  lacks : (l : LogicalZone) (v : Vio) (lacking : List Vio)
+      → Row sizes (at.Logical l) (at.Logical (record l { lacking = lacking })) (λ f. f (Request v) + all_in phase.Wait l.waiting f) (λ f. f (Request v) + all_in phase.Wait l.waiting f)
+  links : (l : LogicalZone) (tree : Tree) (v : Vio) (page : PageId) → v.page ≡ Some page → MadeIn l page
+      → Row sizes (at.Logical l) (at.Logical (unmaking l tree l.unlinkable page)) (λ f. f (Request (turned phase.Settle v)) + all_in phase.Wait l.waiting f) (λ f. f (Request (vios.made v)) + all_in phase.Wait l.waiting f)
+  forgets : (l : LogicalZone) (unlinkable : List PageId) (v : Vio) (q : Phase) (page : PageId) → holds q ≡ true → IsDroppedBy l q unlinkable → v.page ≡ Some page → MadeIn l page
+      → Row sizes (at.Logical l) (at.Logical (unmaking l l.tree unlinkable page)) (λ f. f (Request (turned q v)) + all_in phase.Wait l.waiting f) (λ f. f (Request (without_page v)) + all_in phase.Wait l.waiting f)
   tells_logical : (l : LogicalZone) → Row sizes (at.Logical l) (at.Logical (record l { notified = true })) (λ f. f StopNotice + all_in phase.Wait l.waiting f) (λ f. f StopNotice + all_in phase.Wait l.waiting f)
   -- the physical zone
   claims_block : (p : PhysicalZone) (v : Vio) (x : Pbn) (others : List Pbn)
@@ -96,9 +123,9 @@ pub data Row (sizes : Sizes) : ZoneData → ZoneData → Sum → Sum → Type 0 
   refuses : (j : JournalZone) (v : Vio) (a : Answer) → Row sizes (at.Journal j) (at.Journal j) (λ f. f (Request (turned phase.Enter v)) + kept_of j f) (λ f. f (Request (ended phase.AbortClaim a v)) + kept_of j f)
   waits : (j : JournalZone) (v : Vio) (waiting : List Vio)
       → Row sizes (at.Journal j) (at.Journal (record j { waiting = waiting })) (λ f. f (Request (turned phase.Enter v)) + kept_of j f) (λ f. f (Request (turned phase.Enter v)) + kept_of j f)
-  enters : (j : JournalZone) (v : Vio)
+  enters : (j : JournalZone) (v : Vio) → IsCounted v
       → Row sizes (at.Journal j) (at.Journal (entered_by v j)) (λ f. f (Request (turned phase.Enter v)) + kept_of j f) (λ f. f (Request (turned phase.Pending v)) + kept_of j f)
-  enters_first : (j : JournalZone) (v : Vio)
+  enters_first : (j : JournalZone) (v : Vio) → IsCounted v
       → Row sizes (at.Journal (record j { busy = false })) (at.Journal (record (entered_by v j) { busy = true })) (λ f. f (Request (turned phase.Enter v)) + kept_of j f)
       (λ f. f (Request (turned phase.Pending v)) + (f (Block (next_block j stage.Commit [])) + kept_of j f))
   commits : (j : JournalZone) (b : SealedBlock) (v : Vio) (vs : List Vio)
@@ -129,3 +156,5 @@ pub data Row (sizes : Sizes) : ZoneData → ZoneData → Sum → Sum → Type 0 
   works : (d : DeviceZone) (calls : ℕ) (b : SealedBlock) (next : Stage) → Row sizes (at.Device d) (at.Device (record d { calls = calls })) (λ f. f (Block b)) (λ f. f (Block (staged next b)))
   work_fails : (d : DeviceZone) (b : SealedBlock) (next : Stage)
       → Row sizes (at.Device (record d { stopped = false })) (at.Device (halted d)) (λ f. f (Block b)) (λ f. f (Block (staged next b)) + notified_zones sizes * f StopNotice)
+  -- one behind the other
+  both : {old between new : ZoneData} {before here again after : Sum} → Row sizes old between before here → ((f : Item → ℕ) → here f ≡ again f) → Row sizes between new again after → Row sizes old new before after

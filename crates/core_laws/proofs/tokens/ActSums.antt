@@ -1,6 +1,6 @@
 -- Each act is one of the rows that the tokens see.
-use Rattle.std.proofs.Common.{◌≡◌, ℕ, suc, ◌+◌, ◌*◌, true, false, Option, None, Some, List, [], ◌∷◌, ◌++◌, length, map, refl, ap, ◌∙◌, subst, inl, inr, arith, ◌&&◌}
-use Rattle.core_laws.proofs.Common.{AllByRecursion, Answer, Desk, DeviceZone, Item, JournalZone, Remapping, LogicalZone, Mapping, Phase, PhysicalZone, Post, SealedBlock, Sizes, Trace, Vio, ZoneData, ZoneId, as_items, claims, eqb_tells, every-map, has_entry, holds, notified, notified_zones, queued, same_Some, total, turned, names}
+use Rattle.std.proofs.Common.{◌≡◌, ℕ, suc, ◌+◌, ◌*◌, true, false, not, Option, None, Some, is_some, List, [], ◌∷◌, ◌++◌, length, length-append, map, refl, ap, sym, ◌∙◌, subst, inl, inr, arith, ◌&&◌}
+use Rattle.core_laws.proofs.Common.{AllByRecursion, Answer, Desk, DeviceZone, Item, JournalZone, Remapping, LogicalZone, Mapping, Pbn, Phase, PhysicalZone, Post, SealedBlock, Sizes, Trace, Vio, ZoneData, ZoneId, as_items, bit, claims, eqb_tells, every-map, has_entry, holds, notified, notified_zones, queued, same_Some, total, turned, names}
 use Rattle.blk_base.specs.Sectors.{zero_block}
 use Rattle.blk_base.specs.declared.place.Mapping.TheVariants.{Unmapped, Zero, At}
 use Rattle.blk_base.specs.declared.place.ZoneId.TheVariants as id
@@ -18,15 +18,18 @@ use Rattle.core_model.specs.PhysicalRules as physical
 use Rattle.core_model.specs.PhysicalRules.{PhysicalServes}
 use Rattle.core_model.specs.JournalRules.{JournalServes, JournalEnds, all_again, all_dropped, all_refused}
 use Rattle.core_model.specs.LogicalRules as logical
-use Rattle.core_model.specs.LogicalRules.{LogicalServes, placed, with_slot, first_for, but_first_for, all_for, none_for, looked, read_next, latest_at, mapping_at, goes_on, granted, passed_to, passes_on, released, all_stopped}
+use Rattle.core_model.specs.LogicalRules.{IsLinked, LogicalServes, placed, with_slot, first_for, but_first_for, all_for, none_for, looked, read_next, latest_at, mapping_at, goes_on, granted, passed_to, passes_on, released, all_stopped}
+use Rattle.blk_base.specs.declared.place.PageId.{PageId}
+use Rattle.data_vio.specs.Vios as vios
+use Rattle.data_vio.specs.Vios.{gives_up}
 use Rattle.core_model.specs.Steps as steps
 use Rattle.core_model.specs.Steps.{Act}
 use Rattle.core_laws.proofs.lists.CoreLists.{every_but_first, every_none_for}
 use Rattle.core_laws.proofs.lists.ZoneNames.{notified_count}
 use Rattle.core_laws.proofs.tokens.ActRows as row
-use Rattle.core_laws.proofs.tokens.ActRows.{Row, Sum, all_in, all_ended, all_there, Onward, onward, replied, IsSetBy}
-use Rattle.core_laws.proofs.tokens.Known.{Known, IsIn, KeptIn, Leased}
-use Rattle.core_laws.proofs.tokens.Posts.{begun_request, begun_phase, goes_by}
+use Rattle.core_laws.proofs.tokens.ActRows.{Row, Sum, all_in, all_ended, all_there, Onward, onward, replied, IsDroppedBy, IsSetBy, unmaking, without_page}
+use Rattle.core_laws.proofs.tokens.Known.{CountsIn, IsIn, KeptIn, Known, Leased, MadeIn, MakesNone}
+use Rattle.core_laws.proofs.tokens.Posts.{begun_page, begun_request, begun_phase, goes_by}
 
 -- what the posts have together
 abbrev pub posts_sum : List Post → Sum
@@ -38,13 +41,19 @@ pub record IsRow (sizes : Sizes) (old : ZoneData) (front : List Item) (new : Zon
   pub before : Sum
   pub after : Sum
   pub row : Row sizes old new before after
-  pub was : (f : Item → ℕ) → total f front + queued f old ≡ before f
-  pub is : (f : Item → ℕ) → posts_sum posts f + queued f new ≡ after f
+  -- what stays as it is, and no token of a row sees
+  pub rest : Sum
+  pub was : (f : Item → ℕ) → total f front + queued f old ≡ before f + rest f
+  pub is : (f : Item → ℕ) → posts_sum posts f + queued f new ≡ after f + rest f
 
 module _ (sizes : Sizes) where
+  beside : {old new : ZoneData} {front : List Item} {posts : List Post} {before after : Sum} (rest : Sum) → Row sizes old new before after → ((f : Item → ℕ) → total f front + queued f old ≡ before f + rest f)
+      → ((f : Item → ℕ) → posts_sum posts f + queued f new ≡ after f + rest f) → IsRow sizes old front new posts
+  beside {before = before} {after = after} rest the_row was is = record { before = before; after = after; row = the_row; rest = rest; was = was; is = is }
+
   is_row : {old new : ZoneData} {front : List Item} {posts : List Post} {before after : Sum} → Row sizes old new before after → ((f : Item → ℕ) → total f front + queued f old ≡ before f)
       → ((f : Item → ℕ) → posts_sum posts f + queued f new ≡ after f) → IsRow sizes old front new posts
-  is_row {before = before} {after = after} the_row was is = record { before = before; after = after; row = the_row; was = was; is = is }
+  is_row the_row was is = beside (λ f. 0) the_row (λ f. omega (arith, was f)) (λ f. omega (arith, is f))
 
   -- a request in a phase is itself, and so are all of a list
   turned_is : (v : Vio) (q : Phase) → v.phase ≡ q → v ≡ turned q v
@@ -61,6 +70,20 @@ module _ (sizes : Sizes) where
   items_more f [] v = refl
   items_more f (u ∷ vs) v = omega (arith, items_more f vs v)
 
+  -- and two lists
+  there_sum : (f : Item → ℕ) (vs ws : List Vio) → total f (as_items (vs ++ ws)) ≡ all_there vs f + all_there ws f
+  there_sum f [] [] = refl
+  there_sum f [] (w ∷ ws) = omega (arith, there_sum f [] ws)
+  there_sum f (v ∷ vs) ws = omega (arith, there_sum f vs ws)
+
+  there_more : (f : Item → ℕ) (vs : List Vio) (v : Vio) → all_there (vs ++ v ∷ []) f ≡ f (Request v) + all_there vs f
+  there_more f [] v = refl
+  there_more f (u ∷ vs) v = omega (arith, there_more f vs v)
+
+  there_in : (f : Item → ℕ) (q : Phase) (vs : List Vio) → AllByRecursion (IsIn q) vs → all_there vs f ≡ all_in q vs f
+  there_in f q [] all = refl
+  there_in f q (v ∷ vs) all = omega (arith, in_phase f v q all.0, there_in f q vs all.1)
+
   -- the posts that are lists
   woken_sum : (f : Item → ℕ) (vs : List Vio) → posts_sum (woken vs) f ≡ total f (as_items vs)
   woken_sum f [] = refl
@@ -69,6 +92,14 @@ module _ (sizes : Sizes) where
   stopped_sum : (f : Item → ℕ) (vs : List Vio) → posts_sum (all_stopped vs) f ≡ all_ended phase.Reply reply.Stopped vs f
   stopped_sum f [] = refl
   stopped_sum f (v ∷ vs) = omega (arith, stopped_sum f vs)
+
+  again_sum : (f : Item → ℕ) (vs : List Vio) → posts_sum (all_again vs) f ≡ all_there vs f
+  again_sum f [] = refl
+  again_sum f (v ∷ vs) = omega (arith, again_sum f vs)
+
+  looks_sum : (f : Item → ℕ) (vs : List Vio) → posts_sum (logical.all_again vs) f ≡ all_there vs f
+  looks_sum f [] = refl
+  looks_sum f (v ∷ vs) = omega (arith, looks_sum f vs)
 
   refused_sum : (f : Item → ℕ) (a : Answer) (vs : List Vio) → posts_sum (all_refused sizes a vs) f ≡ all_ended phase.AbortClaim a vs f
   refused_sum f a [] = refl
@@ -81,6 +112,10 @@ module _ (sizes : Sizes) where
       let more : suc (length names) * f StopNotice ≡ f StopNotice + length names * f StopNotice = omega arith in
       omega (arith, rest, more)
 
+  sum_append : (f : Item → ℕ) (ps qs : List Post) → posts_sum (ps ++ qs) f ≡ posts_sum ps f + posts_sum qs f
+  sum_append f [] qs = omega arith
+  sum_append f (p ∷ ps) qs = omega (arith, sum_append f ps qs)
+
   all_notices : (f : Item → ℕ) → posts_sum (stop_notices (notified sizes)) f ≡ notified_zones sizes * f StopNotice
   all_notices f = notices_sum f (notified sizes) ∙ ap (λ n. n * f StopNotice) (notified_count sizes)
 
@@ -89,18 +124,18 @@ module _ (sizes : Sizes) where
   begin_row old new made posts kept (desk.answers w r v a next asks served once n m q) = rw (n, q) (is_row (row.says old w a) (λ f. omega (arith, all_are f phase.Reply old.parked kept)) (λ f. omega (arith, all_are f phase.Reply old.parked kept)))
   begin_row old new made posts kept (desk.sends w r v next asks served once n m q) =
       rw (n, q, ← begun_request sizes w r v served) (elim (begun_phase sizes w r v served) [
-        | inl is ↦ is_row (row.begins old v) (λ f. omega (arith, all_are f phase.Reply old.parked kept)) (λ f. omega (arith, in_phase f v phase.Arrive is, all_are f phase.Reply old.parked kept))
-        | inr is ↦ is_row (row.begins_flush old v) (λ f. omega (arith, all_are f phase.Reply old.parked kept)) (λ f. omega (arith, in_phase f v phase.Flush is, all_are f phase.Reply old.parked kept))
+        | inl is ↦ is_row (row.begins old v (begun_page sizes w r v served)) (λ f. omega (arith, all_are f phase.Reply old.parked kept)) (λ f. omega (arith, in_phase f v phase.Arrive is, all_are f phase.Reply old.parked kept))
+        | inr is ↦ is_row (row.begins_flush old v (begun_page sizes w r v served)) (λ f. omega (arith, all_are f phase.Reply old.parked kept)) (λ f. omega (arith, in_phase f v phase.Flush is, all_are f phase.Reply old.parked kept))
       ])
 
-  desk_row : (old : Desk) (v : Vio) (new : Desk) (made : Trace) (posts : List Post) → KeptIn (at.Desk old) → DeskServes sizes old v new made posts → IsRow sizes (at.Desk old) (Request v ∷ []) (at.Desk new) posts
-  desk_row old v new made posts kept (desk.parks a p has stops notified n m q) =
+  desk_row : (old : Desk) (v : Vio) (new : Desk) (made : Trace) (posts : List Post) → KeptIn (at.Desk old) → MakesNone (Request v ∷ []) → DeskServes sizes old v new made posts → IsRow sizes (at.Desk old) (Request v ∷ []) (at.Desk new) posts
+  desk_row old v new made posts kept none (desk.parks a p has stops notified n m q) =
       rw (n, q) (is_row (row.parks old v (old.parked ++ v ∷ [])) (λ f. omega (arith, in_phase f v phase.Reply p, all_are f phase.Reply old.parked kept))
       (λ f. omega (arith, in_phase f v phase.Reply p, items_more f old.parked v, all_are f phase.Reply old.parked kept)))
-  desk_row old v new made posts kept (desk.answers a p has notified marked n m q) =
-      rw (n, q) (is_row (row.answers old v a old.marks) (λ f. omega (arith, in_phase f v phase.Reply p, all_are f phase.Reply old.parked kept)) (λ f. omega (arith, all_are f phase.Reply old.parked kept)))
-  desk_row old v new made posts kept (desk.marks p asks has n m q) =
-      rw (n, q) (is_row (row.answers old v reply.Ok _) (λ f. omega (arith, in_phase f v phase.Reply p, all_are f phase.Reply old.parked kept)) (λ f. omega (arith, all_are f phase.Reply old.parked kept)))
+  desk_row old v new made posts kept none (desk.answers a p has notified marked n m q) =
+      rw (n, q) (is_row (row.answers old v a old.marks (none v refl (inr p))) (λ f. omega (arith, in_phase f v phase.Reply p, all_are f phase.Reply old.parked kept)) (λ f. omega (arith, all_are f phase.Reply old.parked kept)))
+  desk_row old v new made posts kept none (desk.marks p asks has n m q) =
+      rw (n, q) (is_row (row.answers old v reply.Ok _ (none v refl (inr p))) (λ f. omega (arith, in_phase f v phase.Reply p, all_are f phase.Reply old.parked kept)) (λ f. omega (arith, all_are f phase.Reply old.parked kept)))
 
   -- a logical zone: who goes on with a lock, and who gets it
   abbrev looked_on : (l : LogicalZone) (v : Vio) (q : Phase) (new : Mapping) → List ℕ → holds q ≡ true → ((x : ℕ) → (claims q && names x new) ≡ false) → has_entry q ≡ false → Onward
@@ -129,48 +164,122 @@ module _ (sizes : Sizes) where
       let rest = split_for f a vs in
       elim (eqb_tells v.at.0 a) [ inl same ↦ rw same.0 (omega (arith, rest)) | inr other ↦ rw other.0 (omega (arith, rest)) ]
 
+  -- what a logical zone keeps: those that wait for a lock, and beside them those that wait for a page
+  logical_kept : (l : LogicalZone) → KeptIn (at.Logical l) → (f : Item → ℕ) → queued f (at.Logical l) ≡ all_in phase.Wait l.waiting f + all_there l.lacking f
+  logical_kept l kept f = omega (arith, there_sum f l.waiting l.lacking, there_in f phase.Wait l.waiting kept.0)
+
   -- a request leaves its lock
-  module _ (l : LogicalZone) (slots : List Remapping) (v : Vio) (q : Phase) (in_it : v.phase ≡ q) (locks : holds q ≡ true) (is_set : IsSetBy l q slots) (leased : Leased l v) (kept : KeptIn (at.Logical l)) (a : Option Answer) where
-    abbrev set : LogicalZone
-    set = record l { slots = slots }
+  module _ (l : LogicalZone) (v : Vio) (leased : Leased l v) (kept : KeptIn (at.Logical l)) where
+    -- of those that wait for it the first gets it
+    others_kept : (w : Vio) → first_for v.at.0 l.waiting ≡ Some w → (f : Item → ℕ) → all_in phase.Wait l.waiting f ≡ f (Request (turned phase.Wait w)) + all_in phase.Wait (but_first_for v.at.0 l.waiting) f
+    others_kept w first f = first_taken v.at.0 (λ u. f (Request (turned phase.Wait u))) l.waiting w first
 
-    left_row : (o : Option Vio) → first_for v.at.0 l.waiting ≡ o → IsRow sizes (at.Logical l) (Request v ∷ []) (at.Logical (passed_to v.at.0 set o)) ((id.Desk, Request (replied a v)) ∷ passes_on o)
-    left_row None first =
-        is_row (row.leaves l slots v q a locks is_set leased) (λ f. omega (arith, in_phase f v q in_it, all_are f phase.Wait l.waiting kept)) (λ f. omega (arith, all_are f phase.Wait l.waiting kept))
-    left_row (Some w) first =
+    others_sum : (lacking : List Vio) (f : Item → ℕ) → total f (as_items (but_first_for v.at.0 l.waiting ++ lacking)) ≡ all_in phase.Wait (but_first_for v.at.0 l.waiting) f + all_there lacking f
+    others_sum lacking f =
         let others = but_first_for v.at.0 l.waiting in
-        let taken : (f : Item → ℕ) → all_in phase.Wait l.waiting f ≡ f (Request (turned phase.Wait w)) + all_in phase.Wait others f = λ f. first_taken v.at.0 (λ u. f (Request (turned phase.Wait u))) l.waiting w first in
-        is_row (row.hands_on l slots v q a w others locks is_set leased) (λ f. omega (arith, in_phase f v q in_it, all_are f phase.Wait l.waiting kept, taken f))
-        (λ f. omega (arith, all_are f phase.Wait others (every_but_first (IsIn phase.Wait) v.at.0 l.waiting kept)))
+        omega (arith, there_sum f others lacking, there_in f phase.Wait others (every_but_first (IsIn phase.Wait) v.at.0 l.waiting kept.0))
 
-    leaves_row : IsRow sizes (at.Logical l) (Request v ∷ []) (at.Logical (released v.at.0 set)) ((id.Desk, Request (replied a v)) ∷ granted v.at.0 set)
-    leaves_row = left_row (first_for v.at.0 l.waiting) refl
+    module _ (slots : List Remapping) (q : Phase) (in_it : v.phase ≡ q) (locks : holds q ≡ true) (is_set : IsSetBy l v q slots) (a : Option Answer) where
+      abbrev set : LogicalZone
+      set = record l { slots = slots }
 
-  logical_row : (old : LogicalZone) (v : Vio) (new : LogicalZone) (made : Trace) (posts : List Post) → KeptIn (at.Logical old) → (holds v.phase ≡ true → Leased old v) → LogicalServes sizes old v new made posts
-      → IsRow sizes (at.Logical old) (Request v ∷ []) (at.Logical new) posts
-  logical_row old v new made posts kept leased (logical.arrives_retired p among n m q) =
-      rw (n, q) (is_row (row.arrives_retired old v) (λ f. omega (arith, in_phase f v phase.Arrive p, all_are f phase.Wait old.waiting kept)) (λ f. omega (arith, all_are f phase.Wait old.waiting kept)))
-  logical_row old v new made posts kept leased (logical.arrives_free p among held n m q) =
-      rw (n, q) (is_row (row.arrives_free old v) (λ f. omega (arith, in_phase f v phase.Arrive p, all_are f phase.Wait old.waiting kept)) (λ f. omega (arith, all_are f phase.Wait old.waiting kept)))
-  logical_row old v new made posts kept leased (logical.arrives_held p among held n m q) =
-      rw (n, q) (is_row (row.arrives_held old v (old.waiting ++ turned phase.Wait (placed old v) ∷ [])) (λ f. omega (arith, in_phase f v phase.Arrive p, all_are f phase.Wait old.waiting kept))
-      (λ f. omega (arith, items_more f old.waiting (turned phase.Wait (placed old v)), all_are f phase.Wait old.waiting kept)))
-  logical_row old v new made posts kept leased (logical.passes p path past n m q) =
-      rw (n, q) (leaves_row old old.slots v phase.Look p refl (omega arith) (leased (ap holds p)) kept (Some reply.Ok))
-  logical_row old v new made posts kept leased (logical.looks post p path stays goes n m q) =
-      let on = went_on old v post goes in
-      rw (n, q) (is_row (row.looks old v on.0) (λ f. omega (arith, in_phase f v phase.Look p, all_are f phase.Wait old.waiting kept)) (λ f. omega (arith, ap f on.1, all_are f phase.Wait old.waiting kept)))
-  logical_row old v new made posts kept leased (logical.settles p n m q) =
-      rw (n, q) (leaves_row old (with_slot old v).slots v phase.Settle p refl (omega arith) (leased (ap holds p)) kept (Some reply.Ok))
-  logical_row old v new made posts kept leased (logical.gives p n m q) =
-      rw (n, q) (leaves_row old old.slots v phase.Loaded p refl (omega arith) (leased (ap holds p)) kept (Some (reply.Bytes v.bytes)))
-  logical_row old v new made posts kept leased (logical.aborts p n m q) =
-      rw (n, q) (leaves_row old old.slots v phase.Abort p refl (omega arith) (leased (ap holds p)) kept v.answer)
-  logical_row old v new made posts kept leased (logical.aborts_entered p n m q) =
-      let split : (f : Item → ℕ) → all_in phase.Wait (all_for v.at.0 old.waiting) f + all_in phase.Wait (none_for v.at.0 old.waiting) f ≡ all_in phase.Wait old.waiting f = λ f. split_for (λ u. f (Request (turned phase.Wait u))) v.at.0 old.waiting in
-      let others = every-map {P = λ u. IsIn phase.Wait u × (u.at.0 ≡ v.at.0 → ⊥)} {Q = IsIn phase.Wait} (λ u both. both.0) (none_for v.at.0 old.waiting) (every_none_for (IsIn phase.Wait) v.at.0 old.waiting kept) in
-      rw (n, q) (is_row (row.retires old v (leased (ap holds p))) (λ f. omega (arith, in_phase f v phase.AbortEntered p, split f, all_are f phase.Wait old.waiting kept))
-      (λ f. omega (arith, stopped_sum f (all_for v.at.0 old.waiting), all_are f phase.Wait (none_for v.at.0 old.waiting) others)))
+      left_row : (o : Option Vio) → first_for v.at.0 l.waiting ≡ o → IsRow sizes (at.Logical l) (Request v ∷ []) (at.Logical (passed_to v.at.0 set o)) ((id.Desk, Request (replied a v)) ∷ passes_on o)
+      left_row None first = beside (all_there l.lacking) (row.leaves l slots v q a locks is_set leased) (λ f. omega (arith, in_phase f v q in_it, logical_kept l kept f)) (λ f. omega (arith, logical_kept l kept f))
+      left_row (Some w) first =
+          beside (all_there l.lacking) (row.hands_on l slots v q a w (but_first_for v.at.0 l.waiting) locks is_set leased) (λ f. omega (arith, in_phase f v q in_it, logical_kept l kept f, others_kept w first f))
+          (λ f. omega (arith, others_sum l.lacking f))
+
+      leaves_row : IsRow sizes (at.Logical l) (Request v ∷ []) (at.Logical (released v.at.0 set)) ((id.Desk, Request (replied a v)) ∷ granted v.at.0 set)
+      leaves_row = left_row (first_for v.at.0 l.waiting) refl
+
+    -- it leaves it with its page, that isn't made any more: those that wait for a page look again
+    module _ (unlinkable : List PageId) (q : Phase) (page : PageId) (in_it : v.phase ≡ q) (locks : holds q ≡ true) (is_dropped : IsDroppedBy l q unlinkable) (is_page : v.page ≡ Some page) (made : MadeIn l page) where
+      abbrev unmade : LogicalZone
+      unmade = unmaking l l.tree unlinkable page
+
+      abbrev left : Vio
+      left = without_page v
+
+      given_up_row : (o : Option Vio) → first_for v.at.0 l.waiting ≡ o
+          → IsRow sizes (at.Logical l) (Request v ∷ []) (at.Logical (passed_to v.at.0 unmade o)) ((id.Desk, Request (gives_up v)) ∷ (passes_on o ++ logical.all_again l.lacking))
+      given_up_row None first =
+          beside (all_there l.lacking)
+          (row.both (row.forgets l unlinkable v q page locks is_dropped is_page made) (λ f. refl) (row.leaves unmade unmade.slots left phase.Abort v.answer refl (omega arith) leased))
+          (λ f. omega (arith, in_phase f v q in_it, logical_kept l kept f))
+          (λ f. omega (arith, looks_sum f l.lacking, there_sum f l.waiting [], there_in f phase.Wait l.waiting kept.0))
+      given_up_row (Some w) first =
+          beside (all_there l.lacking)
+          (row.both (row.forgets l unlinkable v q page locks is_dropped is_page made) (λ f. omega (arith, others_kept w first f)) (row.hands_on unmade unmade.slots left phase.Abort v.answer w (but_first_for v.at.0 l.waiting) refl (omega arith) leased))
+          (λ f. omega (arith, in_phase f v q in_it, logical_kept l kept f))
+          (λ f. omega (arith, looks_sum f l.lacking, others_sum [] f))
+
+  -- the zone is the same whether its page or its lock is let go first
+  unmade_passed : (a : ℕ) (page : PageId) (l : LogicalZone) (o : Option Vio) → logical.woken (logical.unmade page (passed_to a l o)) ≡ passed_to a (unmaking l l.tree l.unlinkable page) o
+  unmade_passed a page l None = refl
+  unmade_passed a page l (Some w) = refl
+
+  dropped_passed : (a : ℕ) (page : PageId) (l : LogicalZone) (o : Option Vio) → logical.woken (logical.dropped page (passed_to a l o)) ≡ passed_to a (unmaking l l.tree (l.unlinkable ++ page ∷ []) page) o
+  dropped_passed a page l None = refl
+  dropped_passed a page l (Some w) = refl
+
+  -- a logical zone serves a request at home
+  module _ (old : LogicalZone) (v : Vio) (kept : KeptIn (at.Logical old)) (leased : holds v.phase ≡ true → Leased old v) (made_in : (page : PageId) → v.page ≡ Some page → MadeIn old page) (none : MakesNone (Request v ∷ [])) where
+    abbrev IsServed : LogicalZone → List Post → Type 0
+    IsServed new posts = IsRow sizes (at.Logical old) (Request v ∷ []) (at.Logical new) posts
+
+    -- what it keeps, and the request in front
+    was_kept : (q : Phase) → v.phase ≡ q → (f : Item → ℕ) → total f (Request v ∷ []) + queued f (at.Logical old) ≡ f (Request (turned q v)) + all_in phase.Wait old.waiting f + all_there old.lacking f
+    was_kept q is f = omega (arith, in_phase f v q is, logical_kept old kept f)
+
+    stays_kept : (f : Item → ℕ) → queued f (at.Logical old) ≡ all_in phase.Wait old.waiting f + all_there old.lacking f
+    stays_kept f = logical_kept old kept f
+
+    links_row : (page : PageId) (x : Pbn) (between : LogicalZone) → v.phase ≡ phase.Settle → v.page ≡ Some page → IsLinked page x old between
+        → IsServed (logical.woken between) ((v.home, Request (vios.made v)) ∷ logical.all_again old.lacking)
+    links_row page x between p is_page linked =
+        let is : logical.woken between ≡ unmaking old between.tree old.unlinkable page = ap logical.woken linked.rest in
+        subst (λ (new : LogicalZone). IsServed new ((v.home, Request (vios.made v)) ∷ logical.all_again old.lacking)) (sym is)
+        (beside (all_there old.lacking) (row.links old between.tree v page is_page (made_in page is_page)) (was_kept phase.Settle p)
+        (λ f. omega (arith, looks_sum f old.lacking, there_sum f old.waiting [], there_in f phase.Wait old.waiting kept.0)))
+
+    logical_row : (new : LogicalZone) (happened : Trace) (posts : List Post) → LogicalServes sizes old v new happened posts → IsServed new posts
+    logical_row new happened posts (logical.arrives_retired p among n m q) = rw (n, q) (beside (all_there old.lacking) (row.arrives_retired old v) (was_kept phase.Arrive p) (λ f. omega (arith, stays_kept f)))
+    logical_row new happened posts (logical.arrives_free p among held n m q) = rw (n, q) (beside (all_there old.lacking) (row.arrives_free old v) (was_kept phase.Arrive p) (λ f. omega (arith, stays_kept f)))
+    logical_row new happened posts (logical.arrives_held p among held n m q) =
+        let behind = turned phase.Wait (placed old v) in
+        rw (n, q) (beside (all_there old.lacking) (row.arrives_held old v (old.waiting ++ behind ∷ [])) (was_kept phase.Arrive p)
+        (λ f. omega (arith, there_more f old.waiting behind, there_sum f (old.waiting ++ behind ∷ []) old.lacking, there_in f phase.Wait old.waiting kept.0)))
+    logical_row new happened posts (logical.looks post p path stays there goes n m q) =
+        let on = went_on old v post goes in
+        rw (n, q) (beside (all_there old.lacking) (row.looks old v on.0) (was_kept phase.Look p) (λ f. omega (arith, ap f on.1, stays_kept f)))
+    logical_row new happened posts (logical.passes p path past n m q) =
+        rw (n, q) (leaves_row old v (leased (ap holds p)) kept old.slots phase.Look p refl (omega arith) (Some reply.Ok))
+    logical_row new happened posts (logical.is_dropped page p path lacked never n m q) =
+        rw (n, q) (leaves_row old v (leased (ap holds p)) kept old.slots phase.Look p refl (omega arith) (Some reply.Stopped))
+    logical_row new happened posts (logical.waits page p path lacked never being n m q) =
+        rw (n, q) (beside (all_there old.lacking) (row.lacks old v (old.lacking ++ v ∷ [])) (λ f. omega (arith, stays_kept f))
+        (λ f. omega (arith, there_more f old.lacking v, there_sum f old.waiting (old.lacking ++ v ∷ []), there_in f phase.Wait old.waiting kept.0)))
+    logical_row new happened posts (logical.makes_page page p path lacked never free n m q) =
+        rw (n, q) (beside (all_there old.lacking) (row.makes old v page (none v refl (inl p))) (was_kept phase.Look p) (λ f. omega (arith, stays_kept f)))
+    logical_row new happened posts (logical.links page x between p is_page to may linked n m q) = rw (n, q) (links_row page x between p is_page linked)
+    logical_row new happened posts (logical.settles p pageless n m q) =
+        let own = ap (λ (o : Option PageId). bit (not (is_some o))) pageless in
+        rw (n, q) (leaves_row old v (leased (ap holds p)) kept (with_slot old v).slots phase.Settle p refl (omega (arith, own)) (Some reply.Ok))
+    logical_row new happened posts (logical.gives p n m q) =
+        rw (n, q) (leaves_row old v (leased (ap holds p)) kept old.slots phase.Loaded p refl (omega arith) (Some (reply.Bytes v.bytes)))
+    logical_row new happened posts (logical.aborts p pageless n m q) =
+        rw (n, q) (leaves_row old v (leased (ap holds p)) kept old.slots phase.Abort p refl (omega arith) v.answer)
+    logical_row new happened posts (logical.unmakes page p is_page n m q) =
+        let first = first_for v.at.0 old.waiting in
+        rw (n, q, unmade_passed v.at.0 page old first) (given_up_row old v (leased (ap holds p)) kept old.unlinkable phase.Abort page p refl (omega arith) is_page (made_in page is_page) first refl)
+    logical_row new happened posts (logical.drops page p is_page n m q) =
+        let first = first_for v.at.0 old.waiting in
+        rw (n, q, dropped_passed v.at.0 page old first) (given_up_row old v (leased (ap holds p)) kept (old.unlinkable ++ page ∷ []) phase.AbortEntered page p refl (omega (arith, length-append old.unlinkable (page ∷ []))) is_page (made_in page is_page) first refl)
+    logical_row new happened posts (logical.aborts_entered p pageless n m q) =
+        let split : (f : Item → ℕ) → all_in phase.Wait (all_for v.at.0 old.waiting) f + all_in phase.Wait (none_for v.at.0 old.waiting) f ≡ all_in phase.Wait old.waiting f = λ f. split_for (λ u. f (Request (turned phase.Wait u))) v.at.0 old.waiting in
+        let others = every-map {P = λ u. IsIn phase.Wait u × (u.at.0 ≡ v.at.0 → ⊥)} {Q = IsIn phase.Wait} (λ u both. both.0) (none_for v.at.0 old.waiting) (every_none_for (IsIn phase.Wait) v.at.0 old.waiting kept.0) in
+        rw (n, q) (beside (all_there old.lacking) (row.retires old v pageless (leased (ap holds p))) (λ f. omega (arith, was_kept phase.AbortEntered p f, split f))
+        (λ f. omega (arith, stopped_sum f (all_for v.at.0 old.waiting), there_sum f (none_for v.at.0 old.waiting) old.lacking, there_in f phase.Wait (none_for v.at.0 old.waiting) others)))
 
   -- the physical zone
   physical_row : (old : PhysicalZone) (v : Vio) (new : PhysicalZone) (made : Trace) (posts : List Post) → PhysicalServes sizes old v new made posts → IsRow sizes (at.Physical old) (Request v ∷ []) (at.Physical new) posts
@@ -182,47 +291,25 @@ module _ (sizes : Sizes) where
   physical_row old v new made posts (physical.aborts_claim p n m q) = rw (n, q) (is_row (row.aborts_claim old v) (λ f. omega (arith, in_phase f v phase.AbortClaim p)) (λ f. omega arith))
   physical_row old v new made posts (physical.aborts_entered_claim p n m q) = rw (n, q) (is_row (row.aborts_entered_claim old v) (λ f. omega (arith, in_phase f v phase.AbortEnteredClaim p)) (λ f. omega arith))
 
-  -- the journal: what it keeps
-  there_sum : (f : Item → ℕ) (vs ws : List Vio) → total f (as_items (vs ++ ws)) ≡ all_there vs f + all_there ws f
-  there_sum f [] [] = refl
-  there_sum f [] (w ∷ ws) = omega (arith, there_sum f [] ws)
-  there_sum f (v ∷ vs) ws = omega (arith, there_sum f vs ws)
-
-  there_more : (f : Item → ℕ) (vs : List Vio) (v : Vio) → all_there (vs ++ v ∷ []) f ≡ f (Request v) + all_there vs f
-  there_more f [] v = refl
-  there_more f (u ∷ vs) v = omega (arith, there_more f vs v)
-
-  there_in : (f : Item → ℕ) (q : Phase) (vs : List Vio) → AllByRecursion (IsIn q) vs → all_there vs f ≡ all_in q vs f
-  there_in f q [] all = refl
-  there_in f q (v ∷ vs) all = omega (arith, in_phase f v q all.0, there_in f q vs all.1)
-
-  again_sum : (f : Item → ℕ) (vs : List Vio) → posts_sum (all_again vs) f ≡ all_there vs f
-  again_sum f [] = refl
-  again_sum f (v ∷ vs) = omega (arith, again_sum f vs)
-
   dropped_sum : (f : Item → ℕ) (vs : List Vio) → posts_sum (all_dropped vs) f ≡ all_ended phase.AbortEnteredClaim reply.Stopped vs f
   dropped_sum f [] = refl
   dropped_sum f (v ∷ vs) = omega (arith, dropped_sum f vs)
 
-  sum_append : (f : Item → ℕ) (ps qs : List Post) → posts_sum (ps ++ qs) f ≡ posts_sum ps f + posts_sum qs f
-  sum_append f [] qs = omega arith
-  sum_append f (p ∷ ps) qs = omega (arith, sum_append f ps qs)
-
-  journal_row : (old : JournalZone) (v : Vio) (new : JournalZone) (made : Trace) (posts : List Post) → JournalServes sizes old v new made posts → IsRow sizes (at.Journal old) (Request v ∷ []) (at.Journal new) posts
-  journal_row old v new made posts (journal.is_stopped p closed n m q) =
+  journal_row : (old : JournalZone) (v : Vio) (new : JournalZone) (made : Trace) (posts : List Post) → CountsIn (Request v ∷ []) → JournalServes sizes old v new made posts → IsRow sizes (at.Journal old) (Request v ∷ []) (at.Journal new) posts
+  journal_row old v new made posts counts (journal.is_stopped p closed n m q) =
       rw (n, q) (is_row (row.refuses old v reply.Stopped) (λ f. omega (arith, in_phase f v phase.Enter p, there_sum f old.filling old.waiting)) (λ f. omega (arith, there_sum f old.filling old.waiting)))
-  journal_row old v new made posts (journal.is_full p closed none n m q) =
+  journal_row old v new made posts counts (journal.is_full p closed none n m q) =
       rw (n, q) (is_row (row.refuses old v reply.Full) (λ f. omega (arith, in_phase f v phase.Enter p, there_sum f old.filling old.waiting)) (λ f. omega (arith, there_sum f old.filling old.waiting)))
-  journal_row old v new made posts (journal.waits p closed block none n m q) =
+  journal_row old v new made posts counts (journal.waits p closed block none n m q) =
       rw (n, q) (is_row (row.waits old v (old.waiting ++ v ∷ [])) (λ f. omega (arith, in_phase f v phase.Enter p, there_sum f old.filling old.waiting))
       (λ f. omega (arith, in_phase f v phase.Enter p, there_more f old.waiting v, there_sum f old.filling (old.waiting ++ v ∷ []))))
-  journal_row old v new made posts (journal.enters p closed block room busy n m q) =
-      rw (n, q) (is_row (row.enters old v) (λ f. omega (arith, in_phase f v phase.Enter p, there_sum f old.filling old.waiting))
+  journal_row old v new made posts counts (journal.enters p closed block room busy n m q) =
+      rw (n, q) (is_row (row.enters old v (counts v refl p)) (λ f. omega (arith, in_phase f v phase.Enter p, there_sum f old.filling old.waiting))
       (λ f. omega (arith, there_more f old.filling (turned phase.Pending v), there_sum f (old.filling ++ turned phase.Pending v ∷ []) old.waiting)))
-  journal_row old v new made posts (journal.enters_first p closed block room idle n m q) =
+  journal_row old v new made posts counts (journal.enters_first p closed block room idle n m q) =
       let is : record old { busy = false } ≡ old = rw (← idle) refl in
       subst (λ (o : JournalZone). IsRow sizes (at.Journal o) (Request v ∷ []) (at.Journal new) posts) is
-      (rw (n, q) (is_row (row.enters_first old v) (λ f. omega (arith, in_phase f v phase.Enter p, there_sum f old.filling old.waiting))
+      (rw (n, q) (is_row (row.enters_first old v (counts v refl p)) (λ f. omega (arith, in_phase f v phase.Enter p, there_sum f old.filling old.waiting))
       (λ f. omega (arith, there_more f old.filling (turned phase.Pending v), there_sum f (old.filling ++ turned phase.Pending v ∷ []) old.waiting))))
 
   -- a block by its requests, which are in their phase
@@ -290,14 +377,14 @@ module _ (sizes : Sizes) where
   -- each act, of what a legal core knows
   pub act_row : (old : ZoneData) (front : List Item) (new : ZoneData) (made : Trace) (posts : List Post) → Act sizes old front new made posts → Known old front → IsRow sizes old front new posts
   act_row old front new made posts (steps.begins act) known = begin_row _ _ _ _ known.kept act
-  act_row old front new made posts (steps.answers act) known = desk_row _ _ _ _ _ known.kept act
+  act_row old front new made posts (steps.answers act) known = desk_row _ _ _ _ _ known.kept known.makes_none act
   act_row old front new made posts (steps.hears {old = d}) known = is_row (row.hears d) (λ f. omega (arith, all_are f phase.Reply d.parked known.kept)) (λ f. omega (arith, woken_sum f d.parked, all_are f phase.Reply d.parked known.kept))
-  act_row old front new made posts (steps.serves act) known = logical_row _ _ _ _ _ known.kept (known.leased _ _ refl refl) act
+  act_row old front new made posts (steps.serves act) known = logical_row _ _ known.kept (known.leased _ _ refl refl) (λ page. known.made _ _ page refl refl) known.makes_none _ _ _ act
   act_row old front new made posts (steps.serves_notice {old = l}) known =
-      is_row (row.tells_logical l) (λ f. omega (arith, all_are f phase.Wait l.waiting known.kept)) (λ f. omega (arith, all_are f phase.Wait l.waiting known.kept))
+      beside (all_there l.lacking) (row.tells_logical l) (λ f. omega (arith, logical_kept l known.kept f)) (λ f. omega (arith, logical_kept l known.kept f))
   act_row old front new made posts (steps.takes act) known = physical_row _ _ _ _ _ act
   act_row old front new made posts (steps.takes_notice {old = p}) known = is_row (row.tells_physical p) (λ f. omega arith) (λ f. omega arith)
-  act_row old front new made posts (steps.enters act) known = journal_row _ _ _ _ _ act
+  act_row old front new made posts (steps.enters act) known = journal_row _ _ _ _ _ known.counted act
   act_row old front new made posts (steps.ends {old = j} {b = b} act) known = ends_row j b known.kept (known.sealed b refl) (known.busy b j refl refl) _ _ _ act
   act_row old front new made posts (steps.enters_notice {old = j}) known =
       is_row (row.tells_journal j) (λ f. omega (arith, there_sum f j.filling j.waiting, there_in f phase.Enter j.waiting known.kept.1))

@@ -1,7 +1,12 @@
 -- What a legal core knows of a zone that acts, beside its tokens: the phases of the requests that it keeps, and, of the item at
--- the front, that its lock is held and its block is under way.
-use Rattle.std.proofs.Common.{◌≡◌, ℕ, Bool, true, List, [], ◌∷◌}
-use Rattle.core_laws.proofs.Common.{AllByRecursion, Item, JournalZone, LogicalZone, Phase, SealedBlock, Vio, ZoneData, KeptEach, KeptOk, Session, Trace, bit, every-map, holds, lock_weight, total}
+-- the front, that its lock is held, its page is being made, and its block is under way.
+use Rattle.std.proofs.Common.{◌≡◌, ◌⊎◌, ℕ, Bool, true, not, Option, None, Some, is_some, List, [], ◌∷◌, length, refl, subst}
+use Rattle.core_laws.proofs.Common.{AllByRecursion, Carries, IsToFresh, Item, JournalZone, LogicalZone, Mapping, Phase, SealedBlock, Vio, ZoneData, KeptEach, KeptOk, Session, Trace, bit, every-map, holds, lock_weight, logged, remappings, total}
+use Rattle.blk_base.specs.declared.place.Mapping.TheVariants.{Unmapped, Zero, At}
+use Rattle.blk_base.specs.declared.place.PageId.{PageId}
+use Rattle.core_model.specs.Facts.{CarriesFor}
+use Rattle.data_vio.specs.Vios.{logged_for}
+use Rattle.core_laws.proofs.logical.PageLists.{times}
 use Rattle.data_vio.specs.declared.items.Item.TheVariants as item
 use Rattle.data_vio.specs.declared.items.Phase.TheVariants as phase
 use Rattle.core_model.specs.declared.zones.ZoneData.TheVariants as at
@@ -20,7 +25,7 @@ KeptIn d = KeptEach IsIn d
 
 pub kept_in : (s : Session) (t : Trace) (d : ZoneData) → KeptEach (KeptOk s t) d → KeptIn d
 kept_in s t (at.Desk desk) all = phases s t phase.Reply desk.parked all
-kept_in s t (at.Logical l) all = phases s t phase.Wait l.waiting all
+kept_in s t (at.Logical l) all = (phases s t phase.Wait l.waiting all.0, phases s t phase.Look l.lacking all.1)
 kept_in s t (at.Journal j) all = (phases s t phase.Pending j.filling all.0, phases s t phase.Enter j.waiting all.1)
 kept_in s t (at.Physical p) all = tt
 kept_in s t (at.Device d) all = tt
@@ -41,8 +46,43 @@ Leased l v = (test : ℕ → Bool) → total (lock_weight v.at.0 test) l.held �
 abbrev pub LeasedIn : ZoneData → List Item → Type 0
 LeasedIn old front = (l : LogicalZone) (v : Vio) → old ≡ at.Logical l → front ≡ item.Request v ∷ [] → holds v.phase ≡ true → Leased l v
 
+-- a page is being made once
+abbrev pub MadeIn : LogicalZone → PageId → Type 0
+MadeIn l page = times page l.making ≡ 1
+
+-- whoever makes a page, and is served at its home, makes one that is being made there
+abbrev pub IsMadeIn : ZoneData → List Item → Type 0
+IsMadeIn old front = (l : LogicalZone) (v : Vio) (page : PageId) → old ≡ at.Logical l → front ≡ item.Request v ∷ [] → v.page ≡ Some page → MadeIn l page
+
+-- whoever looks its address up, or is answered, makes no page
+abbrev pub MakesNone : List Item → Type 0
+MakesNone front = (v : Vio) → front ≡ item.Request v ∷ [] → (v.phase ≡ phase.Look) ⊎ (v.phase ≡ phase.Reply) → v.page ≡ None
+
+-- an entry that is handed in is a remapping where its request makes no page
+abbrev pub IsCounted : Vio → Type 0
+IsCounted v = length (remappings (logged v ∷ [])) ≡ bit (not (is_some v.page))
+
+abbrev pub CountsIn : List Item → Type 0
+CountsIn front = (v : Vio) → front ≡ item.Request v ∷ [] → v.phase ≡ phase.Enter → IsCounted v
+
+pub counts : (s : Session) (t : Trace) (v : Vio) → v.phase ≡ phase.Enter → Carries s t v v.phase → IsCounted v
+counts s t v is k = by v.page v.new (λ page made. to_fresh v.page page made (subst (λ (p : Phase). Carries s t v p) is k))
+  where
+    to_fresh : (o : Option PageId) (page : PageId) → o ≡ Some page → CarriesFor s t v phase.Enter o → IsToFresh s v.new
+    to_fresh None page made has = absurd cc
+    to_fresh (Some p) page made has = has.2
+
+    by : (o : Option PageId) (m : Mapping) → ((page : PageId) → o ≡ Some page → IsToFresh s m) → length (remappings (logged_for v o m ∷ [])) ≡ bit (not (is_some o))
+    by None m fresh = refl
+    by (Some page) (At x) fresh = refl
+    by (Some page) Unmapped fresh = absurd (fresh page refl)
+    by (Some page) Zero fresh = absurd (fresh page refl)
+
 pub record Known (old : ZoneData) (front : List Item) : Type 0 where
   pub kept : KeptIn old
   pub sealed : SealedIn front
   pub busy : IsBusy old front
   pub leased : LeasedIn old front
+  pub made : IsMadeIn old front
+  pub makes_none : MakesNone front
+  pub counted : CountsIn front

@@ -6,7 +6,6 @@ use Rattle.core_laws.proofs.trace.DeskOfTrace.{desk_log_right}
 use Rattle.core_laws.proofs.trace.Growth.{begun_more}
 use Rattle.core_laws.proofs.kept.ZoneKinds.{total_once}
 use Rattle.data_vio.specs.Phases.{Where, AtDesk, AtHome, AtPhysical, AtJournal, AtDevice, InNoLane, row, number_at}
-use Rattle.core_laws.proofs.kept.Keys.{any}
 use Rattle.core_laws.proofs.tokens.Known.{Leased}
 use Rattle.core_model.specs.declared.zones.ZoneData.TheVariants as at
 use Rattle.data_vio.specs.declared.items.Item.TheVariants as item
@@ -68,7 +67,7 @@ no_locks a test (lock ∷ locks) h = elim (eqb_tells lock.at.0 a) [
 ]
 
 -- the locks whose place passes a test, and those whose place doesn't
-split_locks : (a : ℕ) (test : ℕ → Bool) (locks : List Lock) → total (lock_weight a test) locks + total (lock_weight a (λ p. not (test p))) locks ≡ total (lock_weight a any) locks
+split_locks : (a : ℕ) (test : ℕ → Bool) (locks : List Lock) → total (lock_weight a test) locks + total (lock_weight a (λ p. not (test p))) locks ≡ total (lock_weight a (λ p. true)) locks
 split_locks a test [] = refl
 split_locks a test (lock ∷ locks) = let x = one (lock.at.0 == a) (test lock.place) in omega (arith, x, split_locks a test locks)
   where
@@ -130,5 +129,5 @@ leased_front s t zones n z l v rest each balance had front keeps h test =
     let e = balance test in
     omega (arith, one, w, inbox, g, e)
     in
-    one_of_two test v.place (total (lock_weight a test) l.held) (total (lock_weight a (λ p. not (test p))) l.held) (total (lock_weight a any) l.held)
+    one_of_two test v.place (total (lock_weight a test) l.held) (total (lock_weight a (λ p. not (test p))) l.held) (total (lock_weight a (λ p. true)) l.held)
     (split_locks a test l.held) (own.sound.locks.once a) (bound test) (bound (λ p. not (test p)))

@@ -1,5 +1,5 @@
 -- What is posted for a request that is begun, and for one that gets the lock of its address.
-use Rattle.std.proofs.Common.{◌≡◌, ◌⊎◌, true, false, Some, inl, inr, refl, ap, sym, subst}
+use Rattle.std.proofs.Common.{◌≡◌, ◌⊎◌, true, false, None, Some, inl, inr, refl, ap, sym, subst}
 use Rattle.core_laws.proofs.Common.{Asks, LogicalZone, Post, Request, Sizes, Vio, Writer, cases_Bool, same_Some, turned}
 use Rattle.blk_base.specs.declared.place.Mapping.TheVariants.{Unmapped, Zero}
 use Rattle.blk_base.specs.declared.place.ZoneId.TheVariants as id
@@ -24,6 +24,14 @@ begun_phase sizes w (request.Write at bytes false) v is = inl (ap (λ (u : Vio).
 begun_phase sizes w (request.Discard at) v is = inl (ap (λ (u : Vio). u.phase) (sym (same_Some _ _ is)))
 begun_phase sizes w request.Flush v is = inr (ap (λ (u : Vio). u.phase) (sym (same_Some _ _ is)))
 begun_phase sizes w other v is = absurd cc
+
+-- and makes no page
+pub begun_page : (sizes : Sizes) (w : Writer) (r : Request) (v : Vio) → vio_of sizes w r ≡ Some v → v.page ≡ None
+begun_page sizes w (request.Read at) v is = ap (λ (u : Vio). u.page) (sym (same_Some _ _ is))
+begun_page sizes w (request.Write at bytes false) v is = ap (λ (u : Vio). u.page) (sym (same_Some _ _ is))
+begun_page sizes w (request.Discard at) v is = ap (λ (u : Vio). u.page) (sym (same_Some _ _ is))
+begun_page sizes w request.Flush v is = ap (λ (u : Vio). u.page) (sym (same_Some _ _ is))
+begun_page sizes w other v is = absurd cc
 
 -- what is posted for a request that goes on with the lock of its address, by a fact of each post that it may be
 pub goes_by : (P : Post → Type 0) (sizes : Sizes) (l : LogicalZone) (v : Vio) (post : Post) → goes_on sizes l v ≡ Some post

@@ -1,6 +1,6 @@
 -- A stop before or after any call of a right trace is right.
 use Rattle.std.proofs.Common.{ℕ, min, drop, length-drop, length-take, ◌+◌, ◌-◌, ◌≡◌, ◌⊎◌, ◌<◌, false, List, [], ◌∷◌, ◌++◌, length, refl, ◌∙◌, ap, inl, inr, arith, ◌≤◌, Bool, true, sym, subst, append_assoc, IsSome}
-use Rattle.core_laws.proofs.Common.{all_of, AllByRecursion, answer_of, append-nil, AreAllThere, AtRest, begun, Call, calls, Calls, ComesLast, committed, DeskLine, done, each_both, entered, entries_of, every-append, every-front, every-map, fair_part, filled, FlushMark, HasBlocks, HasWholeBlocks, HistoryEntry, IsFair, IsSession, IsWrite, lines, log, Logged, Remapping, Mapping, MapStands, Mark, marks, newest, NewStands, of_address, OnBlock, OnItsWay, places, request_at, RightTrace, RunReport, same_self, sealed, Session, Shown, Stands, Trace, value_from, value_written, Writer, content_of, new_of, journaled, durable, remappings, passed}
+use Rattle.core_laws.proofs.Common.{all_of, AllByRecursion, answer_of, append-nil, AreAllThere, AtRest, begun, Call, calls, Calls, ComesLast, committed, DeskLine, done, each_both, entered, entries_of, every-append, every-front, every-map, fair_part, filled, FlushMark, HasBlocks, HasWholeBlocks, HistoryEntry, IsFair, IsSession, IsWrite, lines, log, Logged, Remapping, Mapping, MapStands, Mark, marks, newest, NewStands, of_address, OnBlock, OnItsWay, PagesStand, places, request_at, RightTrace, RunReport, same_self, sealed, Session, Shown, Stands, Trace, value_from, value_written, Writer, content_of, new_of, journaled, durable, remappings, passed}
 use Rattle.core_laws.proofs.trace.PassesOfTrace.{entered_at_both, entered_once, has_either, value_past}
 use Rattle.blk_base.specs.declared.place.Mapping.TheVariants.{Unmapped, Zero, At}
 use Rattle.disk_model.specs.Images.{IsImage}
@@ -24,7 +24,7 @@ use Rattle.core_laws.proofs.trace.Cuts.{Cut, cut, cut_before_call, lines_append,
 use Rattle.core_laws.proofs.trace.DeskOfTrace.{AreApart, both_parts, entered_apart, of_address_append, shown_of, each_of_address, entered_writes, HasData, AreData, entered_data}
 use Rattle.core_laws.proofs.trace.HistoriesOfTrace.{entered_walks, settled_walks}
 use Rattle.core_laws.proofs.trace.MarksOfTrace.{HasMark, all_marks}
-use Rattle.core_laws.proofs.kept.StandsOn.{entered_parts, map_more}
+use Rattle.core_laws.proofs.kept.StandsOn.{entered_parts, map_more, pages_more}
 use Rattle.core_laws.proofs.kept.Spared.{mapping_by}
 use Rattle.core_laws.proofs.trace.ZeroWrites.{zeros_by}
 use Rattle.image_model.specs.Windows.{IsWindow}
@@ -56,6 +56,7 @@ pub record ImageEntries (s : Session) (u : Trace) (image : Blocks) : Type 0 wher
   pub has_committed : es ≡ fewer ++ durable u
   pub window : HasWindow s image es
   pub stand : MapStands s u es
+  pub pages : PagesStand s u es
 
 -- the newer and the older of some entries
 pub record FrontOf (es : List Logged) : Type 0 where
@@ -130,6 +131,7 @@ module _ (s : Session) (u : Trace) (image : Blocks) (session : IsSession s) (fai
     has_committed = k.all;
     window = rest_window (sealed u) k.stands;
     stand = k.stands.1;
+    pages = k.stands.2;
   }
 
   comes_last : (k : ComesLast s u) → AtRest s u k.older ⊎ OnItsWay s u k.older k.block → ImageEntries s u image
@@ -138,8 +140,8 @@ module _ (s : Session) (u : Trace) (image : Blocks) (session : IsSession s) (fai
       parts : journaled u ≡ filled u ++ (k.block ++ all_of k.older)
       parts = entered_parts u ∙ ap (λ (all : List (List Logged)). filled u ++ all_of all) k.sealed_is
 
-      old_entries : HasWindow s image (all_of k.older) → MapStands s u (all_of k.older) → ImageEntries s u image
-      old_entries window stand = record {
+      old_entries : HasWindow s image (all_of k.older) → MapStands s u (all_of k.older) → PagesStand s u (all_of k.older) → ImageEntries s u image
+      old_entries window stand pages = record {
         es = all_of k.older;
         more = filled u ++ k.block;
         fewer = [];
@@ -147,23 +149,29 @@ module _ (s : Session) (u : Trace) (image : Blocks) (session : IsSession s) (fai
         has_committed = sym k.committed_is;
         window = window;
         stand = stand;
+        pages = pages;
       }
 
+      -- what the entries of the first sectors map their addresses to
+      new_stands : OnItsWay s u k.older k.block → (part : FrontOf k.block) → NewStands s u part.older
+      new_stands way part = (every-front (λ (e : Logged). OnBlock (λ x. Stands s u x.0 (content_of s e)) (new_of e)) part.newer part.older (subst (NewStands s u) part.parts way.3)).1
+
       by : AtRest s u k.older ⊎ OnItsWay s u k.older k.block → ImageEntries s u image
-      by (inl rest) = old_entries (rest_window k.older rest) rest.1
+      by (inl rest) = old_entries (rest_window k.older rest) rest.1 rest.2
       by (inr way) = elim (coming_window k.older k.block way) [
-        | inl old ↦ old_entries old way.1
-        | inr (part, window) ↦ record {
-          es = part.older ++ all_of k.older;
-          more = filled u ++ part.newer;
-          fewer = part.older;
-          of_entered = parts ∙ ap (λ (es : List Logged). filled u ++ (es ++ all_of k.older)) part.parts ∙ ap (λ (es : List Logged). filled u ++ es) (append_assoc part.newer part.older (all_of k.older))
-              ∙ sym (append_assoc (filled u) part.newer (part.older ++ all_of k.older));
-          has_committed = ap (λ (es : List Logged). part.older ++ es) (sym k.committed_is);
-          window = window;
-          stand = map_more s u part.older (all_of k.older) way.1
-              (every-front (λ (e : Logged). OnBlock (λ x. Stands s u x.0 (content_of s e)) (new_of e)) part.newer part.older (subst (NewStands s u) part.parts way.2)).1;
-        }
+        | inl old ↦ old_entries old way.1 way.2
+        | inr (part, window) ↦
+            let stands = new_stands way part in record {
+              es = part.older ++ all_of k.older;
+              more = filled u ++ part.newer;
+              fewer = part.older;
+              of_entered = parts ∙ ap (λ (es : List Logged). filled u ++ (es ++ all_of k.older)) part.parts ∙ ap (λ (es : List Logged). filled u ++ es) (append_assoc part.newer part.older (all_of k.older))
+                  ∙ sym (append_assoc (filled u) part.newer (part.older ++ all_of k.older));
+              has_committed = ap (λ (es : List Logged). part.older ++ es) (sym k.committed_is);
+              window = window;
+              stand = map_more s u part.older (all_of k.older) way.1 stands;
+              pages = pages_more s u part.older (all_of k.older) way.2 stands;
+            }
       ]
 
   journal_entries : AreAllThere s u ⊎ ComesLast s u → ImageEntries s u image

@@ -1,5 +1,5 @@
 -- Why a request may be answered: for each answer a trace that has its cause, and for each part of the cause one that lacks it.
-use Rattle.std.proofs.Common.{ℕ, ◌≡◌, true, false, List, [], ◌∷◌, refl, ap, inl, inr, arith}
+use Rattle.std.proofs.Common.{ℕ, ◌≡◌, ◌+◌, ◌<◌, zero, suc, Bool, true, false, if◌then◌else◌, None, Some, IsSome, List, [], ◌∷◌, refl, ap, inl, inr, arith}
 use Rattle.std.proofs.lemmas.Option.{same_Some}
 use Rattle.blk_base.specs.Sectors.{zero_block}
 use Rattle.blk_base.specs.declared.place.Mapping.TheVariants.{Unmapped}
@@ -10,9 +10,15 @@ use Rattle.blk_base.specs.declared.request.Writer.{Writer}
 use Rattle.blk_base.specs.declared.request.Request.{Request}
 use Rattle.disk_model.specs.declared.call.Call.TheVariants.{Read, Flush}
 use Rattle.vdo_model.specs.declared.report.DeskLine.TheVariants.{Begin}
-use Rattle.data_vio.specs.declared.logged.Logged.TheVariants.{Remaps}
-use Rattle.core_model.specs.RightTraces.{HasCause, MayAnswer}
-use Rattle.core_model.specs.Trace.{Gift, Says, Gives, Takes, Aborts, Fails, Trace}
+use Rattle.blk_base.specs.declared.journal_entry.Entry.TheVariants as held
+use Rattle.blk_base.specs.declared.place.Pbn.{Pbn}
+use Rattle.image_model.specs.Pages.{is_page, page_above}
+use Rattle.data_vio.specs.declared.logged.Logged.{Logged}
+use Rattle.data_vio.specs.declared.logged.Logged.TheVariants.{Remaps, Makes}
+use Rattle.core_model.specs.PageLinks.{IsThere, Lacks, page_in}
+use Rattle.core_model.specs.Sessions.{Session}
+use Rattle.core_model.specs.RightTraces.{HasCause, HasNoPage, MayAnswer}
+use Rattle.core_model.specs.Trace.{Gift, Says, Gives, Takes, Aborts, Fails, Trace, applied}
 use Rattle.core_model.proofs.rows.WorkedTraces.{address, block, x, y, first, reader, second, other, late, flush, session, begun, took, handed_in, lasting, set, stopped, entry, of_first, of_other, given, in_block, one_not_zeros}
 
 -- a read of an address, and a write of it
@@ -143,29 +149,56 @@ at_once_of_a_write may = may.1.behind
 full_journal : Writes in_block second 0 Full
 full_journal = (refl, refl, inl (omega arith))
 
-full_blocks : Writes (Takes other (block 86) ∷ took) second 0 Full
-full_blocks = (refl, refl, inr (record { not_zeros = one_not_zeros; none_taken = refl }, omega arith))
+full_blocks : Writes (Takes other None (block 86) ∷ took) second 0 Full
+full_blocks = (refl, refl, inr (inl (record { not_zeros = one_not_zeros; none_taken = refl }, omega arith)))
 
--- not by the block that it took itself, nor for zeros, which need none
-full_of_its_own : Writes (Takes second (block 86) ∷ took) first 0 Full → ⊥
+-- or where its leaf wasn't there at a moment when both were
+full_of_pages : HasNoPage session (Says (Begin flush) ∷ (Takes other None (block 86) ∷ took)) second 0
+full_of_pages = record { newer = Says (Begin flush) ∷ []; older = Takes other None (block 86) ∷ took; moment = refl; placed = refl; lacking = (0, omega arith, no_leaf); all_taken = omega arith }
+  where
+    no_leaf : IsThere 2 [] [] (page_above 0 0) → ⊥
+    no_leaf (inl level) = omega (arith, level)
+    no_leaf (inr some) = absurd cc
+
+-- the block that it took itself isn't why, nor is one for zeros, which need none: in a session where the leaves are there
+abbrev leafy : Session
+leafy = record session { window = held.NewPage (page_above 0 0) (block 79) ∷ held.NewPage (page_above 0 812) (block 80) ∷ [] }
+
+has_leaf : (es : List Logged) → IsSome (page_in 2 leafy.window es (page_above 0 0))
+has_leaf [] = refl
+has_leaf (Remaps e ∷ es) = has_leaf es
+has_leaf (Makes p ∷ es) = by (is_page p.page (page_above 0 0)) (has_leaf es)
+  where
+    by : (b : Bool) → IsSome (page_in 2 leafy.window es (page_above 0 0)) → IsSome (if b then Some p.at else page_in 2 leafy.window es (page_above 0 0))
+    by true some = refl
+    by false some = some
+
+lacks_nothing : (es : List Logged) → Lacks 2 leafy.window es 0 → ⊥
+lacks_nothing es (zero, low, lacks) = lacks (inr (has_leaf es))
+lacks_nothing es (suc n, low, lacks) = absurd (omega (arith, low))
+
+full_of_its_own : HasCause leafy (Takes second None (block 86) ∷ took) first (request.Write (address 0) x false) Full → ⊥
 full_of_its_own may = elim may.2 [
   | inl journal ↦ absurd (omega (arith, journal))
-  | inr blocks ↦ let none = blocks.0.none_taken in absurd cc
+  | inr (inl blocks) ↦ let none = blocks.0.none_taken in absurd cc
+  | inr (inr page) ↦ lacks_nothing (applied page.older) page.lacking
 ]
 
-full_for_zeros : HasCause session (Takes other (block 86) ∷ took) second (request.Write (address 0) zero_block false) Full → ⊥
+full_for_zeros : HasCause leafy (Takes other None (block 86) ∷ took) second (request.Write (address 0) zero_block false) Full → ⊥
 full_for_zeros may = elim may.2 [
   | inl journal ↦ absurd (omega (arith, journal))
-  | inr blocks ↦ absurd (blocks.0.not_zeros refl)
+  | inr (inl blocks) ↦ absurd (blocks.0.not_zeros refl)
+  | inr (inr page) ↦ lacks_nothing (applied page.older) page.lacking
 ]
 
-full_with_a_place : Writes (Takes second (block 86) ∷ took) late 0 Full → ⊥
+full_with_a_place : Writes (Takes second None (block 86) ∷ took) late 0 Full → ⊥
 full_with_a_place may = let placed = may.0 in absurd cc
 
-full_with_room : Writes took second 0 Full → ⊥
+full_with_room : HasCause leafy took second (request.Write (address 0) x false) Full → ⊥
 full_with_room may = elim may.2 [
   | inl journal ↦ absurd (omega (arith, journal))
-  | inr blocks ↦ let all = blocks.1 in absurd (omega (arith, all))
+  | inr (inl blocks) ↦ let all = blocks.1 in absurd (omega (arith, all))
+  | inr (inr page) ↦ lacks_nothing (applied page.older) page.lacking
 ]
 
 full_before_it_enters : Writes handed_in first 0 Full → ⊥
@@ -222,7 +255,7 @@ discard_full = (refl, refl, omega arith)
 discard_full_with_a_place : Discards handed_in late 0 Full → ⊥
 discard_full_with_a_place may = let placed = may.0 in absurd cc
 
-discard_full_of_blocks : Discards (Takes second (block 86) ∷ took) first 0 Full → ⊥
+discard_full_of_blocks : Discards (Takes second None (block 86) ∷ took) first 0 Full → ⊥
 discard_full_of_blocks may = let journal = may.2 in absurd (omega (arith, journal))
 
 discard_full_before_it_enters : Discards handed_in first 0 Full → ⊥

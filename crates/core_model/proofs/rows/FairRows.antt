@@ -10,7 +10,7 @@ use Rattle.disk_model.specs.declared.call.Call.TheVariants.{Read, Write, Flush}
 use Rattle.data_vio.specs.declared.items.Phase.TheVariants as phase
 use Rattle.data_vio.specs.declared.items.Stage.TheVariants as stage
 use Rattle.data_vio.specs.declared.items.Vio.{Vio}
-use Rattle.core_model.specs.Facts.{Carries, Holds, IsSealed, Looks, RestsAt, StandsAt}
+use Rattle.core_model.specs.Facts.{CarriesOwn, Holds, IsSealed, Looks, RestsAt, StandsAt}
 use Rattle.core_model.specs.Legal.{Legal}
 use Rattle.core_model.specs.RightTraces.{GivesRight, MapsTo, MayFollow, RightTrace}
 use Rattle.core_model.specs.Sessions.{AtRest, HasNoneLeft, HasWholeBlocks, IsAsOpened, IsFair, IsFresh, IsSession, NewReads, NewStands, OnBlock, OnItsWay, ReadsAs, ReadsBlock, Session, Shown, value_at}
@@ -88,20 +88,20 @@ right-not_by_what_may_not_follow s h t never right = never right.0
 
 -- Carries: a request that goes to the journal owes that its block is fresh, and what a read of it gives where that is fair
 module _ (s : Session) (t : Trace) (v : Vio) where
-  enter-with_nothing_read : (IsFair s t → ⊥) → Holds s t v → MapsTo v.asks v.bytes v.new → OnBlock (IsFresh s) v.new → Carries s t v phase.Enter
+  enter-with_nothing_read : (IsFair s t → ⊥) → Holds s t v → MapsTo v.asks v.bytes v.new → OnBlock (IsFresh s) v.new → CarriesOwn s t v phase.Enter
   enter-with_nothing_read unfair holds maps fresh = (holds, maps, fresh, λ fair. absurd (unfair fair))
 
-  enter-not_without_its_data : IsFair s t → (OnBlock (λ x. ReadsAs s t x.0 v.bytes) v.new → ⊥) → Carries s t v phase.Enter → ⊥
+  enter-not_without_its_data : IsFair s t → (OnBlock (λ x. ReadsAs s t x.0 v.bytes) v.new → ⊥) → CarriesOwn s t v phase.Enter → ⊥
   enter-not_without_its_data fair lost carries = lost (carries.3 fair)
 
-  enter-not_to_a_taken_block : (OnBlock (IsFresh s) v.new → ⊥) → Carries s t v phase.Enter → ⊥
+  enter-not_to_a_taken_block : (OnBlock (IsFresh s) v.new → ⊥) → CarriesOwn s t v phase.Enter → ⊥
   enter-not_to_a_taken_block taken carries = taken carries.2
 
   -- a read that got its bytes has its value where that is fair
-  loaded-with_any_bytes : (IsFair s t → ⊥) → Looks s t v → Carries s t v phase.Loaded
+  loaded-with_any_bytes : (IsFair s t → ⊥) → Looks s t v → CarriesOwn s t v phase.Loaded
   loaded-with_any_bytes unfair looks = (looks, λ fair. absurd (unfair fair))
 
-  loaded-not_with_a_wrong_value : IsFair s t → v.bytes ≢ value_at s t v.at.0 → Carries s t v phase.Loaded → ⊥
+  loaded-not_with_a_wrong_value : IsFair s t → v.bytes ≢ value_at s t v.at.0 → CarriesOwn s t v phase.Loaded → ⊥
   loaded-not_with_a_wrong_value fair wrong carries = wrong (carries.1 fair)
 
 -- StandsAt: at each stage the block is sealed, or its entries are those that aren't committed, and the rest is owed where that

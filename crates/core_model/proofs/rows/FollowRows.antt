@@ -1,5 +1,5 @@
 -- Which happening may follow: for each one a trace that it may follow, and for each of its conditions one that breaks it.
-use Rattle.std.proofs.Common.{ℕ, zero, suc, length-append, ◌≡◌, true, false, List, [], ◌∷◌, ◌++◌, Some, length, refl, ap, sym, subst, arith}
+use Rattle.std.proofs.Common.{None, ℕ, zero, suc, length-append, ◌≡◌, true, false, List, [], ◌∷◌, ◌++◌, Some, length, refl, ap, sym, subst, inl, inr, arith}
 use Rattle.std.proofs.lemmas.Option.{same_Some}
 use Rattle.blk_base.specs.Sectors.{zero_block}
 use Rattle.blk_base.specs.declared.place.Mapping.{Mapping}
@@ -10,10 +10,12 @@ use Rattle.blk_base.specs.declared.request.Request.TheVariants as request
 use Rattle.disk_model.specs.declared.call.Call.TheVariants.{Read, Write, Flush}
 use Rattle.vdo_model.specs.FlushMarks.{Moment, Desk, Device}
 use Rattle.vdo_model.specs.declared.report.DeskLine.TheVariants.{Begin, Answer}
-use Rattle.data_vio.specs.declared.logged.Logged.TheVariants.{Remaps}
+use Rattle.blk_base.specs.declared.place.PageId.{PageId}
+use Rattle.data_vio.specs.declared.logged.Logged.TheVariants.{Remaps, Makes}
 use Rattle.data_vio.specs.declared.items.Asks.{Asks}
 use Rattle.data_vio.specs.declared.items.Asks.TheVariants as asks
-use Rattle.core_model.specs.RightTraces.{MapsTo, MayAnswer, MayFollow, StopsAtFailure}
+use Rattle.core_model.specs.PageLinks.{MayLack}
+use Rattle.core_model.specs.RightTraces.{MapsTo, MayAnswer, MayFollow, NeedsPage, StopsAtFailure}
 use Rattle.core_model.specs.Sessions.{Session}
 use Rattle.data_vio.specs.Vios.{asked}
 use Rattle.data_vio.specs.declared.logged.Logged.{Logged}
@@ -121,27 +123,53 @@ draws_before_it_enters : May (Draws (place first 0 0)) (Enters (Remaps of_first)
 draws_before_it_enters may = let no = may.not_entered in absurd cc
 
 -- A write that isn't of zeros takes the next free data block, and one alone.
-takes : May (Takes second (block 86)) took
+takes : May (Takes second None (block 86)) took
 takes = record { is_open = record { is_begun = omega arith; unanswered = refl }; asked = (address 0, y, refl, record { not_zeros = two_not_zeros; none_taken = refl }); next = refl }
 
-takes_one_alone : May (Takes first (block 86)) took → ⊥
+takes_one_alone : May (Takes first None (block 86)) took → ⊥
 takes_one_alone may = let none = may.asked.3.none_taken in absurd cc
 
-takes_none_for_zeros : MayFollow (session_of (request.Write (address 0) zero_block false)) (Takes first (block 85)) begun → ⊥
+takes_none_for_zeros : MayFollow (session_of (request.Write (address 0) zero_block false)) (Takes first None (block 85)) begun → ⊥
 takes_none_for_zeros may =
     let asked : request.Write (address 0) zero_block false ≡ request.Write may.asked.0 may.asked.1 false = same_Some _ _ may.asked.2 in
     absurd (may.asked.3.not_zeros (sym (ap bytes_in asked)))
 
-takes_while_open : May (Takes second (block 86)) (Says (Answer second Stopped) ∷ took) → ⊥
+-- or for a page that it lacks, while the one above it is there, and no entry puts it anywhere
+abbrev leaf : PageId
+leaf = record { tree = 0; level = 0; index = 0 }
+
+abbrev made : Logged
+made = Makes (record { request = first; page = leaf; at = block 85 })
+
+needs_page : NeedsPage roomy took second leaf
+needs_page = record { lacked = (request.Write (address 0) y false, refl, (refl, omega arith)); up = inl refl; unmade = refl }
+
+takes_for_a_page : May (Takes second (Some leaf) (block 86)) took
+takes_for_a_page = record { is_open = record { is_begun = omega arith; unanswered = refl }; asked = needs_page; next = refl }
+
+takes_for_what_it_lacks : NeedsPage roomy took second (record leaf { tree = 1 }) → ⊥
+takes_for_what_it_lacks needs =
+    let asked : request.Write (address 0) y false ≡ needs.lacked.0 = same_Some _ _ needs.lacked.1 in
+    let lacked = subst (λ (r : Request). MayLack 2 r (record leaf { tree = 1 })) (sym asked) needs.lacked.2 in
+    let tree : 1 ≡ 0 = ap (λ (p : PageId). p.tree) lacked.0 in
+    absurd (omega (arith, tree))
+
+takes_below_what_is_there : NeedsPage (record roomy { sizes = record roomy.sizes { geometry = record roomy.sizes.geometry { height = 3 } } }) took second leaf → ⊥
+takes_below_what_is_there needs = elim needs.up [ inl level ↦ absurd (omega (arith, level)) | inr some ↦ absurd cc ]
+
+takes_for_no_page_twice : NeedsPage roomy (Enters made ∷ took) second leaf → ⊥
+takes_for_no_page_twice needs = let no = needs.unmade in absurd cc
+
+takes_while_open : May (Takes second None (block 86)) (Says (Answer second Stopped) ∷ took) → ⊥
 takes_while_open may = let no = may.is_open.unanswered in absurd cc
 
-takes_for_a_write : May (Takes reader (block 86)) took → ⊥
+takes_for_a_write : May (Takes reader None (block 86)) took → ⊥
 takes_for_a_write may = let asked = may.asked.2 in absurd cc
 
-takes_no_block_twice : May (Takes second (block 85)) took → ⊥
+takes_no_block_twice : May (Takes second None (block 85)) took → ⊥
 takes_no_block_twice may = let next : 86 ≡ 85 = ap (λ b. b.0) (same_Some _ _ may.next) in absurd (omega (arith, next))
 
-takes_no_block_beyond : May (Takes other (block 87)) (Takes second (block 86) ∷ took) → ⊥
+takes_no_block_beyond : May (Takes other None (block 87)) (Takes second None (block 86) ∷ took) → ⊥
 takes_no_block_beyond may = let next = may.next in absurd cc
 
 -- An entry is handed in once, of a write that has its place; those of its address are done, nothing at its address has a later

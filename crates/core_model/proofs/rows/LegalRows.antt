@@ -14,7 +14,10 @@ use Rattle.core_model.specs.JournalRules.{HasNext, IsSealable}
 use Rattle.core_model.specs.Legal.{ComesAfter, Legal, share}
 use Rattle.core_model.specs.Steps.{Core}
 use Rattle.core_model.specs.Trace.{Says, Trace}
-use Rattle.core_model.proofs.rows.PhaseRows.{device, desk, empty_log, journal, lock, log_with, logical, of_write, physical, vio}
+use Rattle.blk_base.specs.declared.place.PageId.{PageId}
+use Rattle.core_model.specs.declared.zones.ZoneData.TheVariants as at
+use Rattle.core_model.proofs.rows.PageActRows.{leaf}
+use Rattle.core_model.proofs.rows.PhaseRows.{leafy, device, desk, empty_log, journal, lock, log_with, logical, of_write, physical, vio}
 use Rattle.core_model.proofs.rows.WorkedTraces.{begun, block, first, of_first, place, reader, second, session}
 use Rattle.recovery_journal.specs.Log.{placed}
 
@@ -48,6 +51,30 @@ twice = core (record (zone 0 (desk (line.Begin first ∷ []) [] 0 [])) { ports =
 
 request_doubled : ¬ Legal session twice
 request_doubled = λ legal. omega (arith, legal.requests first)
+
+-- making, dropped: a page is made by nobody; and one is never linked of which no entry was handed in
+abbrev with_pages : List PageId → List PageId → Core
+with_pages making unlinkable = core (zone 1 (at.Logical (record {
+  zone = 0;
+  notified = false;
+  next = 0;
+  places = [];
+  held = [];
+  waiting = [];
+  retired = [];
+  tree = leafy;
+  making = making;
+  lacking = [];
+  unlinkable = unlinkable;
+  window = [];
+  slots = [];
+})) ∷ []) []
+
+page_unmade : ¬ Legal session (with_pages (leaf ∷ []) [])
+page_unmade = λ legal. omega (arith, legal.making leaf)
+
+page_dropped : ¬ Legal session (with_pages [] (leaf ∷ []))
+page_dropped = λ legal. omega (arith, legal.dropped)
 
 -- leases, holders: a lock is held by nobody; or by a request with another place
 abbrev unheld : Core

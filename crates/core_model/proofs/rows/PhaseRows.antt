@@ -48,13 +48,13 @@ use Rattle.recovery_journal.specs.Log.{Log, placed, point_at}
 use Rattle.core_model.proofs.rows.BeginRows.{one_busy, two_busy, past_one, past_two}
 use Rattle.core_model.proofs.rows.WorkedTraces.{address, block, x, y, script, first, reader, other, flush, sizes, place, of_first, of_second, given}
 
-abbrev Acts : ZoneData → List Item → ZoneData → Trace → List Post → Type 0
+abbrev pub Acts : ZoneData → List Item → ZoneData → Trace → List Post → Type 0
 Acts = Act sizes
 
 -- a request of address 0, which is in logical zone 0
 abbrev pub vio : Writer → Asks → Phase → ℕ → Vio
 vio w what now n =
-    record { request = w; asks = what; at = address 0; home = id.Logical 0; phase = now; bytes = x; place = n; old = Unmapped; latest = None; new = Unmapped; answer = None; calls = 0 }
+    record { request = w; asks = what; at = address 0; home = id.Logical 0; phase = now; page = None; bytes = x; place = n; old = Unmapped; latest = None; new = Unmapped; answer = None; calls = 0 }
 
 -- the first write, once it has its block; the reader, and as it is once it knows that block
 abbrev pub writes : Phase → Vio
@@ -66,7 +66,7 @@ reads now = vio reader asks.Read now 2
 abbrev pub finds : Phase → Vio
 finds now = record (reads now) { old = At (block 85); latest = Some of_first }
 
-abbrev answered : Answer → Vio → Vio
+abbrev pub answered : Answer → Vio → Vio
 answered answer v = record v { answer = Some answer }
 
 -- the desk: its log and its marks, how many stop notices have come, and who waits for them
@@ -86,19 +86,19 @@ discards = (request.Discard (address 0) ∷ []) ∷ []
 -- logical zone 0: its next place and its places, its locks and who waits for one, the retired addresses, and the slots that are set
 abbrev pub logical_over : Tree → ℕ → List Placed → List Lock → List Vio → List Lba → List Remapping → ZoneData
 logical_over tree next places held waiting retired slots =
-    at.Logical (record { zone = 0; notified = false; next = next; places = places; held = held; waiting = waiting; retired = retired; tree = tree; window = []; slots = slots })
+    at.Logical (record { zone = 0; notified = false; next = next; places = places; held = held; waiting = waiting; retired = retired; tree = tree; making = []; lacking = []; unlinkable = []; window = []; slots = slots })
 
 -- its trees: the root of the first leads to the leaf of address 0; or to no leaf
-abbrev tree_with : List Mapping → Tree
+abbrev pub tree_with : List Mapping → Tree
 tree_with slots = record { forest = record { geometry = sizes.geometry; zone = 0; zones = sizes.zones }; pages = slots ∷ []; marks = [] }
 
-abbrev leafy : Tree
+abbrev pub leafy : Tree
 leafy = tree_with (At (block 87) ∷ [])
 
 abbrev pub logical : ℕ → List Placed → List Lock → List Vio → List Lba → List Remapping → ZoneData
 logical = logical_over leafy
 
-has_path : (slots : List Mapping) → HasPath (tree_with slots) 0
+pub has_path : (slots : List Mapping) → HasPath (tree_with slots) 0
 has_path slots = record { inside = omega arith; own = record { inside = omega arith; own = refl } }
 
 abbrev pub lock : ℕ → Lock
@@ -217,14 +217,14 @@ arrives_retired = serves (LogicalServes.arrives_retired refl refl refl refl refl
 -- Look: a write claims a block, but for one of zeros, a discard hands in its entry, or passes where it has no leaf, a read goes to
 -- the block that is mapped, or has zeros
 looks_to_write : Acts (logical 1 [] (lock 0 ∷ []) [] [] []) (Request (vio first asks.Write phase.Look 0) ∷ []) (logical 1 [] (lock 0 ∷ []) [] [] []) [] ((id.Physical 0, Request (vio first asks.Write phase.Claim 0)) ∷ [])
-looks_to_write = serves (LogicalServes.looks _ refl (has_path _) refl refl refl refl refl)
+looks_to_write = serves (LogicalServes.looks _ refl (has_path _) refl refl refl refl refl refl)
 
 looks_to_write_zeros : Acts (logical 1 [] (lock 0 ∷ []) [] [] []) (Request (record (vio first asks.Write phase.Look 0) { bytes = 0 ∷ 0 ∷ [] }) ∷ []) (logical 1 [] (lock 0 ∷ []) [] [] []) []
     ((id.Journal, Request (record (vio first asks.Write phase.Enter 0) { bytes = 0 ∷ 0 ∷ []; new = Zero })) ∷ [])
-looks_to_write_zeros = serves (LogicalServes.looks _ refl (has_path _) refl refl refl refl refl)
+looks_to_write_zeros = serves (LogicalServes.looks _ refl (has_path _) refl refl refl refl refl refl)
 
 looks_to_discard : Acts (logical 1 [] (lock 0 ∷ []) [] [] []) (Request (vio first asks.Discard phase.Look 0) ∷ []) (logical 1 [] (lock 0 ∷ []) [] [] []) [] ((id.Journal, Request (vio first asks.Discard phase.Enter 0)) ∷ [])
-looks_to_discard = serves (LogicalServes.looks _ refl (has_path _) refl refl refl refl refl)
+looks_to_discard = serves (LogicalServes.looks _ refl (has_path _) refl refl refl refl refl refl)
 
 looks_past : Acts (logical_over (tree_with []) 1 [] (lock 0 ∷ []) [] [] []) (Request (vio first asks.Discard phase.Look 0) ∷ []) (logical_over (tree_with []) 1 [] [] [] [] []) (Passes pass_of_first ∷ [])
     ((id.Desk, Request (answered reply.Ok (vio first asks.Discard phase.Reply 0))) ∷ [])
@@ -233,16 +233,16 @@ looks_past = serves (LogicalServes.passes refl (has_path _) refl refl refl refl)
 -- but not where something is known of its address: a slot of it was set
 looks_to_discard_again : Acts (logical_over (tree_with []) 1 [] (lock 0 ∷ []) [] [] (of_first ∷ [])) (Request (vio first asks.Discard phase.Look 0) ∷ []) (logical_over (tree_with []) 1 [] (lock 0 ∷ []) [] [] (of_first ∷ [])) []
     ((id.Journal, Request (record (vio first asks.Discard phase.Enter 0) { old = At (block 85); latest = Some of_first; new = Unmapped })) ∷ [])
-looks_to_discard_again = serves (LogicalServes.looks _ refl (has_path _) refl refl refl refl refl)
+looks_to_discard_again = serves (LogicalServes.looks _ refl (has_path _) refl refl refl refl refl refl)
 
 looks_to_read : Acts (logical 3 [] (lock 2 ∷ []) [] [] (of_first ∷ [])) (Request (reads phase.Look) ∷ []) (logical 3 [] (lock 2 ∷ []) [] [] (of_first ∷ [])) [] ((id.Device, Request (finds phase.Load)) ∷ [])
-looks_to_read = serves (LogicalServes.looks _ refl (has_path _) refl refl refl refl refl)
+looks_to_read = serves (LogicalServes.looks _ refl (has_path _) refl refl refl refl refl refl)
 
 looks_to_read_zeros : Acts (logical 3 [] (lock 2 ∷ []) [] [] []) (Request (reads phase.Look) ∷ []) (logical 3 [] (lock 2 ∷ []) [] [] []) [] ((id.Logical 0, Request (record (reads phase.Loaded) { bytes = zero_block })) ∷ [])
-looks_to_read_zeros = serves (LogicalServes.looks _ refl (has_path _) refl refl refl refl refl)
+looks_to_read_zeros = serves (LogicalServes.looks _ refl (has_path _) refl refl refl refl refl refl)
 
 -- Claim: the next free block, or none
-claims : Acts (physical (block 85 ∷ block 86 ∷ [])) (Request (vio first asks.Write phase.Claim 0) ∷ []) (physical (block 86 ∷ [])) (Takes first (block 85) ∷ []) ((id.Device, Request (writes phase.Store)) ∷ [])
+claims : Acts (physical (block 85 ∷ block 86 ∷ [])) (Request (vio first asks.Write phase.Claim 0) ∷ []) (physical (block 86 ∷ [])) (Takes first None (block 85) ∷ []) ((id.Device, Request (writes phase.Store)) ∷ [])
 claims = takes (PhysicalServes.claims (block 85) (block 86 ∷ []) refl refl refl refl refl)
 
 claims_none : Acts (physical []) (Request (vio first asks.Write phase.Claim 0) ∷ []) (physical []) [] ((id.Logical 0, Request (answered reply.Full (vio first asks.Write phase.Abort 0))) ∷ [])
@@ -316,7 +316,7 @@ fails = ends (JournalEnds.fails refl refl refl refl)
 -- Settle: the slot is set, and the lock goes to the reader
 settles : Acts (logical 3 [] (lock 0 ∷ []) (reads phase.Wait ∷ []) [] []) (Request (writes phase.Settle) ∷ []) (logical 3 [] (lock 2 ∷ []) [] [] (of_first ∷ [])) (Sets (Remaps of_first) ∷ [])
     ((id.Desk, Request (answered reply.Ok (writes phase.Reply))) ∷ (id.Logical 0, Request (reads phase.Look)) ∷ [])
-settles = serves (LogicalServes.settles refl refl refl refl)
+settles = serves (LogicalServes.settles refl refl refl refl refl)
 
 -- Load: the block is read, or not
 loads : Acts (device true 6) (Request (finds phase.Load) ∷ []) (device true 7) (Calls (Read (block 85) y true) ∷ []) ((id.Logical 0, Request (record (finds phase.Loaded) { bytes = y })) ∷ [])
@@ -339,11 +339,11 @@ aborts_entered_claim = takes (PhysicalServes.aborts_entered_claim refl refl refl
 -- Abort: the lock goes to the reader; AbortEntered: the address is retired, and the reader is stopped
 aborts : Acts (logical 3 [] (lock 0 ∷ []) (reads phase.Wait ∷ []) [] []) (Request (answered reply.Full (writes phase.Abort)) ∷ []) (logical 3 [] (lock 2 ∷ []) [] [] []) []
     ((id.Desk, Request (answered reply.Full (writes phase.Reply))) ∷ (id.Logical 0, Request (reads phase.Look)) ∷ [])
-aborts = serves (LogicalServes.aborts refl refl refl refl)
+aborts = serves (LogicalServes.aborts refl refl refl refl refl)
 
 aborts_entered : Acts (logical 3 [] (lock 0 ∷ []) (reads phase.Wait ∷ []) [] []) (Request (answered reply.Stopped (writes phase.AbortEntered)) ∷ []) (logical 3 [] [] [] (address 0 ∷ []) []) (Aborts (Remaps of_first) ∷ [])
     ((id.Desk, Request (answered reply.Stopped (writes phase.Reply))) ∷ (id.Desk, Request (answered reply.Stopped (reads phase.Reply))) ∷ [])
-aborts_entered = serves (LogicalServes.aborts_entered refl refl refl refl)
+aborts_entered = serves (LogicalServes.aborts_entered refl refl refl refl refl)
 
 -- Flush: it returns with its mark, or is stopped
 flushes : Acts (device false 9) (Request (vio flush asks.Flush phase.Flush 0) ∷ []) (device false 10) (Calls (Flush true) ∷ [])
@@ -358,7 +358,7 @@ flushes_no_more : Acts (device true 9) (Request (vio flush asks.Flush phase.Flus
 flushes_no_more = calls (DeviceServes.flush_unmade refl refl refl refl refl)
 
 -- (stop notice): it is passed on to the desk; in the journal those that wait are aborted, and no entry is handed in any more
-notifies : Acts (logical 0 [] [] [] [] []) (StopNotice ∷ []) (at.Logical (record { zone = 0; notified = true; next = 0; places = []; held = []; waiting = []; retired = []; tree = leafy; window = []; slots = [] })) []
+notifies : Acts (logical 0 [] [] [] [] []) (StopNotice ∷ []) (at.Logical (record { zone = 0; notified = true; next = 0; places = []; held = []; waiting = []; retired = []; tree = leafy; making = []; lacking = []; unlinkable = []; window = []; slots = [] })) []
     ((id.Desk, StopNotice) ∷ [])
 notifies = serves_notice
 

@@ -1,6 +1,6 @@
 -- A small session of three streams and two zones, and what happens in it: at these the definitions of a right trace are
 -- computed. Its journal takes one block, and two data blocks are free.
-use Rattle.std.proofs.Common.{ℕ, ◌≡◌, ◌≢◌, true, false, List, [], ◌∷◌, length, ap, arith}
+use Rattle.std.proofs.Common.{None, ℕ, ◌≡◌, ◌≢◌, true, false, List, [], ◌∷◌, length, ap, arith}
 use Rattle.std.proofs.lemmas.List.{length-replicate}
 use Rattle.blk_base.specs.Sectors.{zero_block}
 use Rattle.blk_base.specs.declared.place.Lba.{Lba}
@@ -109,7 +109,7 @@ of_other = entry other 812 0 Unmapped 86
 
 -- the first write has its block, hands its entry in, has it sealed in a block and committed, and sets its slot
 abbrev pub took : Trace
-took = Takes first (block 85) ∷ drawn
+took = Takes first None (block 85) ∷ drawn
 
 abbrev pub handed_in : Trace
 handed_in = Enters (Remaps of_first) ∷ took

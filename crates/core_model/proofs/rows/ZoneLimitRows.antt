@@ -7,6 +7,7 @@ use Rattle.data_vio.specs.declared.items.Item.{Item}
 use Rattle.data_vio.specs.declared.items.Item.TheVariants.{StopNotice}
 use Rattle.data_vio.specs.declared.items.Phase.TheVariants as phase
 use Rattle.data_vio.specs.declared.items.Vio.{Vio}
+use Rattle.blk_base.specs.declared.place.PageId.{PageId}
 use Rattle.block_map_tree.specs.Tree.{Tree}
 use Rattle.core_model.specs.declared.zones.DeviceZone.{DeviceZone}
 use Rattle.core_model.specs.JournalData.{JournalZone}
@@ -26,6 +27,9 @@ lock = record { at = address 0; place = 0 }
 abbrev drawn : Placed
 drawn = place first 0 0
 
+abbrev leaf : PageId
+leaf = record { tree = 0; level = 0; index = 0 }
+
 abbrev no_tree : Tree
 no_tree = record { forest = record { geometry = sizes.geometry; zone = 0; zones = 1 }; pages = []; marks = [] }
 
@@ -40,12 +44,20 @@ logical next places held waiting retired slots = record {
   waiting = replicate waiting waits;
   retired = replicate retired (address 0);
   tree = no_tree;
+  making = [];
+  lacking = [];
+  unlinkable = [];
   window = [];
   slots = replicate slots of_first;
 }
 
--- one that made nine steps: nine places at most, 65,536 requests in all, 263 items under way, one entry of each request
-logical_full : IsLogicalWithin 9 (logical 9 65536 263 263 65536 65536)
+-- with its pages: those that are being made, who waits for one, and those that are never linked
+abbrev with_pages : LogicalZone → ℕ → ℕ → ℕ → LogicalZone
+with_pages l making lacking unlinkable = record l { making = replicate making leaf; lacking = replicate lacking waits; unlinkable = replicate unlinkable leaf }
+
+-- one that made nine steps: nine places at most, 65,536 requests in all, 263 items under way, one entry of each request for its
+-- address, and two for pages
+logical_full : IsLogicalWithin 9 (with_pages (logical 9 65536 263 263 65536 65536) 263 263 196608)
 logical_full = record {
   next = omega arith;
   places = omega (arith, length-replicate 65536 drawn);
@@ -53,7 +65,19 @@ logical_full = record {
   waiting = omega (arith, length-replicate 263 waits);
   retired = omega (arith, length-replicate 65536 (address 0));
   slots = omega (arith, length-replicate 65536 of_first);
+  making = omega (arith, length-replicate 263 leaf);
+  lacking = omega (arith, length-replicate 263 waits);
+  unlinkable = omega (arith, length-replicate 196608 leaf);
 }
+
+logical_making : IsLogicalWithin 9 (with_pages (logical 9 65536 263 263 65536 65536) 264 263 196608) → ⊥
+logical_making is = absurd (omega (arith, is.making, length-replicate 264 leaf))
+
+logical_lacking : IsLogicalWithin 9 (with_pages (logical 9 65536 263 263 65536 65536) 263 264 196608) → ⊥
+logical_lacking is = absurd (omega (arith, is.lacking, length-replicate 264 waits))
+
+logical_unlinkable : IsLogicalWithin 9 (with_pages (logical 9 65536 263 263 65536 65536) 263 263 196609) → ⊥
+logical_unlinkable is = absurd (omega (arith, is.unlinkable, length-replicate 196609 leaf))
 
 -- one more of each
 logical_next : IsLogicalWithin 9 (logical 10 65536 263 263 65536 65536) → ⊥

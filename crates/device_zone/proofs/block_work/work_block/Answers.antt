@@ -1,4 +1,4 @@
-use Rattle.std.proofs.Common.{◌≡◌, true, false, [], ◌∷◌, refl, sym, ap, ◌∙◌, rules}
+use Rattle.std.proofs.Common.{false, [], ◌∷◌, refl, ap, ◌∙◌, rules}
 use Rattle.data_vio.specs.declared.items.Stage.{Stage}
 use Rattle.data_vio.specs.Vios.{staged}
 use Rattle.core_model.specs.DeviceRules.DeviceWorks.{makes, fails, unmade}

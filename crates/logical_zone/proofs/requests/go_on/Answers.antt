@@ -10,4 +10,4 @@ unreachable-requires c =
     cc
 
 pub returns : goal.returns
-returns c = looks _ c.requires.phase c.requires.path c.requires.stays (sym c.goes_on.ensures ∙ c.in-Some.is) refl refl c.first.ensures
+returns c = looks _ c.requires.phase c.requires.path c.requires.stays c.requires.leaf (sym c.goes_on.ensures ∙ c.in-Some.is) refl refl c.first.ensures

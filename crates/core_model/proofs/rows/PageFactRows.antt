@@ -1,0 +1,109 @@
+-- What is known of a page that is being made: for each clause a case that it accepts, and one that breaks it alone.
+use Rattle.std.proofs.Common.{◌≡◌, ◌≤◌, Bool, true, false, None, [], ◌∷◌, refl, ap, arith, inl, inr}
+use Rattle.image_model.specs.Pages.{is_page}
+use Rattle.plain_laws.specs.Sums.{bit}
+use Rattle.blk_base.specs.declared.place.PageId.{PageId}
+use Rattle.block_map_tree.specs.Pages.{IsRoot}
+use Rattle.block_map_tree.specs.Tree.{Tree, IsLinkable}
+use Rattle.data_vio.specs.declared.items.Asks.{Asks}
+use Rattle.data_vio.specs.declared.items.Asks.TheVariants as asks
+use Rattle.data_vio.specs.declared.logged.Logged.{Logged}
+use Rattle.data_vio.specs.declared.logged.Logged.TheVariants.{Makes}
+use Rattle.core_model.specs.Facts.{AreUnmade, Awaits, HasPageEntry, HasTurn, IsMaking, PagesOk}
+use Rattle.core_model.specs.PageTrees.{link_at}
+use Rattle.core_model.specs.Sessions.{Session}
+use Rattle.core_model.specs.Trace.{Aborts, Enters, Sets, Trace}
+use Rattle.core_model.proofs.rows.PageActRows.{leaf, looker}
+use Rattle.core_model.proofs.rows.PhaseRows.{leafy, tree_with}
+use Rattle.core_model.proofs.rows.WorkedTraces.{address, block, drawn, first, session, sizes, took, x}
+
+-- another leaf, the root above the first, and trees of three levels
+abbrev other_leaf : PageId
+other_leaf = record { tree = 1; level = 0; index = 0 }
+
+abbrev root : PageId
+root = record { tree = 0; level = 1; index = 0 }
+
+abbrev tall : Session
+tall = record session { sizes = record sizes { geometry = record sizes.geometry { height = 3 } } }
+
+-- IsMaking: a write that has its turn, took no block, and lacks the page, which the one above it may lead to
+abbrev Makes_it : Session → Trace → Asks → PageId → Type 0
+Makes_it s t what page = IsMaking s t first what (address 0) x 0 page
+
+turn : HasTurn session drawn first asks.Write 0 0
+turn = record { is_placed = record { for_block = tt; placed = refl; not_entered = refl }; quiet = record { all_committed = refl; all_done = refl }; below = record { writes = tt; reads = tt } }
+
+makes : Makes_it session drawn asks.Write leaf
+makes = record { turn = turn; is_write = refl; none_taken = refl; lacked = (refl, omega arith); up = inl refl }
+
+makes_in_turn : ¬ Makes_it session [] asks.Write leaf
+makes_in_turn = λ is. let no = is.turn.is_placed.placed in absurd cc
+
+makes_as_a_write : ¬ Makes_it session drawn asks.Discard leaf
+makes_as_a_write = λ is. let no = is.is_write in absurd cc
+
+makes_without_a_block : ¬ Makes_it session took asks.Write leaf
+makes_without_a_block = λ is. let no = is.none_taken in absurd cc
+
+makes_what_it_lacks : ¬ Makes_it session drawn asks.Write other_leaf
+makes_what_it_lacks = λ is. let tree : 1 ≡ 0 = ap (λ (p : PageId). p.tree) is.lacked.0 in omega (arith, tree)
+
+makes_below_what_is_there : ¬ Makes_it tall drawn asks.Write leaf
+makes_below_what_is_there = λ is. elim is.up [ inl level ↦ absurd (omega (arith, level)) | inr some ↦ absurd cc ]
+
+-- HasPageEntry: its entry was handed in, the page isn't linked, and it isn't dropped
+abbrev made : Logged
+made = Makes (record { request = first; page = leaf; at = block 85 })
+
+abbrev entered : Trace
+entered = Enters made ∷ took
+
+has_entry : HasPageEntry session entered made leaf
+has_entry = record { handed_in = (0, omega arith, refl); unlinked = refl; undropped = λ is. omega (arith, is.1) }
+
+entry_handed_in : ¬ HasPageEntry session took made leaf
+entry_handed_in = λ is. let has = is.handed_in in omega (arith, has.1)
+
+entry_unlinked : ¬ HasPageEntry session (Sets made ∷ entered) made leaf
+entry_unlinked = λ is. let no = is.unlinked in absurd cc
+
+entry_undropped : ¬ HasPageEntry session (Aborts made ∷ entered) made leaf
+entry_undropped = λ is. is.undropped (0, omega arith, refl)
+
+-- AreUnmade: no entry was handed in of a page that nobody makes
+unmade : (tree : Tree) → AreUnmade session took tree [] []
+unmade tree = λ page linkable unlinked unmade yet. refl
+
+unmade_before : (tree : Tree) → IsLinkable tree leaf → link_at tree leaf ≡ None → ¬ AreUnmade session entered tree [] []
+unmade_before tree linkable unlinked = λ are. let no = are leaf linkable unlinked refl refl in absurd cc
+
+-- Awaits: it lacks a page, and that is being made
+awaits : Awaits (tree_with []) (leaf ∷ []) looker
+awaits = record { page = leaf; lacked = refl; is_made = refl }
+
+awaits_what_it_lacks : ¬ Awaits leafy (leaf ∷ []) looker
+awaits_what_it_lacks = λ is. let no = is.lacked in absurd cc
+
+awaits_what_is_made : ¬ Awaits (tree_with []) [] looker
+awaits_what_is_made = λ is. let no = is.is_made in absurd cc
+
+bit_most : (b : Bool) → bit b ≤ 1
+bit_most true = omega arith
+bit_most false = omega arith
+
+-- PagesOk: each page may be linked, and is made once; who waits lacks one of these, at home
+made_once : IsLinkable (tree_with []) leaf → PagesOk 0 (tree_with []) (leaf ∷ []) (looker ∷ [])
+made_once linkable = record { linkable = (linkable, tt); once = λ page. omega (arith, bit_most (is_page leaf page)); waits = (awaits, tt); at_home = (refl, tt) }
+
+made_twice : (tree : Tree) → ¬ PagesOk 0 tree (leaf ∷ leaf ∷ []) []
+made_twice tree = λ is. let once = is.once leaf in omega (arith, once)
+
+made_as_a_root : (tree : Tree) → IsRoot tree.forest root → ¬ PagesOk 0 tree (root ∷ []) []
+made_as_a_root tree is_root = λ is. is.linkable.0.lower is_root
+
+waits_for_nothing : ¬ PagesOk 0 (tree_with []) [] (looker ∷ [])
+waits_for_nothing = λ is. awaits_what_is_made is.waits.0
+
+waits_elsewhere : ¬ PagesOk 1 (tree_with []) (leaf ∷ []) (looker ∷ [])
+waits_elsewhere = λ is. let home = is.at_home.0 in absurd cc
