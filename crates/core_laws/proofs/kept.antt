@@ -1,5 +1,6 @@
 pub mod ActKept
 pub mod Arrivals
+pub mod BlockNames
 pub mod Carried
 pub mod Counted
 pub mod NewImages

@@ -1,6 +1,6 @@
 //! The laws of the core that other crates stand on.
 
-ghost use Rattle.std.specs.Prelude.{◌≡◌, ◌<◌, ◌≤◌, ◌+◌, ◌⊎◌, ◌↔◌, ℕ, true, false, length, map, reverse, take, Some, IsSome, List, [], ◌∷◌, slice_get, slice_set, ◌++◌};
+ghost use Rattle.std.specs.Prelude.{◌≡◌, ◌≢◌, ◌<◌, ◌≤◌, ◌+◌, ◌⊎◌, ◌↔◌, ℕ, true, false, length, map, reverse, take, None, Some, IsSome, List, [], ◌∷◌, slice_get, slice_set, ◌++◌};
 ghost use Rattle.std.specs.List.{AllByRecursion};
 ghost use Rattle.blk_base.specs.declared.request.Answer.{Answer};
 ghost use Rattle.blk_base.specs.declared.request.Answer.TheVariants.{Range, Stopped};
@@ -21,7 +21,12 @@ ghost use Rattle.core_model.specs.DeskData.{Desk as DeskData};
 ghost use Rattle.core_model.specs.declared.zones.DeviceZone.{DeviceZone};
 ghost use Rattle.core_model.specs.JournalData.{JournalZone};
 ghost use Rattle.core_model.specs.LogicalData.{LogicalZone};
-ghost use Rattle.data_vio.specs.declared.logged.Logged.TheVariants.{Remaps};
+ghost use Rattle.blk_base.specs.Pages.{above};
+ghost use Rattle.blk_base.specs.declared.place.Mapping.TheVariants.{Unmapped};
+ghost use Rattle.image_model.specs.Pages.{leaf_of};
+ghost use Rattle.core_model.specs.PageLinks.{IsThere, page_in};
+ghost use Rattle.data_vio.specs.declared.logged.NewPage.{NewPage};
+ghost use Rattle.data_vio.specs.declared.logged.Logged.TheVariants.{Makes, Remaps};
 ghost use Rattle.data_vio.specs.declared.logged.Remapping.{Remapping};
 ghost use Rattle.core_model.specs.declared.zones.Zone.{Zone};
 ghost use Rattle.core_model.specs.declared.zones.ZoneData.{ZoneData};
@@ -29,11 +34,11 @@ ghost use Rattle.data_vio.specs.declared.items.Item.{Item};
 ghost use Rattle.data_vio.specs.declared.sizes.Sizes.{Sizes};
 ghost use Rattle.core_model.specs.Legal.{Legal};
 ghost use Rattle.core_model.specs.Reports.{ShowsValues, opening_values, progress_of, report_of};
-ghost use Rattle.core_model.specs.RightTraces.{IsHeldBack, IsWrite, StopsAtFailure};
-ghost use Rattle.core_model.specs.Sessions.{Session, IsFair, IsSession, said_by};
+ghost use Rattle.core_model.specs.RightTraces.{AreElsewhere, IsHeldBack, IsWrite, StopsAtFailure};
+ghost use Rattle.core_model.specs.Sessions.{Session, IsFair, IsSession, OnBlock, said_by};
 ghost use Rattle.core_model.specs.Start.{IsFirst};
 ghost use Rattle.core_model.specs.Steps.{Act, CallsDevice, Core, HasAct, Leads, MayBegin, MoveOf, StepOf, ZoneStep};
-ghost use Rattle.core_model.specs.Trace.{Enters, Trace, aborted, calls, durable, entries_of, entry_of, is_ok, is_read, lines, marks, moments, places};
+ghost use Rattle.core_model.specs.Trace.{Enters, Trace, aborted, calls, durable, entries_of, entry_of, is_ok, is_read, journaled, lines, marks, moments, places};
 ghost use Rattle.core_model.specs.Views.{AreEmptyLanes, PostsBatch, ReceivesBatch, TakesBatch, View, core_of, zones_seen};
 ghost use Rattle.data_vio.specs.Vios.{Post};
 ghost use Rattle.data_vio.specs.Zones.{zone_number};
@@ -125,6 +130,29 @@ pub fn an_entry_says_what_it_replaces()
     ensures new { (s : Session) (core : Core) (newer older : Trace) (e : Remapping) → Legal s core →
         core.trace ≡ newer ++ Enters (Remaps e) ∷ older
         → IsWrite s older e }
+{}
+
+/// The entries that a legal core hands in come in turn: each maps an address whose leaf is linked by older entries, or that the
+/// window maps, to a block that no older entry named; or it links a page that no older one puts anywhere, below one that is
+/// linked by these or is a root, at such a block.
+pub fn entries_come_in_turn()
+    ensures leaf { (s : Session) (core : Core) (newer older : Trace) (e : Remapping) → Legal s core →
+        core.trace ≡ newer ++ Enters (Remaps e) ∷ older
+        →
+        IsThere s.sizes.geometry.height s.window (journaled older) (leaf_of e.at.0)
+        ⊎ (mapping_of s.window e.at.0 ≢ Unmapped) }
+    ensures block { (s : Session) (core : Core) (newer older : Trace) (e : Remapping) → Legal s core →
+        core.trace ≡ newer ++ Enters (Remaps e) ∷ older
+        → OnBlock (λ x. AreElsewhere x.0 (journaled older)) e.new }
+    ensures once { (s : Session) (core : Core) (newer older : Trace) (p : NewPage) → Legal s core →
+        core.trace ≡ newer ++ Enters (Makes p) ∷ older
+        → page_in s.sizes.geometry.height s.window (journaled older) p.page ≡ None }
+    ensures above { (s : Session) (core : Core) (newer older : Trace) (p : NewPage) → Legal s core →
+        core.trace ≡ newer ++ Enters (Makes p) ∷ older
+        → IsThere s.sizes.geometry.height s.window (journaled older) (above p.page) }
+    ensures page_block { (s : Session) (core : Core) (newer older : Trace) (p : NewPage) →
+        Legal s core → core.trace ≡ newer ++ Enters (Makes p) ∷ older
+        → AreElsewhere p.at.0 (journaled older) }
 {}
 
 /// In a legal core the log of the journal has handed out the entries that are committed, in the order in which they stand

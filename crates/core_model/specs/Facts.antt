@@ -49,7 +49,7 @@ use Rattle.core_model.specs.JournalRules.{is_closed}
 use Rattle.core_model.specs.LogicalRules.{is_among, is_held, mapped_by}
 use Rattle.data_vio.specs.Phases.{row, number_at, stage_row}
 use Rattle.data_vio.specs.Zones.{zone_number, zone_count, notified_zones}
-use Rattle.core_model.specs.RightTraces.{IsOpen, IsPending, MapsTo, NeedsBlock, Quiet, IsCommitted, AllBelow, HasPlace, HasBelow, HasCause}
+use Rattle.core_model.specs.RightTraces.{IsLeafy, IsOpen, IsPending, MapsTo, NeedsBlock, Quiet, IsCommitted, AllBelow, HasPlace, HasBelow, HasCause}
 use Rattle.core_model.specs.Sessions.{Session, IsFair, IsFresh, OnBlock, NewReads, NewStands, ReadsAs, AtRest, OnItsWay, ReadsBlock, said_by, value_at}
 use Rattle.block_map_tree.specs.Tree.{Tree, IsLinkable}
 use Rattle.blk_base.specs.Pages.{above}
@@ -159,6 +159,7 @@ pub record HasPendingEntry (s : Session) (t : Trace) (asks : Asks) (bytes : List
   pub below : AllBelow t e.at.0 e.place
   pub maps : MapsTo asks bytes e.new
   pub fresh : OnBlock (IsFresh s) e.new
+  pub leaf : IsLeafy s t e.at.0
   pub old_held : HoldsMapping e.old
   pub old_is : e.old ≡ mapping_of (entries_of s.window (applied t)) e.at.0
 
@@ -221,11 +222,11 @@ abbrev pub CarriesOwn : Session → Trace → Vio → Phase → Type 0
 CarriesOwn s t v phase.Arrive = IsUndrawn t v.request v.asks
 CarriesOwn s t v phase.Wait = IsPlaced s t v × (has_taken t v.request ≡ false)
 CarriesOwn s t v phase.Look = IsInTurn s t v × (has_taken t v.request ≡ false)
-CarriesOwn s t v phase.Claim = Holds s t v × (v.asks ≡ Write) × NeedsBlock t v.request v.bytes
-CarriesOwn s t v phase.Store = Holds s t v × (v.asks ≡ Write) × IsToFresh s v.new
-CarriesOwn s t v phase.Enter = Holds s t v × MapsTo v.asks v.bytes v.new × OnBlock (IsFresh s) v.new × (IsFair s t → OnBlock (λ x. ReadsAs s t x.0 v.bytes) v.new)
+CarriesOwn s t v phase.Claim = Holds s t v × (v.asks ≡ Write) × NeedsBlock t v.request v.bytes × IsLeafy s t v.at.0
+CarriesOwn s t v phase.Store = Holds s t v × (v.asks ≡ Write) × IsToFresh s v.new × IsLeafy s t v.at.0
+CarriesOwn s t v phase.Enter = Holds s t v × MapsTo v.asks v.bytes v.new × OnBlock (IsFresh s) v.new × (IsFair s t → OnBlock (λ x. ReadsAs s t x.0 v.bytes) v.new) × IsLeafy s t v.at.0
 CarriesOwn s t v phase.Pending = HasPendingEntry s t v.asks v.bytes (remapping v)
-CarriesOwn s t v phase.Settle = IsEntered s t v × IsCommitted t (remapping v) × AllBelow t v.at.0 v.place × OnBlock (IsFresh s) v.new
+CarriesOwn s t v phase.Settle = IsEntered s t v × IsCommitted t (remapping v) × AllBelow t v.at.0 v.place × OnBlock (IsFresh s) v.new × IsLeafy s t v.at.0
 CarriesOwn s t v phase.Load = Looks s t v × IsToInside s v.old
 CarriesOwn s t v phase.Loaded = Looks s t v × (IsFair s t → v.bytes ≡ value_at s t v.at.0)
 CarriesOwn s t v phase.AbortClaim = Holds s t v × MayReply s t v v.answer

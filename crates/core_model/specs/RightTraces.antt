@@ -27,13 +27,14 @@ use Rattle.data_vio.specs.declared.logged.Logged.{Logged}
 use Rattle.data_vio.specs.declared.logged.Logged.TheVariants.{Remaps, Makes}
 use Rattle.data_vio.specs.declared.logged.NewPage.{NewPage}
 use Rattle.data_vio.specs.declared.logged.Remapping.{Remapping}
+use Rattle.image_model.specs.Pages.{leaf_of}
 use Rattle.core_model.specs.PageLinks.{IsThere, Lacks, MayLack, page_in}
 use Rattle.blk_base.specs.Pages.{above}
 use Rattle.data_vio.specs.declared.items.Asks.{Asks}
 use Rattle.data_vio.specs.declared.items.Asks.TheVariants as asks
 use Rattle.core_model.specs.Sessions.{IsFair, OnBlock, Session, Shown, value_at}
 use Rattle.data_vio.specs.Vios.{asked}
-use Rattle.core_model.specs.Trace.{Happening, Says, Flushes, Draws, Enters, Passes, Seals, Commits, Sets, Gives, Takes, Aborts, Calls, Fails, Trace, Gift, moments, lines, places, journaled, entered, remappings, filled, sealed, all_of, durable, committed, applied, done, dropped, aborted, gifts, taken, has_taken, is_read, is_ok, has_stopped, has_read_fault, of_address, logged_of, request_in, gift_of, entries_of}
+use Rattle.core_model.specs.Trace.{Happening, Says, Flushes, Draws, Enters, Passes, Seals, Commits, Sets, Gives, Takes, Aborts, Calls, Fails, Trace, Gift, moments, lines, places, journaled, entered, new_of, remappings, filled, sealed, all_of, durable, committed, applied, done, dropped, aborted, gifts, taken, has_taken, is_read, is_ok, has_stopped, has_read_fault, of_address, logged_of, request_in, gift_of, entries_of}
 
 -- a request is begun and not answered
 pub record IsOpen (t : Trace) (w : Writer) : Type 0 where
@@ -169,6 +170,14 @@ pub record PlaceMayFollow (s : Session) (p : Placed) (t : Trace) : Type 0 where
   pub next : IsNextPlace s.sizes.zones s.sizes.geometry.logical s.script (lines t) p (places t)
   pub not_entered : IsNone (logged_of (entered t) p.request)
 
+-- the leaf of an address is there, or the window maps the address
+abbrev pub IsLeafy : Session → Trace → ℕ → Type 0
+IsLeafy s t a = IsThere s.sizes.geometry.height s.window (applied t) (leaf_of a) ⊎ (mapping_of s.window a ≢ Unmapped)
+
+-- none of these entries names this block
+abbrev pub AreElsewhere : ℕ → List Logged → Type 0
+AreElsewhere x es = AllByRecursion (λ (e : Logged). OnBlock (λ y. x ≢ y.0) (new_of e)) es
+
 -- an entry may be handed in, be committed, and be done
 pub record EntryMayFollow (s : Session) (e : Remapping) (t : Trace) : Type 0 where
   pub is_open : IsOpen t e.request
@@ -181,6 +190,9 @@ pub record EntryMayFollow (s : Session) (e : Remapping) (t : Trace) : Type 0 whe
   pub room : length (filled t) < 192
   -- it maps its address to a data block, or to none
   pub new_data : OnBlock (λ x. IsDataBlock s.sizes.geometry x.0) e.new
+  -- no entry named that before, and the page that has its slot is there
+  pub unused : OnBlock (λ x. AreElsewhere x.0 (journaled t)) e.new
+  pub leaf : IsLeafy s t e.at.0
   -- it has what its address is mapped to by the committed entries
   pub old_is : e.old ≡ mapping_of (entries_of s.window (durable t)) e.at.0
 
@@ -194,6 +206,8 @@ pub record PageMayFollow (s : Session) (p : NewPage) (t : Trace) : Type 0 where
   pub left : s.sizes.opened + length (sealed t) + 1 < s.sizes.geometry.journal
   pub room : length (filled t) < 192
   pub new_data : IsDataBlock s.sizes.geometry p.at.0
+  -- no entry named that before
+  pub unused : AreElsewhere p.at.0 (journaled t)
 
 pub record CommitMayFollow (s : Session) (e : Logged) (t : Trace) : Type 0 where
   pub is_open : IsOpen t (request_in e)
@@ -225,6 +239,7 @@ pub record SlotMayFollow (s : Session) (e : Remapping) (t : Trace) : Type 0 wher
   pub is_committed : IsCommitted t e
   pub below : AllBelow t e.at.0 e.place
   pub unaborted : IsNone (logged_of (aborted t) e.request)
+  pub leaf : IsLeafy s t e.at.0
 
 -- a page whose entry is committed may be linked, once
 pub record LinkMayFollow (s : Session) (p : NewPage) (t : Trace) : Type 0 where

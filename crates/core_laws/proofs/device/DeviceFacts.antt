@@ -132,7 +132,7 @@ module _ {s : Session} {t : Trace} {n : ℕ} {old : DeviceZone} {v : Vio} (known
   data_stored u x q m is to fresh reads = rw (is, to) (tt, fresh, λ fair. reads)
 
   stored_carries : (u : Trace) (x : Pbn) (o : Option PageId) → CarriesFor s u v phase.Store o → v.new ≡ At x → ReadsAs s u x.0 (stored_for s.sizes o v.bytes x) → CarriesFor s u (turned phase.Enter v) phase.Enter o
-  stored_carries u x None k to reads = let on = data_stored u x v.asks v.new k.1 to (subst (IsToFresh s) to k.2) reads in (k.0, on.0, on.1, on.2)
+  stored_carries u x None k to reads = let on = data_stored u x v.asks v.new k.1 to (subst (IsToFresh s) to k.2) reads in (k.0, on.0, on.1, on.2, k.3)
   stored_carries u x (Some page) k to reads = (k.0, k.1, k.2, λ fair. subst (OnBlock (λ y. ReadsAs s u y.0 (page_at s.sizes page y))) (sym to) reads)
 
   -- and to the zone of its claim, where the session is stopped

@@ -10,11 +10,12 @@ use Rattle.core_laws.proofs.kept.ActKept.{PostOk, carries_at, unentered_slot, Kn
 use Rattle.core_laws.proofs.lists.Changes.{maps_change}
 use Rattle.core_laws.proofs.trace.DeskOfTrace.{shown_of}
 use Rattle.core_laws.proofs.trace.AbortsOfTrace.{unentered_abort}
-use Rattle.core_laws.proofs.kept.Keys.{Clears, IfAny, Key, OfAddress, OfJournal, OfPage, OfRequest, any, holder_one, idle_none, own_name, token_of}
+use Rattle.core_laws.proofs.kept.Keys.{Clears, IfAny, Key, OfAddress, OfBlock, OfJournal, OfPage, OfRequest, any, claim_one, holder_one, idle_none, own_name, token_of}
 use Rattle.core_laws.proofs.journal.LogLaws.{filling_length, log_committed, log_entered, log_sealed}
 use Rattle.core_laws.proofs.journal.SealedBlocks.{logged_length}
-use Rattle.core_laws.proofs.kept.Spared.{OffNumber, below_kept, mapping_same, of_same, quiet_kept}
-use Rattle.core_laws.proofs.kept.StandsOn.{SparesBlock, SparesMap, journal_kept, new_reads_kept, on_each, reads_kept, rests_kept, spares_all, stands_kept}
+use Rattle.core_laws.proofs.kept.Spared.{OffNumber, below_kept, leafy_kept, mapping_same, of_same, quiet_kept}
+use Rattle.core_laws.proofs.kept.BlockNames.{entries_apart}
+use Rattle.core_laws.proofs.kept.StandsOn.{AreElsewhere, SparesBlock, SparesMap, journal_kept, new_reads_kept, on_each, reads_kept, rests_kept, spares_all, stands_kept}
 use Rattle.core_laws.proofs.kept.Carried.{logged_request, pending_over}
 use Rattle.blk_base.specs.declared.place.Mapping.TheVariants.{At, Unmapped, Zero}
 use Rattle.blk_base.specs.declared.place.PageId.{PageId}
@@ -135,7 +136,7 @@ reads_now s t Read place bytes m maps reads = absurd maps
 reads_now s t Flush place bytes m maps reads = absurd maps
 
 -- The entry of a write or a discard is handed in, of its own address.
-module _ (s : Session) (t : Trace) (v : Vio) (right : RightTrace s t) (ok : VioOk s t v) (bare : v.page ≡ None) (carries : CarriesOwn s t v phase.Enter)
+module _ (s : Session) (t : Trace) (v : Vio) (right : RightTrace s t) (ok : VioOk s t v) (bare : v.page ≡ None) (carries : CarriesOwn s t v phase.Enter) (unused : OnBlock (λ x. AreElsewhere x.0 (journaled t)) v.new)
     (left : s.sizes.opened + length (sealed t) + 1 < s.sizes.geometry.journal) (room : length (filled t) < 192) where
   abbrev enters : Happening
   enters = Enters (Remaps (remapping v))
@@ -165,6 +166,8 @@ module _ (s : Session) (t : Trace) (v : Vio) (right : RightTrace s t) (ok : VioO
       left = left;
       room = room;
       new_data = on_each v.new (λ x to fresh. fresh.is_data) carries.2;
+      unused = unused;
+      leaf = carries.4;
       old_is = carries.0.old_is ∙ mapping_same s.window (applied t) (durable t) v.at.0 (sym (cut_passed v.at.0 (remappings (durable t)) (remappings (applied t)) (passed t) carries.0.turn.quiet.all_done));
     },
     shown_on,
@@ -186,6 +189,7 @@ module _ (s : Session) (t : Trace) (v : Vio) (right : RightTrace s t) (ok : VioO
       below = record { writes = carries.0.turn.below.writes; reads = carries.0.turn.below.reads };
       maps = carries.1;
       fresh = carries.2;
+      leaf = carries.4;
       old_held = carries.0.old_held;
       old_is = carries.0.old_is;
     }),
@@ -193,7 +197,7 @@ module _ (s : Session) (t : Trace) (v : Vio) (right : RightTrace s t) (ok : VioO
   )
 
 -- or of the page that it makes
-module _ (s : Session) (t : Trace) (v : Vio) (right : RightTrace s t) (ok : VioOk s t v) (carries : Carries s t v phase.Enter)
+module _ (s : Session) (t : Trace) (v : Vio) (right : RightTrace s t) (ok : VioOk s t v) (carries : Carries s t v phase.Enter) (unused : OnBlock (λ x. AreElsewhere x.0 (journaled t)) v.new)
     (left : s.sizes.opened + length (sealed t) + 1 < s.sizes.geometry.journal) (room : length (filled t) < 192) where
   abbrev Handed : Logged → Type 0
   Handed e = RightTrace s (Enters e ∷ t) × KeptOk s (Enters e ∷ t) phase.Pending (turned phase.Pending v)
@@ -202,10 +206,10 @@ module _ (s : Session) (t : Trace) (v : Vio) (right : RightTrace s t) (ok : VioO
   handed_in = by v.page refl carries
     where
       by : (o : Option PageId) → v.page ≡ o → CarriesFor s t v phase.Enter o → Handed (logged v)
-      by None bare k = subst Handed (sym (logged_own v bare)) (own_right s t v right ok bare k left room, own_pending s t v right ok bare k left room)
+      by None bare k = subst Handed (sym (logged_own v bare)) (own_right s t v right ok bare k unused left room, own_pending s t v right ok bare k unused left room)
       by (Some page) some k =
           let block = fresh_at s v.new k.2 in
-          subst Handed (sym (logged_makes v page block.0 some block.1)) (page_right s t v page block.0 right ok some block.1 k left room, page_pending s t v page block.0 right ok some block.1 k left room)
+          subst Handed (sym (logged_makes v page block.0 some block.1)) (page_right s t v page block.0 right ok some block.1 k (subst (OnBlock (λ x. AreElsewhere x.0 (journaled t))) block.1 unused) left room, page_pending s t v page block.0 right ok some block.1 k (subst (OnBlock (λ x. AreElsewhere x.0 (journaled t))) block.1 unused) left room)
 
   pub enter_right : RightTrace s (Enters (logged v) ∷ t)
   enter_right = handed_in.0
@@ -252,6 +256,17 @@ module _ {s : Session} {t : Trace} {n : ℕ} {old : JournalZone} {v : Vio} (know
     room_left : length (filled t) < 192
     room_left = let less = ltb-true (length old.log.filling) 192 room in omega (arith, less, filling_length s t old.log known.own.lists.log_is)
 
+    -- no entry names its block, which it has alone
+    its_block : OnBlock (λ x. AreElsewhere x.0 (journaled t)) v.new
+    its_block = by v.new refl
+      where
+        by : (m : Mapping) → v.new ≡ m → OnBlock (λ x. AreElsewhere x.0 (journaled t)) m
+        by (At x) to =
+            let most = known.most (OfBlock x.0) in
+            let own = claim_one v x (rw is refl) to in
+            subst (AreElsewhere x.0) known.own.lists.entered_is (entries_apart x.0 old.entered (omega (arith, most, own)))
+        by other to = tt
+
     entry_clears : Clears s n (Mine s t (at.Journal old) (item.Request v ∷ [])) (Enters (logged v)) t
     entry_clears = record {
       zone = known.own.number_is;
@@ -263,7 +278,7 @@ module _ {s : Session} {t : Trace} {n : ℕ} {old : JournalZone} {v : Vio} (know
     }
 
     entry_right : RightTrace s (Enters (logged v) ∷ t)
-    entry_right = enter_right s t v known.right (vio_ok known) (in_phase known phase.Enter is) block_left room_left
+    entry_right = enter_right s t v known.right (vio_ok known) (in_phase known phase.Enter is) its_block block_left room_left
 
     -- what the zone keeps then
     entry_data : (busy : Bool) → busy ≡ true → RestsAt s (Enters (logged v) ∷ t) busy old.broken → DataOk s (Enters (logged v) ∷ t) n (at.Journal (record (entered_by v old) { busy = busy }))
@@ -287,7 +302,7 @@ module _ {s : Session} {t : Trace} {n : ℕ} {old : JournalZone} {v : Vio} (know
           );
           kept = (
             every-append (KeptOk s (Enters (logged v) ∷ t) phase.Pending) old.filling (turned phase.Pending v ∷ []) kept.0
-                (enter_pending s t v known.right (vio_ok known) (in_phase known phase.Enter is) block_left room_left, tt),
+                (enter_pending s t v known.right (vio_ok known) (in_phase known phase.Enter is) its_block block_left room_left, tt),
             kept.1,
           );
           answers = answers;
@@ -460,6 +475,7 @@ module _ {s : Session} {t : Trace} {n : ℕ} {old : JournalZone} {b : SealedBloc
       record { all_committed = k.pending.last ∙ sym (of_same (remapping v) (committed t)); last = of_same (remapping v) (committed t) ∙ ap (λ es. remapping v ∷ es) k.pending.others },
       record { writes = k.below.writes; reads = k.below.reads },
       k.fresh,
+      leafy_kept s (Commits (Remaps (remapping v))) t v.at.0 k.leaf,
     )
 
     -- or its page is to be linked

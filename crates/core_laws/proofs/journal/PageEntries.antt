@@ -10,7 +10,7 @@ use Rattle.core_model.specs.DeviceRules.{page_at}
 use Rattle.core_laws.proofs.journal.LoggedEntries.{logged_makes}
 use Rattle.core_laws.proofs.kept.ActKept.{carries_page, vio_over}
 use Rattle.core_laws.proofs.kept.Spared.{below_kept, quiet_kept}
-use Rattle.core_laws.proofs.kept.StandsOn.{SparesMap, journal_kept, new_reads_kept, reads_kept, spares_all, stands_kept}
+use Rattle.core_laws.proofs.kept.StandsOn.{AreElsewhere, SparesMap, journal_kept, new_reads_kept, reads_kept, spares_all, stands_kept}
 use Rattle.core_laws.proofs.trace.DeskOfTrace.{shown_of}
 use Rattle.core_laws.proofs.trace.PagesOfTrace.{dropped_entered, put_there, unlinked_still}
 
@@ -19,7 +19,7 @@ page_bytes_are : (s : Session) (p : NewPage) → page_at s.sizes p.page p.at ≡
 unfolding empty_page
 page_bytes_are s p = refl
 
-module _ (s : Session) (t : Trace) (v : Vio) (page : PageId) (x : Pbn) (right : RightTrace s t) (ok : VioOk s t v) (some : v.page ≡ Some page) (to : v.new ≡ At x) (carries : CarriesPage s t v page phase.Enter)
+module _ (s : Session) (t : Trace) (v : Vio) (page : PageId) (x : Pbn) (right : RightTrace s t) (ok : VioOk s t v) (some : v.page ≡ Some page) (to : v.new ≡ At x) (carries : CarriesPage s t v page phase.Enter) (unused : AreElsewhere x.0 (journaled t))
     (left : s.sizes.opened + length (sealed t) + 1 < s.sizes.geometry.journal) (room : length (filled t) < 192) where
   abbrev made : NewPage
   made = record { request = v.request; page = page; at = x }
@@ -56,6 +56,7 @@ module _ (s : Session) (t : Trace) (v : Vio) (page : PageId) (x : Pbn) (right : 
       left = left;
       room = room;
       new_data = fresh.is_data;
+      unused = unused;
     },
     shown_on,
     right,

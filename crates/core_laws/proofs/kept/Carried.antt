@@ -15,7 +15,7 @@ use Rattle.core_model.specs.DeskRules.{is_marked, mark_of_vio}
 use Rattle.core_model.specs.DeviceRules.{page_at}
 use Rattle.core_model.specs.Facts.{CarriesFor, CarriesOwn, CarriesPage, HasPageEntry, IsUnmade, MakesPage}
 use Rattle.core_laws.proofs.kept.Keys.{Key, OfRequest, OfAddress, OfBlock, OfJournal, OfPage, token_of, Spares, own_name, holder_one, claim_one, maker_one}
-use Rattle.core_laws.proofs.kept.Spared.{applied_at, SparesRequest, SparesAddress, SparesPage, open_kept, durable_has, journaled_has, link_same, put_same, there_kept, undropped_kept, place_same, entry_same, slot_same, abort_same, gift_same, take_same, stop_kept, fault_kept, abort_kept, full_kept, needs_kept, journal_full_kept, mapping_same, quiet_kept, committed_kept, below_kept, pending_kept, mark_kept, value_same}
+use Rattle.core_laws.proofs.kept.Spared.{applied_at, SparesRequest, SparesAddress, SparesPage, open_kept, durable_has, leafy_kept, journaled_has, link_same, put_same, there_kept, undropped_kept, place_same, entry_same, slot_same, abort_same, gift_same, take_same, stop_kept, fault_kept, abort_kept, full_kept, needs_kept, journal_full_kept, mapping_same, quiet_kept, committed_kept, below_kept, pending_kept, mark_kept, value_same}
 use Rattle.core_laws.proofs.kept.StandsOn.{SparesBlock, SparesBlocks, SparesJournal, SparesMap, SparesSealed, block_reads_kept, comes_stands, new_kept, new_reads_kept, on_both, reads_kept, rests_kept, sealed_spared, spares_parts, way_kept}
 
 none_weigh : (vs : List Vio) → total (λ v. 0) vs ≡ 0
@@ -154,19 +154,26 @@ module _ (s : Session) (h : Happening) (t : Trace) where
   by_phase v phase.Arrive r a b k = unplaced_kept v r k
   by_phase v phase.Wait r a b k = (placed_kept v r k.0, take_same h t v.request r ∙ k.1)
   by_phase v phase.Look r a b k = (turn_kept v r (a refl) k.0, take_same h t v.request r ∙ k.1)
-  by_phase v phase.Claim r a b k = (holds_kept v r (a refl) k.0, k.1, needs_kept h t v.request v.bytes (take_same h t v.request r) k.2)
-  by_phase v phase.Store r a b k = (holds_kept v r (a refl) k.0, k.1, k.2)
-  by_phase v phase.Enter r a b k = (holds_kept v r (a refl) k.0, k.1, k.2, λ fair. on_both v.new (λ x to fresh reads. reads_kept s h t x.0 v.bytes (b refl x to fresh.is_data) reads) k.2 (k.3 (fair_before s h t fair)))
+  by_phase v phase.Claim r a b k = (holds_kept v r (a refl) k.0, k.1, needs_kept h t v.request v.bytes (take_same h t v.request r) k.2, leafy_kept s h t v.at.0 k.3)
+  by_phase v phase.Store r a b k = (holds_kept v r (a refl) k.0, k.1, k.2, leafy_kept s h t v.at.0 k.3)
+  by_phase v phase.Enter r a b k = (
+    holds_kept v r (a refl) k.0,
+    k.1,
+    k.2,
+    (λ fair. on_both v.new (λ x to fresh reads. reads_kept s h t x.0 v.bytes (b refl x to fresh.is_data) reads) k.2 (k.3 (fair_before s h t fair))),
+    leafy_kept s h t v.at.0 k.4,
+  )
   by_phase v phase.Pending r a b k = record {
     is_entered = entered_kept v r k.is_entered;
     pending = pending_kept h t (remapping v) (a refl) k.pending;
     below = below_kept h t v.at.0 v.place (a refl) k.below;
     maps = k.maps;
     fresh = k.fresh;
+    leaf = leafy_kept s h t v.at.0 k.leaf;
     old_held = k.old_held;
     old_is = k.old_is ∙ sym (mapping_same s.window (applied (h ∷ t)) (applied t) v.at.0 (applied_at h t v.at.0 (a refl)));
   }
-  by_phase v phase.Settle r a b k = (entered_kept v r k.0, committed_kept h t (remapping v) (a refl) k.1, below_kept h t v.at.0 v.place (a refl) k.2, k.3)
+  by_phase v phase.Settle r a b k = (entered_kept v r k.0, committed_kept h t (remapping v) (a refl) k.1, below_kept h t v.at.0 v.place (a refl) k.2, k.3, leafy_kept s h t v.at.0 k.4)
   by_phase v phase.Load r a b k = (looks_kept v r (a refl) k.0, k.1)
   by_phase v phase.Loaded r a b k = (looks_kept v r (a refl) k.0, λ fair. k.1 (fair_before s h t fair) ∙ sym (value_same s h t v.at.0 (a refl)))
   by_phase v phase.AbortClaim r a b k = (holds_kept v r (a refl) k.0, reply_kept v v.answer r k.1)

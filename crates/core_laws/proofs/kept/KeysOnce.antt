@@ -10,6 +10,7 @@ use Rattle.core_model.specs.PageTrees.{is_listed, link_at}
 use Rattle.core_model.specs.Tokens.{making_at, making_token}
 use Rattle.core_model.specs.Steps.{Core}
 use Rattle.core_laws.proofs.kept.ActKept.{weighed, unborn, Reached, in_hand, in_line, line_of}
+use Rattle.core_laws.proofs.kept.BlockNames.{entries_apart}
 use Rattle.core_laws.proofs.kept.Frame.{HasNoneBeside}
 use Rattle.core_laws.proofs.kept.Keys.{Key, OfRequest, OfAddress, OfBlock, OfPage, OfJournal, any, token_of, slot_token, free_at, page_token, unmade_at}
 use Rattle.core_laws.proofs.kept.ZoneKinds.{block_once, journal_once, journal_sits, total_once}
@@ -138,19 +139,6 @@ module _ (s : Session) (core : Core) (legal : Legal s core) where
     none_beside k (in_hand (weighed some)) = beside k (omega (arith, some, key_once k))
     none_beside k (in_line some) = beside k (omega (arith, some, key_once k))
     none_beside k (in_hand (unborn {w = w} late)) = beside (OfRequest w) (omega (arith, nobody w late))
-
-  -- entries that don't name a block
-  named_none : (x : ℕ) (m : Mapping) → bit (names x m) ≡ 0 → OnBlock (λ y. x ≢ y.0) m
-  named_none x (At y) none = elim (eqb_tells y.0 x) [
-    | inl same ↦ absurd (let one : bit (y.0 == x) ≡ 1 = rw same.0 refl in omega (arith, none, one))
-    | inr other ↦ λ is. other.1 (sym is)
-  ]
-  named_none x Unmapped none = tt
-  named_none x Zero none = tt
-
-  entries_apart : (x : ℕ) (es : List Logged) → total (is_entry x) es ≡ 0 → AreElsewhere x es
-  entries_apart x [] none = tt
-  entries_apart x (e ∷ es) none = (named_none x (new_of e) (omega (arith, none)), entries_apart x es (omega (arith, none)))
 
   -- no entry names a block of which nobody beside another zone than the journal has anything
   pub block_unnamed : (n : ℕ) (z : Zone) (x : ℕ) → HasNoneBeside core.zones n z (block_token x) → (journal_number s.sizes ≡ n → ⊥) → AreElsewhere x (journaled core.trace)

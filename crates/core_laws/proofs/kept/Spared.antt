@@ -7,7 +7,8 @@ use Rattle.image_layout.specs.Values.{mapping_of}
 use Rattle.vdo_model.specs.FlushMarks.{Moment, Desk, Device, IsMark}
 use Rattle.vdo_model.specs.declared.report.DeskLine.TheVariants.{Begin, Answer}
 use Rattle.blk_base.specs.declared.place.PageId.{PageId}
-use Rattle.image_model.specs.Pages.{is_page}
+use Rattle.image_model.specs.Pages.{is_page, leaf_of}
+use Rattle.core_model.specs.RightTraces.{IsLeafy}
 use Rattle.core_model.specs.LogicalRules.{mapped_by}
 use Rattle.core_model.specs.PageLinks.{IsThere, page_in}
 
@@ -177,6 +178,10 @@ module _ (height : ℕ) (window : List Entry) where
   there_kept h t page (inl root) = inl root
   there_kept (Sets (Makes p)) t page (inr some) = inr (some_more (is_page p.page page) p.at (page_in height window (applied t) page) some)
   there_kept other t page (inr some) = inr some
+
+pub leafy_kept : (s : Session) (h : Happening) (t : Trace) (a : ℕ) → IsLeafy s t a → IsLeafy s (h ∷ t) a
+leafy_kept s h t a (inl leaf) = inl (there_kept s.sizes.geometry.height s.window h t (leaf_of a) leaf)
+leafy_kept s h t a (inr mapped) = inr mapped
 
 -- an element of a list with one more in front
 pub contains_more : {X : Type 0} (y : X) (xs : List X) (x : X) → Contains xs x → Contains (y ∷ xs) x

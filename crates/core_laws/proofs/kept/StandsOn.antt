@@ -1,6 +1,7 @@
 -- What stands on the device goes on over each call that misses it.
 use Rattle.std.proofs.Common.{◌≡◌, ◌≢◌, ◌⊎◌, ℕ, ◌<◌, Bool, true, false, List, [], ◌∷◌, ◌++◌, refl, inl, inr, subst, sym, ap, ◌∙◌, arith}
 use Rattle.core_laws.proofs.Common.{AllByRecursion, AreAllThere, AtRest, Call, Calls, ComesLast, Enters, Fails, Happening, HasBlocks, Logged, Makes, MapStands, Mapping, NewReads, NewStands, OnBlock, OnItsWay, PagesStand, Pbn, ReadsAs, ReadsBlock, Remaps, Seals, Session, Stands, Trace, Writer, all_of, durable, journaled, entries_of, eqb_tells, filled, log, new_of, sealed}
+pub use Rattle.core_model.specs.RightTraces.{AreElsewhere}
 use Rattle.blk_base.specs.declared.place.Mapping.TheVariants.{Unmapped, Zero, At}
 use Rattle.disk_model.specs.Log.{Misses}
 use Rattle.disk_model.specs.declared.call.Call.TheVariants.{Write}
@@ -65,10 +66,6 @@ pub data IsCallOf : Happening → Call → Type 0 where
 pub block_spared : {h : Happening} {c : Call} → IsCallOf h c → (x : ℕ) → Misses c x → SparesBlock h x
 block_spared succeeded x misses = misses
 block_spared failed x misses = misses
-
--- none of these writes names this block
-abbrev pub AreElsewhere : ℕ → List Logged → Type 0
-AreElsewhere x es = AllByRecursion (λ (e : Logged). OnBlock (λ y. x ≢ y.0) (new_of e)) es
 
 -- a write of a block that they don't name spares theirs
 pub write_spares : {h : Happening} {x : Pbn} {bytes : List ℕ} {ok : Bool} → IsCallOf h (Write x bytes ok) → (es : List Logged) → AreElsewhere x.0 es → SparesBlocks h es

@@ -20,7 +20,7 @@ module _ {s : Session} {t : Trace} {n : ℕ} {l : LogicalZone} {v : Vio} (known 
   logical_serves new made posts (arrives_retired p d i m q) = rw (i, m, q) (retired_kept known p d)
   logical_serves new made posts (arrives_free p d f i m q) = rw (i, m, q) (free_kept known p d f)
   logical_serves new made posts (arrives_held p d f i m q) = rw (i, m, q) (held_kept known p f)
-  logical_serves new made posts (looks post p path stays has_leaf goes i m q) = rw (i, m, q) (looks_kept known p post goes)
+  logical_serves new made posts (looks post p path stays has_leaf goes i m q) = rw (i, m, q) (looks_kept known p post path stays has_leaf goes)
   logical_serves new made posts (passes p path past i m q) = rw (i, m, q) (passes_kept known p path past)
   logical_serves new made posts (is_dropped page p path lack listed i m q) = rw (i, m, q) (dropped_kept known p page path lack listed)
   logical_serves new made posts (waits page p path lack yet making i m q) = rw (i, m, q) (waits_kept known p page path lack making)

@@ -1,10 +1,10 @@
 -- What the acts of a logical zone owe: a request draws its place, and is done with its lock.
-use Rattle.std.proofs.Common.{◌≡◌, ℕ, ◌+◌, ◌==◌, Bool, true, false, not, if◌then◌else◌, Option, None, Some, is_some, length, length-append, IsNone, List, [], ◌∷◌, ◌++◌, refl, ap, sym, ◌∙◌, inl, inr, arith, ◌<◌, IsSome, subst}
+use Rattle.std.proofs.Common.{◌≡◌, ℕ, ◌+◌, ◌==◌, ◌≢◌, ◌⊎◌, ◌&&◌, Bool, true, false, not, if◌then◌else◌, Option, None, Some, is_some, length, length-append, IsNone, List, [], ◌∷◌, ◌++◌, refl, ap, sym, ◌∙◌, inl, inr, arith, ◌<◌, IsSome, subst}
 use Rattle.std.proofs.lemmas.Bool.{and_parts, cases_Bool}
-use Rattle.core_laws.proofs.Common.{Aborts, Entry, IsInTurn, Mapping, Passes, applied, durable, has_taken, journaled, newest, of_address, passed, remappings, AllBelow, AllByRecursion, Asks, DataOk, DeskLine, Draws, FlushMark, Follows, Gives, GivesRight, Happening, HasAddress, HasEarned, IsChange, IsCommitted, IsEntered, IsFair, IsForBlock, IsFresh, IsOfZone, IsPlaced, IsUndrawn, KeptEach, KeptOk, Lba, Lock, LocksOk, Remapping, LogicalZone, Looks, MayReply, OnBlock, Pbn, Phase, Placed, PlaceMayFollow, Post, Quiet, RightTrace, Session, Sets, Trace, Vio, VioOk, Writer, aborted, answer_of, asked, before_begin, done, ended, eq-eqb, eqb_tells, every-append, every-map, fair_before, gift, gift_of, gifts, has_stopped, holds, lines, logged_of, logical_number, mapping_in, places, request_at, same_self, same_writer, some_is, turned, value_at, zone_number, zone_of, Remaps, remapping}
+use Rattle.core_laws.proofs.Common.{Aborts, Entry, IsInTurn, Mapping, Passes, applied, durable, has_taken, journaled, newest, of_address, option_cases, passed, remappings, AllBelow, AllByRecursion, Asks, DataOk, DeskLine, Draws, FlushMark, Follows, Gives, GivesRight, Happening, HasAddress, HasEarned, IsChange, IsCommitted, IsEntered, IsFair, IsForBlock, IsFresh, IsOfZone, IsPlaced, IsUndrawn, KeptEach, KeptOk, Lba, Lock, LocksOk, Remapping, LogicalZone, Looks, MayReply, OnBlock, Pbn, Phase, Placed, PlaceMayFollow, Post, Quiet, RightTrace, Session, Sets, Trace, Vio, VioOk, Writer, aborted, answer_of, asked, before_begin, done, ended, eq-eqb, eqb_tells, every-append, every-map, fair_before, gift, gift_of, gifts, has_stopped, holds, lines, logged_of, logical_number, mapping_in, places, request_at, same_self, same_writer, some_is, turned, value_at, zone_number, zone_of, Remaps, remapping}
 use Rattle.data_vio.specs.declared.items.Asks.TheVariants.{Read, Write, Discard, Flush}
 use Rattle.core_model.specs.Legal.{ComesAfter}
-use Rattle.core_model.specs.LogicalRules.{is_among, is_held, lock_of, placed, place_of_vio, drawn_by, goes_on, is_discard, is_unknown, is_unmapped, latest_at, pass_of, passes_by, looks_up, released, granted, retire, all_stopped, all_for, with_slot}
+use Rattle.core_model.specs.LogicalRules.{is_among, is_held, lock_of, placed, place_of_vio, drawn_by, goes_on, is_discard, lacks, is_unknown, is_unmapped, latest_at, pass_of, passes_by, looks_up, released, granted, retire, all_stopped, all_for, with_slot}
 use Rattle.core_laws.proofs.trace.DeskOfTrace.{of_address_append, shown_of}
 use Rattle.core_laws.proofs.kept.ActKept.{Known, Mine, ActKept, act_one, own_request, plain_clears, line_kept, shown_plain, vio_over, IsPlain, act_none, own_address, vio_ok, in_bare, in_own, carries_own}
 use Rattle.core_laws.proofs.kept.Keys.{Clears, OfRequest, OfAddress, OfPage, IfAny, happens_in}
@@ -17,7 +17,10 @@ use Rattle.core_laws.proofs.logical.Releases.{below_more, has_below_more, goes_o
 use Rattle.core_model.specs.PageTrees.{HasPath, missing_at}
 use Rattle.image_layout.specs.Values.{mapping_of}
 use Rattle.core_laws.proofs.lists.Between.{every_between}
-use Rattle.core_laws.proofs.logical.PageFacts.{lacks_some, same_tree}
+use Rattle.core_laws.proofs.logical.PageFacts.{has_leaf, lacks_some, same_tree}
+use Rattle.core_laws.proofs.trace.PagesOfTrace.{applied_leafy, newest_leafy}
+use Rattle.blk_base.specs.declared.place.PageId.{PageId}
+use Rattle.core_model.specs.RightTraces.{IsLeafy}
 use Rattle.blk_base.specs.declared.place.Mapping.TheVariants.{Unmapped, Zero, At}
 use Rattle.byte_fields.specs.Mappings.{HoldsMapping}
 use Rattle.core_model.specs.DeskRules.{mark_of_vio}
@@ -229,11 +232,40 @@ module _ {s : Session} {t : Trace} {n : ℕ} {l : LogicalZone} {v : Vio} (known 
   drawn_here : (q : Phase) → v.phase ≡ q → holds q ≡ true → v.place < l.next
   drawn_here q is held = drawn_before s t n l known.session known.right known.own v (leased q is held) home
 
+  -- whoever changes its address and goes on has its leaf, or its address is known
+  known_leafy : (q : Asks) → v.asks ≡ q → IsChange q → HasPath l.tree v.at.0 → passes_by l v ≡ false → lacks l v ≡ None → IsLeafy s t v.at.0
+  known_leafy Write is change path stays leaf =
+      let none : missing_at l.tree v.at.0 ≡ None = rw is at leaf in
+      inl (has_leaf s.sizes.geometry l.zone s.sizes.zones s.window (applied t) l.tree v.at.0 known.own.lists.tree_is path none)
+  known_leafy Discard is change path stays leaf =
+      let here : (is_unknown l v.at.0 && is_some (missing_at l.tree v.at.0)) ≡ false = rw is at stays in
+      elim (cases_Bool (is_unknown l v.at.0)) [
+        | inl unknown ↦
+            let lacking : is_some (missing_at l.tree v.at.0) ≡ false = rw unknown at here in
+            inl (has_leaf s.sizes.geometry l.zone s.sizes.zones s.window (applied t) l.tree v.at.0 known.own.lists.tree_is path (no_page (missing_at l.tree v.at.0) lacking))
+        | inr seen ↦ by_slot (option_cases (latest_at l v.at.0)) seen
+      ]
+    where
+      no_page : (o : Option PageId) → is_some o ≡ false → o ≡ None
+      no_page None none = refl
+      no_page (Some page) none = absurd cc
+
+      mapped : (m : Mapping) → is_unmapped m ≡ false → m ≢ Unmapped
+      mapped m is same = let no : true ≡ false = rw same at is in absurd cc
+
+      by_slot : (latest_at l v.at.0 ≡ None) ⊎ ((e : Remapping) × (latest_at l v.at.0 ≡ Some e)) → is_unknown l v.at.0 ≡ false → IsLeafy s t v.at.0
+      by_slot (inr slot) seen = newest_leafy s t v.at.0 (remappings (applied t)) slot.0 (applied_leafy s t known.right) (ap newest (sym (known.own.lists.slots_are v.at.0 home)) ∙ slot.1)
+      by_slot (inl none) seen =
+          let unmapped : is_unmapped (mapping_of l.window v.at.0) ≡ false = rw none at seen in
+          inr (subst (λ (w : List Entry). mapping_of w v.at.0 ≢ Unmapped) known.own.sound.map.window_is (mapped (mapping_of l.window v.at.0) unmapped))
+  known_leafy Read is change path stays leaf = absurd change
+  known_leafy Flush is change path stays leaf = absurd change
+
   -- It goes where the map says.
-  pub looks_kept : v.phase ≡ phase.Look → (post : Post) → goes_on s.sizes l v ≡ Some post → After l [] (post ∷ [])
-  looks_kept is post goes =
+  pub looks_kept : v.phase ≡ phase.Look → (post : Post) → HasPath l.tree v.at.0 → passes_by l v ≡ false → lacks l v ≡ None → goes_on s.sizes l v ≡ Some post → After l [] (post ∷ [])
+  looks_kept is post path stays leaf goes =
       let carries = in_bare known phase.Look is (λ page no. no) in
-      act_none known known.own (goes_ok s t n l known.session known.right known.own v (vio_ok known) carries.0 carries.1.0 carries.1.1 (home_is known) post goes, tt)
+      act_none known known.own (goes_ok s t n l known.session known.right known.own v (vio_ok known) carries.0 carries.1.0 carries.1.1 (λ change. known_leafy v.asks refl change path stays leaf) (home_is known) post goes, tt)
 
   -- Or it passes, a discard of an address of which nothing is known.
   module _ (is : v.phase ≡ phase.Look) (path : HasPath l.tree v.at.0) (passes_it : passes_by l v ≡ true) where
@@ -347,14 +379,14 @@ module _ {s : Session} {t : Trace} {n : ℕ} {l : LogicalZone} {v : Vio} (known 
     abbrev set_t : Trace
     set_t = Sets (Remaps e) ∷ t
 
-    facts : IsEntered s t v × IsCommitted t (remapping v) × AllBelow t v.at.0 v.place × OnBlock (IsFresh s) v.new
+    facts : IsEntered s t v × IsCommitted t (remapping v) × AllBelow t v.at.0 v.place × OnBlock (IsFresh s) v.new × IsLeafy s t v.at.0
     facts = in_own known phase.Settle is bare
 
     clears_set : Clears s n (Mine s t (at.Logical l) (item.Request v ∷ [])) (Sets (Remaps e)) t
     clears_set = own_clears (Sets (Remaps e)) tt refl (own_request known) (own_address known phase.Settle is refl) tt
 
     right_set : RightTrace s set_t
-    right_set = (record { is_open = (vio_ok known).is_open; is_committed = facts.1; below = facts.2; unaborted = facts.0.unaborted }, shown_plain s t (Sets (Remaps e)) tt (shown_of s t known.right), known.right)
+    right_set = (record { is_open = (vio_ok known).is_open; is_committed = facts.1; below = facts.2; unaborted = facts.0.unaborted; leaf = facts.4 }, shown_plain s t (Sets (Remaps e)) tt (shown_of s t known.right), known.right)
 
     quiet_set : Quiet set_t v.at.0
     quiet_set = record { all_committed = facts.1.all_committed; all_done = facts.1.last ∙ sym (of_same e (done t)) }

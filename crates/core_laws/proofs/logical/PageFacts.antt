@@ -21,7 +21,7 @@ use Rattle.block_map_tree.specs.Tree as trees
 use Rattle.block_map_tree.specs.Tree.{Tree, IsLinkable, IsTree, Links, with_change, with_mapping}
 use Rattle.core_model.proofs.TreeLinks.{linked_there}
 use Rattle.core_model.proofs.TreeLinks as walks
-use Rattle.image_model.specs.Pages.{is_page, page_above}
+use Rattle.image_model.specs.Pages.{is_page, leaf_of, page_above}
 use Rattle.blk_base.specs.Pages.{above, slot_of}
 use Rattle.core_model.specs.PageLinks.{IsThere, Lacks, MayLack, page_in}
 use Rattle.core_model.specs.PageTrees.{HasPath, IsMapTree, MayLink, least_point, link_at, missing_at, missing_from}
@@ -142,6 +142,24 @@ module _ (g : Geometry) (zone zones : ℕ) (window : List Entry) (es : List Logg
       elim there [
         | inl root ↦ let lower = lacking.lower in absurd (omega (arith, root, lower))
         | inr linked ↦ nothing_there (link_at tree page) (page_in g.height window es page) (ap is_some lacking.unlinked) (is.linked page lacking.linkable) linked
+      ]
+
+  -- a path that lacks no page has its leaf
+  pub has_leaf : missing_at tree a ≡ None → IsThere g.height window es (leaf_of a)
+  has_leaf none =
+      let low = is.form.forest.sizes.height in
+      let height = height_is in
+      let linkable = path_linkable tree a 0 path (omega (arith, low)) in
+      inr (some_is_some (link_at tree (leaf_of a)) (page_in g.height window es (leaf_of a)) (all_linked (tree.forest.geometry.height - 1) 0 (omega (arith, low)) none) (is.linked (leaf_of a) linkable))
+    where
+      all_linked : (n level : ℕ) → level < n → missing_from n tree a ≡ None → is_some (link_at tree (page_above level a)) ≡ true
+      all_linked zero level below none = absurd (omega (arith, below))
+      all_linked (suc n) level below none = elim (cases_Bool (is_some (link_at tree (page_above n a)))) [
+        | inl there ↦ elim (eqb_tells level n) [
+          | inl same ↦ subst (λ (k : ℕ). is_some (link_at tree (page_above k a)) ≡ true) (sym same.1) there
+          | inr other ↦ let apart = other.1 in all_linked n level (omega (arith, below, apart)) (rw there at none)
+        ]
+        | inr lacking ↦ absurd (let some : Some (page_above n a) ≡ None = rw lacking at none in cc)
       ]
 
   pub lacks_some : is_some (missing_at tree a) ≡ true → Lacks g.height window es a

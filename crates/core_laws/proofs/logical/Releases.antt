@@ -12,7 +12,8 @@ use Rattle.data_vio.specs.declared.items.Asks.TheVariants.{Read, Write, Discard,
 use Rattle.data_vio.specs.declared.items.Item.TheVariants as item
 use Rattle.data_vio.specs.declared.items.Phase.TheVariants as phase
 use Rattle.core_model.specs.declared.zones.ZoneData.TheVariants as at
-use Rattle.core_model.specs.Facts.{CarriesOwn}
+use Rattle.core_model.specs.Facts.{CarriesOwn, IsChange}
+use Rattle.core_model.specs.RightTraces.{IsLeafy}
 use Rattle.core_model.specs.LogicalRules.{are_zeros, is_among, is_held, without, first_for, all_for, none_for, latest_at, mapped_by, mapping_at, looked, looks_up, passes_on, read_next, goes_on, passed_to, released, granted, retire, all_stopped}
 use Rattle.core_laws.proofs.kept.ActKept.{PostOk, bare_of, carries_at, carries_own, unentered_slot}
 use Rattle.core_laws.proofs.logical.LockLaws.{place_drawn, waits_behind, one_back, one_passed, one_retired}
@@ -44,7 +45,7 @@ looks_ok s t zone among u ok home bare turn none_taken =
 
 -- Whoever has looked goes where the map says.
 module _ (s : Session) (t : Trace) (n : ℕ) (l : LogicalZone) (session : IsSession s) (right : RightTrace s t) (k : DataOk s t n (at.Logical l)) (u : Vio) (ok : VioOk s t u) (bare : u.page ≡ None) (turn : IsInTurn s t u) (none_taken : has_taken t u.request ≡ false)
-    (home : u.home ≡ id.Logical l.zone) where
+    (leafy : IsChange u.asks → IsLeafy s t u.at.0) (home : u.home ≡ id.Logical l.zone) where
   among : 1 + l.zone < zone_count s.sizes
   among = let a = k.sound.among in omega (arith, a)
 
@@ -104,9 +105,9 @@ module _ (s : Session) (t : Trace) (n : ℕ) (l : LogicalZone) (session : IsSess
   -- whoever has the lock goes on
   pub goes_ok : (post : Post) → goes_on s.sizes l u ≡ Some post → PostOk s t post
   goes_ok post goes = goes_by (PostOk s t) s.sizes l u post goes (λ reads. read_ok reads (mapping_at l u.at.0) refl)
-      (λ writes zero. (omega arith, (ok, carries_own s t (record (looked l u) { phase = phase.Enter; new = Zero }) phase.Enter bare (holds, zeros_mapped u.asks writes (zero_bytes u.asks writes ok.asked zero), tt, λ fair. tt), refl)))
-      (λ writes others. (omega arith, (ok, carries_own s t (turned phase.Claim (looked l u)) phase.Claim bare (holds, writes, record { not_zeros = others_are u.bytes others; none_taken = none_taken }), refl)))
-      (λ discards. (omega arith, (ok, carries_own s t (record (looked l u) { phase = phase.Enter; new = Unmapped }) phase.Enter bare (holds, discard_mapped u.asks discards, tt, λ fair. tt), refl)))
+      (λ writes zero. (omega arith, (ok, carries_own s t (record (looked l u) { phase = phase.Enter; new = Zero }) phase.Enter bare (holds, zeros_mapped u.asks writes (zero_bytes u.asks writes ok.asked zero), tt, (λ fair. tt), leafy (rw writes tt)), refl)))
+      (λ writes others. (omega arith, (ok, carries_own s t (turned phase.Claim (looked l u)) phase.Claim bare (holds, writes, record { not_zeros = others_are u.bytes others; none_taken = none_taken }, leafy (rw writes tt)), refl)))
+      (λ discards. (omega arith, (ok, carries_own s t (record (looked l u) { phase = phase.Enter; new = Unmapped }) phase.Enter bare (holds, discard_mapped u.asks discards, tt, (λ fair. tt), leafy (rw discards tt)), refl)))
 
 -- A greater place has a lower one still.
 pub has_below_more : (a m n : ℕ) (es : List Remapping) → m ≤ n → HasBelow a m es → HasBelow a n es

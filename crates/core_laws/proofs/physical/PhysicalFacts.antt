@@ -76,7 +76,7 @@ module _ {s : Session} {t : Trace} {n : ℕ} {old : PhysicalZone} {v : Vio} (kno
     takes_for : (o : Option PageId) → v.page ≡ o → CarriesFor s t v phase.Claim o → After (record old { free = others }) (Takes v.request o x ∷ []) ((id.Device, item.Request stored) ∷ [])
     takes_for None bare k =
         takes None (v.at, v.bytes, (vio_ok known).asked ∙ ap (λ q. Some (asked q v.at v.bytes)) k.1, k.2)
-        (carries_own s (Takes v.request None x ∷ t) stored phase.Store bare (record { turn = still_turn s t v None x k.0.turn; old_held = k.0.old_held; old_is = k.0.old_is }, k.1, free.0))
+        (carries_own s (Takes v.request None x ∷ t) stored phase.Store bare (record { turn = still_turn s t v None x k.0.turn; old_held = k.0.old_held; old_is = k.0.old_is }, k.1, free.0, k.3))
     takes_for (Some page) some k =
         takes (Some page) (record { lacked = (asked v.asks v.at v.bytes, (vio_ok known).asked, k.0.lacked); up = k.0.up; unmade = k.1 })
         (carries_page s (Takes v.request (Some page) x ∷ t) stored page phase.Store some (

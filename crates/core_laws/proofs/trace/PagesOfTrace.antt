@@ -1,11 +1,14 @@
 -- The pages that the entries of a trace make: where no entry that was handed in puts a page, none is committed, linked or dropped.
-use Rattle.std.proofs.Common.{◌≡◌, ℕ, Bool, true, false, if◌then◌else◌, Option, None, Some, List, [], ◌∷◌, ◌++◌, Contains, refl, subst, sym, inl, inr, arith}
-use Rattle.core_laws.proofs.Common.{Aborts, Enters, Entry, Logged, Makes, NewPage, Pbn, Remaps, RightTrace, Session, Sets, Trace, applied, cases_Bool, dropped, durable, journaled}
+use Rattle.std.proofs.Common.{◌≡◌, ◌≢◌, ◌⊎◌, ℕ, Bool, true, false, if◌then◌else◌, Option, None, Some, IsSome, List, [], ◌∷◌, ◌++◌, Contains, refl, subst, sym, inl, inr, arith}
+use Rattle.core_laws.proofs.Common.{AllByRecursion, Happening, MayFollow, Remapping, eqb_tells, every-map, newest, of_address, option_cases, remappings, Aborts, Enters, Entry, Logged, Makes, NewPage, Pbn, Remaps, RightTrace, Session, Sets, Trace, applied, cases_Bool, dropped, durable, journaled}
 use Rattle.blk_base.specs.declared.place.PageId.{PageId}
-use Rattle.image_model.specs.Pages.{is_page}
-use Rattle.core_model.specs.PageLinks.{page_in}
+use Rattle.image_layout.specs.Values.{mapping_of}
+use Rattle.blk_base.specs.declared.place.Mapping.TheVariants.{Unmapped}
+use Rattle.image_model.specs.Pages.{is_page, leaf_of}
+use Rattle.core_model.specs.PageLinks.{IsThere, page_in}
+use Rattle.core_model.specs.RightTraces.{IsLeafy}
 use Rattle.core_model.proofs.TreeLinks.{page_is, page_itself}
-use Rattle.core_laws.proofs.kept.Spared.{contains_cut, contains_more}
+use Rattle.core_laws.proofs.kept.Spared.{contains_cut, contains_more, leafy_kept}
 use Rattle.core_laws.proofs.trace.DeskOfTrace.{durable_part}
 
 -- an element of the second of two lists is one of both
@@ -69,3 +72,40 @@ dropped_entered s (Aborts (Remaps e) ∷ t) p right has = elim (contains_cut (Re
   | inr rest ↦ dropped_entered s t p right.2 rest
 ]
 dropped_entered s (other ∷ t) p right has = dropped_entered s t p right.2 has
+
+-- whatever set a slot, the leaf of its address is there
+pub applied_leafy : (s : Session) (t : Trace) → RightTrace s t → AllByRecursion (λ (e : Remapping). IsLeafy s t e.at.0) (remappings (applied t))
+applied_leafy s [] right = tt
+applied_leafy s (h ∷ t) right = by h right.0 (leafy_still h (applied_leafy s t right.2))
+  where
+    leafy_still : (h : Happening) → AllByRecursion (λ (e : Remapping). IsLeafy s t e.at.0) (remappings (applied t)) → AllByRecursion (λ (e : Remapping). IsLeafy s (h ∷ t) e.at.0) (remappings (applied t))
+    leafy_still h all = every-map {P = λ (e : Remapping). IsLeafy s t e.at.0} {Q = λ (e : Remapping). IsLeafy s (h ∷ t) e.at.0} (λ e leaf. leafy_kept s h t e.at.0 leaf) (remappings (applied t)) all
+
+    by : (h : Happening) → MayFollow s h t → AllByRecursion (λ (e : Remapping). IsLeafy s (h ∷ t) e.at.0) (remappings (applied t)) → AllByRecursion (λ (e : Remapping). IsLeafy s (h ∷ t) e.at.0) (remappings (applied (h ∷ t)))
+    by (Sets (Remaps e)) may all = (leafy_kept s (Sets (Remaps e)) t e.at.0 may.leaf, all)
+    by other may all = all
+
+-- the newest of them, where the leaf of its address is there
+pub newest_leafy : (s : Session) (t : Trace) (a : ℕ) (es : List Remapping) (e : Remapping) → AllByRecursion (λ (f : Remapping). IsLeafy s t f.at.0) es → newest (of_address a es) ≡ Some e → IsLeafy s t a
+newest_leafy s t a [] e all is = absurd cc
+newest_leafy s t a (f ∷ es) e all is = elim (eqb_tells f.at.0 a) [
+  | inl same ↦ subst (IsLeafy s t) same.1 all.0
+  | inr other ↦ newest_leafy s t a es e all.1 (rw other.0 at is)
+]
+
+-- a page that is linked is one that an entry puts there
+pub linked_entered : (s : Session) (t : Trace) (page : PageId) → RightTrace s t → IsThere s.sizes.geometry.height s.window (applied t) page → IsThere s.sizes.geometry.height s.window (journaled t) page
+linked_entered s t page right (inl root) = inl root
+linked_entered s t page right (inr some) = elim (option_cases (page_in s.sizes.geometry.height s.window (journaled t) page)) [
+  | inl none ↦ none_some _ (unlinked_still s.sizes.geometry.height s.window s t page right none) some
+  | inr there ↦ inr (rw there.1 refl)
+]
+  where
+    none_some : (o : Option Pbn) → o ≡ None → IsSome o → IsThere s.sizes.geometry.height s.window (journaled t) page
+    none_some None is some = absurd cc
+    none_some (Some x) is some = absurd cc
+
+-- so is the leaf of an address that one changes
+pub leafy_entered : (s : Session) (t : Trace) (a : ℕ) → RightTrace s t → IsLeafy s t a → IsThere s.sizes.geometry.height s.window (journaled t) (leaf_of a) ⊎ (mapping_of s.window a ≢ Unmapped)
+leafy_entered s t a right (inl leaf) = inl (linked_entered s t (leaf_of a) right leaf)
+leafy_entered s t a right (inr mapped) = inr mapped

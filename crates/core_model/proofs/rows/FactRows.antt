@@ -2,7 +2,7 @@
 -- a session, where the first write has its block and is on its way to the device, and another write asks for one.
 use Rattle.std.specs.Prelude.{ℕ, zero, suc, ◌≡◌, ◌≤◌, false, List, [], ◌∷◌, length, Some, refl}
 use Rattle.std.specs.List.{AllByRecursion}
-use Rattle.std.proofs.Common.{ap, arith, subst}
+use Rattle.std.proofs.Common.{ap, arith, inl, inr, subst}
 use Rattle.blk_base.specs.declared.place.Pbn.{Pbn}
 use Rattle.blk_base.specs.declared.place.ZoneId.TheVariants as id
 use Rattle.data_vio.specs.declared.logged.Logged.TheVariants.{Remaps}
@@ -17,24 +17,24 @@ use Rattle.core_model.specs.Sessions.{IsFresh}
 use Rattle.core_model.specs.Trace.{Enters, Gives, Sets}
 use Rattle.plain_laws.specs.Sums.{Each}
 use Rattle.core_model.proofs.rows.PhaseRows.{device, physical, vio, writes}
-use Rattle.core_model.proofs.rows.WorkedTraces.{address, block, given, of_first, other, session, took, two_not_zeros, y}
+use Rattle.core_model.proofs.rows.WorkedTraces.{address, block, given, of_first, leafy, other, session, took, two_not_zeros, y}
 
 -- of the blocks from 79 to 142
-first_fresh : IsFresh session (block 85)
+first_fresh : IsFresh leafy (block 85)
 first_fresh = record {
   is_data = record { slab = 0; offset = 6; inside = (omega arith, omega arith); stands = refl };
   unnamed = λ a b maps. absurd cc;
   inside = omega arith;
 }
 
-second_fresh : IsFresh session (block 86)
+second_fresh : IsFresh leafy (block 86)
 second_fresh = record {
   is_data = record { slab = 0; offset = 7; inside = (omega arith, omega arith); stands = refl };
   unnamed = λ a b maps. absurd cc;
   inside = omega arith;
 }
 
-not_past_the_slab : ¬ IsFresh session (block 149)
+not_past_the_slab : ¬ IsFresh leafy (block 149)
 not_past_the_slab = λ is. omega (arith, is.inside)
 
 -- the write that asks for a block: of address 812, which is in the second logical zone
@@ -42,61 +42,68 @@ abbrev claims : Vio
 claims = record (vio other asks.Write phase.Claim 0) { at = address 812; home = id.Logical 1; bytes = y }
 
 -- VioOk: the script has it, it is open, and its home is that of its address
-under_way : VioOk session took claims
+under_way : VioOk leafy took claims
 under_way = record { asked = refl; is_open = record { is_begun = omega arith; unanswered = refl }; address = omega arith; home = refl }
 
-with_other_bytes : ¬ VioOk session took (record claims { bytes = [] })
+with_other_bytes : ¬ VioOk leafy took (record claims { bytes = [] })
 with_other_bytes = λ is. let no = is.asked in absurd cc
 
-not_begun : ¬ VioOk session [] claims
+not_begun : ¬ VioOk leafy [] claims
 not_begun = λ is. omega (arith, is.is_open.is_begun)
 
-of_another_home : ¬ VioOk session took (record claims { home = id.Logical 0 })
+of_another_home : ¬ VioOk leafy took (record claims { home = id.Logical 0 })
 of_another_home = λ is. let no = is.home in absurd cc
 
 -- Carries: it holds its lock: its place is drawn, and all entries of its address are done, with a lower place
-in_turn : IsInTurn session took claims
+in_turn : IsInTurn leafy took claims
 in_turn = record {
   is_placed = record { for_block = tt; placed = refl; not_entered = refl };
   quiet = record { all_committed = refl; all_done = refl };
   below = record { writes = tt; reads = tt };
 }
 
-may_look : Carries session took claims phase.Look
+may_look : Carries leafy took claims phase.Look
 may_look = (in_turn, refl)
 
-looks_without_a_place : ¬ Carries session [] claims phase.Look
+looks_without_a_place : ¬ Carries leafy [] claims phase.Look
 looks_without_a_place = λ is. let no = is.0.is_placed.placed in absurd cc
 
-not_before_an_entry_is_done : ¬ IsInTurn session (Enters (Remaps (record of_first { at = address 812 })) ∷ took) claims
+not_before_an_entry_is_done : ¬ IsInTurn leafy (Enters (Remaps (record of_first { at = address 812 })) ∷ took) claims
 not_before_an_entry_is_done = λ is. let no = ap length is.quiet.all_committed in omega (arith, no)
 
-not_behind_a_later_write : ¬ IsInTurn session (Sets (Remaps (record of_first { at = address 812 })) ∷ took) claims
+not_behind_a_later_write : ¬ IsInTurn leafy (Sets (Remaps (record of_first { at = address 812 })) ∷ took) claims
 not_behind_a_later_write = λ is. let no = is.below.writes.0 refl in omega (arith, no)
 
-not_behind_a_later_read : ¬ IsInTurn session (Gives (record (given 0) { at = address 812 }) ∷ took) claims
+not_behind_a_later_read : ¬ IsInTurn leafy (Gives (record (given 0) { at = address 812 }) ∷ took) claims
 not_behind_a_later_read = λ is. let no = is.below.reads.0 refl in omega (arith, no)
 
 -- and no block was taken for it
-first_may_not_look : ¬ Carries session took (writes phase.Look) phase.Look
+first_may_not_look : ¬ Carries leafy took (writes phase.Look) phase.Look
 first_may_not_look = λ is. let no = is.1 in absurd cc
 
 -- it knows what is mapped there, it writes, and it needs a block
-may_claim : Carries session took claims phase.Claim
+may_claim : Carries leafy took claims phase.Claim
 may_claim = (
   record { turn = in_turn; old_held = tt; old_is = refl },
   refl,
   record { not_zeros = two_not_zeros; none_taken = refl },
+  inl (inr refl),
 )
 
-without_a_place : ¬ Carries session [] claims phase.Claim
+without_a_leaf : ¬ Carries session took claims phase.Claim
+without_a_leaf = λ is. elim is.3 [
+  | inl leaf ↦ elim leaf [ inl level ↦ absurd (omega (arith, level)) | inr some ↦ absurd cc ]
+  | inr mapped ↦ mapped refl
+]
+
+without_a_place : ¬ Carries leafy [] claims phase.Claim
 without_a_place = λ is. let no = is.0.turn.is_placed.placed in absurd cc
 
-first_has_its_block : ¬ Carries session took (writes phase.Claim) phase.Claim
+first_has_its_block : ¬ Carries leafy took (writes phase.Claim) phase.Claim
 first_has_its_block = λ is. let no = is.2.none_taken in absurd cc
 
 -- the first write goes to the device with its block
-may_store : Carries session took (writes phase.Store) phase.Store
+may_store : Carries leafy took (writes phase.Store) phase.Store
 may_store = (
   record {
     turn = record {
@@ -109,33 +116,34 @@ may_store = (
   },
   refl,
   first_fresh,
+  inl (inr refl),
 )
 
 -- ItemOk: each comes to the zone where its phase is done
-comes_to_the_blocks : ItemOk session took 3 (Request claims)
+comes_to_the_blocks : ItemOk leafy took 3 (Request claims)
 comes_to_the_blocks = (under_way, may_claim, refl)
 
-goes_to_the_device : ItemOk session took 5 (Request (writes phase.Store))
+goes_to_the_device : ItemOk leafy took 5 (Request (writes phase.Store))
 goes_to_the_device = (
   record { asked = refl; is_open = record { is_begun = omega arith; unanswered = refl }; address = omega arith; home = refl },
   may_store,
   refl,
 )
 
-comes_to_the_device : ¬ ItemOk session took 5 (Request claims)
+comes_to_the_device : ¬ ItemOk leafy took 5 (Request claims)
 comes_to_the_device = λ is. omega (arith, is.2)
 
 -- DataOk: the second block is left
-one_is_left : DataOk session took 3 (physical (block 86 ∷ []))
+one_is_left : DataOk leafy took 3 (physical (block 86 ∷ []))
 one_is_left = record { number_is = refl; lists = record { left = refl }; sound = (second_fresh, tt); kept = tt; answers = tt; told = tt }
 
-of_the_journal's_number : ¬ DataOk session took 4 (physical (block 86 ∷ []))
+of_the_journal's_number : ¬ DataOk leafy took 4 (physical (block 86 ∷ []))
 of_the_journal's_number = λ is. omega (arith, is.number_is)
 
-none_was_taken : ¬ DataOk session took 3 (physical (block 85 ∷ block 86 ∷ []))
+none_was_taken : ¬ DataOk leafy took 3 (physical (block 85 ∷ block 86 ∷ []))
 none_was_taken = λ is. let no : 2 ≡ 1 = ap (λ (blocks : List Pbn). length blocks) is.lists.left in omega (arith, no)
 
-none_is_left : ¬ DataOk session took 3 (physical [])
+none_is_left : ¬ DataOk leafy took 3 (physical [])
 none_is_left = λ is. let no : 0 ≡ 1 = ap (λ (blocks : List Pbn). length blocks) is.lists.left in omega (arith, no)
 
 -- ZoneOk: the zone of the blocks
@@ -159,7 +167,7 @@ each_none : {X : Type 0} (P : ℕ → X → Type 0) → Each P []
 each_none P i x at = absurd cc
 
 abbrev LaneOk : ℕ → List Item → Type 0
-LaneOk to lane = AllByRecursion (ItemOk session took to) lane
+LaneOk to lane = AllByRecursion (ItemOk leafy took to) lane
 
 stores : LaneOk 5 (Request (writes phase.Store) ∷ [])
 stores = (goes_to_the_device, tt)
@@ -173,7 +181,7 @@ lanes_go_on =
     (each_next (λ i. LaneOk (suc (suc (suc (suc i))))) [] ((Request (writes phase.Store) ∷ []) ∷ []) tt
     (each_next (λ i. LaneOk (suc (suc (suc (suc (suc i)))))) (Request (writes phase.Store) ∷ []) [] stores (each_none (λ i. LaneOk (suc (suc (suc (suc (suc (suc i)))))))))))))
 
-goes_on : ZoneOk session took 3 of_blocks
+goes_on : ZoneOk leafy took 3 of_blocks
 goes_on = record {
   number_is = refl;
   lanes = refl;
@@ -184,24 +192,24 @@ goes_on = record {
   counted = omega arith;
 }
 
-of_another_number : ¬ ZoneOk session took 4 of_blocks
+of_another_number : ¬ ZoneOk leafy took 4 of_blocks
 of_another_number = λ is. omega (arith, is.number_is)
 
-with_a_lane_less : ¬ ZoneOk session took 3 (record of_blocks { ports = record of_blocks.ports { outboxes = [] ∷ [] ∷ [] ∷ [] ∷ [] ∷ [] } })
+with_a_lane_less : ¬ ZoneOk leafy took 3 (record of_blocks { ports = record of_blocks.ports { outboxes = [] ∷ [] ∷ [] ∷ [] ∷ [] ∷ [] } })
 with_a_lane_less = λ is. omega (arith, is.lanes)
 
-with_a_request_of_another_zone : ¬ ZoneOk session took 3 (record of_blocks { ports = record of_blocks.ports { inbox = Request (writes phase.Store) ∷ [] } })
+with_a_request_of_another_zone : ¬ ZoneOk leafy took 3 (record of_blocks { ports = record of_blocks.ports { inbox = Request (writes phase.Store) ∷ [] } })
 with_a_request_of_another_zone = λ is. omega (arith, is.inbox.0.2)
 
-posts_to_the_wrong_zone : ¬ ZoneOk session took 3 (record of_blocks { ports = record of_blocks.ports { outboxes = lanes_with (Request claims ∷ []) } })
+posts_to_the_wrong_zone : ¬ ZoneOk leafy took 3 (record of_blocks { ports = record of_blocks.ports { outboxes = lanes_with (Request claims ∷ []) } })
 posts_to_the_wrong_zone = λ is. let at = is.outboxes 5 (Request claims ∷ []) refl in comes_to_the_device at.0
 
-posts_to_itself : ¬ ZoneOk session took 3 (record of_blocks { ports = record of_blocks.ports { outboxes = [] ∷ [] ∷ [] ∷ (Request claims ∷ []) ∷ [] ∷ [] ∷ [] } })
+posts_to_itself : ¬ ZoneOk leafy took 3 (record of_blocks { ports = record of_blocks.ports { outboxes = [] ∷ [] ∷ [] ∷ (Request claims ∷ []) ∷ [] ∷ [] ∷ [] } })
 posts_to_itself = λ is. let no = is.to_itself (Request claims ∷ []) refl in absurd cc
 
-hands_a_block_out_twice : ¬ ZoneOk session took 3 (record of_blocks { keeps = physical (block 85 ∷ block 86 ∷ []) })
+hands_a_block_out_twice : ¬ ZoneOk leafy took 3 (record of_blocks { keeps = physical (block 85 ∷ block 86 ∷ []) })
 hands_a_block_out_twice = λ is. none_was_taken is.own
 
 -- more calls of the device than steps
-more_calls_than_steps : (z : Zone) → z.steps ≡ 4 → z.keeps ≡ device false 5 → ¬ ZoneOk session took 5 z
+more_calls_than_steps : (z : Zone) → z.steps ≡ 4 → z.keeps ≡ device false 5 → ¬ ZoneOk leafy took 5 z
 more_calls_than_steps z steps keeps is = let many : 5 ≤ z.steps = rw keeps at is.counted in omega (arith, many, steps)

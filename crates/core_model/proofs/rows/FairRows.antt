@@ -12,7 +12,7 @@ use Rattle.data_vio.specs.declared.items.Stage.TheVariants as stage
 use Rattle.data_vio.specs.declared.items.Vio.{Vio}
 use Rattle.core_model.specs.Facts.{CarriesOwn, Holds, IsSealed, Looks, RestsAt, StandsAt}
 use Rattle.core_model.specs.Legal.{Legal}
-use Rattle.core_model.specs.RightTraces.{GivesRight, MapsTo, MayFollow, RightTrace}
+use Rattle.core_model.specs.RightTraces.{IsLeafy, GivesRight, MapsTo, MayFollow, RightTrace}
 use Rattle.core_model.specs.Sessions.{AtRest, HasNoneLeft, HasWholeBlocks, IsAsOpened, IsFair, IsFresh, IsSession, NewReads, NewStands, OnBlock, OnItsWay, ReadsAs, ReadsBlock, Session, Shown, value_at}
 use Rattle.core_model.specs.Steps.{Core}
 use Rattle.core_model.specs.Trace.{Calls, Happening, Trace, all_of, durable, has_stopped, sealed}
@@ -88,8 +88,8 @@ right-not_by_what_may_not_follow s h t never right = never right.0
 
 -- Carries: a request that goes to the journal owes that its block is fresh, and what a read of it gives where that is fair
 module _ (s : Session) (t : Trace) (v : Vio) where
-  enter-with_nothing_read : (IsFair s t → ⊥) → Holds s t v → MapsTo v.asks v.bytes v.new → OnBlock (IsFresh s) v.new → CarriesOwn s t v phase.Enter
-  enter-with_nothing_read unfair holds maps fresh = (holds, maps, fresh, λ fair. absurd (unfair fair))
+  enter-with_nothing_read : (IsFair s t → ⊥) → Holds s t v → MapsTo v.asks v.bytes v.new → OnBlock (IsFresh s) v.new → IsLeafy s t v.at.0 → CarriesOwn s t v phase.Enter
+  enter-with_nothing_read unfair holds maps fresh leafy = (holds, maps, fresh, (λ fair. absurd (unfair fair)), leafy)
 
   enter-not_without_its_data : IsFair s t → (OnBlock (λ x. ReadsAs s t x.0 v.bytes) v.new → ⊥) → CarriesOwn s t v phase.Enter → ⊥
   enter-not_without_its_data fair lost carries = lost (carries.3 fair)

@@ -1,5 +1,5 @@
 -- Which happening may follow: for each one a trace that it may follow, and for each of its conditions one that breaks it.
-use Rattle.std.proofs.Common.{None, ℕ, zero, suc, length-append, ◌≡◌, true, false, List, [], ◌∷◌, ◌++◌, Some, length, refl, ap, sym, subst, inl, inr, arith}
+use Rattle.std.proofs.Common.{None, ℕ, zero, suc, length-append, ◌≡◌, true, false, List, [], ◌∷◌, ◌++◌, Some, length, refl, ap, sym, ◌∙◌, subst, inl, inr, arith}
 use Rattle.std.proofs.lemmas.Option.{same_Some}
 use Rattle.blk_base.specs.Sectors.{zero_block}
 use Rattle.blk_base.specs.declared.place.Mapping.{Mapping}
@@ -10,21 +10,27 @@ use Rattle.blk_base.specs.declared.request.Request.TheVariants as request
 use Rattle.disk_model.specs.declared.call.Call.TheVariants.{Read, Write, Flush}
 use Rattle.vdo_model.specs.FlushMarks.{Moment, Desk, Device}
 use Rattle.vdo_model.specs.declared.report.DeskLine.TheVariants.{Begin, Answer}
+use Rattle.blk_base.specs.declared.journal_entry.Entry.TheVariants as held
 use Rattle.blk_base.specs.declared.place.PageId.{PageId}
+use Rattle.image_model.specs.Pages.{leaf_of}
+use Rattle.plain_laws.proofs.OptionLaws.{some_of}
 use Rattle.data_vio.specs.declared.logged.Logged.TheVariants.{Remaps, Makes}
 use Rattle.data_vio.specs.declared.items.Asks.{Asks}
 use Rattle.data_vio.specs.declared.items.Asks.TheVariants as asks
-use Rattle.core_model.specs.PageLinks.{MayLack}
-use Rattle.core_model.specs.RightTraces.{MapsTo, MayAnswer, MayFollow, NeedsPage, StopsAtFailure}
+use Rattle.core_model.specs.PageLinks.{MayLack, page_in}
+use Rattle.core_model.specs.RightTraces.{IsLeafy, MapsTo, MayAnswer, MayFollow, NeedsPage, StopsAtFailure}
 use Rattle.core_model.specs.Sessions.{Session}
 use Rattle.data_vio.specs.Vios.{asked}
 use Rattle.data_vio.specs.declared.logged.Logged.{Logged}
-use Rattle.core_model.specs.Trace.{filled, Says, Flushes, Draws, Enters, Seals, Commits, Sets, Gives, Takes, Aborts, Calls, Fails, Trace, Happening}
-use Rattle.core_model.proofs.rows.WorkedTraces.{address, block, writer, x, y, first, reader, second, other, late, flush, sizes, session, begun, drawn, took, handed_in, in_block, lasting, set, stopped, place, entry, of_first, of_second, of_other, given, one_not_zeros, two_not_zeros}
+use Rattle.core_model.specs.Trace.{applied, filled, Says, Flushes, Draws, Enters, Seals, Commits, Sets, Gives, Takes, Aborts, Calls, Fails, Trace, Happening}
+use Rattle.core_model.proofs.rows.WorkedTraces.{address, block, leafy, writer, x, y, first, reader, second, other, late, flush, sizes, session, begun, drawn, took, handed_in, in_block, lasting, set, stopped, place, entry, of_first, of_second, of_other, given, one_not_zeros, two_not_zeros}
 
--- the session, with a journal that takes two blocks
+-- the session, with a journal that takes two blocks; and without leaves
 abbrev roomy : Session
-roomy = record session { sizes = record sizes { geometry = record sizes.geometry { journal = 3 } } }
+roomy = record leafy { sizes = record sizes { geometry = record sizes.geometry { journal = 3 } } }
+
+abbrev bare : Session
+bare = record roomy { window = [] }
 
 -- a session of one request
 abbrev session_of : Request → Session
@@ -141,23 +147,23 @@ leaf = record { tree = 0; level = 0; index = 0 }
 abbrev made : Logged
 made = Makes (record { request = first; page = leaf; at = block 85 })
 
-needs_page : NeedsPage roomy took second leaf
+needs_page : NeedsPage bare took second leaf
 needs_page = record { lacked = (request.Write (address 0) y false, refl, (refl, omega arith)); up = inl refl; unmade = refl }
 
-takes_for_a_page : May (Takes second (Some leaf) (block 86)) took
+takes_for_a_page : MayFollow bare (Takes second (Some leaf) (block 86)) took
 takes_for_a_page = record { is_open = record { is_begun = omega arith; unanswered = refl }; asked = needs_page; next = refl }
 
-takes_for_what_it_lacks : NeedsPage roomy took second (record leaf { tree = 1 }) → ⊥
+takes_for_what_it_lacks : NeedsPage bare took second (record leaf { tree = 1 }) → ⊥
 takes_for_what_it_lacks needs =
     let asked : request.Write (address 0) y false ≡ needs.lacked.0 = same_Some _ _ needs.lacked.1 in
     let lacked = subst (λ (r : Request). MayLack 2 r (record leaf { tree = 1 })) (sym asked) needs.lacked.2 in
     let tree : 1 ≡ 0 = ap (λ (p : PageId). p.tree) lacked.0 in
     absurd (omega (arith, tree))
 
-takes_below_what_is_there : NeedsPage (record roomy { sizes = record roomy.sizes { geometry = record roomy.sizes.geometry { height = 3 } } }) took second leaf → ⊥
+takes_below_what_is_there : NeedsPage (record bare { sizes = record bare.sizes { geometry = record bare.sizes.geometry { height = 3 } } }) took second leaf → ⊥
 takes_below_what_is_there needs = elim needs.up [ inl level ↦ absurd (omega (arith, level)) | inr some ↦ absurd cc ]
 
-takes_for_no_page_twice : NeedsPage roomy (Enters made ∷ took) second leaf → ⊥
+takes_for_no_page_twice : NeedsPage bare (Enters made ∷ took) second leaf → ⊥
 takes_for_no_page_twice needs = let no = needs.unmade in absurd cc
 
 takes_while_open : May (Takes second None (block 86)) (Says (Answer second Stopped) ∷ took) → ⊥
@@ -184,8 +190,25 @@ enters = record {
   left = omega arith;
   room = omega arith;
   new_data = record { slab = 0; offset = 6; inside = (omega arith, omega arith); stands = refl };
+  unused = ((λ same. absurd (omega (arith, same))), tt);
+  leaf = inl (inr refl);
   old_is = refl;
 }
+
+-- IsLeafy: the leaf is there, or the window maps the address
+mapped_leafy : IsLeafy (record bare { window = held.Remap (address 0) Unmapped Zero ∷ [] }) [] 0
+mapped_leafy = inr (λ same. absurd cc)
+
+no_leaf : (t : Trace) → page_in 2 [] (applied t) (leaf_of 0) ≡ None → IsLeafy bare t 0 → ⊥
+no_leaf t none (inl (inl level)) = absurd (omega (arith, level))
+no_leaf t none (inl (inr some)) = absurd (let is = some_of _ some in let both = sym is.1 ∙ none in cc)
+no_leaf t none (inr mapped) = mapped refl
+
+enters_below_its_leaf : MayFollow bare (Enters (Remaps of_second)) set → ⊥
+enters_below_its_leaf may = no_leaf set refl may.leaf
+
+enters_a_block_once : May (Enters (Remaps (record of_second { new = At (block 85) }))) set → ⊥
+enters_a_block_once may = may.unused.0 refl
 
 enters_while_open : May (Enters (Remaps of_second)) (Says (Answer second Stopped) ∷ set) → ⊥
 enters_while_open may = let no = may.is_open.unanswered in absurd cc
@@ -210,6 +233,8 @@ enters_zeros = record {
   left = omega arith;
   room = omega arith;
   new_data = tt;
+  unused = tt;
+  leaf = inl (inr refl);
   old_is = refl;
 }
 
@@ -223,6 +248,8 @@ enters_a_discard = record {
   left = omega arith;
   room = omega arith;
   new_data = tt;
+  unused = tt;
+  leaf = inl (inr refl);
   old_is = refl;
 }
 
@@ -257,6 +284,8 @@ enters_beside_another = record {
   left = omega arith;
   room = omega arith;
   new_data = record { slab = 0; offset = 6; inside = (omega arith, omega arith); stands = refl };
+  unused = ((λ same. absurd (omega (arith, same))), tt);
+  leaf = inl (inr refl);
   old_is = refl;
 }
 
@@ -337,7 +366,11 @@ sets = record {
   is_committed = record { all_committed = refl; last = refl };
   below = record { writes = tt; reads = tt };
   unaborted = refl;
+  leaf = inl (inr refl);
 }
+
+sets_below_its_leaf : MayFollow bare (Sets (Remaps of_first)) lasting → ⊥
+sets_below_its_leaf may = no_leaf lasting refl may.leaf
 
 sets_while_open : May (Sets (Remaps of_first)) (Says (Answer first Stopped) ∷ lasting) → ⊥
 sets_while_open may = let no = may.is_open.unanswered in absurd cc

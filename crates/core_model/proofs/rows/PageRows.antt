@@ -115,6 +115,7 @@ enters = record {
   left = omega arith;
   room = omega arith;
   new_data = record { slab = 0; offset = 5; inside = (omega arith, omega arith); stands = refl };
+  unused = tt;
 }
 
 enters_while_open : May (Enters makes) (Says (Answer first Stopped) ∷ took) → ⊥
@@ -141,6 +142,9 @@ enters_while_a_block_is_left may = let left = may.left in absurd (omega (arith, 
 
 enters_of_a_data_block : May (Enters (Makes (record new_leaf { at = block 78 }))) took → ⊥
 enters_of_a_data_block may = let is = may.new_data in let stands = is.stands in absurd (omega (arith, stands))
+
+enters_a_block_once : May (Enters makes) (Enters (Remaps of_first) ∷ took) → ⊥
+enters_a_block_once may = may.unused.0 refl
 
 -- It is linked once, when it is committed, and not where its request was aborted; it is dropped once the session is stopped.
 abbrev entered : Trace

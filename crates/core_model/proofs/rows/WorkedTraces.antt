@@ -2,6 +2,8 @@
 -- computed. Its journal takes one block, and two data blocks are free.
 use Rattle.std.proofs.Common.{None, ℕ, ◌≡◌, ◌≢◌, true, false, List, [], ◌∷◌, length, ap, arith}
 use Rattle.std.proofs.lemmas.List.{length-replicate}
+use Rattle.blk_base.specs.declared.journal_entry.Entry.TheVariants as held
+use Rattle.image_model.specs.Pages.{leaf_of}
 use Rattle.blk_base.specs.Sectors.{zero_block}
 use Rattle.blk_base.specs.declared.place.Lba.{Lba}
 use Rattle.blk_base.specs.declared.place.Mapping.{Mapping}
@@ -83,6 +85,10 @@ sizes = record {
 
 abbrev pub session : Session
 session = record { sizes = sizes; script = script; blocks = []; before = []; image = []; sealed = []; window = []; free = block 85 ∷ block 86 ∷ [] }
+
+-- the same, where the leaves of both addresses are in the window
+abbrev pub leafy : Session
+leafy = record session { window = held.NewPage (leaf_of 0) (block 79) ∷ held.NewPage (leaf_of 812) (block 80) ∷ [] }
 
 -- the first three requests and the flush are begun; those of blocks have their places
 abbrev pub begun : Trace
