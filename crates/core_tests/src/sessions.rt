@@ -19,10 +19,35 @@ use test_images::put_pages;
 use vdo_core::{Core, Setup};
 use vdo_model::{Requests, RunReport};
 
+/// The block map of an image: the default one, whose leaves stand below the roots, or one with pages between them.
+#[derive(Clone, Copy)]
+pub(crate) enum Trees {
+    Low,
+    Tall,
+}
+
+impl Trees {
+    /// The sizes of the image: the default ones, but for a longer journal where more pages take entries.
+    pub(crate) fn geometry(self) -> Geometry
+        ensures { IsGeometry result }
+    {
+        match self {
+            Trees::Low => Geometry::DEFAULT,
+            Trees::Tall => TALL,
+        }
+    }
+}
+
+const TALL: Geometry = Geometry {
+    height: 3,
+    journal: 16,
+    ..Geometry::DEFAULT
+};
+
 /// Requests, and the core that serves them.
 #[derive(Clone, Copy)]
 pub(crate) struct Plan {
-    pub(crate) geometry: &'static Geometry,
+    pub(crate) trees: Trees,
     pub(crate) setup: Setup,
     pub(crate) streams: &'static [&'static [Ask]],
 }
@@ -50,9 +75,29 @@ pub(crate) fn troubled_of(
 ) -> Result<MemDisk, AllocError>
     requires { IsGeometry geometry.now }
 {
-    let layout = Layout::of(geometry);
-    let mut blocks = first_image(alloc, geometry, &layout)?;
+    let blocks = first_image(alloc, geometry, &Layout::of(geometry))?;
+    with_trouble(alloc, blocks, trouble)
+}
+
+/// The same with the roots of the block map, which a session neither reads nor writes.
+pub(crate) fn rooted(
+    alloc: Global,
+    geometry: &Geometry,
+    trouble: Trouble,
+) -> Result<MemDisk, AllocError>
+    requires { IsGeometry geometry.now }
+{
+    let mut blocks = first_image(alloc, geometry, &Layout::of(geometry))?;
     put_pages(&mut blocks, *geometry, &[]);
+    with_trouble(alloc, blocks, trouble)
+}
+
+// A device with these blocks, with which this goes wrong.
+fn with_trouble(
+    alloc: Global,
+    blocks: Vec<Block>,
+    trouble: Trouble,
+) -> Result<MemDisk, AllocError> {
     let mut plan = Vec::new(alloc);
     if let Trouble::Fault(fault) = trouble {
         plan.push(fault)?;
@@ -181,7 +226,7 @@ pub(crate) fn open_core<D: Disk>(
     ensures { IfOk result (λ core. Fits core.sizes (D.seen device.new)) }
 {
     let requests = script(alloc, plan.streams)?;
-    open_over(alloc, plan.geometry, &plan.setup, requests, device)
+    open_over(alloc, &plan.trees.geometry(), &plan.setup, requests, device)
 }
 
 /// The report of a session by the schedule of a number.

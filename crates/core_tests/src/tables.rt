@@ -1,8 +1,8 @@
 use crate::cores::{Ask, Unplayed, push};
 use crate::judging::{Met, answer_of, byte_of, judge, may_show};
 use crate::maps::wrong_in_image;
-use crate::sessions::{Plan, Trouble, driven, troubled_of};
-use blk_base::{Answer, Geometry, Lba, Pbn, Writer};
+use crate::sessions::{Plan, Trees, Trouble, driven, rooted, troubled_of};
+use blk_base::{Answer, Lba, Pbn, Writer};
 use disk_model::{Call, CallKind, FaultAt, MemDisk};
 use std::alloc::Global;
 use std::sync::Wait;
@@ -10,17 +10,10 @@ use std::test::Fail;
 use vdo_core::Setup;
 use vdo_model::RunReport;
 
-/// The default sizes, but for a block map of height 3, whose pages take more blocks of the journal.
-const TALL: Geometry = Geometry {
-    height: 3,
-    journal: 16,
-    ..Geometry::DEFAULT
-};
-
 // Streams over two logical zones: addresses from 812 on are of the second. No two writes of a plan have the same byte.
 const PLANS: [Plan; 5] = [
     Plan {
-        geometry: &Geometry::DEFAULT,
+        trees: Trees::Low,
         setup: Setup {
             logical_zones: 2,
             depth: 1,
@@ -38,7 +31,7 @@ const PLANS: [Plan; 5] = [
         ],
     },
     Plan {
-        geometry: &Geometry::DEFAULT,
+        trees: Trees::Low,
         setup: Setup {
             logical_zones: 2,
             depth: 3,
@@ -52,7 +45,7 @@ const PLANS: [Plan; 5] = [
     },
     // More writes than the journal has blocks for, where each has one of its own.
     Plan {
-        geometry: &Geometry::DEFAULT,
+        trees: Trees::Low,
         setup: Setup {
             logical_zones: 2,
             depth: 16,
@@ -88,7 +81,7 @@ const PLANS: [Plan; 5] = [
     },
     // Discards, and a write of zeros.
     Plan {
-        geometry: &Geometry::DEFAULT,
+        trees: Trees::Low,
         setup: Setup {
             logical_zones: 2,
             depth: 16,
@@ -118,7 +111,7 @@ const PLANS: [Plan; 5] = [
     },
     // Streams that lack the same pages, a leaf and the one above it in each of two trees.
     Plan {
-        geometry: &TALL,
+        trees: Trees::Tall,
         setup: Setup {
             logical_zones: 2,
             depth: 2,
@@ -145,7 +138,7 @@ fn met_by<R: Wait>(
     number: u64,
     trouble: Trouble,
 ) -> Result<Met, Unplayed> {
-    let mut device = troubled_of(alloc, plan.geometry, trouble)?;
+    let mut device = troubled_of(alloc, &plan.trees.geometry(), trouble)?;
     let report = driven(rt, alloc, plan, number, &mut device)?;
     Ok(judge(&report))
 }
@@ -199,7 +192,7 @@ fn fault_of(earlier: &[Call], call: &Call, effect: bool) -> FaultAt {
 
 // How many calls read the journal when a device is opened.
 fn reads_of(plan: &Plan) -> u64 {
-    u64::from(plan.geometry.journal)
+    u64::from(plan.trees.geometry().journal)
 }
 
 // The faults of each call of a run behind those of its opening.
@@ -209,7 +202,7 @@ fn faults_of<R: Wait>(
     plan: &Plan,
     number: u64,
 ) -> Result<Vec<FaultAt>, Unplayed> {
-    let mut device = troubled_of(alloc, plan.geometry, Trouble::Nothing)?;
+    let mut device = troubled_of(alloc, &plan.trees.geometry(), Trouble::Nothing)?;
     let _report = driven(rt, alloc, plan, number, &mut device)?;
     let mut faults = Vec::new(alloc);
     let calls = device.calls();
@@ -274,7 +267,7 @@ const ADDRESSES: [u32; 4] = [5, 6, 900, 901];
 // They are read one after another, once the image is opened again.
 fn reads_on(plan: &Plan) -> Plan {
     Plan {
-        geometry: plan.geometry,
+        trees: plan.trees,
         setup: Setup {
             logical_zones: 2,
             depth: 1,
@@ -364,7 +357,7 @@ fn shown_after<R: Wait>(
     number: u64,
     calls: u64,
 ) -> Result<Shown, Unplayed> {
-    let mut device = troubled_of(alloc, plan.geometry, Trouble::Cut(calls))?;
+    let mut device = troubled_of(alloc, &plan.trees.geometry(), Trouble::Cut(calls))?;
     let report = driven(rt, alloc, plan, number, &mut device)?;
     let newest = shown_in(rt, alloc, plan, &report, &device, 1)?;
     let mixed = shown_in(rt, alloc, plan, &report, &device, number.wrapping_add(2))?;
@@ -437,10 +430,16 @@ fn wrong_after<R: Wait>(
     number: u64,
     calls: u64,
 ) -> Result<u32, Unplayed> {
-    let mut device = troubled_of(alloc, plan.geometry, Trouble::Cut(calls))?;
+    let mut device = rooted(alloc, &plan.trees.geometry(), Trouble::Cut(calls))?;
     let report = driven(rt, alloc, plan, number, &mut device)?;
     let mut image = device.pick_image(alloc, number.wrapping_add(2))?;
-    wrong_in_image(alloc, plan.geometry, &report, &ADDRESSES, &mut image)
+    wrong_in_image(
+        alloc,
+        &plan.trees.geometry(),
+        &report,
+        &ADDRESSES,
+        &mut image,
+    )
 }
 
 // The same of stops at each call of a run, shared out among the schedules, and how many these are.

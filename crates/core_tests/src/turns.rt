@@ -2,8 +2,8 @@ ghost use Rattle.std.specs.Prelude.{◌≡◌};
 ghost use Rattle.device_zone.specs.DeviceCalls.{Fits};
 
 use crate::cores::{Ask, Unplayed, push, stepped};
-use crate::sessions::{Plan, Trouble, driven, open_core, troubled};
-use blk_base::{Answer, Geometry};
+use crate::sessions::{Plan, Trees, Trouble, driven, open_core, troubled};
+use blk_base::Answer;
 use disk_model::Disk;
 use schedule::play;
 use std::alloc::{AllocError, Global};
@@ -13,7 +13,7 @@ use vdo_core::{Core, CoreZones, Event, Setup};
 use vdo_model::{DeskLine, RunReport};
 
 const TWO_ZONES: Plan = Plan {
-    geometry: &Geometry::DEFAULT,
+    trees: Trees::Low,
     setup: Setup {
         logical_zones: 2,
         depth: 3,
@@ -25,7 +25,7 @@ const TWO_ZONES: Plan = Plan {
 };
 
 const FOUR_ZONES: Plan = Plan {
-    geometry: &Geometry::DEFAULT,
+    trees: Trees::Low,
     setup: Setup {
         logical_zones: 4,
         depth: 4,

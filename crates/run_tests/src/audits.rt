@@ -1,11 +1,46 @@
 //! What an audit says of the image that a script leaves: each page counts as a mapping of its block.
 
 use crate::runs::{Device, Ran, command_on, made, run_on};
-use disk_model::CallKind;
+use blk_base::{Geometry, PageId, Pbn, TREES};
+use disk_model::{CallKind, Disk, MemDisk};
 use std::alloc::{AllocError, Global};
 use std::sync::Wait;
 use std::test::Fail;
 use std::thread::Threads;
+use test_images::page_block;
+
+/// The first root, behind the superblock and the journal.
+const FIRST_ROOT: u32 = 1 + Geometry::DEFAULT.journal;
+
+// Puts the roots of trees of this height, which a session neither reads nor writes: each leads nowhere.
+fn put_roots(device: &mut MemDisk, height: u32) {
+    let geometry = Geometry {
+        height,
+        ..Geometry::DEFAULT
+    };
+    for tree in 0..TREES {
+        let at = FIRST_ROOT + u32::from(tree);
+        let root = PageId {
+            tree,
+            level: if height == 3 { 2 } else { 1 },
+            index: 0,
+        };
+        if at < device.blocks() {
+            let _written = device.write(Pbn(at), &page_block(geometry, root, at, &[]));
+        }
+    }
+}
+
+/// What an audit of a device whose trees have this height puts, and its status, once it has roots.
+pub(crate) fn audited<R: Threads + Wait + Sync>(
+    rt: &R,
+    alloc: Global,
+    mut device: MemDisk,
+    height: u32,
+) -> Result<Ran, AllocError> {
+    put_roots(&mut device, height);
+    command_on(rt, alloc, device, "audit")
+}
 
 // A device, a script, and what the audit behind it puts.
 type Row = (Device, &'static [u8], &'static [u8]);
@@ -53,6 +88,14 @@ const ROWS: [Row; 12] = [
     (Device::Failing(CallKind::Write, 3), WRITE, USED_1),
 ];
 
+// The height of its trees.
+fn height_of(device: Device) -> u32 {
+    match device {
+        Device::Tall => 3,
+        _ => 2,
+    }
+}
+
 // Whether the audit behind the script puts this.
 fn is_audited<R: Threads + Wait + Sync>(
     rt: &R,
@@ -60,8 +103,8 @@ fn is_audited<R: Threads + Wait + Sync>(
     (device, script, text): Row,
 ) -> Result<(u8, bool), AllocError> {
     let ran = run_on(rt, alloc, made(alloc, device)?, script, None, 2000)?;
-    let Ran { device, .. } = ran;
-    let audited = command_on(rt, alloc, device, "audit")?;
+    let Ran { device: left, .. } = ran;
+    let audited = audited(rt, alloc, left, height_of(device))?;
     Ok((audited.status, audited.sink.bytes() == text))
 }
 

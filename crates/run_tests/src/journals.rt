@@ -1,8 +1,9 @@
+ghost use Rattle.blk_base.specs.Limits.{IsGeometry};
+
 use blk_base::{Block, Entry, Geometry, Layout};
 use image_layout::first_image;
 use journal_codec::{Entries, JournalBlock, encode};
 use std::alloc::{AllocError, Global};
-use test_images::put_pages;
 
 // The journals of these tests are put together from the definitions of the format by `journal_codec`, and what they are to
 // give was worked out by hand. The journal has 8 slots, those of blocks 1 to 8, and the data blocks are 85 to 148.
@@ -41,11 +42,11 @@ fn first_sectors(block: &Block, sectors: usize) -> Block {
     front
 }
 
-/// The blocks of a fresh image of these sizes, with the roots of its block map.
-pub(crate) fn fresh_blocks(alloc: Global, geometry: &Geometry) -> Result<Vec<Block>, AllocError> {
-    let mut blocks = first_image(alloc, geometry, &Layout::of(geometry))?;
-    put_pages(&mut blocks, *geometry, &[]);
-    Ok(blocks)
+/// The blocks of a fresh image of these sizes.
+pub(crate) fn fresh_blocks(alloc: Global, geometry: &Geometry) -> Result<Vec<Block>, AllocError>
+    requires { IsGeometry geometry.now }
+{
+    first_image(alloc, geometry, &Layout::of(geometry))
 }
 
 /// The blocks of a fresh image whose journal has these blocks.

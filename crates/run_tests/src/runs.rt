@@ -1,3 +1,5 @@
+ghost use Rattle.blk_base.specs.Limits.{IsGeometry};
+
 use crate::journals::{Standing, fresh_blocks, with_journal};
 use blk_base::{Block, Geometry, Pbn, Super};
 use disk_model::{Call, CallKind, FaultAt, MemDisk, MemSink, MemSource, OpenGate};
@@ -18,7 +20,9 @@ const TALL: Geometry = Geometry {
 };
 
 // A device with a fresh image of these sizes.
-fn sized(alloc: Global, geometry: &Geometry) -> Result<MemDisk, AllocError> {
+fn sized(alloc: Global, geometry: &Geometry) -> Result<MemDisk, AllocError>
+    requires { IsGeometry geometry.now }
+{
     let blocks = fresh_blocks(alloc, geometry)?;
     MemDisk::from_blocks(alloc, blocks)
 }

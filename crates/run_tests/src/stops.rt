@@ -1,5 +1,6 @@
+use crate::audits::audited;
 use crate::journals::fresh_blocks;
-use crate::runs::{Ran, command_on, fresh, puts, run_on};
+use crate::runs::{Ran, fresh, puts, run_on};
 use blk_base::{Block, Geometry};
 use disk_model::{Call, MemDisk};
 use std::alloc::{AllocError, Global};
@@ -119,7 +120,7 @@ fn is_counted<R: Threads + Wait + Sync>(
     alloc: Global,
     device: MemDisk,
 ) -> Result<bool, AllocError> {
-    let audited = command_on(rt, alloc, device, "audit")?;
+    let audited = audited(rt, alloc, device, Geometry::DEFAULT.height)?;
     Ok(audited.status == 0 && audited.sink.bytes().starts_with(b"audit clean"))
 }
 

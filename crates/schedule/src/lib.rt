@@ -6,10 +6,11 @@
 //! that they make. What the turns do, their events do (`Plays` of `vdo_core`), with the same trace.
 //!
 //! Only tested: that the events which a row of numbers chooses by hand do what a schedule does, for 20 numbers; runs of
-//! four streams over two logical zones, with 1, 3 and 16 requests of a stream under way, by 20 schedules: without a
-//! fault, and, each by two of these, with each call of the device failing in turn, and stopped at each call, judged by
-//! a plain checker of reads and of the values after the stop; and 300 writes of sixteen streams in a journal of 8
-//! blocks: by four schedules, and by one stopped at each seventh call, and opened again.
+//! four streams over two logical zones, with 1, 2, 3 and 16 requests of a stream under way, which lack the same pages,
+//! also those of trees of height 3, by 20 schedules: without a fault, and, each by two of these, with each call of the
+//! device failing in turn, and stopped at each call, judged by a plain checker of reads and of the values after the
+//! stop, with two of these also by the map and the counts of the image; and 300 writes of sixteen streams in a journal
+//! of 8 blocks: by four schedules, and by one stopped at each thirteenth call, and opened again.
 //!
 //! Not there: that `drive` returns, and, in a law of this crate, that a core that isn't done has a turn.
 #![tactic(auto)]

@@ -5,9 +5,10 @@
 //! audited; calls that fail, with three images each of what a stop leaves, recovered again; full sinks; files with
 //! bytes changed in each region (`tools/image_files.sh`), with texts and statuses as a plain program finds them
 //! (`tools/whole_image.py`). Of `run`, whole scripts with faults, runs one after the other on one device, each refusal
-//! of a superblock and of a window, and the texts; a script stopped at each call, with the last write old, new, and
-//! torn in each sector, opened again; a full journal block of which any of its eight sectors were written, opened;
-//! where writes may follow a journal; one output of a script of one stream, and one of two, by the schedules 0 to 99.
+//! of a superblock and of a window, and the texts; what scripts leave, also where a call failed, audited; a script
+//! stopped at each call, with the last write old, new, and torn in each sector, opened again and audited; a full
+//! journal block of which any of its eight sectors were written, opened; where writes may follow a journal; one output
+//! of a script of one stream, and one of two, by the schedules 0 to 99.
 //!
 //! Not there: that a later run opens the image that a stop in a session leaves: a run refuses one whose sequences are
 //! used up (a `start` near 2^54). A session knows the entries of the journal alone, and links the new pages of these,
