@@ -1,32 +1,23 @@
--- Audits that are accepted: the report of an empty image, the numbers of blocks that no list has, what was read of a device
--- that doesn't tell, and a device without a superblock.
-use Rattle.std.proofs.Common.{ℕ, ◌≡◌, ◌+◌, ◌<◌, Bool, true, false, IsTrue, List, [], ◌∷◌, length, replicate, slice_index, Contains, Ok, refl, sym, ◌∙◌, ap, subst, inl, inr, arith}
+-- Audits that are accepted: the report of an image that has nothing, the numbers of blocks that no list has, and a device
+-- without a superblock.
+use Rattle.std.proofs.Common.{ℕ, ◌≡◌, Bool, List, [], length, replicate, slice_index, Contains, Ok, refl, sym, ◌∙◌, ap, subst, inl, inr, arith}
 use Rattle.std.proofs.lemmas.List.{get_or-replicate, length-replicate}
-use Rattle.blk_base.specs.Regions.{DataBlock, Root, block_of}
-use Rattle.blk_base.specs.Sectors.{zero_block}
-use Rattle.blk_base.specs.declared.geometry.Geometry.{Geometry}
-use Rattle.blk_base.specs.declared.geometry.Super.{Super as Superblock}
+use Rattle.blk_base.specs.Regions.{DataBlock, block_of}
 use Rattle.blk_base.specs.declared.layout.DataPlace.{DataPlace}
 use Rattle.blk_base.specs.declared.place.Pbn.{Pbn}
-use Rattle.blk_base.specs.declared.sizes.TheConstants.{TREES}
 use Rattle.count_updates.specs.Numbers.{block_number}
-use Rattle.disk_model.proofs.SeenLaws.{later_yet, stays_yet}
-use Rattle.disk_model.specs.Log.{Blocks, block_at}
+use Rattle.disk_model.specs.Log.{Blocks}
 use Rattle.disk_model.specs.Seen.{Seen}
-use Rattle.disk_model.specs.Since.{AreGiven}
 use Rattle.image_layout.specs.declared.fault.SuperFault.TheVariants.{NotAnImage}
 use Rattle.image_model.proofs.CountLaws.{none_in_nothing, one_number, one_stored}
-use Rattle.image_model.proofs.EmptyLaws.{blank_slot, has_nothing, pages_good, root_says, sizes_of_image}
+use Rattle.image_model.proofs.EmptyLaws.{the_image}
 use Rattle.image_model.proofs.Example.{small}
 use Rattle.image_model.specs.Counts.{Stores}
-use Rattle.image_model.specs.Empty.{HasNothing, IsEmpty, empty_root, empty_super}
+use Rattle.image_model.specs.Empty.{HasNothing}
 use Rattle.image_model.specs.Maps.{ArePagesGood, Image}
-use Rattle.image_model.specs.Sound.{IsDataPlace, image_of}
+use Rattle.image_model.specs.Sound.{IsDataPlace}
 use Rattle.image_model.specs.declared.fault.ImageFault.TheVariants.{Counts, Super}
-use Rattle.journal_window.specs.States.{WindowState}
-use Rattle.replay_counts.specs.Recovered.{AreSlabsRead}
-use Rattle.slab_reading.specs.Slabs.{first_of_slab}
-use Rattle.audit.specs.Audits.{AuditFails, BothShow}
+use Rattle.audit.specs.Audits.{AuditFails}
 use Rattle.audit.specs.Reports.{AreUsed, Differs, HasNoFault, IsReport}
 use Rattle.audit.specs.Tallies.{AreNumbers, AreTallied, Tallies, used_in}
 use Rattle.audit.specs.declared.forms.Difference.{Difference}
@@ -52,20 +43,10 @@ none_are_numbered = λ place inside. none place inside
 none_are_tallied : AreTallied small [] [] zeros
 none_are_tallied = record { size = length-replicate {A = ℕ} 64 0; each = none_are_numbered }
 
--- IsReport: of an empty image no block differs, none is used, and there are 64
-module _ (blocks : Blocks) (empty : IsEmpty small blocks) where
+-- IsReport: of an image that has nothing no block differs, none is used, and there are 64
+module _ (blocks : Blocks) (nothing : HasNothing (the_image small blocks)) (good : ArePagesGood (the_image small blocks)) where
   abbrev image : Image
-  image = image_of (empty_super small) blocks []
-
-  nothing : HasNothing image
-  nothing = has_nothing small blocks empty
-
-  roots : (tree : ℕ) → tree < TREES → block_at blocks (block_of small (Root tree)) ≡ empty_root small tree
-  roots tree inside = empty.made (Root tree) inside tt
-
-  good : ArePagesGood image
-  good =
-      pages_good small blocks (sizes_of_image blocks (empty_super small) empty.accepted) (root_says small blocks roots) (blank_slot small blocks roots)
+  image = the_image small blocks
 
   no_fault : HasNoFault image
   no_fault = record {
@@ -89,7 +70,7 @@ module _ (blocks : Blocks) (empty : IsEmpty small blocks) where
     sum = refl;
   }
 
-  its_report : (report : Report) → report.differs.items ≡ [] → report.used ≡ 0 → report.total ≡ 64 → IsReport image report
+  pub its_report : (report : Report) → report.differs.items ≡ [] → report.used ≡ 0 → report.total ≡ 64 → IsReport image report
   its_report report none used total = record {
     right = no_fault;
     each = λ difference. (
@@ -104,35 +85,6 @@ module _ (blocks : Blocks) (empty : IsEmpty small blocks) where
   -- used: another number
   one_used : (report : Report) → report.used ≡ 1 → (is : IsReport image report) → is.used.counts ≡ zeros → ⊥
   one_used report used is same = let sum = is.used.sum in let none = ap (λ (counts : List ℕ). used_in counts) same in omega (arith, sum, used, none)
-
--- BothShow: of a device that doesn't tell no page was read, and of its slab five blocks of zeros
-zero_size : length zero_block ≡ 4096
-unfolding zero_block
-zero_size = length-replicate {A = ℕ} 4096 0
-
-module _ (head : Superblock) (sizes : head.geometry ≡ small) (window : WindowState) (seen : Seen) where
-  abbrev five : Blocks
-  five = zero_block ∷ zero_block ∷ zero_block ∷ zero_block ∷ zero_block ∷ []
-
-  none_told : {A : Type 0} → IsTrue false → A
-  none_told told = absurd (cc told)
-
-  given : AreGiven false true (first_of_slab small 0) seen five
-  given = (zero_size, none_told, (zero_size, none_told, (zero_size, none_told, (zero_size, none_told, (zero_size, none_told, tt)))))
-
-  slab_read : AreSlabsRead false true small seen seen (five ∷ [])
-  slab_read = record {
-    count = refl;
-    read = (seen, refl, record { count = refl; reads = record { told = none_told; stays = stays_yet seen; later = later_yet seen; given = given; logged = none_told } });
-  }
-
-  shows_zeros : BothShow false true head window seen seen (λ image. block_at image.blocks (first_of_slab head.geometry 0 + 0) ≡ zero_block)
-  shows_zeros = (
-    [],
-    five ∷ [],
-    record { middle = seen; pages_read = refl; slabs_read = subst (λ (g : Geometry). AreSlabsRead false true g seen seen (five ∷ [])) (sym sizes) slab_read },
-    λ blocks shown holds. holds 0 0 (rw sizes (omega arith)) (rw sizes (omega arith)),
-  )
 
 -- AuditFails: a device without blocks has no superblock; and no fault of the counts is an audit's
 no_superblock : (tells honest : Bool) (seen : Seen) → seen.size ≡ 0 → AuditFails tells honest seen seen (Super NotAnImage)

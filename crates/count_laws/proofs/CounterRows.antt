@@ -159,7 +159,7 @@ module _ (blocks : Blocks) (empty : IsEmpty small blocks) where
   by_window : UpdateStands blocks [] small four (place 0) 512
   by_window = inl (0, omega arith, refl)
 
-  by_counters : (bytes : List ℕ) → number_at 8 0 (sector 0 bytes) ≡ 519 → UpdateStands blocks (Flush true ∷ Write (pbn 149) bytes true ∷ []) small [] (place 0) 512
+  by_counters : (bytes : List ℕ) → number_at 8 0 (sector 0 bytes) ≡ 512 → UpdateStands blocks (Flush true ∷ Write (pbn 149) bytes true ∷ []) small [] (place 0) 512
   by_counters bytes is = inr (inl (omega (arith, is), tt))
 
   by_journal : UpdateStands blocks (Flush true ∷ Write (pbn 150) kept_block true ∷ []) small [] (place 0) 512

@@ -30,7 +30,7 @@ use Rattle.slab_codec.specs.declared.forms.SlabEntry.{SlabEntry}
 use Rattle.recovery_laws.proofs.CountsKept.{sector_inside}
 use Rattle.count_laws.specs.Counters.{CountsStand, HasUpdate, IsCounted, IsOfSector, IsKnown, MayWrite, SurelyCounters, SurelyJournal, UpdateStands, counter_in, entry_at, points_at}
 use Rattle.count_laws.specs.Points.{ArePointed, next_point, points_by, points_for, up_to}
-use Rattle.count_laws.proofs.ContentLaws.{after_write}
+use Rattle.disk_model.proofs.ContentLaws.{after_write}
 use Rattle.count_laws.proofs.PointLaws.{all_below_next, all_more, in_either, in_first, in_second, none_up_to, of_all, points_above, points_below}
 use Rattle.count_laws.proofs.StoredLaws.{counters_inside}
 

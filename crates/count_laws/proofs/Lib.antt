@@ -1,4 +1,3 @@
-pub mod ContentLaws
 pub mod BelowLaws
 pub mod PointLaws
 pub mod StepLaws

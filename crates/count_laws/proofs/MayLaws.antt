@@ -14,7 +14,7 @@ use Rattle.image_model.specs.Maps.{Image}
 use Rattle.slab_codec.specs.declared.forms.SlabEntry.{SlabEntry}
 use Rattle.recovery_laws.proofs.CountsKept.{sector_inside}
 use Rattle.count_laws.specs.Counters.{HasUpdate, IsCounted, IsKnown, MayWrite, SurelyCounters, SurelyJournal, entry_at, points_at}
-use Rattle.count_laws.proofs.ContentLaws.{both_of, some_content}
+use Rattle.disk_model.proofs.ContentLaws.{both_of, some_content}
 use Rattle.count_laws.proofs.StoredLaws.{counters_inside}
 
 same_counters : (slab slab' i i' : ℕ) → ReferenceBlock slab i ≡ ReferenceBlock slab' i' → (slab ≡ slab') × (i ≡ i')

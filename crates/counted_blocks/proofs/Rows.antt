@@ -127,8 +127,8 @@ module _ (blocks : Blocks) (empty : IsEmpty small blocks) where
   other_counter first is has = let same = has.counters 0 (omega arith) in let none = counter_none blocks empty 0 (omega arith) in omega (arith, same, none, is)
 
   -- what comes later is later than what was taken, and than the opened commit point
-  later_before : (has : HasTaken (opened blocks empty) four 0 points (replicate 64 0) taken) → Contains has.later (update 511 0) → ⊥
-  later_before has there = let after = has.order (update 512 0) (update 511 0) (1, omega arith, refl) there in omega (arith, after)
+  later_at_once : (has : HasTaken (opened blocks empty) four 0 points (replicate 64 0) taken) → Contains has.later (update 514 1) → ⊥
+  later_at_once has there = let after = has.order (update 514 1) (update 514 1) (0, omega arith, refl) there in omega (arith, after)
 
   later_old : (has : HasTaken (opened blocks empty) four 0 points (replicate 64 0) taken) → Contains has.later (update 0 0) → ⊥
   later_old has there = let new = has.newer (update 0 0) there in omega (arith, new)

@@ -3,6 +3,7 @@ mod StreamPins
 pub mod SincePins
 pub mod Honest
 pub mod ImageLaws
+pub mod ContentLaws
 pub mod OneImageLaws
 pub mod PlanLaws
 pub mod RetainLaws

@@ -10,6 +10,7 @@ use Rattle.disk_model.specs.declared.call.Call.{Call}
 use Rattle.disk_model.specs.declared.call.Call.TheVariants.{Read, Write, Flush}
 use Rattle.disk_model.specs.Images.{OneOf, IsMixOf, IsImage, HasOneImage}
 use Rattle.disk_model.specs.Log.{Blocks, block_at, settled, contents, Misses}
+use Rattle.disk_model.proofs.ContentLaws.{contents_some, one_of_weaker}
 use Rattle.disk_model.proofs.ImageLaws.{settled_are_contents, kept, block_of_image}
 
 -- A device with whole blocks and an empty log has the image that it opened with.
@@ -62,31 +63,6 @@ pub one_image-unique : (opening : Blocks) (log : List Call) (image other : Block
 one_image-unique opening log image other one is =
     same_blocks other image (is.size ∙ sym one.size)
     (λ b below. let here : b < length opening = subst (λ n. b < n) one.size below in block_of_image opening log other b (block_at image b) here (one.whole b here) (one.only b here) is)
-
--- A block always has a content.
-first_of : (P : List ℕ → Type 0) (here : Bool) (bytes : List ℕ) (xs ys : List (List ℕ)) → (AllByRecursion P ys → OneOf P ys)
-    → AllByRecursion P (if here then bytes ∷ xs else ys) → OneOf P (if here then bytes ∷ xs else ys)
-first_of P true bytes xs ys f h = inl h.0
-first_of P false bytes xs ys f h = f h
-
-settled_some : (P : List ℕ → Type 0) (opening : Blocks) (log : List Call) (b : ℕ) → AllByRecursion P (settled opening log b) → OneOf P (settled opening log b)
-settled_some P opening [] b h = inl h.0
-settled_some P opening (Read at bytes ok ∷ log) b h = settled_some P opening log b h
-settled_some P opening (Flush ok ∷ log) b h = settled_some P opening log b h
-settled_some P opening (Write at bytes true ∷ log) b h = first_of P (at.0 == b) bytes [] _ (settled_some P opening log b) h
-settled_some P opening (Write at bytes false ∷ log) b h = first_of P (at.0 == b) bytes _ _ (settled_some P opening log b) h
-
-contents_some : (P : List ℕ → Type 0) (opening : Blocks) (log : List Call) (b : ℕ) → AllByRecursion P (contents opening log b) → OneOf P (contents opening log b)
-contents_some P opening [] b h = inl h.0
-contents_some P opening (Read at bytes ok ∷ log) b h = contents_some P opening log b h
-contents_some P opening (Flush true ∷ log) b h = settled_some P opening log b h
-contents_some P opening (Flush false ∷ log) b h = contents_some P opening log b h
-contents_some P opening (Write at bytes ok ∷ log) b h = first_of P (at.0 == b) bytes _ _ (contents_some P opening log b) h
-
-one_of_weaker : (P Q : List ℕ → Type 0) (options : List (List ℕ)) → ((content : List ℕ) → P content → Q content) → OneOf P options → OneOf Q options
-one_of_weaker P Q [] f one = absurd one
-one_of_weaker P Q (content ∷ others) f (inl here) = inl (f content here)
-one_of_weaker P Q (content ∷ others) f (inr later) = inr (one_of_weaker P Q others f later)
 
 -- where all contents of a block are the same, that block is a mix of them
 pub mix_of_one : (opening : Blocks) (log : List Call) (block : List ℕ) (b : ℕ) → AllByRecursion (λ content. content ≡ block) (contents opening log b)

@@ -46,7 +46,7 @@ module _ (first second changed : List ℕ) (same_head : sector 0 changed ≡ sec
   another_block is = differs (is.others 1 (omega arith) (omega arith))
 
 -- IsDataKept: data blocks 85 to 148 of 154, and what stands behind the image
-abbrev first_data : IsDataBlock small 85
+abbrev pub first_data : IsDataBlock small 85
 first_data = record { slab = 0; offset = 0; inside = (omega arith, omega arith); stands = refl }
 
 module _ (old image : Blocks) where

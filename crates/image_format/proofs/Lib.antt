@@ -3,3 +3,4 @@ pub mod StopLaws
 pub mod AfterLaws
 pub mod FormatLaws
 mod FormatRows
+mod MadeRows

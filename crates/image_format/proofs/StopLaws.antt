@@ -1,9 +1,10 @@
 -- What a stop leaves while an image is made.
-use Rattle.std.proofs.Common.{ℕ, zero, suc, ◌≡◌, ◌⊎◌, ◌+◌, ◌-◌, ◌*◌, ◌<◌, ◌≤◌, ◌^◌, Bool, true, false, List, [], ◌∷◌, ◌++◌, length, get_or, take, drop, replicate, flat_map, Err, refl, sym, ◌∙◌, ap, ap₂, subst, inl, inr, arith, append_assoc, length-append}
+use Rattle.std.proofs.Common.{ℕ, zero, suc, ◌≡◌, ◌⊎◌, ◌+◌, ◌-◌, ◌*◌, ◌<◌, ◌≤◌, ◌^◌, Bool, true, false, List, [], ◌∷◌, ◌++◌, length, get_or, take, drop, replicate, Err, refl, sym, ◌∙◌, ap, ap₂, subst, inl, inr, arith, append_assoc}
 use Rattle.std.specs.List.{AllByRecursion}
 use Rattle.std.proofs.lemmas.Bool.Decides.{eqb_tells}
 use Rattle.std.proofs.lemmas.Bool.{cases_lt}
 use Rattle.std.proofs.lemmas.List.{get_or-take, drop_at, drop-drop, drop-replicate, take-replicate, length-replicate}
+pub use Rattle.blk_base.proofs.SectorLaws.{zero_size}
 use Rattle.blk_base.specs.Limits.{IsGeometry}
 use Rattle.blk_base.specs.Regions.{Place, Superblock, JournalSlot, Root, IndexBlock, DataBlock, ReferenceBlock, SlabJournalSlot, IsPlace, IsDataBlock, block_of, needed_blocks, references_of}
 use Rattle.blk_base.specs.Sectors.{sector, zero_block}
@@ -22,12 +23,8 @@ use Rattle.image_layout.specs.declared.fault.SuperFault.TheVariants.{NotAnImage}
 use Rattle.image_layout.proofs.AgainLaws.{written_again}
 use Rattle.image_layout.specs.Superblock.{field_bytes}
 use Rattle.image_layout.proofs.SpellingLaws.{length-fields, super_block-fields}
-use Rattle.page_codec.specs.Spelling.{head_bytes, page_bytes}
-use Rattle.page_codec.specs.declared.forms.PageHead.{PageHead}
-use Rattle.page_codec.proofs.SpellingLaws.{length-head}
-use Rattle.byte_fields.specs.Mappings.{mapping_bytes}
-use Rattle.byte_fields.proofs.FieldLaws.{length-records}
-use Rattle.byte_fields.proofs.MappingLaws.{length-mapping}
+pub use Rattle.image_layout.proofs.SpellingLaws.{super_size}
+use Rattle.page_codec.proofs.SpellingLaws.{page_size}
 use Rattle.blk_base.specs.declared.geometry.Super.{Super}
 use Rattle.blk_base.specs.declared.place.Mapping.TheVariants.{Unmapped}
 use Rattle.image_model.specs.Empty.{IsEmpty, IsMade, IsUnused, empty_super, empty_root, made_block, root_head}
@@ -228,30 +225,10 @@ at_regions P (call ∷ calls) rest step each =
     let here = step calls [] call refl in
     (here.0, here.1, at_regions P calls rest (λ some more one same. step some (call ∷ more) one (ap (λ (list : List Call). call ∷ list) same)) each)
 
--- Lengths.
-
-pub super_size : (head : Super) → length (super_block head) ≡ 4096
-super_size head =
-    ap length (super_block-fields head) ∙ length-append (field_bytes head) (replicate 4032 0)
-    ∙ (let front = length-fields head in let back = length-replicate {A = ℕ} 4032 0 in omega (arith, front, back))
-
-pub zero_size : length zero_block ≡ 4096
-unfolding zero_block
-zero_size = length-replicate {A = ℕ} 4096 0
-
-root_size : (head : PageHead) → length (page_bytes head (replicate 812 Unmapped)) ≡ 4096
-unfolding page_bytes
-root_size head =
-    length-append (head_bytes head) (flat_map mapping_bytes (replicate 812 Unmapped))
-    ∙ (let front = length-head head in
-    let back = length-records mapping_bytes 5 length-mapping (replicate 812 Unmapped) in
-    let count = length-replicate 812 Unmapped in
-    omega (arith, front, back, count))
-
 pub made_size : (g : Geometry) (place : Place) → length (made_block g place) ≡ 4096
 made_size g Superblock = zero_size
 made_size g (JournalSlot s) = zero_size
-made_size g (Root t) = root_size (root_head g t)
+made_size g (Root t) = page_size (root_head g t) (replicate 812 Unmapped) (length-replicate 812 Unmapped)
 made_size g (IndexBlock i) = zero_size
 made_size g (DataBlock slab offset) = zero_size
 made_size g (ReferenceBlock slab i) = zero_size

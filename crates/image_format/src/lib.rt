@@ -11,8 +11,6 @@
 //! call with one picked image, and at the ends with three; calls that fail in turn.
 //!
 //! Not there: that a block and a page fit the stack.
-//!
-//! No rows yet: how the blocks of an image are made, one after the other (`IsMade`, and what it stands on).
 #![tactic(auto)]
 
 mod calls;

@@ -85,3 +85,9 @@ super_block-parts head = simp append_assoc
 pub super_block-fields : (head : Super) → super_block head ≡ field_bytes head ++ replicate 4032 0
 unfolding super_block super_bytes
 super_block-fields head = append_assoc (field_bytes head) (replicate 448 0) (replicate 3584 0) ∙ ap (λ z. field_bytes head ++ z) (replicate-append-replicate 448 3584 0)
+
+-- it is as long as a block
+pub super_size : (head : Super) → length (super_block head) ≡ 4096
+super_size head =
+    ap length (super_block-fields head) ∙ length-append (field_bytes head) (replicate 4032 0)
+    ∙ (let front = length-fields head in let back = length-replicate {A = ℕ} 4032 0 in omega (arith, front, back))

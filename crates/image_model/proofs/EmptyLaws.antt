@@ -233,6 +233,45 @@ module _ (g : Geometry) (blocks : Blocks) where
       counted = fits (commit_of the_image place) (counter_of the_image place) within;
     }
 
+  -- The counters of the slabs are zeros.
+  module _ (counters_are : (slab i : ℕ) → slab < g.slabs → i < references_of g → block_at blocks (block_of g (ReferenceBlock slab i)) ≡ zero_block) where
+    references_zero : (slab n : ℕ) → slab < g.slabs → n / 8 < references_of g → reference_sector_at g blocks slab n ≡ sector (n % 8) zero_block
+    references_zero slab n inside below = ap (sector (n % 8)) (counters_are slab (n / 8) inside below)
+
+    pub no_commits : (slab n : ℕ) → slab < g.slabs → n / 8 < references_of g → commit_at g blocks slab n ≡ 0
+    no_commits slab n inside below = ap (number_at 8 0) (references_zero slab n inside below) ∙ no_commit (n % 8) (mod-lt n (omega arith))
+
+    counters_zero : (place : DataPlace) → IsDataPlace g place → counter_of the_image place ≡ 0
+    counters_zero place inside =
+        let offset = inside.1 in
+        let n = sector_of_offset g place.offset in
+        let below : n / 8 < references_of g = omega (arith, offset) in
+        ap (number_at 1 (8 + place.offset % 504)) (references_zero place.slab n inside.0 below ∙ zero_sector (n % 8) (mod-lt n (omega arith)))
+        ∙ zero_counter (8 + place.offset % 504)
+
+    pub stored_zero : ((slab : ℕ) (entry : SlabEntry) → slab < g.slabs → IsKept g blocks slab entry → ⊥) → (place : DataPlace) → IsDataPlace g place
+        → Stores the_image place (Ok 0)
+    stored_zero none_kept place inside =
+        let none = counters_zero place inside in
+        subst (λ (n : ℕ). Stores the_image place (Ok n)) none (stored_counter none_kept place inside (omega (arith, none)))
+
+  -- So are their journals.
+  module _ (journals_are : (slab slot : ℕ) → slab < g.slabs → slot < g.slab_journal → block_at blocks (block_of g (SlabJournalSlot slab slot)) ≡ zero_block) where
+    pub none_kept_in_zeros : (slab : ℕ) (entry : SlabEntry) → slab < g.slabs → IsKept g blocks slab entry → ⊥
+    none_kept_in_zeros slab entry inside is =
+        no_slab_sector g.nonce slab g.slab_blocks is.number is.sequence is.entries is.inside.1
+        (subst (λ (block : List ℕ). IsSlabSector g.nonce slab g.slab_blocks is.number (sector is.number block) is.sequence is.entries)
+        (journals_are slab is.slot inside is.inside.0) is.valid)
+
+    -- the roots, the counters and the journals of the slabs say all that the image has
+    pub nothing_there : IsGeometry g → ((tree slot : ℕ) → tree < TREES → slot < 812 → mapping_in (block_at blocks (block_of g (Root tree))) slot ≡ Unmapped)
+        → ((slab i : ℕ) → slab < g.slabs → i < references_of g → block_at blocks (block_of g (ReferenceBlock slab i)) ≡ zero_block) → HasNothing the_image
+    nothing_there sizes says_none counters_are = record {
+      unmapped = all_unmapped sizes says_none;
+      stored = stored_zero counters_are none_kept_in_zeros;
+      mapped = all_counted sizes says_none;
+    }
+
 -- An empty image.
 module _ (g : Geometry) (blocks : Blocks) (empty : IsEmpty g blocks) where
   sizes : IsGeometry g
@@ -247,30 +286,14 @@ module _ (g : Geometry) (blocks : Blocks) (empty : IsEmpty g blocks) where
   says_none : (tree slot : ℕ) → tree < TREES → slot < 812 → mapping_in (block_at blocks (block_of g (Root tree))) slot ≡ Unmapped
   says_none tree slot inside below = root_says g blocks root_is tree slot inside below
 
-  references_zero : (slab n : ℕ) → slab < g.slabs → n / 8 < references_of g → reference_sector_at g blocks slab n ≡ sector (n % 8) zero_block
-  references_zero slab n inside below = ap (sector (n % 8)) (empty.made (ReferenceBlock slab (n / 8)) (inside, below) tt)
-
-  no_commits : (slab n : ℕ) → slab < g.slabs → n / 8 < references_of g → commit_at g blocks slab n ≡ 0
-  no_commits slab n inside below = ap (number_at 8 0) (references_zero slab n inside below) ∙ no_commit (n % 8) (mod-lt n (omega arith))
-
-  counters_zero : (place : DataPlace) → IsDataPlace g place → counter_of (the_image g blocks) place ≡ 0
-  counters_zero place inside =
-      let offset = inside.1 in
-      let n = sector_of_offset g place.offset in
-      let below : n / 8 < references_of g = omega (arith, offset) in
-      ap (number_at 1 (8 + place.offset % 504)) (references_zero place.slab n inside.0 below ∙ zero_sector (n % 8) (mod-lt n (omega arith)))
-      ∙ zero_counter (8 + place.offset % 504)
+  counters_are : (slab i : ℕ) → slab < g.slabs → i < references_of g → block_at blocks (block_of g (ReferenceBlock slab i)) ≡ zero_block
+  counters_are slab i inside below = empty.made (ReferenceBlock slab i) (inside, below) tt
 
   none_kept : (slab : ℕ) (entry : SlabEntry) → slab < g.slabs → IsKept g blocks slab entry → ⊥
-  none_kept slab entry inside is =
-      no_slab_sector g.nonce slab g.slab_blocks is.number is.sequence is.entries is.inside.1
-      (subst (λ (block : List ℕ). IsSlabSector g.nonce slab g.slab_blocks is.number (sector is.number block) is.sequence is.entries)
-      (empty.made (SlabJournalSlot slab is.slot) (inside, is.inside.0) tt) is.valid)
+  none_kept = none_kept_in_zeros g blocks (λ slab slot inside below. empty.made (SlabJournalSlot slab slot) (inside, below) tt)
 
   stored_none : (place : DataPlace) → IsDataPlace g place → Stores (the_image g blocks) place (Ok 0)
-  stored_none place inside =
-      let none = counters_zero place inside in
-      subst (λ (n : ℕ). Stores (the_image g blocks) place (Ok n)) none (stored_counter g blocks none_kept place inside (omega (arith, none)))
+  stored_none = stored_zero g blocks counters_are none_kept
 
   -- The whole.
 
@@ -279,7 +302,7 @@ module _ (g : Geometry) (blocks : Blocks) (empty : IsEmpty g blocks) where
 
   timely : IsOfItsTime g blocks 0
   timely = record {
-    commits = λ slab n inside below. let none = no_commits slab n inside (omega (arith, below)) in omega (arith, none);
+    commits = λ slab n inside below. let none = no_commits g blocks counters_are slab n inside (omega (arith, below)) in omega (arith, none);
     updates = λ slab entry inside is. absurd (none_kept slab entry inside is);
     sectors = λ slot number sequence head entries inside below is. absurd (no_sector g blocks sizes slots_zero slot number sequence head entries inside below is);
   }

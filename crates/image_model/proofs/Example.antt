@@ -1,8 +1,8 @@
 -- A small image, of which the rows speak: the default sizes, and blocks of a journal of eight slots.
 use Rattle.std.proofs.Common.{ℕ, ◌≡◌, ◌<◌, ◌≤◌, ◌^◌, List, [], ◌∷◌, arith}
 use Rattle.std.proofs.lemmas.List.Elements.{All-cons, All-nil}
+pub use Rattle.blk_base.proofs.Example.{small, small_is}
 use Rattle.blk_base.specs.Sectors.{sector, zero_block}
-use Rattle.blk_base.specs.declared.geometry.Geometry.{Geometry}
 use Rattle.blk_base.specs.declared.journal_entry.Entry.{Entry}
 use Rattle.blk_base.specs.declared.journal_entry.Entry.TheVariants.{Remap}
 use Rattle.blk_base.specs.declared.place.Mapping.TheVariants.{Unmapped, At}
@@ -12,10 +12,6 @@ use Rattle.journal_codec.specs.Grammar.{HoldsEntry, HoldsBlock, IsSector}
 use Rattle.journal_codec.specs.Spelling.{block_bytes}
 use Rattle.journal_codec.proofs.PrefixLaws.{written}
 use Rattle.journal_codec.proofs.ReadLaws.{fields_of, one_reading}
-
--- the default sizes: data blocks 85 to 148
-abbrev pub small : Geometry
-small = record { logical = 1000; slabs = 1; slab_blocks = 64; journal = 8; index = 16; slab_journal = 4; height = 2; nonce = 1 }
 
 abbrev pub pbn : ℕ → Pbn
 pbn n = record { 0 = n }

@@ -13,3 +13,4 @@ pub mod FaultLaws
 pub mod LookedLaws
 mod LookedRows
 pub mod WholeRows
+mod EmptyRows

@@ -38,7 +38,7 @@ use Rattle.image_model.specs.Windows.{IsLast, IsThere, IsWindow}
 use Rattle.image_model.specs.declared.fault.ImageFault.TheVariants.{Super as SuperFaulty}
 use Rattle.image_model.proofs.CountRows.{kept, place}
 use Rattle.image_model.proofs.EmptyLaws.{is_sound, all_counted, blank_slot, no_sector, no_updates, not_shared, pages_good, root_says, stored_counter, the_image, window_is}
-use Rattle.image_model.proofs.Example.{small, pbn, zeros}
+use Rattle.image_model.proofs.Example.{small, small_is, pbn, zeros}
 use Rattle.image_model.proofs.FaultRows.{zeros_unheaded}
 use Rattle.image_model.proofs.MapRows.{root}
 use Rattle.image_model.proofs.ZeroLaws.{no_commit, no_slab_sector, of_eight}
@@ -60,10 +60,10 @@ pick_second (inl a) x y never = absurd (never a)
 pick_second (inr b) x y never = refl
 
 -- blocks 1 to 153
-behind_super : ℕ → List ℕ
+pub behind_super : ℕ → List ℕ
 behind_super n = pick (cases_lt n 8) zero_block (pick (cases_lt n 68) (empty_root small (n - 8)) zero_block)
 
-listed : (ℕ → List ℕ) → ℕ → ℕ → Blocks
+pub listed : (ℕ → List ℕ) → ℕ → ℕ → Blocks
 listed f from zero = []
 listed f from (suc n) = f from ∷ listed f (suc from) n
 
@@ -78,7 +78,7 @@ at_listed f from zero k below = absurd (omega (arith, below))
 at_listed f from (suc n) zero below = ap f (omega arith)
 at_listed f from (suc n) (suc k) below = let place : suc from + k ≡ from + suc k = omega arith in at_listed f (suc from) n k (omega (arith, below)) ∙ ap f place
 
-abbrev empty_image : Blocks
+abbrev pub empty_image : Blocks
 empty_image = super_block (empty_super small) ∷ listed behind_super 0 153
 
 at_behind : (n : ℕ) → n < 153 → block_at empty_image (suc n) ≡ behind_super n
@@ -106,18 +106,6 @@ roots_between tree b below same =
     ∙ pick_first (cases_lt (8 + tree) 68) (empty_root small (8 + tree - 8)) zero_block (λ is. omega (arith, is, below))
     ∙ ap (empty_root small) back
 
-small_is : IsGeometry small
-small_is = record {
-  height = (omega arith, omega arith);
-  nonce = omega arith;
-  logical = (omega arith, omega arith);
-  slabs = (omega arith, omega arith);
-  slab_blocks = (omega arith, omega arith);
-  journal = (omega arith, omega arith);
-  index = (omega arith, omega arith, refl);
-  slab_journal = (omega arith, omega arith);
-}
-
 -- a device of 154 blocks that begins with a superblock of these sizes
 heads : (head : Super) (others : Blocks) → head.geometry ≡ small → 1 ≤ head.start → head.start < 2 ^ 54 → length others ≡ 153
     → super_of_image (super_block head ∷ others) ≡ Ok head
@@ -137,7 +125,7 @@ made_empty (SlabJournalSlot slab s) is made =
     let one = is.0 in let slot = is.1 in
     zeros_behind (149 + s) (block_of small (SlabJournalSlot slab s)) (omega arith) (omega (arith, slot)) (omega (arith, one))
 
-empty_is : IsEmpty small empty_image
+pub empty_is : IsEmpty small empty_image
 empty_is = record { accepted = heads (empty_super small) (listed behind_super 0 153) refl (omega arith) (omega arith) (size_listed behind_super 0 153); made = made_empty }
 
 -- It is sound.
@@ -145,11 +133,11 @@ sound_is : IsSound empty_image
 sound_is = is_sound small empty_image empty_is
 
 -- opens: there is no superblock
-zero_super : (size : ℕ) → super_of zero_block size ≡ Err NotAnImage
+pub zero_super : (size : ℕ) → super_of zero_block size ≡ Err NotAnImage
 unfolding super_of zero_block
 zero_super size = refl
 
-sound_opens : (others : Blocks) → IsSound (zero_block ∷ others) → ⊥
+pub sound_opens : (others : Blocks) → IsSound (zero_block ∷ others) → ⊥
 sound_opens others sound = let none = zero_super (length (zero_block ∷ others)) in let some = sound.opens.accepted in absurd (cc (none, some))
 
 -- opens: the sequences are used up; block 0 is a superblock whatever stands behind it
@@ -194,13 +182,13 @@ module _ (others : Blocks) (size : length others ≡ 153) (sound : IsSound (supe
   closed_here = subst (λ (h : Super). IsClosed (image_of h blocks sound.window) h.start sound.last) head_here (sound.closed (ap (λ (h : Super). h.clean) head_here))
 
 -- The empty image with another block behind the superblock: block 1 has the number 0.
-changed : ℕ → List ℕ → ℕ → List ℕ
+pub changed : ℕ → List ℕ → ℕ → List ℕ
 changed at bytes n = if n == at then bytes else behind_super n
 
 abbrev with_block : ℕ → List ℕ → Blocks
 with_block at bytes = listed (changed at bytes) 0 153
 
-abbrev whole_with : ℕ → List ℕ → Blocks
+abbrev pub whole_with : ℕ → List ℕ → Blocks
 whole_with at bytes = super_block (empty_super small) ∷ with_block at bytes
 
 size_with : (at : ℕ) (bytes : List ℕ) → length (with_block at bytes) ≡ 153
@@ -221,7 +209,7 @@ same_there at n bytes below differ =
     ∙ (elim (eqb_tells n at) [ inl same ↦ absurd (differ same.1) | inr other ↦ rw other.0 refl ])
 
 -- pages: a root is zeros
-pages_differ : block_at (whole_with 8 zero_block) 9 ≡ zero_block
+pub pages_differ : block_at (whole_with 8 zero_block) 9 ≡ zero_block
 pages_differ = changed_here 8 zero_block (omega arith)
 
 sound_pages : IsSound (whole_with 8 zero_block) → ⊥

@@ -1,17 +1,16 @@
 -- Reading a superblock: for each clause a case that it accepts, and one that it refuses.
-use Rattle.std.proofs.Common.{ℕ, ◌≡◌, ◌≤◌, true, false, List, [], ◌∷◌, length, replicate, Ok, Err, refl, ◌∙◌, ap, inl, inr, arith, length-append}
-use Rattle.std.proofs.lemmas.List.{length-replicate}
-use Rattle.blk_base.specs.Limits.{IsGeometry}
+use Rattle.std.proofs.Common.{ℕ, ◌≡◌, ◌≤◌, true, false, List, [], ◌∷◌, length, Ok, Err, refl, ◌∙◌, ap, inl, inr, arith}
+use Rattle.blk_base.proofs.SectorLaws.{zero_size}
 use Rattle.blk_base.specs.Sectors.{zero_block}
 use Rattle.blk_base.specs.declared.geometry.Super.{Super}
 use Rattle.disk_model.specs.declared.call.Call.TheVariants.{Flush}
 use Rattle.disk_model.specs.Seen.{Seen}
 use Rattle.disk_model.specs.Since.{WereRead}
 use Rattle.image_layout.proofs.AgainLaws.{written_again}
-use Rattle.image_layout.proofs.SpellingLaws.{length-fields, super_block-fields}
-use Rattle.image_layout.specs.Superblock.{field_bytes, super_block, super_of}
+use Rattle.image_layout.proofs.SpellingLaws.{super_size}
+use Rattle.image_layout.specs.Superblock.{super_block, super_of}
 use Rattle.image_layout.specs.declared.fault.SuperFault.TheVariants.{NotAnImage, Version}
-use Rattle.image_model.proofs.Example.{small}
+use Rattle.image_model.proofs.Example.{small, small_is}
 use Rattle.image_model.specs.declared.fault.ImageFault.TheVariants.{Super as SuperFaulty, Window, Memory}
 use Rattle.image_opening.specs.Heads.{HasNoBlock, HeadFails, IsHeadRead, IsHeadRefused}
 
@@ -22,25 +21,8 @@ of_size n = record { opening = []; size = n; log = []; faults = 0; unkept = 0 }
 abbrev head : Super
 head = record { geometry = small; clean = false; start = 7 }
 
-small_is : IsGeometry small
-small_is = record {
-  height = (omega arith, omega arith);
-  nonce = omega arith;
-  logical = (omega arith, omega arith);
-  slabs = (omega arith, omega arith);
-  slab_blocks = (omega arith, omega arith);
-  journal = (omega arith, omega arith);
-  index = (omega arith, omega arith, refl);
-  slab_journal = (omega arith, omega arith);
-}
-
 says : (n : ℕ) → 154 ≤ n → super_of (super_block head) n ≡ Ok head
 says n room = written_again head n small_is (omega arith) (omega arith) (omega arith) (omega (arith, room))
-
-super_size : length (super_block head) ≡ 4096
-super_size =
-    ap length (super_block-fields head) ∙ length-append (field_bytes head) (replicate 4032 0)
-    ∙ (let front = length-fields head in let back = length-replicate {A = ℕ} 4032 0 in omega (arith, front, back))
 
 one_read : (n : ℕ) (bytes : List ℕ) → length bytes ≡ 4096 → WereRead false false 0 (of_size n) (of_size n) (bytes ∷ [])
 one_read n bytes size = record {
@@ -55,7 +37,7 @@ one_read n bytes size = record {
 head_read : IsHeadRead false false (of_size 154) (of_size 154) head
 head_read = record {
   block = super_block head;
-  read = one_read 154 (super_block head) super_size;
+  read = one_read 154 (super_block head) (super_size head);
   is = record { says = says 154 (omega arith); sizes = small_is; start = (omega arith, omega arith); room = omega arith };
 }
 
@@ -68,16 +50,12 @@ no_room : (now : Seen) → IsHeadRead false false (of_size 153) now head → ⊥
 no_room now is = let room = is.is.room in omega (arith, room)
 
 -- Zeros are refused, and for this.
-zeros_size : length zero_block ≡ 4096
-unfolding zero_block
-zeros_size = length-replicate {A = ℕ} 4096 0
-
 zeros_are_none : super_of zero_block 154 ≡ Err NotAnImage
 unfolding super_of zero_block
 zeros_are_none = refl
 
 zeros_refused : IsHeadRefused false false (of_size 154) (of_size 154) NotAnImage
-zeros_refused = record { some = omega arith; block = zero_block; read = one_read 154 zero_block zeros_size; refused = zeros_are_none }
+zeros_refused = record { some = omega arith; block = zero_block; read = one_read 154 zero_block zero_size; refused = zeros_are_none }
 
 -- some: of a device without blocks nothing is refused by a read
 refused_nowhere : (now : Seen) → IsHeadRefused false false (of_size 0) now NotAnImage → ⊥

@@ -1,5 +1,5 @@
 -- What stands in the journal: for each clause a device that it accepts, and one that it refuses.
-use Rattle.std.proofs.Common.{ℕ, ◌≡◌, ◌+◌, ◌-◌, ◌*◌, ◌<◌, ◌≤◌, ◌^◌, true, false, List, [], ◌∷◌, ◌++◌, length, replicate, take, drop, refl, sym, ◌∙◌, ap, subst, inl, inr, arith}
+use Rattle.std.proofs.Common.{ℕ, ◌≡◌, ◌+◌, ◌-◌, ◌*◌, ◌<◌, ◌≤◌, ◌^◌, true, false, List, [], ◌∷◌, ◌++◌, length, All, replicate, take, drop, refl, sym, ◌∙◌, ap, subst, inl, inr, arith}
 use Rattle.std.proofs.Math.Seq.{drop-append_seam}
 use Rattle.std.proofs.lemmas.List.{drop-drop, take_at}
 use Rattle.std.proofs.lemmas.Bool.{cases_lt}
@@ -18,7 +18,7 @@ use Rattle.journal_codec.proofs.PrefixLaws.{written}
 use Rattle.journal_codec.proofs.ReadLaws.{length-sector_bytes}
 use Rattle.stop_laws.specs.Journals.{Surely, block_of_slot}
 use Rattle.journal_stops.specs.Rings.{place_of, IsWhole, HasNothingLater, IsTornOver, StandWhole, IsRing, IsAtRest, IsUnderWay, IsWritten}
-use Rattle.journal_stops.specs.Sealed.{Sealed}
+use Rattle.journal_stops.specs.Sealed.{Sealed, head_of}
 use Rattle.journal_stops.proofs.SealedRows.{names, first_sealed}
 use Rattle.journal_stops.proofs.StepLaws.{spelled_whole, whole_is_last, whole_is_torn, earlier_is_torn, begins, is_written, ends}
 
@@ -131,6 +131,9 @@ ring_behind_newest ring = let newest = ring.newest (omega arith) in omega (arith
 ring_of_eight : IsRing small 1 (names 1 ∷ names 1 ∷ names 1 ∷ names 1 ∷ names 1 ∷ names 1 ∷ names 1 ∷ names 1 ∷ []) → ⊥
 ring_of_eight ring = let full = ring.ring in omega (arith, full)
 
+ring_of_the_last : (blocks : List Sealed) → length blocks ≡ 2 ^ 32 → head_of 1 blocks ≡ 2 ^ 32 → IsRing small 1 blocks
+ring_of_the_last blocks many named = record { head = omega (arith, named); newest = λ some. omega (arith, many, named); ring = omega (arith, many, named); reach = omega (arith, many) }
+
 ring_out_of_reach : (blocks : List Sealed) → length blocks ≡ 2 ^ 32 + 1 → IsRing small 1 blocks → ⊥
 ring_out_of_reach blocks many ring = let reach = ring.reach in omega (arith, many, reach)
 
@@ -178,6 +181,10 @@ stands_below = (λ reached. absurd (omega (arith, reached)), tt)
 -- its entries are of the image, and fill no more than a block
 stands_past_size : StandWhole empty (Flush true ∷ wrote) (record small { logical = 5 }) 1 1 (names 1 ∷ []) → ⊥
 stands_past_size stands = let each = (stands.0 (omega arith)).1 in let below = (All-head (IsOfImage (record small { logical = 5 })) (maps 86) [] each).0 in omega (arith, below)
+
+stands_full : (log : List Call) (big : Sealed) → length big.entries ≡ 192 → All (IsOfImage small) big.entries → Surely empty log (place_of small 1) (IsWhole small 1 big)
+    → StandWhole empty log small 1 1 (big ∷ [])
+stands_full log big many each whole = (λ reached. (omega (arith, many), each, whole), tt)
 
 stands_too_long : (entries : List Entry) → length entries ≡ 193 → (log : List Call) → StandWhole empty log small 1 1 (record { head = 1; entries = entries } ∷ []) → ⊥
 stands_too_long entries many log stands = let few = (stands.0 (omega arith)).0 in omega (arith, many, few)

@@ -2,7 +2,7 @@
 use Rattle.std.proofs.Common.{ℕ, zero, suc, ◌≡◌, ◌<◌, true, List, [], ◌∷◌, length, set, refl, ap, arith, length-append}
 use Rattle.std.specs.List.{sum_by}
 use Rattle.std.proofs.lemmas.List.Concat.{length-flat_map}
-use Rattle.blk_base.specs.Sectors.{zero_block}
+use Rattle.blk_base.proofs.SectorLaws.{zero_size}
 use Rattle.image_model.proofs.ZeroLaws.{of_eight}
 use Rattle.journal_codec.specs.Spelling.{block_bytes, sector_bytes, entries_in}
 use Rattle.journal_codec.proofs.ReadLaws.{length-sector_bytes}
@@ -50,14 +50,10 @@ block_size =
     let parts : length (block 1 1) ≡ sum_by (λ (number : ℕ). length (part number)) sector_numbers = length-flat_map part sector_numbers in
     omega (arith, parts, part_size 0, part_size 1, part_size 2, part_size 3, part_size 4, part_size 5, part_size 6, part_size 7)
 
-zeros_size : length zero_block ≡ 4096
-unfolding zero_block
-zeros_size = refl
-
 empty_size : (b : ℕ) → b < 9 → length (block_at empty b) ≡ 4096
-empty_size zero below = zeros_size
+empty_size zero below = zero_size
 empty_size (suc b) below = of_eight (λ slot. length (block_at empty (suc slot)) ≡ 4096)
-    zeros_size zeros_size zeros_size zeros_size zeros_size zeros_size zeros_size zeros_size b (omega (arith, below))
+    zero_size zero_size zero_size zero_size zero_size zero_size zero_size zero_size b (omega (arith, below))
 
 is_image : IsImage empty (Flush true ∷ wrote) image
 is_image = one_image-is_image empty (Flush true ∷ wrote) image

@@ -2,7 +2,7 @@
 -- The device doesn't tell which calls were made, where nothing else is said.
 use Rattle.std.proofs.Common.{ℕ, zero, suc, ◌≡◌, ◌+◌, ◌%◌, Bool, true, false, Some, None, List, [], ◌∷◌, length, replicate, reverse, get_or, refl, ap, inl, arith}
 use Rattle.std.proofs.Math.Nat.{mod-lt}
-use Rattle.std.proofs.lemmas.List.{length-replicate}
+use Rattle.blk_base.proofs.SectorLaws.{zero_size}
 use Rattle.blk_base.specs.Sectors.{sector, zero_block}
 use Rattle.blk_base.specs.declared.geometry.Super.{Super}
 use Rattle.blk_base.specs.declared.journal_entry.Entry.{Entry}
@@ -25,10 +25,6 @@ seen = record { opening = []; size = 154; log = []; faults = 3; unkept = 0 }
 
 abbrev failed : Seen
 failed = record seen { faults = 4 }
-
-zero_size : length zero_block ≡ 4096
-unfolding zero_block
-zero_size = length-replicate {A = ℕ} 4096 0
 
 zeros_given : (honest : Bool) (from n : ℕ) → AreGiven false honest from seen (replicate n zero_block)
 zeros_given honest from zero = tt

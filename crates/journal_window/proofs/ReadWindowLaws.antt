@@ -26,7 +26,7 @@ one_head a b same = cc
 
 module _ (tells honest : Bool) (before now : Seen) (image : Blocks) (told : IsTrue tells) (fair : IsTrue honest) (one : HasOneImageButIndex before.opening before.log image) where
   -- the blocks of the journal
-  journal_shown : (head : Super) (journal : Blocks) → needed_blocks head.geometry ≤ before.size → super_of_image image ≡ Ok head → IsJournalRead tells honest before now head.geometry journal
+  pub journal_shown : (head : Super) (journal : Blocks) → needed_blocks head.geometry ≤ before.size → super_of_image image ≡ Ok head → IsJournalRead tells honest before now head.geometry journal
       → journal ≡ journal_of head.geometry image
   journal_shown head journal room accepted read =
       let count = read.count in

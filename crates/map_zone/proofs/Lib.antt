@@ -5,3 +5,4 @@ pub mod ShownLaws
 pub mod OneLaws
 pub mod OutLaws
 pub mod Rows
+pub mod WritingRows

@@ -1,6 +1,10 @@
--- Small maps that each clause accepts, and one that it refuses. That a result is a cache or a tree is a premise here.
-use Rattle.std.proofs.Common.{ℕ, subst, ◌⊎◌, zero, suc, ◌≡◌, ◌≢◌, ◌^◌, ◌<◌, inl, inr, true, false, Option, None, Some, List, [], ◌∷◌, length, slice_index_or, refl, ap, sym, arith, ◌∙◌}
+-- Small maps that each clause accepts, and one that it refuses: what a map is, and what is looked up, applied and installed.
+use Rattle.std.proofs.Common.{ℕ, subst, ◌⊎◌, zero, suc, ◌≡◌, ◌^◌, ◌<◌, inl, inr, true, false, None, Some, List, [], ◌∷◌, length, replicate, slice_index_or, ◌+◌, ◌≤◌, refl, ap, sym, arith, ◌∙◌}
+use Rattle.std.proofs.lemmas.List.{length-replicate}
+use Rattle.std.proofs.lemmas.List.Elements.{All-cons, All-nil, All-replicate}
 use Rattle.std.proofs.lemmas.Option.{none-some}
+use Rattle.blk_base.proofs.Example.{small, small_is}
+use Rattle.blk_base.specs.Regions.{IsDataBlock, Root, block_of}
 use Rattle.blk_base.specs.declared.geometry.Geometry.{Geometry}
 use Rattle.blk_base.specs.declared.journal_entry.Entry.TheVariants.{NewPage, Remap}
 use Rattle.blk_base.specs.declared.opened.Opened.{Opened}
@@ -10,61 +14,99 @@ use Rattle.blk_base.specs.declared.place.Mapping.TheVariants.{At, Unmapped, Zero
 use Rattle.blk_base.specs.declared.place.PageId.{PageId}
 use Rattle.blk_base.specs.declared.place.Pbn.{Pbn}
 use Rattle.blk_base.specs.declared.point.Point.{Point}
-use Rattle.dirty_pages.specs.History.{Changed, HandedOut, Written}
-use Rattle.dirty_pages.specs.Marks.{HasPoint, IsDue, changed_at, clean, marks_at, settled, with_marks}
+use Rattle.dirty_pages.specs.Marks.{changed_at, clean, marks_at, with_marks}
 use Rattle.dirty_pages.specs.declared.marks.Marks.{Marks}
-use Rattle.page_codec.specs.Grammar.{IsPage, IsPageFault}
+use Rattle.page_codec.specs.Grammar.{AreHeld, HoldsMapping, IsPage, IsPageFault}
 use Rattle.page_codec.specs.Spelling.{page_bytes}
 use Rattle.page_codec.specs.declared.fault.PageFault.{PageFault}
 use Rattle.page_codec.specs.declared.forms.MapPage.{MapPage}
 use Rattle.block_map_tree.specs.Opening.{IsOpening, forest_of}
-use Rattle.block_map_tree.specs.Pages.{IsLower, IsTreeOf, page_at}
-use Rattle.block_map_tree.specs.Tree.{IsAt, IsThere, IsTree, Links, Tree, as_root, by_link}
+use Rattle.block_map_tree.specs.Pages.{IsLower, IsOnPath, IsTreeOf, page_at}
+use Rattle.block_map_tree.specs.Tree.{IsAt, IsThere, IsTree, Links, Tree, as_root, by_link, number_of}
 use Rattle.block_map_tree.specs.Tree as trees
 use Rattle.block_map_tree.specs.declared.forms.Forest.{Forest}
-use Rattle.map_page_cache.specs.CachedPages.{CachedPages, IsCache, no_pages}
+use Rattle.map_page_cache.specs.CachedPages.{CachedPages, IsCache, IsPageOf}
 use Rattle.map_page_cache.specs.CachedPages as cached
-use Rattle.map_page_cache.specs.Turns.{no_turns}
-use Rattle.map_zone.specs.Calls.{Apply, AreReadBack, Call, HandOut, HasLink, HasNoLeaf, Install, IsStored, LeadTo, SayOf, Write, changed_by, events_of, mapped}
+use Rattle.map_page_cache.specs.Turns.{Turns, no_turns, with_turn}
 use Rattle.map_zone.specs.declared.forms.Applied.TheVariants as applied
-use Rattle.map_zone.specs.Serving.{AddsPage, Applies, HasPath, Installs, IsOtherPage, IsOwn, IsTooMany, MayAddPage, MayInstall, MayRemap, MissesPage, NeedsLeaf, Remaps, Shows}
-use Rattle.map_zone.specs.Writing.{IsOut, SettlesLeaf, SettlesNode, TakesLeaf, TakesNode, IsClean, IsLeafFirst, IsLow, IsNodeFirst, IsSpelled, NoneDue, comes_first, lesser_point}
+use Rattle.map_zone.specs.Serving.{AddsPage, Applies, HasPath, Installs, IsOtherPage, IsOwn, IsRefused, IsTooMany, MayAddPage, MayApply, MayInstall, MayRemap, MissesPage, NeedsLeaf, Remaps, Shows}
+use Rattle.map_zone.specs.declared.forms.NotInstalled.TheVariants as refused
 use Rattle.map_zone.specs.ZoneMap.{head_at, IsLeafAt, IsOpened, IsZoneMap, ZoneMap, leaf_of}
 
-abbrev p : ℕ → Point
+abbrev pub p : ℕ → Point
 p n = record { 0 = n }
 
-abbrev b : ℕ → Pbn
+abbrev pub b : ℕ → Pbn
 b n = record { 0 = n }
+
+abbrev pub lba : ℕ → Lba
+lba n = record { 0 = n }
 
 -- The default image, and of it the zone of the first of 60 trees: its root, and the leaf of the addresses 0 to 811.
 
-abbrev g : Geometry
-g = record { logical = 1000; slabs = 1; slab_blocks = 64; journal = 8; index = 16; slab_journal = 4; height = 2; nonce = 1 }
+abbrev pub g : Geometry
+g = small
 
-abbrev forest : Forest
+abbrev pub forest : Forest
 forest = record { geometry = g; zone = 0; zones = 60 }
 
-abbrev root : PageId
+abbrev pub root : PageId
 root = record { tree = 0; level = 1; index = 0 }
 
-abbrev leaf : PageId
+abbrev pub leaf : PageId
 leaf = record { tree = 0; level = 0; index = 0 }
 
-own : IsTreeOf forest 0
+pub own : IsTreeOf forest 0
 own = record { inside = omega arith; own = refl }
 
-below : IsLower forest leaf
+pub below : IsLower forest leaf
 below = record { tree = own; level = omega arith; index = omega arith }
 
+-- the slots of a page behind its first two: none is mapped
+pub others : List Mapping
+others = replicate 810 Unmapped
+
+pub held : (level : ℕ) (first second : Mapping) → HoldsMapping g level first → HoldsMapping g level second → AreHeld g level (first ∷ second ∷ others)
+unfolding others
+held level first second one two = record {
+  count = let rest = length-replicate {A = Mapping} 810 Unmapped in omega (arith, rest);
+  each = All-cons (HoldsMapping g level) first (second ∷ others) one
+      (All-cons (HoldsMapping g level) second others two (All-replicate (HoldsMapping g level) 810 Unmapped tt));
+}
+
+pub held_at : (offset : ℕ) → offset < 64 → IsDataBlock g (85 + offset) × (85 + offset < 2 ^ 32)
+held_at offset below = (record { slab = 0; offset = offset; inside = (omega arith, below); stands = omega arith }, omega (arith, below))
+
 -- the leaf is linked, at block 90; or isn't
-abbrev linked : Tree
-linked = record { forest = forest; pages = (At (b 90) ∷ []) ∷ []; marks = clean ∷ [] }
+abbrev rooted : Mapping → Marks → Tree
+rooted first marks = record { forest = forest; pages = (first ∷ Unmapped ∷ others) ∷ []; marks = marks ∷ [] }
 
-abbrev unlinked : Tree
-unlinked = record { forest = forest; pages = (Unmapped ∷ []) ∷ []; marks = clean ∷ [] }
+abbrev pub linked : Tree
+linked = rooted (At (b 90)) clean
 
-stands : IsAt linked leaf (b 90)
+abbrev pub unlinked : Tree
+unlinked = rooted Unmapped clean
+
+pub is_tree : (first : Mapping) (marks : Marks) → HoldsMapping g 1 first → IsTree (rooted first marks)
+is_tree first marks holds = record {
+  forest = record { sizes = small_is; zone = omega arith; zones = omega arith };
+  room = λ page path above. first_number page path above;
+  most = omega arith;
+  held = All-cons (AreHeld g 1) (first ∷ Unmapped ∷ others) [] (held 1 first Unmapped holds tt) (All-nil (AreHeld g 1));
+  marks = refl;
+  there = λ page point inner has. elim inner.there [
+    | inl is ↦ record { at = b (block_of g (Root page.tree)); stands = as_root is refl }
+    | inr lower ↦ absurd (let level = lower.level in let some = inner.level in omega (arith, level, some))
+  ];
+}
+  where
+    first_number : (page : PageId) → IsOnPath forest page → 1 ≤ page.level → number_of forest page < 1
+    first_number page path above =
+        let level : page.level + 1 ≡ 2 = let below = path.level in omega (arith, above, below) in
+        let tree = path.tree.inside in
+        rw level (omega (arith, tree))
+
+pub stands : IsAt linked leaf (b 90)
 stands = by_link below refl
 
 is_missing : IsThere unlinked leaf → ⊥
@@ -74,26 +116,51 @@ is_missing there = never there.at there.stands
     never at (as_root is at_root) = omega (arith, is.level)
     never at (by_link lower leads) = cc
 
--- a leaf in which address 1 is mapped
-abbrev content : MapPage
-content = record { head = record { geometry = g; page = leaf; at = b 90 }; mappings = Unmapped ∷ At (b 100) ∷ [] }
+-- a leaf in which address 1 is mapped, and no other
+abbrev with_second : Mapping → MapPage
+with_second mapping = record { head = record { geometry = g; page = leaf; at = b 90 }; mappings = Unmapped ∷ mapping ∷ others }
 
-abbrev full : CachedPages
+abbrev pub content : MapPage
+content = with_second (At (b 100))
+
+abbrev pub full : CachedPages
 full = record { geometry = g; frames = 1; pages = content ∷ []; marks = clean ∷ []; turns = no_turns 1 }
 
-abbrev empty : CachedPages
+abbrev pub empty : CachedPages
 empty = record { geometry = g; frames = 1; pages = []; marks = clean ∷ []; turns = no_turns 1 }
 
-abbrev m : ZoneMap
+pub is_cache : (mapping : Mapping) (marks : Marks) (turns : Turns) → HoldsMapping g 0 mapping
+    → IsCache (record { geometry = g; frames = 1; pages = with_second mapping ∷ []; marks = marks ∷ []; turns = turns })
+is_cache mapping marks turns holds = record {
+  fits = omega arith;
+  marks = refl;
+  each = All-cons (IsPageOf g) (with_second mapping) [] (record { geometry = refl; held = held 0 Unmapped mapping tt holds }) (All-nil (IsPageOf g));
+  apart = λ j k d first second same. omega (arith, first, second);
+  empty = λ frame past. none_behind frame past;
+}
+  where
+    none_behind : (frame : ℕ) → 1 ≤ frame → marks_at (marks ∷ []) frame ≡ clean
+    none_behind zero past = absurd (omega (arith, past))
+    none_behind (suc k) past = refl
+
+abbrev pub m : ZoneMap
 m = record { tree = linked; cache = full }
 
-abbrev unread : ZoneMap
+abbrev pub unread : ZoneMap
 unread = record { tree = linked; cache = empty }
 
 abbrev bare : ZoneMap
 bare = record { tree = unlinked; cache = empty }
 
-there : cached.IsThere full leaf content
+pub clean_at : (number : ℕ) → marks_at (clean ∷ []) number ≡ clean
+clean_at zero = refl
+clean_at (suc k) = refl
+
+-- a page that was changed at a point
+abbrev pub changed : ℕ → List Marks
+changed n = (record { dirty = Some (p n); writing = None }) ∷ []
+
+pub there : cached.IsThere full leaf content
 there = ((0, omega arith, refl), refl)
 
 -- leaf_of, head_at
@@ -109,7 +176,7 @@ next_round = refl
 
 -- IsLeafAt
 
-abbrev number : Mapping → ℕ
+abbrev pub number : Mapping → ℕ
 number (At at) = at.0
 number Zero = 0
 number Unmapped = 0
@@ -144,8 +211,13 @@ more_than_its_frames is = omega (arith, is.cache.fits)
 of_another_image : IsZoneMap (record { tree = linked; cache = record empty { geometry = record g { nonce = 2 } } }) → ⊥
 of_another_image is = omega (arith, ap (λ (h : Geometry). h.nonce) is.geometry)
 
-whole : IsTree linked → IsCache full → IsZoneMap m
-whole tree cache = record { tree = tree; cache = cache; geometry = refl; leaves = leaves }
+pub whole : IsZoneMap m
+whole = record {
+  tree = is_tree (At (b 90)) clean (held_at 5 (omega arith));
+  cache = is_cache (At (b 100)) clean (no_turns 1) (held_at 15 (omega arith));
+  geometry = refl;
+  leaves = leaves;
+}
   where
     leaves : (page : PageId) (content' : MapPage) → cached.IsThere full page content' → IsLeafAt linked page content'.head.at
     leaves page content' ((zero, inside, is), named) =
@@ -155,9 +227,12 @@ whole tree cache = record { tree = tree; cache = cache; geometry = refl; leaves 
 
 -- IsOpened: an opened image of these sizes
 
+no_leaves : IsCache empty
+no_leaves = record { fits = omega arith; marks = refl; each = All-nil (IsPageOf g); apart = λ j k d first second same. omega (arith, first); empty = λ frame past. clean_at frame }
+
 module _ (opened : Opened) (of_sizes : opened.head.geometry ≡ g) where
-  opened_so : IsZoneMap bare → IsOpening (forest_of opened 0 60) opened.pages.items unlinked → bare.cache ≡ no_pages opened.head.geometry 1 → IsOpened opened 0 60 1 bare
-  opened_so form tree cache' = record { form = form; tree = tree; cache = cache' }
+  opened_so : IsOpening (forest_of opened 0 60) opened.pages.items unlinked → IsOpened opened 0 60 1 bare
+  opened_so tree = record { form = record { tree = tree.form; cache = no_leaves; geometry = refl; leaves = λ page given is. absurd (omega (arith, is.0.1)) }; tree = tree; cache = rw of_sizes refl }
 
   -- form
   opened_in_pieces : IsOpened opened 0 60 1 (record bare { tree = record unlinked { marks = [] } }) → ⊥
@@ -300,8 +375,20 @@ may_not_install_a_root is = omega (arith, is.level)
 
 -- Remaps, AddsPage: what the cache or the tree makes of it, ..
 
-remaps : (new : CachedPages) → cached.Sets full new leaf 1 Zero (p 5) → Remaps m (record m { cache = new }) 1 Zero (p 5)
-remaps new sets = record { sets = sets; after = refl }
+abbrev zeroed : CachedPages
+zeroed = record full { pages = with_second Zero ∷ []; marks = changed 5; turns = with_turn 0 false (no_turns 1) }
+
+sets : cached.Sets full zeroed leaf 1 Zero (p 5)
+sets = record {
+  form = is_cache Zero (changed_at (p 5) clean) (with_turn 0 false (no_turns 1)) refl;
+  frame = 0;
+  content = content;
+  stood = record { inside = omega arith; is = refl; named = refl };
+  after = refl;
+}
+
+remaps : Remaps m (record m { cache = zeroed }) 1 Zero (p 5)
+remaps = record { sets = sets; after = refl }
 
 remaps_nothing : Remaps m m 1 Zero (p 5) → ⊥
 remaps_nothing is = never is.sets.frame is.sets.stood.inside (ap (λ (c : CachedPages). c.marks) is.sets.after)
@@ -310,8 +397,11 @@ remaps_nothing is = never is.sets.frame is.sets.stood.inside (ap (λ (c : Cached
     never zero inside same = none-some (p 5) (ap (λ (marks : List Marks). (marks_at marks 0).dirty) same)
     never (suc k) inside same = omega (arith, inside)
 
-adds : (new : Tree) → Links unlinked new leaf (b 90) (p 5) → AddsPage bare (record bare { tree = new }) leaf (b 90) (p 5)
-adds new links = record { links = links; after = refl }
+links : Links unlinked (rooted (At (b 90)) (changed_at (p 5) clean)) leaf (b 90) (p 5)
+links = record { form = is_tree (At (b 90)) (changed_at (p 5) clean) (held_at 5 (omega arith)); set = refl }
+
+adds : AddsPage bare (record bare { tree = rooted (At (b 90)) (changed_at (p 5) clean) }) leaf (b 90) (p 5)
+adds = record { links = links; after = refl }
 
 adds_nothing : AddsPage bare bare leaf (b 90) (p 5) → ⊥
 adds_nothing is = none-some (p 5) (ap (λ (t : Tree). (marks_at t.marks 0).dirty) is.links.set)
@@ -330,377 +420,11 @@ needs_one_for_a_new_page never = never
 -- .. and the rest stays
 remaps_and_forgets_a_link : (new : ZoneMap) → new.tree ≡ unlinked → Remaps m new 1 Zero (p 5) → ⊥
 remaps_and_forgets_a_link new is remaps =
-    let no : (Unmapped ∷ []) ∷ [] ≡ (At (b 90) ∷ []) ∷ [] = ap (λ (t : Tree). t.pages) (sym is ∙ ap (λ (z : ZoneMap). z.tree) remaps.after) in cc
+    let no : (Unmapped ∷ Unmapped ∷ others) ∷ [] ≡ (At (b 90) ∷ Unmapped ∷ others) ∷ [] = ap (λ (t : Tree). t.pages) (sym is ∙ ap (λ (z : ZoneMap). z.tree) remaps.after) in cc
 
 adds_and_forgets_a_leaf : (new : ZoneMap) → new.cache ≡ empty → AddsPage m new leaf (b 91) (p 5) → ⊥
 adds_and_forgets_a_leaf new is adds =
     omega (arith, ap (λ (c : CachedPages). length c.pages) (sym is ∙ ap (λ (z : ZoneMap). z.cache) adds.after))
-
--- comes_first, lesser_point
-
-no_leaf_first : comes_first None (Some (p 5)) ≡ false
-no_leaf_first = refl
-
-leaf_alone_first : comes_first (Some (p 5)) None ≡ true
-leaf_alone_first = refl
-
-equal_leaf_first : comes_first (Some (p 5)) (Some (p 5)) ≡ true
-equal_leaf_first = refl
-
-later_leaf_second : comes_first (Some (p 6)) (Some (p 5)) ≡ false
-later_leaf_second = refl
-
-lesser_of_two : lesser_point (Some (p 6)) (Some (p 5)) ≡ Some (p 5)
-lesser_of_two = refl
-
-only_leaf : lesser_point (Some (p 6)) None ≡ Some (p 6)
-only_leaf = refl
-
-only_other : lesser_point None (Some (p 5)) ≡ Some (p 5)
-only_other = refl
-
--- IsSpelled
-
-spelled : IsSpelled content (b 90) (page_bytes content.head content.mappings)
-spelled = record { placed = refl; said = refl }
-
-spelled_elsewhere : IsSpelled content (b 91) (page_bytes content.head content.mappings) → ⊥
-spelled_elsewhere is = omega (arith, ap (λ (k : Pbn). k.0) is.placed)
-
-spelled_otherwise : (bytes : List ℕ) → bytes ≢ page_bytes content.head content.mappings → IsSpelled content (b 90) bytes → ⊥
-spelled_otherwise bytes other is = other is.said
-
--- IsLeafFirst, IsNodeFirst, NoneDue: the leaf was changed first at 6, the root at 5
-
-abbrev changed : ℕ → List Marks
-changed n = (record { dirty = Some (p n); writing = None }) ∷ []
-
-abbrev both : ZoneMap
-both = record { tree = record linked { marks = changed 5 }; cache = record full { marks = changed 6 } }
-
-abbrev value : Option Point → ℕ
-value None = 0
-value (Some q) = q.0
-
-due_at : (n : ℕ) → IsDue (marks_at (changed n) 0) (p n)
-due_at n = record { idle = refl; dirty = refl }
-
-due_from : (n number : ℕ) (first : Point) → IsDue (marks_at (changed n) number) first → first.0 ≡ n
-due_from n zero first due = sym (ap value due.dirty)
-due_from n (suc k) first due = absurd (none-some first due.dirty)
-
-root_first : IsNodeFirst both
-root_first = record { first = λ number first due. (p 5, record { number = 0; due = due_at 5; least = λ k later due'. omega (arith, due_from 5 k later due') }, omega (arith, due_from 6 number first due)) }
-
-leaf_not_first : IsLeafFirst both → ⊥
-leaf_not_first is = omega (arith, is.first 0 (p 5) (due_at 5), due_from 6 is.due.number is.leaf is.due.due)
-
-leaf_first_now : IsLeafFirst (record both { tree = record linked { marks = changed 6 } })
-leaf_first_now = record {
-  leaf = p 6;
-  due = record { number = 0; due = due_at 6; least = λ k later due'. omega (arith, due_from 6 k later due') };
-  first = λ number node due. omega (arith, due_from 6 number node due);
-}
-
-root_not_before_it : IsNodeFirst (record both { tree = record linked { marks = changed 6 } }) → ⊥
-root_not_before_it is =
-    let node = is.first 0 (p 6) (due_at 6) in
-    omega (arith, due_from 6 node.1.number node.0 node.1.due, node.2)
-
-none_due : NoneDue both (p 4)
-none_due = record { leaves = λ number first due. omega (arith, due_from 6 number first due); nodes = λ number first due. omega (arith, due_from 5 number first due) }
-
-root_is_due : NoneDue both (p 5) → ⊥
-root_is_due none = omega (arith, none.nodes 0 (p 5) (due_at 5))
-
-leaf_is_due : NoneDue (record both { tree = linked }) (p 6) → ⊥
-leaf_is_due none = omega (arith, none.leaves 0 (p 6) (due_at 6))
-
--- IsLow, IsClean
-
-has_from : (n number : ℕ) (point : Point) → HasPoint (marks_at (changed n) number) point → point.0 ≡ n
-has_from n zero point (inl dirty) = sym (ap value dirty)
-has_from n zero point (inr writing) = absurd (none-some point writing)
-has_from n (suc k) point (inl dirty) = absurd (none-some point dirty)
-has_from n (suc k) point (inr writing) = absurd (none-some point writing)
-
-low : IsLow both (p 5)
-low = record {
-  own = inr (record { number = 0; has = inl refl; least = λ k q has. omega (arith, has_from 5 k q has) });
-  leaves = λ k q has. omega (arith, has_from 6 k q has);
-  nodes = λ k q has. omega (arith, has_from 5 k q has);
-}
-
-low_above_a_link : IsLow both (p 6) → ⊥
-low_above_a_link is = omega (arith, is.nodes 0 (p 5) (inl refl))
-
-low_above_an_entry : IsLow (record both { tree = linked }) (p 7) → ⊥
-low_above_an_entry is = omega (arith, is.leaves 0 (p 6) (inl refl))
-
--- own: it is that of a change
-low_of_nothing : IsLow both (p 4) → ⊥
-low_of_nothing is = elim is.own [ inl leaf ↦ omega (arith, has_from 6 leaf.number (p 4) leaf.has) | inr node ↦ omega (arith, has_from 5 node.number (p 4) node.has) ]
-
-clean_at : (number : ℕ) → marks_at (clean ∷ []) number ≡ clean
-clean_at zero = refl
-clean_at (suc k) = refl
-
-is_clean : IsClean m
-is_clean = record { leaves = clean_at; nodes = clean_at }
-
-leaf_is_dirty : IsClean (record m { cache = record full { marks = changed 6 } }) → ⊥
-leaf_is_dirty is = none-some (p 6) (sym (ap (λ (marks : Marks). marks.dirty) (is.leaves 0)))
-
-root_is_dirty : IsClean (record m { tree = record linked { marks = changed 5 } }) → ⊥
-root_is_dirty is = none-some (p 5) (sym (ap (λ (marks : Marks). marks.dirty) (is.nodes 0)))
-
--- Calls: the leaf is linked, installed, address 1 is mapped anew, and the leaf is handed out and written
-
-abbrev lba : ℕ → Lba
-lba n = record { 0 = n }
-
-abbrev calls : List Call
-calls = HandOut leaf (b 90) (1 ∷ []) ∷ Apply (Remap (lba 1) Unmapped Zero) (p 514) ∷ Install leaf (0 ∷ []) ∷ Apply (NewPage leaf (b 90)) (p 512) ∷ []
-
-changes_the_leaf : changed_by (Remap (lba 1) Unmapped Zero) ≡ leaf
-changes_the_leaf = refl
-
-changes_the_page_above : changed_by (NewPage leaf (b 90)) ≡ root
-changes_the_page_above = refl
-
-events : events_of (Write leaf ∷ calls) ≡ Written leaf ∷ HandedOut leaf ∷ Changed leaf (p 514) ∷ Changed root (p 512) ∷ []
-events = refl
-
-mapped_anew : mapped (λ n. Unmapped) calls 1 ≡ Zero
-mapped_anew = refl
-
-mapped_as_before : mapped (λ n. Unmapped) calls 2 ≡ Unmapped
-mapped_as_before = refl
-
--- the newest entry counts
-mapped_twice : mapped (λ n. Unmapped) (Apply (Remap (lba 1) Zero Unmapped) (p 516) ∷ calls) 1 ≡ Unmapped
-mapped_twice = refl
-
-stored : IsStored (λ page. 0 ∷ []) calls leaf (1 ∷ [])
-stored = inl (refl, refl)
-
-stored_before : IsStored (λ page. 0 ∷ []) calls leaf (0 ∷ []) → ⊥
-stored_before (inl now) = omega (arith, ap (λ (bytes : List ℕ). first_of bytes) now.1)
-  where
-    first_of : List ℕ → ℕ
-    first_of [] = 0
-    first_of (x ∷ xs) = x
-stored_before (inr apart) = apart.0 refl
-
-stored_beside : IsStored (λ page. 0 ∷ []) calls root (0 ∷ [])
-stored_beside = inr ((λ same. omega (arith, ap (λ (q : PageId). q.level) same)), refl)
-
-read_back : AreReadBack (λ page. 0 ∷ []) calls
-read_back = (refl, tt)
-
-read_otherwise : AreReadBack (λ page. 2 ∷ []) calls → ⊥
-read_otherwise read = omega (arith, ap (λ (bytes : List ℕ). first_of bytes) read.0)
-  where
-    first_of : List ℕ → ℕ
-    first_of [] = 0
-    first_of (x ∷ xs) = x
-
-no_leaf : HasNoLeaf unread
-no_leaf page given is = omega (arith, is.0.1)
-
-one_leaf : HasNoLeaf m → ⊥
-one_leaf none = none leaf content there
-
-has_link : HasLink calls leaf (b 90)
-has_link = inl (refl, refl)
-
-links_elsewhere : HasLink calls leaf (b 91) → ⊥
-links_elsewhere (inl this) = omega (arith, ap (λ (k : Pbn). k.0) this.1)
-links_elsewhere (inr never) = never
-
--- Installs, IsOtherPage, IsTooMany: what is read as the leaf at its block. That these bytes are a page, or aren't, is a premise.
-
-module _ (bytes : List ℕ) (reads : IsPage content.head bytes content.mappings) (fills : cached.Fills empty full content) where
-  installs : Installs unread m leaf bytes
-  installs = record { at = b 90; mappings = content.mappings; stands = stands; read = reads; fills = inl fills; after = refl }
-
-  installs_and_forgets_the_link : Installs unread (record m { tree = unlinked }) leaf bytes → ⊥
-  installs_and_forgets_the_link is = let no : (Unmapped ∷ []) ∷ [] ≡ (At (b 90) ∷ []) ∷ [] = ap (λ (z : ZoneMap). z.tree.pages) is.after in cc
-
-  installs_what_is_not_linked : (new : ZoneMap) → Installs bare new leaf bytes → ⊥
-  installs_what_is_not_linked new is = is_missing (record { at = is.at; stands = is.stands })
-
-  -- read: of other bytes
-  installs_other_bytes : (given : List ℕ) (new : ZoneMap) → ((at : Pbn) (mappings : List Mapping) → IsPage (head_at unread leaf at) given mappings → ⊥) → Installs unread new leaf given → ⊥
-  installs_other_bytes given new other is = other is.at is.mappings is.read
-
-  -- fills: another leaf comes in its place
-  installs_another : Installs unread (record m { cache = record full { pages = record content { head = record content.head { at = b 91 } } ∷ [] } }) leaf bytes → ⊥
-  installs_another is = never is.at is.mappings is.fills is.stands
-    where
-      block : List MapPage → ℕ
-      block [] = 0
-      block (c ∷ cs) = c.head.at.0
-
-      never : (at : Pbn) (mappings : List Mapping) → (let c : MapPage = record { head = head_at unread leaf at; mappings = mappings } in
-          cached.Fills empty (record full { pages = record content { head = record content.head { at = b 91 } } ∷ [] }) c
-          ⊎ cached.GivesUp empty (record full { pages = record content { head = record content.head { at = b 91 } } ∷ [] }) c) → IsAt linked leaf at → ⊥
-      never at mappings (inl fills') stands' =
-          let same : 91 ≡ at.0 = ap (λ (c : CachedPages). block c.pages) fills'.after in
-          at_another_block (record { level = refl; stands = subst (λ (k : Pbn). IsAt linked leaf k) (ap (λ (n : ℕ). b n) (sym same)) stands' })
-      never at mappings (inr gives) stands' = omega (arith, gives.inside)
-
-  is_other_page : (fault : PageFault) → IsPageFault content.head bytes fault → IsOtherPage unread leaf bytes fault
-  is_other_page fault has = record { at = b 90; stands = stands; has_fault = has }
-
-  other_page_without_a_link : (fault : PageFault) → IsOtherPage bare leaf bytes fault → ⊥
-  other_page_without_a_link fault is = is_missing (record { at = is.at; stands = is.stands })
-
-  other_page_without_a_fault : (fault : PageFault) → ((at : Pbn) → IsPageFault (head_at unread leaf at) bytes fault → ⊥) → IsOtherPage unread leaf bytes fault → ⊥
-  other_page_without_a_fault fault none is = none is.at is.has_fault
-
-  -- none: where a frame is empty
-  too_many_beside_an_empty_frame : IsTooMany unread leaf bytes → ⊥
-  too_many_beside_an_empty_frame is = omega (arith, is.none.full)
-
-  too_many : IsTooMany (record unread { cache = record empty { frames = 0 } }) leaf bytes
-  too_many = record { at = b 90; mappings = content.mappings; stands = stands; read = reads; none = record { full = refl; unclean = λ frame inside clean. omega (arith, inside) } }
-
-  -- stands, read: the leaf is linked, and these are its bytes
-  too_many_of_what_is_not_linked : IsTooMany (record bare { cache = record empty { frames = 0 } }) leaf bytes → ⊥
-  too_many_of_what_is_not_linked is = is_missing (record { at = is.at; stands = is.stands })
-
-  too_many_of_other_bytes : (given : List ℕ) → ((at : Pbn) (mappings : List Mapping) → IsPage (head_at unread leaf at) given mappings → ⊥)
-      → IsTooMany (record unread { cache = record empty { frames = 0 } }) leaf given → ⊥
-  too_many_of_other_bytes given other is = other is.at is.mappings is.read
-
--- TakesLeaf, TakesNode: what the cache hands out is a premise
-
-module _ (point : Point) (new : CachedPages) (copy : MapPage) (expires : cached.Expires both.cache new point leaf copy) (bytes : List ℕ) where
-  -- first: the root was changed before
-  takes_the_later_one : (after : ZoneMap) → TakesLeaf both after point leaf (b 90) bytes → ⊥
-  takes_the_later_one after takes =
-      omega (arith, takes.first 0 (p 5) (due_at 5), due_from 6 takes.expires.frame takes.expires.marks.first takes.expires.marks.due)
-
-  abbrev alone : ZoneMap
-  alone = record both { tree = linked }
-
-  takes_leaf : IsSpelled copy (b 90) bytes → TakesLeaf alone (record alone { cache = new }) point leaf (b 90) bytes
-  takes_leaf spelled' = record { copy = copy; expires = expires; first = λ number node due. absurd (none_at number node due); spelled = spelled'; after = refl }
-    where
-      none_at : (number : ℕ) (node : Point) → IsDue (marks_at (clean ∷ []) number) node → ⊥
-      none_at zero node due = none-some node due.dirty
-      none_at (suc k) node due = none-some node due.dirty
-
-  -- after: the tree stays
-  takes_leaf_and_a_link : (after : ZoneMap) → after.tree ≡ unlinked → TakesLeaf alone after point leaf (b 90) bytes → ⊥
-  takes_leaf_and_a_link after is takes =
-      let no : (Unmapped ∷ []) ∷ [] ≡ (At (b 90) ∷ []) ∷ [] = ap (λ (t : Tree). t.pages) (sym is ∙ ap (λ (z : ZoneMap). z.tree) takes.after) in cc
-
-  -- spelled: its bytes are written to its own block
-  takes_leaf_elsewhere : (after : ZoneMap) → TakesLeaf alone after point leaf (b 91) bytes → ⊥
-  takes_leaf_elsewhere after takes = never takes.expires.frame takes.copy takes.expires.stood.inside takes.expires.stood.is takes.spelled.placed
-    where
-      never : (frame : ℕ) (copy' : MapPage) → frame < 1 → slice_index_or full.pages frame copy' ≡ copy' → b 91 ≡ copy'.head.at → ⊥
-      never zero copy' inside is placed = omega (arith, ap (λ (k : Pbn). k.0) (placed ∙ ap (λ (c : MapPage). c.head.at) (sym is)))
-      never (suc k) copy' inside is placed = omega (arith, inside)
-
--- expires: nothing was changed
-takes_a_clean_leaf : (after : ZoneMap) (point : Point) (bytes : List ℕ) → TakesLeaf m after point leaf (b 90) bytes → ⊥
-takes_a_clean_leaf after point bytes takes =
-    none-some takes.expires.marks.first (sym (ap (λ (marks : Marks). marks.dirty) (clean_at takes.expires.frame)) ∙ takes.expires.marks.due.dirty)
-
-takes_a_clean_node : (after : ZoneMap) (point : Point) (bytes : List ℕ) → TakesNode m after point root (b 9) bytes → ⊥
-takes_a_clean_node after point bytes takes = none-some takes.expires.marks.first takes.expires.marks.due.dirty
-
-module _ (point : Point) (new : Tree) (copy : MapPage) (expires : trees.Expires both.tree new point root copy) (bytes : List ℕ) where
-  takes_node : IsSpelled copy (b 9) bytes → TakesNode both (record both { tree = new }) point root (b 9) bytes
-  takes_node spelled' = record {
-    copy = copy;
-    expires = expires;
-    first = λ number first due. omega (arith, due_from 6 number first due, due_from 5 0 expires.marks.first expires.marks.due);
-    spelled = spelled';
-    after = refl;
-  }
-
-  takes_node_elsewhere : (after : ZoneMap) → TakesNode both after point root (b 10) bytes → ⊥
-  takes_node_elsewhere after takes = never takes.copy takes.expires.at takes.spelled.placed
-    where
-      never : (copy' : MapPage) → IsAt both.tree root copy'.head.at → b 10 ≡ copy'.head.at → ⊥
-      never copy' (as_root is at_root) placed = omega (arith, at_root, ap (λ (k : Pbn). k.0) placed)
-      never copy' (by_link lower leads) placed = omega (arith, lower.level)
-
--- TakesNode: the leaf was changed before, or at the same point
-takes_a_node_too_soon : (new : ZoneMap) (bytes : List ℕ) → TakesNode (record both { tree = record linked { marks = changed 6 } }) new (p 9) root (b 9) bytes → ⊥
-takes_a_node_too_soon new bytes takes = omega (arith, takes.first 0 (p 6) (due_at 6), due_from 6 0 takes.expires.marks.first takes.expires.marks.due)
-
--- SettlesLeaf, SettlesNode: a page that isn't being written isn't settled
-settles_one_that_is_not_out : (new : ZoneMap) → SettlesLeaf m new leaf → ⊥
-settles_one_that_is_not_out new is = none-some is.out.marks.first (sym (ap (λ (marks : Marks). marks.writing) (clean_at is.out.frame)) ∙ is.out.marks.is)
-
-settles_a_root_that_is_not_out : (new : ZoneMap) → SettlesNode m new root → ⊥
-settles_a_root_that_is_not_out new is = none-some is.out.marks.first is.out.marks.is
-
--- writes: it isn't being written any longer
-abbrev under_way : List Marks
-under_way = (record { dirty = None; writing = Some (p 6) }) ∷ []
-
-abbrev out : ZoneMap
-out = record { tree = record linked { marks = under_way }; cache = record full { marks = under_way } }
-
-settles_leaf : (new : CachedPages) → cached.Writes out.cache new leaf → SettlesLeaf out (record out { cache = new }) leaf
-settles_leaf new writes = record {
-  out = record { frame = 0; content = content; stands = record { inside = omega arith; is = refl; named = refl }; marks = record { first = p 6; is = refl } };
-  writes = writes;
-  after = refl;
-}
-
-settles_no_leaf : SettlesLeaf out out leaf → ⊥
-settles_no_leaf is = never is.writes.frame is.writes.stood.inside (ap (λ (c : CachedPages). c.marks) is.writes.after)
-  where
-    never : (frame : ℕ) → frame < 1 → under_way ≡ with_marks under_way frame settled → ⊥
-    never zero inside same = none-some (p 6) (sym (ap (λ (marks : List Marks). (marks_at marks 0).writing) same))
-    never (suc k) inside same = omega (arith, inside)
-
-root_is_there : trees.IsWriting out.tree root
-root_is_there = record { inner = record { level = omega arith; there = inl (record { tree = own; level = refl; index = refl }) }; marks = record { first = p 6; is = refl } }
-
-settles_node : (new : Tree) → trees.Writes out.tree new root → SettlesNode out (record out { tree = new }) root
-settles_node new writes = record { out = root_is_there; writes = writes; after = refl }
-
-settles_no_node : SettlesNode out out root → ⊥
-settles_no_node is = none-some (p 6) (sym (ap (λ (t : Tree). (marks_at t.marks 0).writing) is.writes.set))
-
--- IsOut, LeadTo: a page that isn't being written isn't reported
-root_is_out : IsOut out root
-root_is_out = inr root_is_there
-
-none_is_out : IsOut m leaf → ⊥
-none_is_out (inl is) = none-some is.marks.first (sym (ap (λ (marks : Marks). marks.writing) (clean_at is.frame)) ∙ is.marks.is)
-none_is_out (inr is) = omega (arith, is.inner.level)
-
-no_call : LeadTo m [] m
-no_call = refl
-
-no_call_changes_nothing : LeadTo m [] unread → ⊥
-no_call_changes_nothing same = omega (arith, ap (λ (z : ZoneMap). length z.cache.pages) same)
-
-one_call : (new : Tree) → trees.Writes out.tree new root → LeadTo out (Write root ∷ []) (record out { tree = new })
-one_call new writes = (out, refl, (root_is_out, inr (settles_node new writes)))
-
-reported_and_not_out : (new : ZoneMap) → LeadTo m (Write leaf ∷ []) new → ⊥
-reported_and_not_out new lead = none_is_out (subst (λ (z : ZoneMap). IsOut z leaf) lead.1 lead.2.0)
-
--- after: all else stays
-takes_a_node_and_forgets_a_leaf : (new : ZoneMap) (bytes : List ℕ) → new.cache ≡ empty → TakesNode both new (p 9) root (b 9) bytes → ⊥
-takes_a_node_and_forgets_a_leaf new bytes is takes = omega (arith, ap (λ (c : CachedPages). length c.pages) (sym is ∙ ap (λ (z : ZoneMap). z.cache) takes.after))
-
-settles_a_leaf_and_forgets_a_link : (new : ZoneMap) → new.tree ≡ unlinked → SettlesLeaf m new leaf → ⊥
-settles_a_leaf_and_forgets_a_link new is settles =
-    let no : (Unmapped ∷ []) ∷ [] ≡ (At (b 90) ∷ []) ∷ [] = ap (λ (t : Tree). t.pages) (sym is ∙ ap (λ (z : ZoneMap). z.tree) settles.after) in cc
-
-settles_a_node_and_forgets_a_leaf : (new : ZoneMap) → new.cache ≡ empty → SettlesNode m new root → ⊥
-settles_a_node_and_forgets_a_leaf new is settles = omega (arith, ap (λ (c : CachedPages). length c.pages) (sym is ∙ ap (λ (z : ZoneMap). z.cache) settles.after))
 
 -- HasPath
 has_path : HasPath m 1
@@ -711,7 +435,92 @@ has_path (suc (suc level)) low' = absurd (omega (arith, low'))
 has_no_path : HasPath bare 1 → ⊥
 has_no_path has = is_missing (has 0 (omega arith))
 
--- SayOf: the leaf says of address 1 that it is unmapped at first, and nothing else
-module _ (bytes : List ℕ) (reads : IsPage content.head bytes content.mappings) where
-  says_otherwise : SayOf g (λ page. bytes) (λ n. Unmapped) → ⊥
-  says_otherwise say = let no : At (b 100) ≡ Unmapped = say leaf (b 90) content.mappings reads 1 refl in cc
+-- Installs, IsOtherPage, IsTooMany: what is read as the leaf at its block. That bytes are no page is a premise.
+
+-- the leaf is in the frame that was empty
+abbrev pub filled : CachedPages
+filled = record full { turns = with_turn 0 true (no_turns 1) }
+
+pub fills : cached.Fills empty filled content
+fills = record { form = is_cache (At (b 100)) clean (with_turn 0 true (no_turns 1)) (held_at 15 (omega arith)); room = omega arith; after = refl }
+
+abbrev pub bytes : List ℕ
+bytes = page_bytes content.head content.mappings
+
+pub reads : IsPage content.head bytes content.mappings
+reads = record { spelled = refl; held = held 0 Unmapped (At (b 100)) tt (held_at 15 (omega arith)) }
+
+installs : Installs unread (record m { cache = filled }) leaf bytes
+installs = record { at = b 90; mappings = content.mappings; stands = stands; read = reads; fills = inl fills; after = refl }
+
+installs_and_forgets_the_link : Installs unread (record m { tree = unlinked }) leaf bytes → ⊥
+installs_and_forgets_the_link is = let no : (Unmapped ∷ Unmapped ∷ others) ∷ [] ≡ (At (b 90) ∷ Unmapped ∷ others) ∷ [] = ap (λ (z : ZoneMap). z.tree.pages) is.after in cc
+
+installs_what_is_not_linked : (new : ZoneMap) → Installs bare new leaf bytes → ⊥
+installs_what_is_not_linked new is = is_missing (record { at = is.at; stands = is.stands })
+
+-- read: of other bytes
+installs_other_bytes : (given : List ℕ) (new : ZoneMap) → ((at : Pbn) (mappings : List Mapping) → IsPage (head_at unread leaf at) given mappings → ⊥) → Installs unread new leaf given → ⊥
+installs_other_bytes given new other is = other is.at is.mappings is.read
+
+-- fills: another leaf comes in its place
+installs_another : Installs unread (record m { cache = record full { pages = record content { head = record content.head { at = b 91 } } ∷ [] } }) leaf bytes → ⊥
+installs_another is = never is.at is.mappings is.fills is.stands
+  where
+    block : List MapPage → ℕ
+    block [] = 0
+    block (c ∷ cs) = c.head.at.0
+
+    never : (at : Pbn) (mappings : List Mapping) → (let c : MapPage = record { head = head_at unread leaf at; mappings = mappings } in
+        cached.Fills empty (record full { pages = record content { head = record content.head { at = b 91 } } ∷ [] }) c
+        ⊎ cached.GivesUp empty (record full { pages = record content { head = record content.head { at = b 91 } } ∷ [] }) c) → IsAt linked leaf at → ⊥
+    never at mappings (inl fills') stands' =
+        let same : 91 ≡ at.0 = ap (λ (c : CachedPages). block c.pages) fills'.after in
+        at_another_block (record { level = refl; stands = subst (λ (k : Pbn). IsAt linked leaf k) (ap (λ (n : ℕ). b n) (sym same)) stands' })
+    never at mappings (inr gives) stands' = omega (arith, gives.inside)
+
+is_other_page : (fault : PageFault) → IsPageFault content.head bytes fault → IsOtherPage unread leaf bytes fault
+is_other_page fault has = record { at = b 90; stands = stands; has_fault = has }
+
+other_page_without_a_link : (fault : PageFault) → IsOtherPage bare leaf bytes fault → ⊥
+other_page_without_a_link fault is = is_missing (record { at = is.at; stands = is.stands })
+
+other_page_without_a_fault : (fault : PageFault) → ((at : Pbn) → IsPageFault (head_at unread leaf at) bytes fault → ⊥) → IsOtherPage unread leaf bytes fault → ⊥
+other_page_without_a_fault fault none is = none is.at is.has_fault
+
+-- none: where a frame is empty
+too_many_beside_an_empty_frame : IsTooMany unread leaf bytes → ⊥
+too_many_beside_an_empty_frame is = omega (arith, is.none.full)
+
+too_many : IsTooMany (record unread { cache = record empty { frames = 0 } }) leaf bytes
+too_many = record { at = b 90; mappings = content.mappings; stands = stands; read = reads; none = record { full = refl; unclean = λ frame inside clean. omega (arith, inside) } }
+
+-- stands, read: the leaf is linked, and these are its bytes
+too_many_of_what_is_not_linked : IsTooMany (record bare { cache = record empty { frames = 0 } }) leaf bytes → ⊥
+too_many_of_what_is_not_linked is = is_missing (record { at = is.at; stands = is.stands })
+
+too_many_of_other_bytes : (given : List ℕ) → ((at : Pbn) (mappings : List Mapping) → IsPage (head_at unread leaf at) given mappings → ⊥)
+    → IsTooMany (record unread { cache = record empty { frames = 0 } }) leaf given → ⊥
+too_many_of_other_bytes given other is = other is.at is.mappings is.read
+
+-- MayApply, IsRefused: each of its two ways, and none of the other's
+may_apply : MayApply unread (Remap (lba 1) Unmapped Zero)
+may_apply = may_remap
+
+may_apply_a_link : MayApply bare (NewPage leaf (b 90))
+may_apply_a_link = may_add
+
+may_not_apply_past_the_last : ¬ MayApply unread (Remap (lba 1000) Unmapped Zero)
+may_not_apply_past_the_last = may_not_past_the_last
+
+may_not_apply_a_link_again : ¬ MayApply unread (NewPage leaf (b 90))
+may_not_apply_a_link_again = may_not_add_it_again (b 90)
+
+refused_for_its_frames : IsRefused (record unread { cache = record empty { frames = 0 } }) leaf bytes refused.NoFrame
+refused_for_its_frames = too_many
+
+not_refused_for_its_frames : ¬ IsRefused unread leaf bytes refused.NoFrame
+not_refused_for_its_frames = too_many_beside_an_empty_frame
+
+not_refused_for_its_bytes : (fault : PageFault) → ¬ IsRefused bare leaf bytes (refused.Page fault)
+not_refused_for_its_bytes fault = other_page_without_a_link fault

@@ -4,7 +4,7 @@ use Rattle.std.proofs.Common.{sym, ◌∙◌, ap, arith, length-append, length-d
 use Rattle.std.proofs.lemmas.List.{take_at, drop_at, drop-drop, append-nil, nil_from_length}
 use Rattle.blk_base.specs.declared.place.Mapping.{Mapping}
 use Rattle.blk_base.specs.declared.place.Mapping.TheVariants.{Unmapped}
-use Rattle.byte_fields.proofs.FieldLaws.{length-le, record_at, parts}
+use Rattle.byte_fields.proofs.FieldLaws.{length-le, length-records, record_at, parts}
 use Rattle.byte_fields.proofs.MappingLaws.{length-mapping}
 use Rattle.page_codec.specs.declared.forms.PageHead.{PageHead}
 use Rattle.byte_fields.specs.Mappings.{mapping_bytes}
@@ -19,6 +19,14 @@ length-head head = simp (length-append, length-le)
 pub head_of_page : (head : PageHead) (ms : List Mapping) → take 36 (page_bytes head ms) ≡ head_bytes head
 unfolding page_bytes
 head_of_page head ms = take_at (head_bytes head) (flat_map mapping_bytes ms) 36 (length-head head)
+
+-- and all of it
+pub page_size : (head : PageHead) (mappings : List Mapping) → length mappings ≡ 812 → length (page_bytes head mappings) ≡ 4096
+unfolding page_bytes
+page_size head mappings count =
+    let front = length-head head in
+    let back = length-records mapping_bytes 5 length-mapping mappings in
+    length-append (head_bytes head) (flat_map mapping_bytes mappings) ∙ omega (arith, front, back, count)
 
 -- what is behind it
 pub slots_of_page : (head : PageHead) (ms : List Mapping) → drop 36 (page_bytes head ms) ≡ flat_map mapping_bytes ms

@@ -14,7 +14,6 @@ pub mod AgainLaws
 pub mod Rows
 pub mod DoneRows
 pub mod OpeningRows
-pub mod ReadExample
 pub mod ActRows
 pub mod OutcomeRows
 pub mod RecoveryRows

@@ -30,7 +30,8 @@ use Rattle.replay_map.specs.Reads.{Shows}
 use Rattle.replay_map.specs.Replayed.{HasMap}
 use Rattle.recovery_laws.specs.Kept.{image_in}
 use Rattle.session_opening.specs.Starts.{IsStart, AreLedTo}
-use Rattle.rebuild.proofs.ReadExample.{head_is_read, head_of, next_failed, no_entries, seen_failed, small_is, window_is_read}
+use Rattle.audit.proofs.ReadExample.{head_is_read, head_of, next_failed, no_entries, seen_failed, window_is_read}
+use Rattle.blk_base.proofs.Example.{small_is}
 use Rattle.rebuild.proofs.RecoveryRows.{head_there, with_head}
 use Rattle.rebuild.proofs.Rows.{seen}
 use Rattle.rebuild.proofs.ShownLaws.{audit_last}

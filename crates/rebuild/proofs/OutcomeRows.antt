@@ -33,7 +33,7 @@ use Rattle.recovery_laws.specs.Kept.{AreKept, image_in, AreStopsKept}
 use Rattle.replay_counts.specs.Recovered.{Holds}
 use Rattle.replay_map.specs.Reads.{Shows}
 use Rattle.rebuild.proofs.ActLaws.{none_made}
-use Rattle.rebuild.proofs.ReadExample.{head_of, next_failed, no_entries, seen_failed, window_is_read, window_of_none, without_journal}
+use Rattle.audit.proofs.ReadExample.{head_of, next_failed, no_entries, seen_failed, window_is_read, window_of_none, without_journal}
 use Rattle.rebuild.proofs.Rows.{call_failed, called_after, flushed, last_is_failed, last_is_not, none_flushed, seen}
 use Rattle.rebuild.proofs.ShownLaws.{both_logged, both_read, unclean_last}
 use Rattle.rebuild.specs.Acts.{IsStart}

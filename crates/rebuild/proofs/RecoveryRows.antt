@@ -35,7 +35,9 @@ use Rattle.recovery_laws.specs.Kept.{IsRecovered, image_in}
 use Rattle.recovery_laws.proofs.AlikeLaws.{alike_super}
 use Rattle.rebuild.proofs.KeptLaws.{image_alike, opened_alike}
 use Rattle.rebuild.proofs.OutcomeRows.{kept_yet, never_unclean, none_of_zeros, opened}
-use Rattle.rebuild.proofs.ReadExample.{head_is_read, head_of, next_failed, no_entries, says_head, seen_failed, super_size, zero_size}
+use Rattle.audit.proofs.ReadExample.{head_is_read, head_of, next_failed, no_entries, says_head, seen_failed}
+use Rattle.image_layout.proofs.SpellingLaws.{super_size}
+use Rattle.blk_base.proofs.SectorLaws.{zero_size}
 use Rattle.rebuild.proofs.ShownLaws.{both_logged}
 use Rattle.rebuild.proofs.Rows.{flushed, none_flushed, seen}
 use Rattle.rebuild.specs.Recoveries.{Answers, AreStopsSound, IsAnswer, IsRecovery, IsRefusal, IsResult, IsTold, IsUnclean, LeavesClosed, RecoverFails}

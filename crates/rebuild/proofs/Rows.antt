@@ -1,5 +1,6 @@
 -- For each definition a small case that it accepts, and one that it refuses.
 use Rattle.std.proofs.Common.{ℕ, ◌≡◌, Bool, true, false, List, [], ◌∷◌, ◌++◌, Ok, Err, length, length-append, refl, ap, subst, inl, inr, arith}
+pub use Rattle.audit.proofs.ReadExample.{seen}
 use Rattle.audit.specs.Reports.{HasNoFault}
 use Rattle.blk_base.specs.declared.geometry.Super.{Super as Superblock}
 use Rattle.blk_base.specs.declared.journal_entry.CommittedEntry.{CommittedEntry}
@@ -23,9 +24,6 @@ use Rattle.rebuild.specs.Again.{FindsClosed, HasClosedImage}
 use Rattle.rebuild.specs.Outcomes.{WritesNothing}
 use Rattle.rebuild.specs.Recoveries.{IsAnswer, IsRecovery, IsRefusal}
 use Rattle.rebuild.specs.declared.forms.Recovered.TheVariants.{Clean, Entries}
-
-abbrev pub seen : Seen
-seen = record { opening = []; size = 154; log = []; faults = 3; unkept = 0 }
 
 -- a flush, and a block of no page and no counters
 abbrev pub flushed : Seen

@@ -2,7 +2,7 @@
 -- that breaks it alone and is refused.
 use Rattle.std.proofs.Common.{ℕ, zero, suc, ◌≡◌, ◌%◌, Bool, true, false, List, [], ◌∷◌, length, replicate, get_or, Ok, refl, ap, subst, inl, inr, arith}
 use Rattle.std.proofs.Math.Nat.{mod-lt}
-use Rattle.std.proofs.lemmas.List.{length-replicate}
+use Rattle.blk_base.proofs.SectorLaws.{zero_size}
 use Rattle.blk_base.specs.Sectors.{sector, zero_block}
 use Rattle.blk_base.specs.declared.geometry.Geometry.{Geometry}
 use Rattle.blk_base.specs.declared.geometry.Super.{Super as Superblock}
@@ -148,10 +148,6 @@ a_sector_from_none : IsCountedFrom slabless [] [] [] [] (pair 0 0 ∷ []) → �
 a_sector_from_none is = let size = is.paired.size in omega (arith, size)
 
 -- With the window before them: a journal of eight slots with zeros has no entries.
-zero_size : length zero_block ≡ 4096
-unfolding zero_block
-zero_size = length-replicate {A = ℕ} 4096 0
-
 zeros_given : (honest : Bool) (from n : ℕ) → AreGiven false honest from seen (replicate n zero_block)
 zeros_given honest from zero = tt
 zeros_given honest from (suc n) = (zero_size, (λ told. absurd (cc told)), zeros_given honest from n)

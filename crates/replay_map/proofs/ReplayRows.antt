@@ -69,7 +69,7 @@ module _ (g : Geometry) (blocks : Blocks) (sizes : IsGeometry g) (root_is : (tre
   none_mapped : AreAllMapped (the_image g blocks) []
   none_mapped block = let sum = (all_counted g blocks sizes (root_says g blocks root_is) block).sum in omega (arith, sum)
 
-  map_of_nothing : (map : RecoveredMap) → map.links.items ≡ [] → map.slots.items ≡ [] → map.mapped.items ≡ [] → HasMap (the_image g blocks) map
+  pub map_of_nothing : (map : RecoveredMap) → map.links.items ≡ [] → map.slots.items ≡ [] → map.mapped.items ≡ [] → HasMap (the_image g blocks) map
   map_of_nothing map links slots mapped = record {
     pages = pages_good g blocks sizes (root_says g blocks root_is) (blank_slot g blocks root_is);
     unshared = not_shared g blocks sizes (root_says g blocks root_is);

@@ -7,7 +7,6 @@ use Rattle.std.specs.Ordering.{nat_cmp, ordering_then, is_eq}
 use Rattle.std.specs.declared.cmp.Ordering.{Ordering}
 use Rattle.std.specs.declared.cmp.Ordering.TheVariants.{Less, Equal, Greater}
 use Rattle.std.proofs.lemmas.Bool.{cases_lt}
-use Rattle.std.proofs.lemmas.Bool.Decides.{eqb_tells}
 use Rattle.std.proofs.lemmas.Cmp.{nat_eq_equiv}
 use Rattle.std.proofs.lemmas.List.{take_more}
 use Rattle.std.proofs.lemmas.List.{get_or-set_same, get_or-set_other, reverse-append}
@@ -21,6 +20,7 @@ use Rattle.blk_base.specs.declared.sizes.TheConstants.{PAGE_SLOTS}
 use Rattle.blk_base.specs.Pages.{page_order}
 use Rattle.image_model.proofs.CountLaws.{is_first_or_behind, none_in_nothing}
 use Rattle.image_model.specs.Pages.{is_page}
+use Rattle.replay_map.proofs.OwnLaws.{page_tells}
 use Rattle.replay_map.specs.declared.links.Link.{Link}
 use Rattle.session_opening.specs.declared.places.Places.{Places}
 use Rattle.session_opening.specs.Places.{AreInner, AreLeading, ArePlaces, LeadsTo, block_by}
@@ -48,23 +48,6 @@ alike a b =
     ∙ ap₂ (λ (p q : Bool). p && q) (flipped a.level b.level) (flipped a.index b.index))
     ∙ apart_of (b.tree == a.tree) (b.level == a.level) (b.index == a.index)
 
--- one page, or two
-pub tells : (a b : PageId) → ((is_page a b ≡ true) × (a ≡ b)) ⊎ ((is_page a b ≡ false) × (a ≡ b → ⊥))
-tells a b = elim (eqb_tells a.tree b.tree) [
-  | inr other ↦ inr (rw other.0 refl, λ same. other.1 (ap (λ (p : PageId). p.tree) same))
-  | inl tree ↦ elim (eqb_tells a.level b.level) [
-    | inr other ↦ inr (rw (tree.0, other.0) refl, λ same. other.1 (ap (λ (p : PageId). p.level) same))
-    | inl level ↦ elim (eqb_tells a.index b.index) [
-      | inr other ↦ inr (rw (tree.0, level.0, other.0) refl, λ same. other.1 (ap (λ (p : PageId). p.index) same))
-      | inl index ↦ inl (
-        rw (tree.0, level.0, index.0) refl,
-        ap (λ (t : ℕ). record { tree = t; level = a.level; index = a.index }) tree.1
-            ∙ ap₂ (λ (l i : ℕ). record { tree = b.tree; level = l; index = i }) level.1 index.1,
-      )
-    ]
-  ]
-]
-
 -- By a list of links.
 
 head_in : (link : Link) (links : List Link) → Contains (link ∷ links) link
@@ -76,7 +59,7 @@ behind_in link links other (k, inside, is) = (suc k, omega (arith, inside), is)
 -- a page of a link has a block
 pub linked_has : (links : List Link) (link : Link) → Contains links link → IsSome (block_by links link.page)
 linked_has [] link has = absurd (none_in_nothing link has)
-linked_has (first ∷ older) link has = elim (tells link.page first.page) [
+linked_has (first ∷ older) link has = elim (page_tells link.page first.page) [
   | inl same ↦ rw same.0 refl
   | inr other ↦ elim (is_first_or_behind first older link has) [
     | inl is ↦ absurd (other.1 (sym (ap (λ (l : Link). l.page) is)))
@@ -87,7 +70,7 @@ linked_has (first ∷ older) link has = elim (tells link.page first.page) [
 -- and only such a page
 pub block_linked : (links : List Link) (page : PageId) (at : Pbn) → block_by links page ≡ Some at → Contains links (record { page = page; at = at })
 block_linked [] page at is = absurd (cc is)
-block_linked (first ∷ older) page at is = elim (tells page first.page) [
+block_linked (first ∷ older) page at is = elim (page_tells page first.page) [
   | inl same ↦
       let found : Some first.at ≡ Some at = rw same.0 at is in
       let block : first.at ≡ at = cc found in
@@ -122,7 +105,7 @@ module _ (links : List Link) (link : Link) where
         | inr none ↦ absurd (none_in_nothing other none)
       ]
     ];
-    every = λ page high some. elim (tells page link.page) [
+    every = λ page high some. elim (page_tells page link.page) [
       | inl same ↦ (link, Contains-append_right inner (link ∷ []) link (0, omega arith, refl), sym same.1)
       | inr other ↦
           let found = were.every page high (rw other.0 at some) in
@@ -139,7 +122,7 @@ module _ (links : List Link) (link : Link) where
   inner_same : (inner : List Link) → (IsSome (block_by links link.page)) ⊎ (link.page.level ≡ 0) → AreInner links inner → AreInner (link ∷ links) inner
   inner_same inner known were = record {
     each = still_each inner were;
-    every = λ page high some. elim (tells page link.page) [
+    every = λ page high some. elim (page_tells page link.page) [
       | inl same ↦ elim known [
         | inl had ↦ were.every page high (subst (λ (p : PageId). IsSome (block_by links p)) (sym same.1) had)
         | inr leaf ↦ let level = ap (λ (p : PageId). p.level) same.1 in absurd (omega (arith, high, level, leaf))

@@ -29,6 +29,7 @@ use Rattle.page_codec.specs.Grammar.{IsSlot}
 use Rattle.replay_counts.specs.Recovered.{HasCounts, no_points}
 use Rattle.replay_counts.specs.declared.forms.SectorPoints.{SectorPoints}
 use Rattle.replay_map.proofs.LinkedLaws.{below_at}
+use Rattle.replay_map.proofs.OwnLaws.{page_tells}
 use Rattle.replay_map.proofs.TreeLaws.{root_linked, under_root}
 use Rattle.replay_map.proofs.UnderLaws.{up_none}
 use Rattle.blk_base.specs.Pages.{above, page_below, root_page, slot_of}
@@ -36,7 +37,7 @@ use Rattle.replay_map.specs.Replayed.{AreAllLinks, HasMap}
 use Rattle.replay_map.specs.declared.links.Link.{Link}
 use Rattle.replay_map.specs.declared.recovered.RecoveredMap.{RecoveredMap}
 use Rattle.session_opening.proofs.ListedLaws.{behind_in, in_map, in_reverse, in_roots, linked_every, linked_once, of_map, of_reverse, pairs_append, roots_in, roots_once}
-use Rattle.session_opening.proofs.PlaceLaws.{block_linked, linked_has, tells}
+use Rattle.session_opening.proofs.PlaceLaws.{block_linked, linked_has}
 use Rattle.replay_map.specs.Links.{root_link}
 use Rattle.session_opening.specs.Pages.{AreLinked, ArePages, roots_below}
 use Rattle.session_opening.specs.Places.{AreLeading, block_by, mapping_to}
@@ -45,7 +46,7 @@ use Rattle.session_opening.specs.Starts.{AreCommits, AreCounters, AreInnerPages,
 -- Slots of a page that is no leaf: none of them is zeros.
 
 put_by_no_zero : (entry : Entry) (page : PageId) (slot : ℕ) (put : Mapping) → 0 < page.level → put_by entry page slot ≡ Some put → put ≡ Zero → ⊥
-put_by_no_zero (Remap at old new) page slot put high is zeros = elim (tells page (leaf_of at.0)) [
+put_by_no_zero (Remap at old new) page slot put high is zeros = elim (page_tells page (leaf_of at.0)) [
   | inl same ↦ let level = ap (λ (p : PageId). p.level) same.1 in absurd (omega (arith, high, level))
   | inr other ↦ let gone : None ≡ Some put = rw other.0 at is in absurd (cc gone)
 ]

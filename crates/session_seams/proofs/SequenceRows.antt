@@ -1,6 +1,6 @@
 -- An empty image of the default sizes: a run may begin on it with 2 ^ 20 sequences left, and not with all; what a read of it
 -- leaves. And what a recovery keeps of the next sequence.
-use Rattle.std.proofs.Common.{ℕ, ◌≡◌, ◌+◌, ◌<◌, ◌≤◌, ◌^◌, true, false, List, [], ◌∷◌, length, Result, Ok, refl, sym, ◌∙◌, ap, inl, inr, arith}
+use Rattle.std.proofs.Common.{ℕ, ◌≡◌, ◌+◌, ◌-◌, ◌<◌, ◌≤◌, ◌^◌, true, false, List, [], ◌∷◌, length, Result, Ok, refl, sym, ◌∙◌, ap, inl, inr, arith}
 use Rattle.blk_base.specs.declared.geometry.Geometry.{Geometry}
 use Rattle.blk_base.specs.declared.geometry.Super.{Super}
 use Rattle.disk_model.specs.declared.call.Call.{Call}
@@ -49,7 +49,10 @@ module _ (blocks : Blocks) (empty : IsEmpty small blocks) (whole : (b : ℕ) →
   serves : IsToServe blocks
   serves = let few = can_less blocks (2 ^ 20) (2 ^ 19) (omega arith) can in can_serve blocks few (ap (λ (h : Super). h.clean) (head_of few.sound))
 
-  -- refused: more sequences than there are
+  -- all that there are, and refused: one more
+  all_left : CanBegin (2 ^ 54 - 1) blocks
+  all_left = record { whole = whole; sound = sound; late = let one = first sound in omega (arith, one); named = let nonce = ap (λ (h : Super). h.geometry.nonce) (head_of sound) in omega (arith, nonce) }
+
   none_left : CanBegin (2 ^ 54) blocks → ⊥
   none_left many = let late = many.late in let one = first many.sound in omega (arith, late, one)
 

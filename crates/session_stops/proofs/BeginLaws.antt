@@ -19,7 +19,7 @@ use Rattle.disk_model.specs.declared.call.Call.TheVariants.{Write, Flush}
 use Rattle.disk_model.specs.Images.{IsImage}
 use Rattle.disk_model.specs.Log.{Blocks, Misses, block_at, contents}
 use Rattle.disk_model.proofs.ImageLaws.{all_weaker, block_of_image, sector_of_mix}
-use Rattle.image_format.proofs.StopLaws.{super_size}
+use Rattle.image_layout.proofs.SpellingLaws.{super_size}
 use Rattle.image_layout.specs.Opened.{super_of_image}
 use Rattle.image_layout.specs.Superblock.{super_block, super_of}
 use Rattle.image_layout.proofs.AgainLaws.{written_again}

@@ -1,6 +1,6 @@
 -- The beginning of a session: for each clause a small case that it accepts, and one that it refuses. The image is an empty one
 -- of the default sizes.
-use Rattle.std.proofs.Common.{ℕ, ◌≡◌, ◌+◌, ◌<◌, ◌≤◌, ◌^◌, true, false, IsTrue, List, [], ◌∷◌, length, Result, Ok, refl, sym, ◌∙◌, ap, subst, inl, inr, arith}
+use Rattle.std.proofs.Common.{ℕ, ◌≡◌, ◌+◌, ◌<◌, ◌^◌, true, false, IsTrue, List, [], ◌∷◌, length, Result, Ok, refl, sym, ◌∙◌, ap, subst, inl, inr, arith}
 use Rattle.blk_base.specs.declared.geometry.Super.{Super}
 use Rattle.blk_base.specs.declared.journal_entry.CommittedEntry.{CommittedEntry}
 use Rattle.disk_model.specs.declared.call.Call.{Call}
@@ -143,10 +143,14 @@ unclosed blocks head is open_yet to =
     let closed = to.clean in
     let never : IsTrue false = subst IsTrue clean closed in absurd (cc never)
 
-used_up : (blocks : Blocks) (to : IsToServe blocks) → 2 ^ 54 ≤ to.sound.head.start + 2 ^ 18 → ⊥
+-- the last first sequence that leaves a session its sequences, and the greatest nonce
+last_to_serve : (blocks : Blocks) (sound : IsSound blocks) → IsTrue sound.head.clean → sound.head.start + 2 ^ 19 ≡ 2 ^ 54 → sound.head.geometry.nonce + 1 ≡ 2 ^ 64 → IsToServe blocks
+last_to_serve blocks sound clean start nonce = record { sound = sound; clean = clean; late = omega (arith, start); named = omega (arith, nonce) }
+
+used_up : (blocks : Blocks) (to : IsToServe blocks) → to.sound.head.start + 2 ^ 19 ≡ 2 ^ 54 + 1 → ⊥
 used_up blocks to late = let early = to.late in omega (arith, early, late)
 
-not_named : (blocks : Blocks) (to : IsToServe blocks) → 2 ^ 64 ≤ to.sound.head.geometry.nonce → ⊥
+not_named : (blocks : Blocks) (to : IsToServe blocks) → to.sound.head.geometry.nonce ≡ 2 ^ 64 → ⊥
 not_named blocks to high = let low = to.named in omega (arith, low, high)
 
 -- and one with a block that is too short doesn't begin

@@ -14,7 +14,7 @@ use Rattle.disk_model.specs.Log.{Blocks, block_at, contents}
 use Rattle.disk_model.proofs.ImageLaws.{all_weaker, contents-write_other, sector_of_mix, settled-write_other}
 use Rattle.disk_model.specs.OneImages.{HasOneImageIn}
 use Rattle.disk_model.proofs.LookedLaws.{one_in-write_flush}
-use Rattle.image_format.proofs.StopLaws.{super_size}
+use Rattle.image_layout.proofs.SpellingLaws.{super_size}
 use Rattle.image_layout.specs.Opened.{super_of_image}
 use Rattle.image_layout.specs.Superblock.{super_block, super_of}
 use Rattle.image_layout.proofs.AgainLaws.{written_again}
@@ -34,7 +34,7 @@ use Rattle.stop_laws.specs.Journals.{Surely}
 use Rattle.journal_stops.specs.Sealed.{Sealed, entries_of, next_of, window_of}
 use Rattle.journal_stops.proofs.ShownLaws.{window_at_rest}
 use Rattle.recovery_laws.proofs.StillLaws.{same_journal}
-use Rattle.count_laws.proofs.ContentLaws.{contents_some, one_of_weaker}
+use Rattle.disk_model.proofs.ContentLaws.{contents_some, one_of_weaker}
 use Rattle.session_stops.specs.Beginnings.{IsToServe, head_in, opened_in}
 use Rattle.session_stops.specs.Closings.{IsClosedImage, IsClosing, IsWrittenOut, closed_head, closing_calls, closing_write, last_in}
 use Rattle.session_stops.specs.Sessions.{ShowsSoundly}

@@ -1,6 +1,6 @@
 -- The one image that the log of the rows' session leaves at its end, and the one behind its close: the definitions hold
 -- together, and an image shows what the session wrote.
-use Rattle.std.proofs.Common.{ℕ, ◌≡◌, ◌+◌, ◌%◌, ◌<◌, ◌≤◌, List, [], ◌∷◌, true, length, set, flat_map, refl, sym, ◌∙◌, ap, subst, length-append, arith}
+use Rattle.std.proofs.Common.{ℕ, ◌≡◌, ◌+◌, ◌%◌, ◌<◌, ◌≤◌, List, [], ◌∷◌, true, length, set, refl, sym, ◌∙◌, ap, subst, arith}
 use Rattle.std.proofs.Math.Nat.{mod-lt}
 use Rattle.std.proofs.lemmas.List.{length-replicate}
 use Rattle.blk_base.specs.Regions.{needed_blocks}
@@ -11,14 +11,12 @@ use Rattle.blk_base.specs.declared.journal_entry.Entry.{Entry}
 use Rattle.blk_base.specs.declared.place.Mapping.{Mapping}
 use Rattle.blk_base.specs.declared.place.Mapping.TheVariants.{Zero, At}
 use Rattle.byte_fields.proofs.FieldLaws.{length-records}
-use Rattle.byte_fields.proofs.MappingLaws.{length-mapping}
-use Rattle.byte_fields.specs.Mappings.{mapping_bytes}
 use Rattle.disk_model.specs.declared.call.Call.TheVariants.{Flush}
 use Rattle.disk_model.specs.Images.{HasOneImage, IsImage}
 use Rattle.disk_model.specs.Log.{Blocks, block_at}
 use Rattle.disk_model.proofs.OneImageLaws.{one_image-is_image, one_image-kept, one_image-write_flush}
 use Rattle.disk_model.proofs.LookedLaws.{one_in-all, one_in-every}
-use Rattle.image_format.proofs.StopLaws.{super_size}
+use Rattle.image_layout.proofs.SpellingLaws.{super_size}
 use Rattle.image_layout.specs.Superblock.{super_block}
 use Rattle.image_model.specs.Empty.{IsEmpty, empty_super}
 use Rattle.image_model.specs.Maps.{Image, mapping_of}
@@ -29,9 +27,7 @@ use Rattle.journal_codec.specs.Spelling.{block_bytes}
 use Rattle.journal_stops.specs.Mapped.{later_image, mapping_after}
 use Rattle.journal_stops.specs.Rings.{place_of}
 use Rattle.journal_stops.specs.Sealed.{entries_of}
-use Rattle.page_codec.proofs.SpellingLaws.{length-head}
-use Rattle.page_codec.specs.Spelling.{head_bytes, page_bytes}
-use Rattle.page_codec.specs.declared.forms.PageHead.{PageHead}
+use Rattle.page_codec.proofs.SpellingLaws.{page_size}
 use Rattle.recovery_laws.proofs.SuperLaws.{room_of_image}
 use Rattle.sector_records.proofs.SectorLaws.{few_in}
 use Rattle.sector_records.specs.Spelling.{eight_sectors, sector_numbers, sector_of}
@@ -48,13 +44,6 @@ use Rattle.session_stops.proofs.SessionRows.{all_is, block, block_is, entries, g
 use Rattle.session_stops.proofs.SoundImages.{rest_sound}
 
 -- What is written are whole blocks.
-
-page_size : (head : PageHead) (mappings : List Mapping) → length mappings ≡ 812 → length (page_bytes head mappings) ≡ 4096
-unfolding page_bytes
-page_size head mappings count =
-    let front = length-head head in
-    let back = length-records mapping_bytes 5 length-mapping mappings in
-    length-append (head_bytes head) (flat_map mapping_bytes mappings) ∙ omega (arith, front, back, count)
 
 journal_size : (nonce sequence head : ℕ) (list : List Entry) → length (block_bytes nonce sequence head list) ≡ 4096
 unfolding block_bytes eight_sectors sector_numbers

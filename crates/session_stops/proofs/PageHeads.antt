@@ -16,7 +16,7 @@ use Rattle.stop_laws.specs.Journals.{Surely}
 use Rattle.recovery_laws.proofs.WindowFacts.{IsKnown}
 use Rattle.journal_stops.specs.Mapped.{page_after}
 use Rattle.journal_stops.proofs.GrowLaws.{in_range}
-use Rattle.count_laws.proofs.ContentLaws.{both_of, some_content}
+use Rattle.disk_model.proofs.ContentLaws.{both_of, some_content}
 use Rattle.count_laws.proofs.UnusedLaws.{linked_index}
 use Rattle.session_stops.specs.Pages.{PagesStand, SaysTheRest}
 use Rattle.session_stops.proofs.NewPages.{AreMadeNew}

@@ -283,7 +283,7 @@ module _ (blocks : Blocks) (empty : IsEmpty small blocks) (whole : (b : ℕ) →
   no_super behind = not_yet blocks empty whole to behind.super
 
   -- with more blocks than a session may have
-  too_many : (log : List Call) (list : List Sealed) → length list ≡ 2 ^ 18 → IsBehind blocks log blocks to list start → ⊥
+  too_many : (log : List Call) (list : List Sealed) → length list + 1 ≡ 2 ^ 18 → IsBehind blocks log blocks to list start → ⊥
   too_many log list many behind = let reach = behind.reach in omega (arith, reach, many)
 
   -- with a block of more entries than fit
@@ -292,6 +292,9 @@ module _ (blocks : Blocks) (empty : IsEmpty small blocks) (whole : (b : ℕ) →
 
   few_here : AreFew (block ∷ [])
   few_here = (omega arith, tt)
+
+  as_many_as_fit : (big : Sealed) → length big.entries ≡ 192 → AreFew (big ∷ [])
+  as_many_as_fit big many = (omega (arith, many), tt)
 
   -- with an entry whose leaf isn't linked
   abbrev early : Sealed
@@ -342,6 +345,15 @@ module _ (blocks : Blocks) (empty : IsEmpty small blocks) (whole : (b : ℕ) →
       (subst (λ (o : Image). NewPagesStand blocks (Write (pbn 85) full_leaf false ∷ log_block) o (entries_next start [] block)) opened_is stands.made))
 
   -- The head may not fall, and not rise past the next block; and not over a slot or an update that doesn't stand.
+
+  -- it may stay where it is
+  stays : (log : List Call) → MayRise blocks log blocks to [] to.sound.head.start
+  stays log = record {
+    low = omega arith;
+    high = omega arith;
+    slots = λ page at slot mapping linked inside left put. absurd (cc put);
+    updates = λ place point inside has. inl has;
+  }
 
   falls : (log : List Call) (later : ℕ) → later + 1 ≡ start → MayRise blocks log blocks to (block ∷ []) later → ⊥
   falls log later below may = let low = may.low in omega (arith, low, below)

@@ -18,7 +18,7 @@ use Rattle.page_codec.specs.Spelling.{head_bytes}
 use Rattle.page_codec.specs.declared.forms.PageHead.{PageHead}
 use Rattle.stop_laws.specs.Journals.{Surely}
 use Rattle.recovery_laws.proofs.BlockLaws.{part_of_mix}
-use Rattle.count_laws.proofs.ContentLaws.{after_write}
+use Rattle.disk_model.proofs.ContentLaws.{after_write}
 use Rattle.session_stops.specs.Pages.{PutsOnly, Settles}
 
 -- What keeps it.

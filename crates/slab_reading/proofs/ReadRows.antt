@@ -1,7 +1,7 @@
 -- Reading slabs: for each clause a small case that it accepts, and one that breaks it alone and is refused. The device
 -- doesn't tell which calls were made, where nothing else is said.
 use Rattle.std.proofs.Common.{ℕ, zero, suc, ◌≡◌, Bool, true, false, List, [], ◌∷◌, ◌++◌, length, length-append, replicate, refl, ap, subst, arith}
-use Rattle.std.proofs.lemmas.List.{length-replicate}
+use Rattle.blk_base.proofs.SectorLaws.{zero_size}
 use Rattle.blk_base.specs.Sectors.{zero_block}
 use Rattle.blk_base.specs.declared.geometry.Geometry.{Geometry}
 use Rattle.blk_base.specs.declared.journal_entry.Update.{Update}
@@ -26,10 +26,6 @@ seen = record { opening = []; size = 154; log = []; faults = 3; unkept = 0 }
 
 abbrev pub failed : Seen
 failed = record seen { faults = 4 }
-
-zero_size : length zero_block ≡ 4096
-unfolding zero_block
-zero_size = length-replicate {A = ℕ} 4096 0
 
 zeros_given : (honest : Bool) (from n : ℕ) → AreGiven false honest from seen (replicate n zero_block)
 zeros_given honest from zero = tt

@@ -51,6 +51,9 @@ part_of_no_zone is = omega (arith, is.inside 1 512 (inl refl))
 of_an_earlier_block : SealMayFollow setup (record entry { at = 510 } ∷ []) [] → ⊥
 of_an_earlier_block may = omega (arith, may.0)
 
+last_of_a_block : SealMayFollow setup (record entry { at = 1022; parts = [] } ∷ []) []
+last_of_a_block = (omega arith, record { adds = refl; halves = λ z. omega arith; inside = λ z p has. absurd has }, omega arith)
+
 of_a_later_block : SealMayFollow setup (record entry { at = 1024; parts = [] } ∷ []) [] → ⊥
 of_a_later_block may = omega (arith, may.2)
 
@@ -100,6 +103,16 @@ falls may = omega (arith, may.above)
 past_the_block_being_filled : RiseMayFollow setup 2 [] → ⊥
 past_the_block_being_filled may = omega (arith, may.within)
 
+rises_to_its_block : RiseMayFollow setup 1 (Seals (entry ∷ []) ∷ [])
+rises_to_its_block = record {
+  above = omega arith;
+  within = omega arith;
+  handled = λ e is below. absurd (elim is [
+    | inl in_it ↦ elim in_it [ inl same ↦ let at = ap (λ (x : Logged). x.at) same in omega (arith, at, below) | inr never ↦ never ]
+    | inr never ↦ never
+  ]);
+}
+
 rises_past_an_empty_block : RiseMayFollow setup 2 (Seals [] ∷ [])
 rises_past_an_empty_block = record {
   above = omega arith;
@@ -137,7 +150,7 @@ need_is_on_its_way : IsStill setup (Needs 1023 ∷ []) → ⊥
 need_is_on_its_way is = omega (arith, is.all_learned 0 (omega arith))
 
 -- begins
-dirty_and_idle : IsStill setup (Learns 0 1023 ∷ Needs 1023 ∷ first) → ⊥
+dirty_and_idle : IsStill setup (Learns 0 512 ∷ Needs 512 ∷ first) → ⊥
 dirty_and_idle is = is.begins 0 (omega arith) refl 512 (inl (refl, refl)) (omega arith)
 
 -- need_for, HasAsked: a ring of 8 blocks whose block 9 is being filled: block 3 is to be free, so that of block 2 all is needed

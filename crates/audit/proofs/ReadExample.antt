@@ -1,52 +1,33 @@
 -- A small image, as a device gives it that doesn't tell which calls were made: its superblock, and a journal of zeros.
-use Rattle.std.proofs.Common.{ℕ, zero, suc, ◌≡◌, ◌%◌, Bool, false, List, [], ◌∷◌, length, replicate, reverse, get_or, Ok, refl, ◌∙◌, ap, inl, arith, length-append}
+use Rattle.std.proofs.Common.{ℕ, zero, suc, ◌≡◌, ◌%◌, Bool, false, List, [], ◌∷◌, replicate, reverse, get_or, Ok, refl, inl, arith}
 use Rattle.std.proofs.Math.Nat.{mod-lt}
-use Rattle.std.proofs.lemmas.List.{length-replicate}
-use Rattle.blk_base.specs.Limits.{IsGeometry}
+use Rattle.blk_base.proofs.SectorLaws.{zero_size}
 use Rattle.blk_base.specs.Sectors.{sector, zero_block}
 use Rattle.blk_base.specs.declared.geometry.Super.{Super as Superblock}
 use Rattle.blk_base.specs.declared.journal_entry.Entry.{Entry}
 use Rattle.disk_model.specs.Seen.{Seen}
 use Rattle.disk_model.specs.Since.{AreGiven, NextFailed, WereRead}
 use Rattle.image_layout.proofs.AgainLaws.{written_again}
-use Rattle.image_layout.proofs.SpellingLaws.{length-fields, super_block-fields}
-use Rattle.image_layout.specs.Superblock.{field_bytes, super_block, super_of}
-use Rattle.image_model.proofs.Example.{small, zeros}
+use Rattle.image_layout.proofs.SpellingLaws.{super_size}
+use Rattle.image_layout.specs.Superblock.{super_block, super_of}
+use Rattle.image_model.proofs.Example.{small, small_is, zeros}
 use Rattle.image_model.proofs.ZeroLaws.{of_eight}
 use Rattle.image_model.specs.Windows.{IsThere, IsWindow}
 use Rattle.image_opening.specs.Heads.{IsHeadRead}
 use Rattle.journal_codec.specs.Grammar.{IsSector}
 use Rattle.journal_window.specs.Reads.{IsWindowRead}
 use Rattle.journal_window.specs.States.{WindowState}
-use Rattle.rebuild.proofs.Rows.{seen}
+
+-- What is seen of it at each moment.
+abbrev pub seen : Seen
+seen = record { opening = []; size = 154; log = []; faults = 3; unkept = 0 }
 
 -- The superblock of a session that was closed, or wasn't.
 abbrev pub head_of : Bool → Superblock
 head_of clean = record { geometry = small; clean = clean; start = 1 }
 
-pub small_is : IsGeometry small
-small_is = record {
-  height = (omega arith, omega arith);
-  nonce = omega arith;
-  logical = (omega arith, omega arith);
-  slabs = (omega arith, omega arith);
-  slab_blocks = (omega arith, omega arith);
-  journal = (omega arith, omega arith);
-  index = (omega arith, omega arith, refl);
-  slab_journal = (omega arith, omega arith);
-}
-
 pub says_head : (clean : Bool) → super_of (super_block (head_of clean)) 154 ≡ Ok (head_of clean)
 says_head clean = written_again (head_of clean) 154 small_is (omega arith) (omega arith) (omega arith) (omega arith)
-
-pub super_size : (head : Superblock) → length (super_block head) ≡ 4096
-super_size head =
-    ap length (super_block-fields head) ∙ length-append (field_bytes head) (replicate 4032 0)
-    ∙ (let front = length-fields head in let back = length-replicate {A = ℕ} 4032 0 in omega (arith, front, back))
-
-pub zero_size : length zero_block ≡ 4096
-unfolding zero_block
-zero_size = length-replicate {A = ℕ} 4096 0
 
 -- Blocks that such a device may give, and that were read.
 pub were_read : (honest : Bool) (from : ℕ) (blocks : List (List ℕ)) → AreGiven false honest from seen blocks → WereRead false honest from seen seen blocks

@@ -7,7 +7,6 @@ use Rattle.disk_model.specs.declared.call.Call.{Call}
 use Rattle.disk_model.specs.declared.call.Call.TheVariants.{Read, Write, Flush}
 use Rattle.disk_model.specs.Images.{OneOf}
 use Rattle.disk_model.specs.Log.{Blocks, contents, settled}
-use Rattle.stop_laws.specs.Journals.{Surely}
 
 -- A block always has a content.
 
@@ -23,7 +22,7 @@ settled_some P opening (Flush ok ∷ log) b all = settled_some P opening log b a
 settled_some P opening (Write at bytes true ∷ log) b all = first_of P (at.0 == b) bytes [] _ (settled_some P opening log b) all
 settled_some P opening (Write at bytes false ∷ log) b all = first_of P (at.0 == b) bytes _ _ (settled_some P opening log b) all
 
-pub contents_some : (P : List ℕ → Type 0) (opening : Blocks) (log : List Call) (b : ℕ) → Surely opening log b P → OneOf P (contents opening log b)
+pub contents_some : (P : List ℕ → Type 0) (opening : Blocks) (log : List Call) (b : ℕ) → AllByRecursion P (contents opening log b) → OneOf P (contents opening log b)
 contents_some P opening [] b all = inl all.0
 contents_some P opening (Read at bytes ok ∷ log) b all = contents_some P opening log b all
 contents_some P opening (Flush true ∷ log) b all = settled_some P opening log b all
@@ -35,7 +34,7 @@ of_one P [] one = absurd one
 of_one P (content ∷ others) (inl here) = (content, here)
 of_one P (content ∷ others) (inr later) = of_one P others later
 
-pub some_content : (P : List ℕ → Type 0) (opening : Blocks) (log : List Call) (b : ℕ) → Surely opening log b P → (content : List ℕ) × P content
+pub some_content : (P : List ℕ → Type 0) (opening : Blocks) (log : List Call) (b : ℕ) → AllByRecursion P (contents opening log b) → (content : List ℕ) × P content
 some_content P opening log b all = of_one P (contents opening log b) (contents_some P opening log b all)
 
 -- One of some is one of others, all of both have both.
@@ -52,7 +51,7 @@ both_of P Q (content ∷ others) first second = ((first.0, second.0), both_of P 
 -- A write adds what it writes, if it is to this block.
 
 pub after_write : (P : List ℕ → Type 0) (opening : Blocks) (log : List Call) (at : Pbn) (bytes : List ℕ) (ok : Bool) (b : ℕ) → (at.0 ≡ b → P bytes)
-    → Surely opening log b P → Surely opening (Write at bytes ok ∷ log) b P
+    → AllByRecursion P (contents opening log b) → AllByRecursion P (contents opening (Write at bytes ok ∷ log) b)
 after_write P opening log at bytes ok b new old = elim (eqb_tells at.0 b) [
   | inl same ↦ rw same.0 (new same.1, old)
   | inr other ↦ rw other.0 old
