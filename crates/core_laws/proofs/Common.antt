@@ -33,6 +33,8 @@ pub use Rattle.data_vio.specs.declared.items.Vio.{Vio}
 pub use Rattle.data_vio.specs.declared.sizes.Sizes.{Sizes}
 pub use Rattle.core_model.specs.DeskData.{Desk}
 pub use Rattle.core_model.specs.declared.zones.DeviceZone.{DeviceZone}
+pub use Rattle.core_model.specs.declared.zones.SuperblockStage.{SuperblockStage}
+pub use Rattle.core_model.specs.Superblocks.{superblock_bytes, superblock_stage}
 pub use Rattle.core_model.specs.JournalData.{JournalZone}
 pub use Rattle.core_model.specs.LogicalData.{Lock}
 pub use Rattle.data_vio.specs.declared.logged.Logged.{Logged}

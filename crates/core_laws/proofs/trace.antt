@@ -11,6 +11,7 @@ pub mod PlacesOfTrace
 pub mod ReportOfTrace
 pub mod ShownPages
 pub mod StopsOfTrace
+pub mod SuperblockOfTrace
 pub mod TurnsOfTrace
 pub mod Walks
 pub mod ZeroWrites

@@ -38,6 +38,8 @@ ghost use Rattle.core_model.specs.RightTraces.{AreElsewhere, IsHeldBack, IsWrite
 ghost use Rattle.core_model.specs.Sessions.{Session, IsFair, IsSession, OnBlock, said_by};
 ghost use Rattle.core_model.specs.Start.{IsFirst};
 ghost use Rattle.core_model.specs.Steps.{Act, CallsDevice, Core, HasAct, Leads, MayBegin, MoveOf, StepOf, ZoneStep};
+ghost use Rattle.core_model.specs.Superblocks.{WritesNoOther, superblock_stage};
+ghost use Rattle.core_model.specs.declared.zones.SuperblockStage.TheVariants.{Durable};
 ghost use Rattle.core_model.specs.Trace.{Enters, Trace, aborted, calls, durable, entries_of, entry_of, is_ok, is_read, journaled, lines, marks, moments, places};
 ghost use Rattle.core_model.specs.Views.{AreEmptyLanes, PostsBatch, ReceivesBatch, TakesBatch, View, core_of, zones_seen};
 ghost use Rattle.data_vio.specs.Vios.{Post};
@@ -183,6 +185,13 @@ pub fn a_legal_core_is_right_after_a_stop()
         →
         RightAfterStops (ShowsValues s) s.blocks s.before s.sizes.geometry.logical
         (opening_values s) (report_of s core.trace) (calls core.trace) }
+{}
+
+/// Whatever the device does, until the superblock that says that the session isn't closed was written and flushed, a legal
+/// core wrote nothing else.
+pub fn a_legal_core_writes_its_superblock_first()
+    ensures { (s : Session) (core : Core) → Legal s core → superblock_stage core.trace ≢ Durable →
+        AllByRecursion (WritesNoOther s.sizes) (calls core.trace) }
 {}
 
 /// What a zone does with an item, and the desk with none, is fixed, and in the device's zone by how the device answered: two

@@ -19,3 +19,4 @@ mod LegalRows
 mod PageRows
 pub mod PageActRows
 mod PageFactRows
+mod SuperblockRows

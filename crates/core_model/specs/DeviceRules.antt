@@ -1,5 +1,5 @@
 -- What the device zone does: one call of the device. A failed read has any bytes.
-use Rattle.std.specs.Prelude.{ℕ, ◌+◌, ◌≡◌, ◌<◌, Bool, true, false, Option, None, Some, List, [], ◌∷◌, map, replicate}
+use Rattle.std.specs.Prelude.{ℕ, ◌+◌, ◌≡◌, ◌<◌, Bool, true, false, Option, None, Some, List, [], ◌∷◌, map, replicate, ◌⊎◌}
 use Rattle.blk_base.specs.Regions.{journal_slot_of, needed_blocks}
 use Rattle.blk_base.specs.declared.place.Mapping.TheVariants.{At, Unmapped}
 use Rattle.blk_base.specs.declared.place.PageId.{PageId}
@@ -9,10 +9,12 @@ use Rattle.blk_base.specs.declared.place.Pbn.{Pbn}
 use Rattle.blk_base.specs.declared.place.ZoneId.{ZoneId}
 use Rattle.blk_base.specs.declared.place.ZoneId.TheVariants as id
 use Rattle.blk_base.specs.declared.request.Answer.TheVariants as reply
+use Rattle.blk_base.specs.declared.request.Writer.{Writer}
 use Rattle.disk_model.specs.declared.call.Call.{Call}
 use Rattle.disk_model.specs.declared.call.Call.TheVariants.{Read, Write, Flush}
 use Rattle.journal_codec.specs.Spelling.{block_bytes}
 use Rattle.stop_laws.specs.Journals.{block_of_slot}
+use Rattle.data_vio.specs.declared.items.Item.{Item}
 use Rattle.data_vio.specs.declared.items.Item.TheVariants as item
 use Rattle.data_vio.specs.declared.items.Phase.TheVariants as phase
 use Rattle.data_vio.specs.declared.items.SealedBlock.{SealedBlock}
@@ -21,7 +23,10 @@ use Rattle.data_vio.specs.declared.items.Stage.TheVariants as stage
 use Rattle.data_vio.specs.declared.items.Vio.{Vio}
 use Rattle.data_vio.specs.declared.sizes.Sizes.{Sizes}
 use Rattle.core_model.specs.declared.zones.DeviceZone.{DeviceZone}
-use Rattle.data_vio.specs.Phases.{stage_row}
+use Rattle.core_model.specs.declared.zones.SuperblockStage.{SuperblockStage}
+use Rattle.core_model.specs.declared.zones.SuperblockStage.TheVariants.{AsOpened, Written, Durable}
+use Rattle.core_model.specs.Superblocks.{superblock_bytes}
+use Rattle.data_vio.specs.Phases.{AtDevice, row, stage_row}
 use Rattle.core_model.specs.Trace.{Trace, Calls, Fails, entry_of}
 use Rattle.data_vio.specs.Vios.{Post, turned, ended, logged, staged}
 use Rattle.data_vio.specs.Zones.{notified}
@@ -50,16 +55,45 @@ stored_for sizes (Some page) bytes x = page_at sizes page x
 abbrev pub stored : Sizes → Vio → Pbn → List ℕ
 stored sizes v x = stored_for sizes v.page v.bytes x
 
+-- Until the superblock is durable, each item that comes in front has its next call made, and waits again behind the others.
+-- that call, and how far the superblock has come then
+abbrev pub superblock_call : Sizes → Bool → SuperblockStage → Option Call
+superblock_call sizes ok AsOpened = Some (Write (record { 0 = 0 }) (superblock_bytes sizes) ok)
+superblock_call sizes ok Written = Some (Flush ok)
+superblock_call sizes ok Durable = None
+
+abbrev pub next_superblock : SuperblockStage → SuperblockStage
+next_superblock AsOpened = Written
+next_superblock other = Durable
+
+abbrev pub announced : DeviceZone → DeviceZone
+announced d = record (counted d) { superblock = next_superblock d.superblock }
+
+-- it is made where the session isn't stopped, and a failure is told to this request
+pub data Announces (sizes : Sizes) (old : DeviceZone) (front : Item) (w : Writer) (new : DeviceZone) (made : Trace) (posts : List Post) : Type 0 where
+  succeeds : (call : Call) → superblock_call sizes true old.superblock ≡ Some call → old.stopped ≡ false
+      → new ≡ announced old → made ≡ Calls call ∷ [] → posts ≡ (id.Device, front) ∷ []
+      → Announces sizes old front w new made posts
+  fails : (call : Call) (kept : Bool) → superblock_call sizes false old.superblock ≡ Some call → old.stopped ≡ false
+      → new ≡ halted old → made ≡ Fails w call kept ∷ [] → posts ≡ (id.Device, front) ∷ stop_notices (notified sizes)
+      → Announces sizes old front w new made posts
+
+-- nothing waits for it: it is durable, or the session is stopped
+abbrev pub IsReady : DeviceZone → Type 0
+IsReady d = (d.stopped ≡ true) ⊎ (d.superblock ≡ Durable)
+
 -- the block lies inside the image
 abbrev pub IsInside : Sizes → Pbn → Type 0
 IsInside sizes x = x.0 < needed_blocks sizes.geometry
 
 pub data DeviceServes (sizes : Sizes) (old : DeviceZone) (v : Vio) (new : DeviceZone) (made : Trace) (posts : List Post) : Type 0 where
+  -- the superblock, for which it waits
+  announces : (row v.phase).zone ≡ AtDevice → Announces sizes old (item.Request v) v.request new made posts → DeviceServes sizes old v new made posts
   -- the data of a write
-  stores : (x : Pbn) → v.phase ≡ phase.Store → v.new ≡ At x → old.stopped ≡ false → IsInside sizes x
+  stores : (x : Pbn) → v.phase ≡ phase.Store → v.new ≡ At x → old.stopped ≡ false → old.superblock ≡ Durable → IsInside sizes x
       → new ≡ counted old → made ≡ Calls (Write x (stored sizes v x) true) ∷ [] → posts ≡ (id.Journal, item.Request (turned phase.Enter v)) ∷ []
       → DeviceServes sizes old v new made posts
-  store_fails : (x : Pbn) (kept : Bool) → v.phase ≡ phase.Store → v.new ≡ At x → old.stopped ≡ false → IsInside sizes x
+  store_fails : (x : Pbn) (kept : Bool) → v.phase ≡ phase.Store → v.new ≡ At x → old.stopped ≡ false → old.superblock ≡ Durable → IsInside sizes x
       → new ≡ halted old → made ≡ Fails v.request (Write x (stored sizes v x) false) kept ∷ []
       → posts ≡ (id.Physical 0, item.Request (ended phase.AbortClaim reply.Stopped v)) ∷ stop_notices (notified sizes)
       → DeviceServes sizes old v new made posts
@@ -67,18 +101,18 @@ pub data DeviceServes (sizes : Sizes) (old : DeviceZone) (v : Vio) (new : Device
       → new ≡ old → made ≡ [] → posts ≡ (id.Physical 0, item.Request (ended phase.AbortClaim reply.Stopped v)) ∷ []
       → DeviceServes sizes old v new made posts
   -- the block of a read
-  loads : (x : Pbn) (bytes : List ℕ) → v.phase ≡ phase.Load → v.old ≡ At x → IsInside sizes x
+  loads : (x : Pbn) (bytes : List ℕ) → v.phase ≡ phase.Load → v.old ≡ At x → IsReady old → IsInside sizes x
       → new ≡ counted old → made ≡ Calls (Read x bytes true) ∷ [] → posts ≡ (v.home, item.Request (record v { phase = phase.Loaded; bytes = bytes })) ∷ []
       → DeviceServes sizes old v new made posts
-  load_fails : (x : Pbn) (bytes : List ℕ) (kept : Bool) → v.phase ≡ phase.Load → v.old ≡ At x → IsInside sizes x
+  load_fails : (x : Pbn) (bytes : List ℕ) (kept : Bool) → v.phase ≡ phase.Load → v.old ≡ At x → IsReady old → IsInside sizes x
       → new ≡ old → made ≡ Fails v.request (Read x bytes false) kept ∷ [] → posts ≡ (v.home, item.Request (ended phase.Abort reply.ReadFault v)) ∷ []
       → DeviceServes sizes old v new made posts
   -- a flush request
-  flushes : v.phase ≡ phase.Flush → old.stopped ≡ false
+  flushes : v.phase ≡ phase.Flush → old.stopped ≡ false → old.superblock ≡ Durable
       → new ≡ counted old → made ≡ Calls (Flush true) ∷ []
       → posts ≡ (id.Desk, item.Request (record v { phase = phase.Reply; answer = Some reply.Ok; calls = old.calls + 1 })) ∷ []
       → DeviceServes sizes old v new made posts
-  flush_fails : (kept : Bool) → v.phase ≡ phase.Flush → old.stopped ≡ false
+  flush_fails : (kept : Bool) → v.phase ≡ phase.Flush → old.stopped ≡ false → old.superblock ≡ Durable
       → new ≡ halted old → made ≡ Fails v.request (Flush false) kept ∷ []
       → posts ≡ (id.Desk, item.Request (ended phase.Reply reply.Stopped v)) ∷ stop_notices (notified sizes)
       → DeviceServes sizes old v new made posts
@@ -109,10 +143,12 @@ next_zone now = (stage_row (next_stage now)).zone
 
 -- A block without an entry is none of these. A failure is told to the oldest of its requests.
 pub data DeviceWorks (sizes : Sizes) (old : DeviceZone) (b : SealedBlock) (new : DeviceZone) (made : Trace) (posts : List Post) : Type 0 where
-  makes : (call : Call) (slot : Pbn) (v : Vio) (vs : List Vio) → b.vios ≡ v ∷ vs → IsItsSlot sizes b slot → call_of sizes b slot true b.stage ≡ Some call → old.stopped ≡ false
+  -- the superblock, for which it waits
+  announces : (v : Vio) (vs : List Vio) → b.vios ≡ v ∷ vs → (stage_row b.stage).zone ≡ id.Device → Announces sizes old (item.Block b) v.request new made posts → DeviceWorks sizes old b new made posts
+  makes : (call : Call) (slot : Pbn) (v : Vio) (vs : List Vio) → b.vios ≡ v ∷ vs → IsItsSlot sizes b slot → call_of sizes b slot true b.stage ≡ Some call → old.stopped ≡ false → old.superblock ≡ Durable
       → new ≡ counted old → made ≡ Calls call ∷ [] → posts ≡ (next_zone b.stage, item.Block (staged (next_stage b.stage) b)) ∷ []
       → DeviceWorks sizes old b new made posts
-  fails : (call : Call) (slot : Pbn) (kept : Bool) (v : Vio) (vs : List Vio) → b.vios ≡ v ∷ vs → IsItsSlot sizes b slot → call_of sizes b slot false b.stage ≡ Some call → old.stopped ≡ false
+  fails : (call : Call) (slot : Pbn) (kept : Bool) (v : Vio) (vs : List Vio) → b.vios ≡ v ∷ vs → IsItsSlot sizes b slot → call_of sizes b slot false b.stage ≡ Some call → old.stopped ≡ false → old.superblock ≡ Durable
       → new ≡ halted old → made ≡ Fails v.request call kept ∷ [] → posts ≡ (id.Journal, item.Block (staged stage.Fail b)) ∷ stop_notices (notified sizes)
       → DeviceWorks sizes old b new made posts
   unmade : (call : Call) (slot : Pbn) (v : Vio) (vs : List Vio) → b.vios ≡ v ∷ vs → call_of sizes b slot false b.stage ≡ Some call → old.stopped ≡ true

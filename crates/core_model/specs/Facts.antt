@@ -58,6 +58,7 @@ use Rattle.image_model.specs.Pages.{is_page}
 use Rattle.core_model.specs.PageLinks.{IsThere, MayLack, page_in}
 use Rattle.core_model.specs.PageTrees.{IsMapTree, is_listed, link_at, missing_at}
 use Rattle.plain_laws.specs.Sums.{bit, total, Each}
+use Rattle.core_model.specs.Superblocks.{superblock_stage}
 use Rattle.core_model.specs.Tokens.{lock_weight}
 use Rattle.core_model.specs.Trace.{Trace, all_of, filled, sealed, moments, lines, calls, marks, places, journaled, entered, durable, applied, done, dropped, remappings, aborted, taken, has_taken, has_stopped, of_address, newest, logged_of, entry_of, entries_of}
 use Rattle.data_vio.specs.Vios.{all_logged, asked, logged, request_of, remapping}
@@ -339,6 +340,7 @@ pub record JournalLists (s : Session) (t : Trace) (j : JournalZone) : Type 0 whe
 pub record DeviceLists (t : Trace) (d : DeviceZone) : Type 0 where
   pub calls_is : d.calls ≡ successes (calls t)
   pub stopped_is : d.stopped ≡ has_stopped t
+  pub superblock_is : d.superblock ≡ superblock_stage t
 
 abbrev pub HasLists : Session → Trace → ZoneData → Type 0
 HasLists s t (at.Desk desk) = DeskLists t desk

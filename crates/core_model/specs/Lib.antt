@@ -5,6 +5,7 @@ pub mod DeskCounts
 pub mod PageLinks
 pub mod PageTrees
 pub mod Trace
+pub mod Superblocks
 pub mod LogicalData
 pub mod JournalData
 pub mod SlotOrder

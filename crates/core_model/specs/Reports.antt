@@ -1,5 +1,6 @@
 -- What a trace says of a session: its report, and what an image shows.
-use Rattle.std.specs.Prelude.{ℕ, ◌≡◌, Bool, true, false, Option, None, Some, List}
+use Rattle.std.specs.Prelude.{ℕ, ◌≡◌, ◌≢◌, ◌⊎◌, ◌<◌, length, IsTrue, Bool, true, false, Option, None, Some, List}
+use Rattle.blk_base.specs.Sectors.{sector}
 use Rattle.blk_base.specs.declared.request.Writer.{Writer}
 use Rattle.disk_model.specs.Log.{Blocks, block_at}
 use Rattle.image_layout.specs.Values.{value_of, journal_of}
@@ -10,8 +11,10 @@ use Rattle.vdo_model.specs.declared.report.Placed.{Placed}
 use Rattle.vdo_model.specs.declared.report.RunReport.{RunReport}
 use Rattle.data_vio.specs.declared.logged.Remapping.{Remapping}
 use Rattle.core_model.specs.Sessions.{Session, said_by}
+use Rattle.core_model.specs.Superblocks.{superblock_bytes}
 use Rattle.core_model.specs.Trace.{Trace, lines, marks, places, entered, done, logged_of}
 use Rattle.image_model.specs.Windows.{IsWindow}
+use Rattle.image_model.specs.Looked.{is_looked_at}
 use Rattle.blk_base.specs.declared.journal_entry.CommittedEntry.{CommittedEntry}
 use Rattle.blk_base.specs.declared.geometry.Geometry.{Geometry}
 
@@ -54,9 +57,18 @@ pub record GivesValues (g : Geometry) (start : ℕ) (image : Blocks) (values : �
   pub is_window : IsWindow g start (journal_of g image) last window
   pub values_are : values ≡ value_of image (said_by window)
 
--- an image has the superblock of the one that was opened, and its addresses these values
+-- nothing was written to an image since it was opened, the index and the other sectors of the superblock's block aside
+pub record IsStillOpened (s : Session) (image : Blocks) : Type 0 where
+  pub says : sector 0 (block_at image 0) ≡ sector 0 (block_at s.image 0)
+  pub others : (x : ℕ) → x < length s.blocks → x ≢ 0 → IsTrue (is_looked_at s.sizes.geometry x) → block_at image x ≡ block_at s.image x
+
+-- it is, or the first sector of the image says what the superblock of the session says there
+abbrev pub SaysSuperblock : Session → Blocks → Type 0
+SaysSuperblock s image = IsStillOpened s image ⊎ (sector 0 (block_at image 0) ≡ sector 0 (superblock_bytes s.sizes))
+
+-- it says so, and its addresses have these values
 abbrev pub ShowsValues : Session → Blocks → (ℕ → List ℕ) → Type 0
-ShowsValues s image values = (block_at image 0 ≡ block_at s.image 0) × GivesValues s.sizes.geometry s.sizes.start image values
+ShowsValues s image values = SaysSuperblock s image × GivesValues s.sizes.geometry s.sizes.start image values
 
 -- the value of each address when the session began
 abbrev pub opening_values : Session → ℕ → List ℕ

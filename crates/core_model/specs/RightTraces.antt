@@ -32,6 +32,7 @@ use Rattle.core_model.specs.PageLinks.{IsThere, Lacks, MayLack, page_in}
 use Rattle.blk_base.specs.Pages.{above}
 use Rattle.data_vio.specs.declared.items.Asks.{Asks}
 use Rattle.data_vio.specs.declared.items.Asks.TheVariants as asks
+use Rattle.core_model.specs.Superblocks.{IsInOrder, superblock_stage}
 use Rattle.core_model.specs.Sessions.{IsFair, OnBlock, Session, Shown, value_at}
 use Rattle.data_vio.specs.Vios.{asked}
 use Rattle.core_model.specs.Trace.{Happening, Says, Flushes, Draws, Enters, Passes, Seals, Commits, Sets, Gives, Takes, Aborts, Calls, Fails, Trace, Gift, moments, lines, places, journaled, entered, new_of, remappings, filled, sealed, all_of, durable, committed, applied, done, dropped, aborted, gifts, taken, has_taken, is_read, is_ok, has_stopped, has_read_fault, of_address, logged_of, request_in, gift_of, entries_of}
@@ -296,15 +297,17 @@ IsMadeFor s t w (call.Read x bytes ok) = (at : Lba) × (request_at s.script w �
 IsMadeFor s t w other = Unit {0}
 
 -- a call may succeed, and one that was made for a request may fail
-pub record CallMayFollow (c : Call) (t : Trace) : Type 0 where
+pub record CallMayFollow (s : Session) (c : Call) (t : Trace) : Type 0 where
   pub succeeds : is_ok c ≡ true
   pub goes_on : GoesOn t c
+  pub in_order : IsInOrder s.sizes (superblock_stage t) c
 
 pub record FailureMayFollow (s : Session) (w : Writer) (c : Call) (t : Trace) : Type 0 where
   pub is_open : IsOpen t w
   pub fails : is_ok c ≡ false
   pub goes_on : GoesOn t c
   pub made_for : IsMadeFor s t w c
+  pub in_order : IsInOrder s.sizes (superblock_stage t) c
 
 -- each happening by what it is
 abbrev pub MayFollow : Session → Happening → Trace → Type 0
@@ -323,7 +326,7 @@ MayFollow s (Gives g) t = GiftMayFollow s g t
 MayFollow s (Takes w page x) t = TakeMayFollow s w page x t
 MayFollow s (Aborts (Remaps e)) t = AbortMayFollow s e t
 MayFollow s (Aborts (Makes p)) t = DropMayFollow s p t
-MayFollow s (Calls c) t = CallMayFollow c t
+MayFollow s (Calls c) t = CallMayFollow s c t
 MayFollow s (Fails w c kept) t = FailureMayFollow s w c t
 
 -- the trace is right: at each moment what happened may follow, and where the session is fair, the device has what it must

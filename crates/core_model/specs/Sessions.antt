@@ -25,6 +25,9 @@ use Rattle.data_vio.specs.declared.logged.Remapping.{Remapping}
 use Rattle.core_model.specs.PageLinks.{empty_page}
 use Rattle.plain_laws.specs.Sums.{total}
 use Rattle.core_model.specs.SessionLimits.{IsLimited}
+use Rattle.core_model.specs.declared.zones.SuperblockStage.{SuperblockStage}
+use Rattle.core_model.specs.declared.zones.SuperblockStage.TheVariants.{AsOpened, Written, Durable}
+use Rattle.core_model.specs.Superblocks.{superblock_bytes, superblock_stage}
 use Rattle.core_model.specs.Tokens.{is_block}
 use Rattle.core_model.specs.Trace.{Calls, Trace, all_of, calls, durable, done, filled, sealed, of_address, newest, new_of, new_pages, remappings, entry_of, entries_of}
 use Rattle.journal_stops.specs.Rings.{IsAtRest, IsUnderWay, IsWritten}
@@ -210,10 +213,23 @@ pub record ComesLast (s : Session) (t : Trace) : Type 0 where
   pub committed_is : durable t ≡ all_of older
   pub stands : AtRest s t older ⊎ OnItsWay s t older block
 
+-- block 0 is as it was opened, or the superblock of the session
+abbrev pub IsSuperblock : Session → List ℕ → Type 0
+IsSuperblock s content = (content ≡ device.block_at s.image 0) ⊎ (content ≡ superblock_bytes s.sizes)
+
+abbrev pub HasSuperblock : Session → Trace → Type 0
+HasSuperblock s t = Surely s.blocks (log s t) 0 (IsSuperblock s)
+
+-- what stands of it: until it is durable, whatever a stop leaves is one of the two; once it is written, a read gives it
+abbrev pub SuperblockStands : Session → Trace → SuperblockStage → Type 0
+SuperblockStands s t AsOpened = HasSuperblock s t
+SuperblockStands s t Written = HasSuperblock s t × ReadsAs s t 0 (superblock_bytes s.sizes)
+SuperblockStands s t Durable = Stands s t 0 (superblock_bytes s.sizes)
+
 -- What stands on the device: the superblock, the blocks that were sealed, of which the last may be coming, with the map of
 -- their entries; and a read of each block to which an entry of the block being filled maps its address gives its value.
 pub record Shown (s : Session) (t : Trace) : Type 0 where
-  pub superblock : Stands s t 0 (device.block_at s.image 0)
+  pub superblock : SuperblockStands s t (superblock_stage t)
   pub journal : AreAllThere s t ⊎ ComesLast s t
   pub filling : NewReads s t (filled t)
 

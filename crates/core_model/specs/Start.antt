@@ -5,6 +5,7 @@ use Rattle.core_model.specs.declared.zones.ZoneData.{ZoneData}
 use Rattle.core_model.specs.declared.zones.ZoneData.TheVariants as at
 use Rattle.core_model.specs.DeskData.{Desk}
 use Rattle.core_model.specs.declared.zones.DeviceZone.{DeviceZone}
+use Rattle.core_model.specs.declared.zones.SuperblockStage.TheVariants.{AsOpened}
 use Rattle.core_model.specs.JournalData.{JournalZone}
 use Rattle.core_model.specs.LogicalData.{LogicalZone}
 use Rattle.core_model.specs.declared.zones.PhysicalZone.{PhysicalZone}
@@ -74,6 +75,7 @@ pub record IsFirstDevice (s : Session) (number : ℕ) (d : DeviceZone) : Type 0 
   pub number_is : number ≡ device_number s.sizes
   pub stopped : d.stopped ≡ false
   pub calls : d.calls ≡ 0
+  pub superblock : d.superblock ≡ AsOpened
 
 abbrev pub IsFirstData : Session → ℕ → ZoneData → Type 0
 IsFirstData s number (at.Desk desk) = IsFirstDesk s number desk

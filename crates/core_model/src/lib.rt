@@ -34,4 +34,4 @@ pub use ports::{Lane, Ports};
 pub use scripts::is_limited;
 pub use slots::Slots;
 pub use supply::Supply;
-pub use zones::{DeviceZone, PhysicalZone, Zone, ZoneData};
+pub use zones::{DeviceZone, PhysicalZone, SuperblockStage, Zone, ZoneData};

@@ -11,7 +11,8 @@ ghost use Rattle.data_vio.specs.declared.items.Phase.TheVariants as phase;
 use crate::{MapTree, PageList, Slots};
 use blk_base::{Entry, Lba, PageId, Pbn};
 use data_vio::{
-    BoxedVio, ENTRY_ROOM, Fifo, LANE_ROOM, LOCK_ROOM, MAKING_ROOM, Phase, REQUEST_ROOM, Register, Remapping,
+    BoxedVio, ENTRY_ROOM, Fifo, LANE_ROOM, LOCK_ROOM, MAKING_ROOM, Phase, REQUEST_ROOM, Register,
+    Remapping,
 };
 use logical_locks::Locks;
 use std::alloc::{AllocError, Global};

@@ -8,12 +8,25 @@ pub struct PhysicalZone {
     pub free: Supply,
 }
 
+/// How far the superblock of a session has come, which says that the session isn't closed.
+#[derive(Clone, Copy, Debug, PartialEq, Eq)]
+pub enum SuperblockStage {
+    /// Block 0 is as it was opened, or its write failed.
+    AsOpened,
+    /// It is written, and not flushed.
+    Written,
+    /// It is flushed.
+    Durable,
+}
+
 /// The device.
 #[derive(Drop)]
 pub struct DeviceZone {
     pub stopped: bool,
     /// How many calls succeeded.
     pub calls: u64,
+    /// Nothing else is written before this is durable.
+    pub superblock: SuperblockStage,
 }
 
 /// What a zone of each kind keeps.

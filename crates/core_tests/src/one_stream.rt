@@ -205,8 +205,8 @@ fn written(alloc: Global, events: &[Event], asks: &[Ask]) -> Result<Vec<Pbn>, Un
     Ok(written)
 }
 
-// Discards and writes of zeros take no data block, and a discard without a leaf takes no entry either: the leaf and six of them
-// fill the journal.
+// The superblock comes first. Discards and writes of zeros take no data block, and a discard without a leaf takes no entry either:
+// the leaf and six of them fill the journal.
 #[test]
 fn discards_and_zeros(rt: HostRuntime) -> Result<(), Fail> {
     let events = in_order(rt.alloc(), 5)?;
@@ -222,7 +222,7 @@ fn discards_and_zeros(rt: HostRuntime) -> Result<(), Fail> {
         Ask::Discard(3),
     ];
     let written = written(rt.alloc(), &events, asks)?;
-    let blocks = [85, 2, 3, 4, 5, 6, 7, 8].map(Pbn);
+    let blocks = [0, 85, 2, 3, 4, 5, 6, 7, 8].map(Pbn);
     assert_eq!(rt; written.as_slice(), blocks.as_slice());
     Ok(())
 }

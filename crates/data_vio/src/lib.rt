@@ -19,8 +19,9 @@ pub use boxed::BoxedVio;
 pub use fifo::Fifo;
 pub use items::{Asks, Item, Phase, SealedBlock, Stage, Vio};
 pub use limits::{
-    BLOCK_ENTRIES, ENTRY_ROOM, LANE_ROOM, LOCK_ROOM, MAKING_ROOM, MOST_DEPTH, MOST_ENTRIES, MOST_ITEMS,
-    MOST_NOTICES, MOST_REQUESTS, MOST_STREAMS, MOST_UNDER_WAY, MOST_ZONES, POST_ROOM, REQUEST_ROOM,
+    BLOCK_ENTRIES, ENTRY_ROOM, LANE_ROOM, LOCK_ROOM, MAKING_ROOM, MOST_DEPTH, MOST_ENTRIES,
+    MOST_ITEMS, MOST_NOTICES, MOST_REQUESTS, MOST_STREAMS, MOST_UNDER_WAY, MOST_ZONES, POST_ROOM,
+    REQUEST_ROOM,
 };
 pub use logged::{Logged, NewPage, Remapping};
 pub use register::Register;

@@ -8,6 +8,8 @@ use Rattle.disk_model.specs.Seen.{Seen}
 use Rattle.data_vio.specs.declared.items.Stage.{Stage}
 use Rattle.data_vio.specs.declared.items.Stage.TheVariants as stage
 use Rattle.data_vio.specs.declared.sizes.Sizes.{Sizes}
+use Rattle.core_model.specs.declared.zones.SuperblockStage.{SuperblockStage}
+use Rattle.core_model.specs.declared.zones.SuperblockStage.TheVariants.{Durable}
 use Rattle.core_model.specs.Trace.{Fails}
 use Rattle.step_parts.specs.DeviceLog.{HasCalled}
 
@@ -19,6 +21,11 @@ pub record Fits (sizes : Sizes) (seen : Seen) : Type 0 where
 -- this call failed, whoever it was made for
 abbrev pub HasFailed : Bool → Bool → Seen → Seen → Call → Type 0
 HasFailed tells honest before after call = (kept : Bool) × ((w : Writer) → HasCalled tells honest before after (Fails w call kept ∷ []))
+
+-- what comes waits for the superblock
+abbrev pub is_awaited : SuperblockStage → Bool
+is_awaited Durable = false
+is_awaited other = true
 
 -- a sealed block at this stage needs a call of the device
 abbrev pub needs_call : Stage → Bool

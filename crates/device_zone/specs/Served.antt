@@ -8,7 +8,8 @@ use Rattle.data_vio.specs.declared.items.Phase.TheVariants as phase
 use Rattle.data_vio.specs.declared.items.Vio.{Vio}
 use Rattle.data_vio.specs.declared.sizes.Sizes.{Sizes}
 use Rattle.core_model.specs.declared.zones.DeviceZone.{DeviceZone}
-use Rattle.core_model.specs.DeviceRules.{IsInside}
+use Rattle.core_model.specs.DeviceRules.{IsInside, IsReady}
+use Rattle.core_model.specs.declared.zones.SuperblockStage.TheVariants.{Durable}
 use Rattle.core_model.specs.SessionLimits.{most_zones}
 use Rattle.data_vio.specs.Vios.{Post}
 use Rattle.device_zone.specs.DeviceCalls.{Fits}
@@ -26,9 +27,10 @@ abbrev pub IsAtInside : Sizes → Mapping → Type 0
 IsAtInside sizes (At x) = IsInside sizes x
 IsAtInside sizes other = ⊥
 
--- a request in this phase can be served: where the device is called for its data, that lies inside the image
+-- a request in this phase can be served: where the device is called for its data, and no more for the superblock, that lies
+-- inside the image
 abbrev pub CanServe : Sizes → DeviceZone → Vio → Phase → Type 0
-CanServe sizes d v phase.Store = d.stopped ≡ false → IsAtInside sizes v.new
-CanServe sizes d v phase.Load = IsAtInside sizes v.old
+CanServe sizes d v phase.Store = d.stopped ≡ false → d.superblock ≡ Durable → IsAtInside sizes v.new
+CanServe sizes d v phase.Load = IsReady d → IsAtInside sizes v.old
 CanServe sizes d v phase.Flush = ⊤
 CanServe sizes d v other = ⊥

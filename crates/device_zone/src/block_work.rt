@@ -12,6 +12,7 @@ ghost use Rattle.device_zone.specs.Served.{MayServe};
 
 use crate::device_calls::{flush, write_block};
 use crate::stop_notices::halt;
+use crate::superblock::{announce, waits};
 use blk_base::{Block, JOURNAL_ENTRIES, Layout, Pbn, ZoneId};
 use core_model::DeviceZone;
 use data_vio::{Item, SealedBlock, Sizes, Stage};
@@ -123,6 +124,10 @@ pub(crate) fn work_block<D: Disk>(
     ensures works { (made : Trace) × DeviceWorks sizes.now zone.old block zone.new made posts.new
         × HasCalled D.tells D.honest (D.seen disk.old) (D.seen disk.new) made }
 {
+    if waits(zone) {
+        announce(sizes, zone, Item::Block(block), disk, posts);
+        return;
+    }
     let slot = Layout::of(&sizes.geometry).journal_slot(block.sequence);
     if zone.stopped {
         let unmade = staged(block, Stage::Fail);

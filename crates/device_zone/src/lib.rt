@@ -9,6 +9,7 @@ mod dispatch;
 mod requests;
 mod start;
 mod stop_notices;
+mod superblock;
 
 pub use dispatch::act;
 pub use start::first;

@@ -2,7 +2,8 @@ ghost use Rattle.std.specs.Prelude.{◌≡◌, false};
 ghost use Rattle.blk_base.specs.declared.place.Mapping.TheVariants.{At};
 ghost use Rattle.disk_model.specs.Seen.{Stays};
 ghost use Rattle.core_model.specs.DeviceRules as rows;
-ghost use Rattle.core_model.specs.DeviceRules.{DeviceServes};
+ghost use Rattle.core_model.specs.DeviceRules.{DeviceServes, IsReady};
+ghost use Rattle.core_model.specs.declared.zones.SuperblockStage.TheVariants.{Durable};
 ghost use Rattle.core_model.specs.Trace.{Trace};
 ghost use Rattle.data_vio.specs.declared.items.Phase.TheVariants as phase;
 ghost use Rattle.step_parts.specs.DeviceLog.{HasCalled};
@@ -10,6 +11,7 @@ ghost use Rattle.device_zone.specs.Served.{CanServe, MayServe};
 
 use crate::device_calls::{flush, read_block, write_block};
 use crate::stop_notices::halt;
+use crate::superblock::{announce, waits};
 use blk_base::{Answer, Block, Mapping, Mappings, PageId, Pbn, ZoneId};
 use core_model::DeviceZone;
 use data_vio::{BoxedVio, Item, Phase, Sizes, Vio};
@@ -58,6 +60,7 @@ fn store<D: Disk>(
     requires block { vio.new ≡ At block }
     requires inside { rows.IsInside sizes.now block }
     requires runs { zone.old.stopped ≡ false }
+    requires durable { zone.old.superblock ≡ Durable }
     requires may { MayServe sizes.now zone.old (D.seen disk.old) posts.old }
     ensures stays { Stays (D.seen disk.old) (D.seen disk.new) }
     ensures serves { (made : Trace) × DeviceServes sizes.now zone.old vio zone.new made posts.new
@@ -92,6 +95,7 @@ fn load<D: Disk>(
     requires phase { vio.phase ≡ phase.Load }
     requires block { vio.old ≡ At block }
     requires inside { rows.IsInside sizes.now block }
+    requires ready { IsReady zone.old }
     requires may { MayServe sizes.now zone.old (D.seen disk.old) posts.old }
     ensures stays { Stays (D.seen disk.old) (D.seen disk.new) }
     ensures serves { (made : Trace) × DeviceServes sizes.now zone.old vio zone.new made posts.new
@@ -117,6 +121,7 @@ fn flush_for<D: Disk>(
     posts: &mut Posts,
 )
     requires phase { vio.phase ≡ phase.Flush }
+    requires ready { IsReady zone.old }
     requires may { MayServe sizes.now zone.old (D.seen disk.old) posts.old }
     ensures stays { Stays (D.seen disk.old) (D.seen disk.new) }
     ensures serves { (made : Trace) × DeviceServes sizes.now zone.old vio zone.new made posts.new
@@ -146,6 +151,7 @@ fn serve_store<D: Disk>(
 )
     requires phase { vio.phase ≡ phase.Store }
     requires can { CanServe sizes.now zone.old vio phase.Store }
+    requires ready { IsReady zone.old }
     requires may { MayServe sizes.now zone.old (D.seen disk.old) posts.old }
     ensures stays { Stays (D.seen disk.old) (D.seen disk.new) }
     ensures serves { (made : Trace) × DeviceServes sizes.now zone.old vio zone.new made posts.new
@@ -172,6 +178,7 @@ fn serve_load<D: Disk>(
 )
     requires phase { vio.phase ≡ phase.Load }
     requires can { CanServe sizes.now zone.old vio phase.Load }
+    requires ready { IsReady zone.old }
     requires may { MayServe sizes.now zone.old (D.seen disk.old) posts.old }
     ensures stays { Stays (D.seen disk.old) (D.seen disk.new) }
     ensures serves { (made : Trace) × DeviceServes sizes.now zone.old vio zone.new made posts.new
@@ -197,6 +204,10 @@ pub(crate) fn call_device<D: Disk>(
     ensures serves { (made : Trace) × DeviceServes sizes.now zone.old vio zone.new made posts.new
         × HasCalled D.tells D.honest (D.seen disk.old) (D.seen disk.new) made }
 {
+    if waits(zone) {
+        announce(sizes, zone, Item::Request(vio), disk, posts);
+        return;
+    }
     let phase = vio.get().phase;
     match phase {
         Phase::Store => serve_store(sizes, zone, vio, disk, posts),

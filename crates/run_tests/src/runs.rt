@@ -333,7 +333,8 @@ const SCRIPTS: [Case; 3] = [
             Calls::Any,
         ),
     ),
-    (Device::Fresh, b"", (b"", 0, Calls::Any)),
+    // Where nothing is asked, nothing is written.
+    (Device::Fresh, b"", (b"", 0, Calls::OnlyReads)),
     // The last value wins, and another address has its own.
     (
         Device::Fresh,
@@ -367,7 +368,17 @@ fn all_journal_blocks_are_used(rt: HostRuntime) -> Result<(), Fail> {
     each_is_right(&rt, rt.alloc(), &NINE_WRITES)
 }
 
-const FAILED_WRITES: [Case; 4] = [
+const FAILED_WRITES: [Case; 5] = [
+    // The write of the superblock fails, behind which nothing is written: only reads are served then.
+    (
+        Device::Failing(CallKind::Write, 0),
+        b"0 write 5 4096*61\n0 flush\n0 read 5\n",
+        (
+            b"0 0 write 5 stopped z0:0\n0 1 flush stopped\n0 2 read 5 4096*00 z0:1\n",
+            3,
+            Calls::Count(9 + 1),
+        ),
+    ),
     // The first write of a data block fails: that of the leaf.
     (
         Device::Failing(CallKind::Write, 85),
@@ -500,7 +511,7 @@ const SERVED_LINES: [Case; 6] = [
         (
             b"0 0 write 0 ok z0:0\n0 1 read 999 4096*00 z0:1\n",
             0,
-            Calls::Count(9 + 3 * 4),
+            Calls::Count(9 + 2 + 3 * 4),
         ),
     ),
     (

@@ -18,8 +18,9 @@ const ANSWERS: &[u8] =
 /// A run reads the superblock and the eight blocks of the journal first.
 const OPENING: usize = 9;
 
-/// And then it makes four calls for the leaf and for each of the three writes, and one for each of the two flushes.
-const SESSION: usize = 18;
+/// And then it makes two calls for the superblock, four for the leaf and for each of the three writes, and one for each of the two
+/// flushes.
+const SESSION: usize = 20;
 
 /// What reads of addresses 1 and 2 give.
 const ZEROS_ZEROS: &[u8] = b"0 0 read 1 4096*00 z0:0\n0 1 read 2 4096*00 z0:1\n";
@@ -32,14 +33,14 @@ const FIRST_THIRD: &[u8] = b"0 0 read 1 4096*61 z0:0\n0 1 read 2 4096*63 z0:1\n"
 
 const SECOND_THIRD: &[u8] = b"0 0 read 1 4096*62 z0:0\n0 1 read 2 4096*63 z0:1\n";
 
-// What a stop may show, from the first of these counts of calls to the last: the first flush is marked at the 9th call, the
-// second at the 18th. The first write is made from the 5th call on, and the two others from the 10th on.
+// What a stop may show, from the first of these counts of calls to the last: the first flush is marked at the 11th call, the
+// second at the 20th. The first write is made from the 7th call on, and the two others from the 12th on.
 const SHOWN: [(usize, usize, &[u8]); 5] = [
-    (0, 8, ZEROS_ZEROS),
-    (5, 17, FIRST_ZEROS),
-    (10, 17, SECOND_ZEROS),
-    (10, 17, FIRST_THIRD),
-    (10, 18, SECOND_THIRD),
+    (0, 10, ZEROS_ZEROS),
+    (7, 19, FIRST_ZEROS),
+    (12, 19, SECOND_ZEROS),
+    (12, 19, FIRST_THIRD),
+    (12, 20, SECOND_THIRD),
 ];
 
 // Whether a stop after so many calls of the session may show this.

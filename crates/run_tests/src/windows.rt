@@ -401,11 +401,12 @@ fn writes_behind_a_window(rt: HostRuntime) -> Result<(), Fail> {
 
 const WRITTEN_5: &[u8] = b"0 0 write 5 ok z0:0\n";
 
-/// A run reads the superblock and the journal; a write of it writes its block, and flushes before and behind its entry's.
-const WITHOUT_A_LEAF: End = (WRITTEN_5, 0, Calls::Count(9 + 4));
+/// A run reads the superblock and the journal, and writes the superblock and flushes; a write of it writes its block, and flushes
+/// before and behind its entry's.
+const WITHOUT_A_LEAF: End = (WRITTEN_5, 0, Calls::Count(9 + 2 + 4));
 
 /// The same for a leaf.
-const MAKES_A_LEAF: End = (WRITTEN_5, 0, Calls::Count(9 + 4 + 4));
+const MAKES_A_LEAF: End = (WRITTEN_5, 0, Calls::Count(9 + 2 + 4 + 4));
 
 // A write makes its leaf where the window has none: neither one that it maps an address of, nor another one.
 const LEAVES: [(&[Standing], End); 4] = [

@@ -8,6 +8,7 @@ use Rattle.blk_base.specs.declared.geometry.Super.{Super}
 use Rattle.blk_base.specs.declared.journal_entry.Entry.{Entry}
 use Rattle.blk_base.specs.declared.request.Request.{Request}
 use Rattle.data_vio.specs.declared.sizes.Sizes.{Sizes}
+use Rattle.core_model.specs.declared.zones.SuperblockStage.TheVariants.{AsOpened}
 use Rattle.core_model.specs.declared.zones.Zone.{Zone}
 use Rattle.core_model.specs.declared.zones.ZoneData.{ZoneData}
 use Rattle.core_model.specs.declared.zones.ZoneData.TheVariants as at
@@ -52,7 +53,7 @@ module _ (head : Super) (window : List Entry) (used : ℕ) (script : Script) whe
       ∷ first_zone 1 (at.Logical (record { zone = 0; notified = false; next = 0; places = []; held = []; waiting = []; retired = []; tree = bare head.geometry; making = []; lacking = []; unlinkable = []; window = window; slots = [] }))
       ∷ first_zone 2 (at.Physical (record { notified = false; free = free_of head.geometry window }))
       ∷ first_zone 3 (at.Journal (record { notified = false; busy = false; broken = false; log = first_log (run_sizes head used); filling = []; waiting = []; entered = []; committed = [] }))
-      ∷ first_zone 4 (at.Device (record { stopped = false; calls = 0 }))
+      ∷ first_zone 4 (at.Device (record { stopped = false; calls = 0; superblock = AsOpened }))
       ∷ []
 
   module _ (sizes : IsGeometry head.geometry) (maps : AllByRecursion IsRemap window) (s : Session) (over : IsOver (task (opening_of head window used) script) s) where
@@ -92,7 +93,7 @@ module _ (head : Super) (window : List Entry) (used : ℕ) (script : Script) whe
       entered = refl;
       committed = refl;
     }))
-    each (suc (suc (suc (suc zero)))) zone is = subst (IsFirstZone s 4) (same_Some _ _ is) (begun 4 _ (record { number_is = omega (arith, zones_are); stopped = refl; calls = refl }))
+    each (suc (suc (suc (suc zero)))) zone is = subst (IsFirstZone s 4) (same_Some _ _ is) (begun 4 _ (record { number_is = omega (arith, zones_are); stopped = refl; calls = refl; superblock = refl }))
     each (suc (suc (suc (suc (suc i))))) zone is = absurd cc
 
     pub first_begins : IsFirst s (core_with first_zones [])

@@ -46,7 +46,7 @@ module _ (tells honest : Bool) (before now : Seen) (told : IsTrue tells) where
   -- and so is the reason why none is served
   moved_cause : (head head' : Super) (journal journal' : List (List ℕ)) (why : ImageFault) → head ≡ head' → journal ≡ journal' → IsRefused head' journal' why → IsRefused head journal why
   moved_cause head head' journal journal' why heads journals cause =
-      subst (λ (blocks : List (List ℕ)). IsRefused head blocks why) (sym journals) (subst (λ (h : Super). CantServe h journal' why) (sym heads) cause)
+      subst (λ (blocks : List (List ℕ)). IsRefused head blocks why) (sym journals) (subst (λ (h : Super). IsRefused h journal' why) (sym heads) cause)
 
   pub faulty_is_one : (why why' : ImageFault) → HasFaulty (trust tells honest) before now why → HasFaulty (trust tells honest) before now why' → (why ≡ why') ⊎ (why ≡ Memory) ⊎ (why' ≡ Memory)
   faulty_is_one why why' one other =

@@ -1,5 +1,5 @@
 -- What reading the superblock and the recovery journal says of the image.
-use Rattle.std.proofs.Common.{ℕ, suc, ◌≡◌, ◌<◌, ◌≤◌, ◌++◌, Bool, IsTrue, List, [], ◌∷◌, length, take, drop, reverse, Result, Ok, Err, refl, sym, ◌∙◌, ap, subst, inl, inr, arith}
+use Rattle.std.proofs.Common.{ℕ, suc, ◌≡◌, ◌<◌, ◌≤◌, ◌++◌, ◌^◌, Bool, IsTrue, List, [], ◌∷◌, length, take, drop, reverse, Result, Ok, Err, refl, sym, ◌∙◌, ap, subst, inl, inr, arith}
 use Rattle.std.proofs.lemmas.Grind.{reverse_onto}
 use Rattle.std.proofs.lemmas.List.{length-reverse, reverse-reverse}
 use Rattle.std.proofs.Math.Seq.{take-suc}
@@ -24,12 +24,13 @@ use Rattle.vdo_cli.specs.declared.fault.Fault.{Fault}
 use Rattle.vdo_cli.specs.declared.fault.Fault.TheVariants as fault
 use Rattle.vdo_cli.specs.Openings.{CanServe, IsRead, IsOpened, HasNoImage, HasFaulty, JournalFails, OpeningFails, ServingFails, opening_of, trust}
 
-module _ (tells honest : Bool) (before middle now : Seen) (head : Super) (first : List ℕ) (is_head : IsHead before.size first head) (was : WereRead tells honest 0 before middle (first ∷ [])) where
+module _ (tells honest : Bool) (before middle now : Seen) (head : Super) (first : List ℕ) (is_head : IsHead before.size first head) (named : head.geometry.nonce < 2 ^ 64) (was : WereRead tells honest 0 before middle (first ∷ [])) where
   -- the superblock and all of the journal
   pub all_read : (journal : List (List ℕ)) → length journal ≡ head.geometry.journal → WereRead tells honest 1 middle now (reverse journal) → IsRead (trust tells honest) before now head journal
   all_read journal count read = record {
     first = first;
     is_head = is_head;
+    named = named;
     count = count;
     read = subst (WereRead tells honest 0 before now) (sym (reverse_onto journal first [])) (read_on tells honest 0 before middle now (first ∷ []) was (reverse journal) read);
   }

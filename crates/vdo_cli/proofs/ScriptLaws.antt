@@ -47,5 +47,5 @@ can_begin tells honest before now head window used script opened whole = record 
     zones = omega arith;
   };
   served = all_served script whole.writes;
-  of_image = entries_of_image head.geometry head.start opened.serves.found.last opened.journal opened.serves.found.entries window opened.serves.mapped.0 opened.serves.is_window.is_window;
+  of_image = entries_of_image head.geometry head.start opened.serves.found.last opened.journal opened.serves.found.entries window opened.serves.entries_are opened.serves.is_window.is_window;
 }

@@ -1,5 +1,5 @@
 -- What a session did, from what its core, its schedule and its report say.
-use Rattle.std.proofs.Common.{ℕ, ◌≡◌, ◌≤◌, ◌++◌, Bool, true, IsTrue, List, [], ◌∷◌, length, reverse, Some, None, Ok, refl, sym, ◌∙◌, ap, subst, arith, inl, inr}
+use Rattle.std.proofs.Common.{ℕ, ◌≡◌, ◌⊎◌, ◌<◌, ◌≤◌, ◌^◌, ◌++◌, Bool, true, IsTrue, List, [], ◌∷◌, length, reverse, Some, None, Ok, refl, sym, ◌∙◌, ap, subst, arith, inl, inr}
 use Rattle.std.proofs.lemmas.List.{append-nil}
 use Rattle.std.specs.List.{AllByRecursion}
 use Rattle.blk_base.specs.Regions.{needed_blocks}
@@ -13,7 +13,7 @@ use Rattle.blk_base.specs.declared.request.Writer.{Writer}
 use Rattle.disk_model.specs.Causes.{Rose}
 use Rattle.disk_model.specs.declared.call.Call.{Call}
 use Rattle.disk_model.specs.declared.call.Call.TheVariants.{Flush, Read, Write}
-use Rattle.disk_model.specs.Log.{Blocks}
+use Rattle.disk_model.specs.Log.{Blocks, block_at}
 use Rattle.disk_model.specs.Seen.{Seen, Stays}
 use Rattle.disk_model.specs.Streams.{SourceSeen}
 use Rattle.disk_model.specs.Since.{IsUntouched, OnlyReads}
@@ -25,7 +25,7 @@ use Rattle.image_layout.specs.Values.{journal_of, value_of}
 use Rattle.data_vio.specs.declared.sizes.Sizes.{Sizes}
 use Rattle.core_model.specs.declared.zones.Zone.{Zone}
 use Rattle.core_model.specs.Legal.{Legal}
-use Rattle.core_model.specs.Reports.{report_of}
+use Rattle.core_model.specs.Reports.{SaysSuperblock, report_of}
 use Rattle.core_model.specs.RightTraces.{MayAnswer, MayFollow, RightTrace}
 use Rattle.core_model.specs.Sessions.{Session, IsFair, IsSession, IsServed}
 use Rattle.core_model.specs.Start.{IsFirst}
@@ -62,10 +62,13 @@ use Rattle.vdo_core.specs.declared.events.Event.{Event}
 use Rattle.stream_text.specs.WholeScript.{whole_script}
 use Rattle.vdo_cli.specs.Endings.{RunsSession}
 use Rattle.vdo_cli.specs.Openings.{CanServe, IsOpened, opening_of, trust}
-use Rattle.vdo_cli.specs.Stops.{Happens, OpensWith}
+use Rattle.vdo_cli.specs.Stops.{Happens, OpensWith, unclosed}
+use Rattle.recovery_laws.proofs.SuperLaws.{first_of_image, room_of_image}
+use Rattle.image_layout.proofs.AgainLaws.{written_again}
+use Rattle.core_model.specs.Superblocks.{superblock_bytes}
 use Rattle.vdo_cli.specs.Outsides.{input_setting, inputs}
 use Rattle.vdo_cli.proofs.OpeningLaws.{opened_count, opened_serves, says_head}
-use Rattle.vdo_cli.proofs.StopLaws.{same_super, some_blocks}
+use Rattle.vdo_cli.proofs.StopLaws.{some_blocks, super_by_sector}
 use Rattle.image_model.specs.Looked.{HasOneImageButIndex, looked_in}
 use Rattle.image_model.proofs.LookedLaws.{one_by_sizes}
 
@@ -130,7 +133,7 @@ answered_failed s (Seals ∷ t) w r a right asked is lost = answered_failed s t 
 answered_failed s (Commits e ∷ t) w r a right asked is lost = answered_failed s t w r a right.2 asked is lost
 answered_failed s (Sets e ∷ t) w r a right asked is lost = answered_failed s t w r a right.2 asked is lost
 answered_failed s (Gives g ∷ t) w r a right asked is lost = answered_failed s t w r a right.2 asked is lost
-answered_failed s (Takes v x ∷ t) w r a right asked is lost = answered_failed s t w r a right.2 asked is lost
+answered_failed s (Takes v page x ∷ t) w r a right asked is lost = answered_failed s t w r a right.2 asked is lost
 answered_failed s (Passes e ∷ t) w r a right asked is lost = answered_failed s t w r a right.2 asked is lost
 answered_failed s (Aborts e ∷ t) w r a right asked is lost = answered_failed s t w r a right.2 asked is lost
 answered_failed s (Calls c ∷ t) w r a right asked is lost = answered_failed s t w r a right.2 asked is lost
@@ -196,7 +199,7 @@ module _ (tells honest : Bool) (head : Super) (window : List Entry) (used : ℕ)
   -- of an honest device, over the one image that there was
   module _ (image : Blocks) (told : IsTrue tells) (fair : IsTrue honest) (room : needed_blocks head.geometry ≤ length before.opening)
       (one : HasOneImageButIndex before.opening before.log image) (accepted : super_of_image image ≡ Ok head) (count : length (journal_of head.geometry image) ≡ head.geometry.journal)
-      (serves : CanServe head (journal_of head.geometry image) window used) where
+      (serves : CanServe head (journal_of head.geometry image) window used) (named : head.geometry.nonce < 2 ^ 64) where
     abbrev real : Session
     real = record {
       sizes = run_sizes head used;
@@ -225,19 +228,30 @@ module _ (tells honest : Bool) (head : Super) (window : List Entry) (used : ℕ)
       opened = record {
         room = room;
         one_image = one_by_sizes image head accepted before.opening before.log image one;
-        journal = stands real serves.found.last serves.found.entries can.start.0 count serves.is_window.is_window serves.mapped.0 serves.used_is refl;
+        journal = stands real serves.found.last serves.found.entries can.start.0 count serves.is_window.is_window serves.entries_are serves.used_is refl;
       };
     }
 
     reads_of_image : ReadsRight (value_of image window) report.requests report.desk report.places report.histories
     reads_of_image = report_reads_right real trace real_session real_legal.right (real_legal.gives_right real_fair)
 
+    -- the superblock of an image that a stop leaves
+    says_of : (other : Blocks) → length other ≡ length image → SaysSuperblock real other → (super_of_image other ≡ Ok head) ⊎ (super_of_image other ≡ Ok (unclosed head))
+    says_of other size says =
+        let some = some_blocks image head accepted in
+        let here : 0 < length other = omega (arith, some, size) in
+        elim says [
+          | inl opened ↦ inl (super_by_sector other (block_at image 0) (length image) head here size opened.says (sym (first_of_image image some) ∙ accepted))
+          | inr session ↦ inr (super_by_sector other (superblock_bytes real.sizes) (length image) (unclosed head) here size session
+              (written_again (unclosed head) (length image) real_session.sizes named real_session.start.0 real_session.start.1 (room_of_image image head accepted)))
+        ]
+
     stops_of_image : RightAfterStops (OpensWith head) before.opening before.log head.geometry.logical (value_of image window) report (calls trace)
     stops_of_image later prefix calls_are other is =
         let (values, shows, right) = report_stops_right real trace real_session real_legal.right real_fair later prefix calls_are other is in
         let size : length other ≡ length image = is.size ∙ sym one.size in (
           values,
-          record { superblock = same_super image other (some_blocks image head accepted) size shows.0 ∙ accepted; has_values = shows.1 },
+          record { superblock = says_of other size shows.0; has_values = shows.1 },
           right,
         )
 
@@ -272,7 +286,8 @@ module _ (tells honest : Bool) (head : Super) (window : List Entry) (used : ℕ)
         rw (← untouched.stays.opening) (stops_of_image image told fair (has_blocks told) (of_start told image one)
         (says_head tells honest start before image told fair one head opened.journal opened.read)
         (opened_count tells honest start before image told fair one head window used opened)
-        (opened_serves tells honest start before image told fair one head window used opened))
+        (opened_serves tells honest start before image told fair one head window used opened)
+        opened.read.named)
 
     pub plays : (source_tells : Bool) (schedule state : ℕ) (events : List Event) (source rest : SourceSeen) → Stays before after
         → Drives tells honest (run_sizes head used) schedule state events first last before after trace
@@ -299,7 +314,8 @@ module _ (tells honest : Bool) (head : Super) (window : List Entry) (used : ℕ)
       reads_right = λ told fair image one.
           reads_of_image image told fair (has_blocks told) (of_start told image one)
           (says_head tells honest start before image told fair one head opened.journal opened.read)
-          (opened_count tells honest start before image told fair one head window used opened) (opened_serves tells honest start before image told fair one head window used opened);
+          (opened_count tells honest start before image told fair one head window used opened) (opened_serves tells honest start before image told fair one head window used opened)
+          opened.read.named;
       happens = happens;
       stops = stops_right;
     }

@@ -1,5 +1,5 @@
 -- What opening an image finds, and why it can't be opened: by the bytes that the device gave.
-use Rattle.std.specs.Prelude.{ℕ, ◌≡◌, ◌⊎◌, ◌<◌, Bool, List, [], ◌∷◌, length, reverse, Err}
+use Rattle.std.specs.Prelude.{ℕ, ◌≡◌, ◌⊎◌, ◌<◌, ◌^◌, Bool, List, [], ◌∷◌, length, reverse, Err}
 use Rattle.blk_base.specs.declared.geometry.Super.{Super}
 use Rattle.blk_base.specs.declared.journal_entry.Entry.{Entry}
 use Rattle.core_model.specs.Sessions.{said_by}
@@ -39,6 +39,8 @@ opening_of head window used = record { head = head; window = window; used = used
 pub record IsRead (trust : Trust) (before now : Seen) (head : Super) (journal : List (List ℕ)) : Type 0 where
   pub first : List ℕ
   pub is_head : IsHead before.size first head
+  -- its nonce can be written again
+  pub named : head.geometry.nonce < 2 ^ 64
   pub count : length journal ≡ head.geometry.journal
   pub read : WereRead trust.tells trust.honest 0 before now (reverse (first ∷ journal))
 

@@ -31,6 +31,7 @@ fn read_head<D: Disk>(device: &mut D) -> Result<Super, Fault>
     ensures read { IfOk result (λ head. (first : List ℕ)
         × IsHead (D.seen device.old).size first head
         × WereRead D.tells D.honest 0 (D.seen device.old) (D.seen device.new) (first ∷ [])) }
+    ensures named { IfOk result (λ head. head.geometry.nonce < 2 ^ 64) }
     ensures fault { IfErr result (OpeningFails (trust D.tells D.honest)
         (D.seen device.old) (D.seen device.new)) }
     ensures untouched { IsUntouched D.tells (D.seen device.old) (D.seen device.new) }

@@ -12,6 +12,7 @@ use Rattle.blk_base.specs.declared.place.Pbn.{Pbn}
 use Rattle.blk_base.specs.declared.request.Request.TheVariants as request
 use Rattle.vdo_model.specs.Scripts.{Script}
 use Rattle.vdo_model.specs.declared.report.DeskLine.{DeskLine}
+use Rattle.core_model.specs.declared.zones.SuperblockStage.TheVariants.{AsOpened}
 use Rattle.core_model.specs.DeskData.{Desk}
 use Rattle.data_vio.specs.declared.items.Item.{Item}
 use Rattle.data_vio.specs.declared.items.Item.TheVariants.{StopNotice}
@@ -120,7 +121,7 @@ abbrev zone_with : ℕ → List (List Item) → Zone
 zone_with number outboxes = record {
   number = number;
   steps = 0;
-  keeps = at.Device (record { stopped = false; calls = 0 });
+  keeps = at.Device (record { stopped = false; calls = 0; superblock = AsOpened });
   ports = record { inbox = []; outboxes = outboxes };
 }
 

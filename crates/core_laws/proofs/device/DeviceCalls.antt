@@ -23,14 +23,14 @@ use Rattle.core_laws.proofs.trace.DeskOfTrace.{HasBlock, journaled_data, changes
 use Rattle.byte_fields.specs.Mappings.{HoldsMapping}
 use Rattle.journal_codec.specs.Grammar.{HoldsEntry}
 use Rattle.core_laws.proofs.kept.ActKept.{shown_kept}
-use Rattle.core_laws.proofs.kept.Keys.{Key, OfBlock, OfJournal, Spares, Clears}
-use Rattle.core_laws.proofs.kept.StandsOn.{AreElsewhere, IsCallOf, SparesBlocks, block_spared, call_sealed, entered_parts, failed, journal_spared, map_kept, new_kept, new_reads_kept, on_each, pages_kept, spares_all, stands_kept, succeeded, write_spares}
+use Rattle.core_laws.proofs.kept.Keys.{Key, OfBlock, OfJournal, Spares, Clears, OfAddress, OfPage, OfRequest}
+use Rattle.core_laws.proofs.kept.StandsOn.{AreElsewhere, IsCallOf, SparesBlocks, block_spared, call_sealed, entered_parts, failed, journal_spared, map_kept, new_kept, new_reads_kept, on_each, pages_kept, spares_all, succeeded, write_spares, SparesBlock, superblock_kept}
 use Rattle.blk_base.specs.declared.request.Request.TheVariants as request
 use Rattle.disk_model.specs.Log as device
 use Rattle.data_vio.specs.declared.items.Asks.TheVariants as asks
 use Rattle.core_laws.proofs.journal.SealedBlocks.{block_has, block_length, blocks_length, heads_start}
 use Rattle.core_laws.proofs.lists.CoreLists.{newest_has}
-use Rattle.core_laws.proofs.kept.Spared.{mapping_by, mapping_same}
+use Rattle.core_laws.proofs.kept.Spared.{SparesAddress, SparesPage, SparesRequest, mapping_by, mapping_same}
 use Rattle.journal_stops.specs.Rings.{IsAtRest, IsWhole, place_of}
 use Rattle.journal_stops.specs.Sealed.{IsSealed, next_of}
 use Rattle.journal_stops.proofs.StepLaws.{begins, is_written}
@@ -200,6 +200,41 @@ quiet_call s t {h} c is may misses right =
     let same = quiet_journal s t c is misses in
     (may, shown_kept s h t same.0 (call_filled t is) same.1 same.2 (block_spared is 0 (misses 0)) (shown_of s t right), right)
 
+-- A call that writes block 0 alone is about nothing else.
+module _ (s : Session) (t : Trace) {h : Happening} {c : Call} (is : IsCallOf h c) (session : IsSession s) (right : RightTrace s t) (misses : (x : ℕ) → x ≢ 0 → Misses c x) where
+  data_missed : (x : ℕ) → IsDataBlock s.sizes.geometry x → SparesBlock h x
+  data_missed x is_data = block_spared is x (misses x (data_not_first s.sizes.geometry x is_data))
+
+  entries_missed : (es : List Logged) → AllByRecursion (HasBlock s) es → SparesBlocks h es
+  entries_missed [] all = tt
+  entries_missed (e ∷ es) all = (on_each (new_of e) (λ x to is_data. data_missed x.0 is_data) all.0, entries_missed es all.1)
+
+  pub first_journal : Spares s t h OfJournal
+  first_journal = (
+    call_sealed s t is,
+    journal_spared s is (λ slot below. misses (block_of_slot slot) (λ same. omega (arith, same))),
+    ((λ a x named. data_missed x.0 (window_data s a x session named)), entries_missed (journaled t) (journaled_data s t right)),
+  )
+
+  pub first_spares : (k : Key) → Spares s t h k
+  first_spares (OfRequest w) = by is
+    where
+      by : {g : Happening} → IsCallOf g c → SparesRequest g w
+      by succeeded = tt
+      by failed = tt
+  first_spares (OfAddress a) = by is
+    where
+      by : {g : Happening} → IsCallOf g c → SparesAddress g a
+      by succeeded = tt
+      by failed = tt
+  first_spares (OfBlock x) = data_missed x
+  first_spares (OfPage page) = by is
+    where
+      by : {g : Happening} → IsCallOf g c → SparesPage g page
+      by succeeded = tt
+      by failed = tt
+  first_spares OfJournal = first_journal
+
 -- the data of a write
 pub store_call : (s : Session) (t : Trace) {h : Happening} (x : Pbn) (bytes : List ℕ) (ok : Bool) → IsCallOf h (Write x bytes ok) → MayFollow s h t → IsFresh s x → AreElsewhere x.0 (journaled t)
     → RightTrace s t → RightTrace s (h ∷ t)
@@ -366,7 +401,7 @@ module _ (s : Session) (t : Trace) (older : List (List Logged)) (es : List Logge
 
   pub slot_shown : (h : Happening) (ok : Bool) → IsCallOf h (Write slot bytes ok) → AtRest s (h ∷ t) older ⊎ OnItsWay s (h ∷ t) older es → durable t ≡ all_of older → Shown s t → Shown s (h ∷ t)
   slot_shown h ok is stands committed_is stood = record {
-    superblock = stands_kept s h t 0 _ (block_spared is 0 (λ same. omega (arith, same, place))) stood.superblock;
+    superblock = superblock_kept s h t (block_spared is 0 (λ same. omega (arith, same, place))) stood.superblock;
     journal = inr (record { block = es; older = older; sealed_is = (call_sealed s t is).sealed_same ∙ sealed_is; committed_is = (call_sealed s t is).committed_same ∙ committed_is; stands = stands });
     filling = rw (call_filled t is) (new_reads_kept s h t (filled t) (data_spared h ok is (filled t) parts.0) stood.filling);
   }

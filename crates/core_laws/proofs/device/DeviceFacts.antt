@@ -1,6 +1,6 @@
 -- What the acts of the device zone owe: it stores, loads and flushes for requests, and flushes and writes for sealed blocks.
-use Rattle.std.proofs.Common.{◌≡◌, ℕ, zero, suc, ◌+◌, ◌<◌, ◌≤◌, Bool, true, false, Some, IsSome, List, [], ◌∷◌, ◌++◌, map, refl, ap, sym, ◌∙◌, subst, inl, inr, arith, ◌⊎◌, Option, None}
-use Rattle.core_laws.proofs.Common.{all_logged, all_of, AllByRecursion, asked, Asks, AtRest, Call, calls, Calls, DataOk, DeviceZone, each_at, ended, Entry, entry_of, eqb_tells, every-map, Fails, FailureMayFollow, fair_before, Happening, has_read_fault, has_stopped, HasAddress, HasCause, HasWholeBlocks, is_ok, is_read, IsAsOpened, IsChange, IsEarned, IsFair, IsFresh, IsMadeFor, IsOpen, IsSealed, IsSession, IsToFresh, KeptOk, Lba, log, logged, logical_zones, Mapping, MapsTo, moments, NewReads, NewStands, notified, OnBlock, OnItsWay, Pbn, place_of, places, Post, ReadsAs, ReadsBlock, request_of, RightTrace, same_self, same_Some, SealedBlock, Session, Shown, Sizes, some_is, Stage, StandsAt, Trace, value_at, value_from, Vio, VioOk, Writer, zone_count, zone_number, applied, journaled, Logged, new_of, remappings, passed, every-front, MayReply, turned}
+use Rattle.std.proofs.Common.{◌≡◌, ℕ, zero, suc, ◌+◌, ◌<◌, ◌≤◌, Bool, true, false, Some, IsSome, List, [], ◌∷◌, ◌++◌, map, refl, ap, sym, ◌∙◌, subst, inl, inr, arith, ◌⊎◌, Option, None, ◌≢◌}
+use Rattle.core_laws.proofs.Common.{all_logged, all_of, AllByRecursion, asked, Asks, AtRest, Call, calls, Calls, DataOk, DeviceZone, each_at, ended, Entry, entry_of, eqb_tells, every-map, Fails, FailureMayFollow, fair_before, Happening, has_read_fault, has_stopped, HasAddress, HasCause, HasWholeBlocks, is_ok, is_read, IsAsOpened, IsChange, IsEarned, IsFair, IsFresh, IsMadeFor, IsOpen, IsSealed, IsSession, IsToFresh, KeptOk, Lba, log, logged, logical_zones, Mapping, MapsTo, moments, NewReads, NewStands, notified, OnBlock, OnItsWay, Pbn, place_of, places, Post, ReadsAs, ReadsBlock, request_of, RightTrace, same_self, same_Some, SealedBlock, Session, Shown, Sizes, some_is, Stage, StandsAt, Trace, value_at, value_from, Vio, VioOk, Writer, zone_count, zone_number, applied, journaled, Logged, new_of, remappings, passed, every-front, MayReply, turned, Item, ItemOk, SuperblockStage, superblock_stage}
 use Rattle.core_laws.proofs.trace.PassesOfTrace.{value_past}
 use Rattle.image_layout.specs.Values.{mapping_of}
 use Rattle.vdo_model.specs.FlushMarks.{IsMark, successes}
@@ -11,16 +11,19 @@ use Rattle.core_model.specs.PageLinks.{MayLack}
 use Rattle.data_vio.specs.Vios.{logged_for}
 use Rattle.data_vio.specs.declared.items.Asks.TheVariants.{Read, Write, Discard, Flush}
 use Rattle.core_model.specs.DeskRules.{is_marked, mark_of_vio}
-use Rattle.core_model.specs.DeviceRules.{DeviceServes, counted, page_at, stop_notices, stored, stored_for, DeviceWorks, journal_bytes, IsItsSlot, call_of, next_stage, next_zone}
+use Rattle.core_model.specs.DeviceRules.{DeviceServes, counted, page_at, stop_notices, stored, stored_for, DeviceWorks, journal_bytes, IsItsSlot, call_of, next_stage, next_zone, Announces, next_superblock, superblock_call}
 use Rattle.core_model.specs.LogicalRules.{mapped_by}
-use Rattle.core_laws.proofs.kept.ActKept.{Known, Mine, weighed, PostOk, ActKept, act_none, act_one, vio_ok, in_bare, in_phase, carries_at, carries_own, unentered_slot}
-use Rattle.core_laws.proofs.kept.Keys.{OfBlock, Clears, claim_one}
-use Rattle.core_laws.proofs.device.DeviceCalls.{CanStand, can_fresh, call_clears, data_misses, old_data, quiet_call, quiet_journal, read_value, slot_misses, slot_reads, slot_shown, slot_way, spelled_sealed, store_call, store_reads, whole_opening}
+use Rattle.core_laws.proofs.kept.ActKept.{Known, Mine, weighed, PostOk, ActKept, act_none, act_one, vio_ok, in_bare, in_phase, carries_at, carries_own, unentered_slot, shown_with}
+use Rattle.core_laws.proofs.kept.Keys.{OfBlock, Clears, claim_one, OfJournal}
+use Rattle.core_laws.proofs.device.DeviceCalls.{CanStand, can_fresh, call_clears, data_misses, old_data, quiet_call, quiet_journal, read_value, slot_misses, slot_reads, slot_shown, slot_way, spelled_sealed, store_call, store_reads, whole_opening, call_filled, data_not_first, first_journal, first_spares}
 use Rattle.core_laws.proofs.journal.SealedBlocks.{blocks_length, entries_in_order, every_logged, logged_length}
 use Rattle.image_model.specs.Windows.{LeadsToData}
 use Rattle.disk_model.specs.Log.{Misses}
-use Rattle.core_laws.proofs.kept.Carried.{by_all, looks_kept, pending_over, sealed_kept, vio_kept}
+use Rattle.core_laws.proofs.kept.Carried.{by_all, looks_kept, pending_over, sealed_kept, vio_kept, item_kept}
 use Rattle.core_laws.proofs.journal.JournalFacts.{home_within, may_stop, writes_change}
+use Rattle.core_model.specs.Superblocks.{IsInOrder, stage_after}
+use Rattle.core_model.specs.Sessions.{SuperblockStands}
+use Rattle.core_model.specs.declared.zones.SuperblockStage.TheVariants.{AsOpened, Written, Durable}
 use Rattle.core_laws.proofs.kept.Spared.{mapping_by}
 use Rattle.core_laws.proofs.kept.StandsOn.{AreElsewhere, IsCallOf, block_spared, call_sealed, failed, journal_spared, map_kept, map_more, new_kept, on_each, pages_kept, pages_more, rests_kept, rests_unlogged, spares_all, succeeded, way_kept, write_spares}
 use Rattle.blk_base.specs.Regions.{journal_slot_of, IsDataBlock}
@@ -80,15 +83,103 @@ no_success (call.Flush over) older fails = rw fails refl
 
 -- the zone after a call that succeeded, and after one that failed
 module _ {s : Session} {t : Trace} {n : ℕ} {old : DeviceZone} (own : DataOk s t n (at.Device old)) where
-  pub after_call : (c : Call) → is_ok c ≡ true → DataOk s (Calls c ∷ t) n (at.Device (counted old))
-  after_call c is = record { number_is = own.number_is; lists = record { calls_is = ap (λ m. m + 1) own.lists.calls_is ∙ sym (success c (calls t) is); stopped_is = own.lists.stopped_is }; sound = tt; kept = tt; answers = tt; told = tt }
+  pub after_call_to : (c : Call) (next : SuperblockStage) → is_ok c ≡ true → next ≡ superblock_stage (Calls c ∷ t) → DataOk s (Calls c ∷ t) n (at.Device (record (counted old) { superblock = next }))
+  after_call_to c next is to = record {
+    number_is = own.number_is;
+    lists = record { calls_is = ap (λ m. m + 1) own.lists.calls_is ∙ sym (success c (calls t) is); stopped_is = own.lists.stopped_is; superblock_is = to };
+    sound = tt;
+    kept = tt;
+    answers = tt;
+    told = tt;
+  }
+
+  -- where it is no call for the superblock
+  pub after_call : (c : Call) → is_ok c ≡ true → stage_after c (superblock_stage t) ≡ superblock_stage t → DataOk s (Calls c ∷ t) n (at.Device (counted old))
+  after_call c is stays = after_call_to c old.superblock is (own.lists.superblock_is ∙ sym stays)
 
   pub after_failure : (w : Writer) (c : Call) (kept : Bool) (stopped : Bool) → is_ok c ≡ false → stopped ≡ has_stopped (Fails w c kept ∷ t) → DataOk s (Fails w c kept ∷ t) n (at.Device (record old { stopped = stopped }))
-  after_failure w c kept stopped fails is = record { number_is = own.number_is; lists = record { calls_is = not_counted kept; stopped_is = is }; sound = tt; kept = tt; answers = tt; told = tt }
+  after_failure w c kept stopped fails is = record { number_is = own.number_is; lists = record { calls_is = not_counted kept; stopped_is = is; superblock_is = own.lists.superblock_is }; sound = tt; kept = tt; answers = tt; told = tt }
     where
       not_counted : (kept : Bool) → old.calls ≡ successes (calls (Fails w c kept ∷ t))
       not_counted true = own.lists.calls_is ∙ sym (no_success c (calls t) fails)
       not_counted false = own.lists.calls_is
+
+-- what the superblock's call is, and how far it brings it
+announcing : (sizes : Sizes) (now : SuperblockStage) (c : Call) (success : Bool) → superblock_call sizes success now ≡ Some c → (is_ok c ≡ success) × (is_read c ≡ false) × IsInOrder sizes now c × ((x : ℕ) → x ≢ 0 → Misses c x)
+announcing sizes AsOpened c success is = rw (sym (same_Some _ _ is)) (refl, refl, inl (refl, record { first = refl; says = refl }), λ x other same. other (sym same))
+announcing sizes Written c success is = rw (sym (same_Some _ _ is)) (refl, refl, tt, λ x other. tt)
+announcing sizes Durable c success is = absurd cc
+
+announced_stage : (sizes : Sizes) (now : SuperblockStage) (c : Call) → superblock_call sizes true now ≡ Some c → next_superblock now ≡ stage_after c now
+announced_stage sizes AsOpened c is = rw (sym (same_Some _ _ is)) refl
+announced_stage sizes Written c is = rw (sym (same_Some _ _ is)) refl
+announced_stage sizes Durable c is = absurd cc
+
+-- it is made for no read
+for_none : (s : Session) (t : Trace) (w : Writer) (c : Call) → is_read c ≡ false → IsMadeFor s t w c
+for_none s t w (call.Read x bytes success) is = absurd cc
+for_none s t w other is = tt
+
+-- what stands of the superblock then
+announced_stands : (s : Session) (t : Trace) (now : SuperblockStage) (c : Call) → superblock_call s.sizes true now ≡ Some c → SuperblockStands s t now → SuperblockStands s (Calls c ∷ t) (stage_after c now)
+announced_stands s t AsOpened c is k = rw (sym (same_Some _ _ is)) ((inr refl, k), (refl, tt))
+announced_stands s t Written c is k = rw (sym (same_Some _ _ is)) k.1
+announced_stands s t Durable c is k = absurd cc
+
+unannounced_stands : (s : Session) (t : Trace) (w : Writer) (kept : Bool) (now : SuperblockStage) (c : Call) → superblock_call s.sizes false now ≡ Some c → SuperblockStands s t now → SuperblockStands s (Fails w c kept ∷ t) now
+unannounced_stands s t w false now c is k = k
+unannounced_stands s t w true AsOpened c is k = rw (sym (same_Some _ _ is)) (inr refl, k)
+unannounced_stands s t w true Written c is k = rw (sym (same_Some _ _ is)) k
+unannounced_stands s t w true Durable c is k = absurd cc
+
+-- The device zone makes the superblock's next call, for which the item in front waits.
+module _ {s : Session} {t : Trace} {n : ℕ} {old : DeviceZone} {front : Item} (known : Known s t n (at.Device old) (front ∷ [])) (w : Writer) (is_open : IsOpen t w) where
+  now_is : old.superblock ≡ superblock_stage t
+  now_is = known.own.lists.superblock_is
+
+  needs : (c : Call) (success : Bool) → superblock_call s.sizes success old.superblock ≡ Some c → superblock_call s.sizes success (superblock_stage t) ≡ Some c
+  needs c success is = subst (λ (now : SuperblockStage). superblock_call s.sizes success now ≡ Some c) now_is is
+
+  -- it goes on as it was, behind the others
+  waits_on : {h : Happening} (c : Call) → IsCallOf h c → ((x : ℕ) → x ≢ 0 → Misses c x) → PostOk s (h ∷ t) (id.Device, front)
+  waits_on {h} c is misses = (
+    omega arith,
+    item_kept s h t (zone_number s.sizes id.Device) front (λ k some. first_spares s t is known.session known.right misses k)
+        (subst (λ (m : ℕ). ItemOk s t m front) known.own.number_is known.front_ok.0),
+  )
+
+  shown_then : {h : Happening} (c : Call) → IsCallOf h c → ((x : ℕ) → x ≢ 0 → Misses c x) → (SuperblockStands s t (superblock_stage t) → SuperblockStands s (h ∷ t) (superblock_stage (h ∷ t))) → IsFair s (h ∷ t) → Shown s (h ∷ t)
+  shown_then {h} c is misses stands =
+      let spared = first_journal s t is known.session known.right misses in
+      shown_with s h t spared.0 (call_filled t is) spared.1 spared.2 stands (shown_of s t known.right)
+
+  clears_all : {h : Happening} (c : Call) → IsCallOf h c → ((x : ℕ) → x ≢ 0 → Misses c x) → Clears s n (Mine s t (at.Device old) (front ∷ [])) h t
+  clears_all c is misses =
+      let spares = first_spares s t is known.session known.right misses in
+      call_clears is known.own.number_is (λ x. inr (spares (OfBlock x))) (inr (spares OfJournal))
+
+  pub device_announces : (new : DeviceZone) (made : Trace) (posts : List Post) → Announces s.sizes old front w new made posts → ActKept s t n (at.Device old) (front ∷ []) (at.Device new) made posts
+  device_announces new made posts (device.succeeds c is runs e m p) =
+      let says = announcing s.sizes (superblock_stage t) c true (needs c true is) in
+      let h = Calls c in
+      rw (e, m, p) (act_one known h (clears_all c succeeded says.3) (λ g fair. g (fair_before s h t fair)) (
+        record { succeeds = says.0; goes_on = λ writes. sym known.own.lists.stopped_is ∙ runs; in_order = says.2 },
+        shown_then c succeeded says.3 (announced_stands s t (superblock_stage t) c (needs c true is)),
+        known.right,
+      )
+      (after_call_to known.own c (next_superblock old.superblock) says.0 (ap next_superblock now_is ∙ announced_stage s.sizes (superblock_stage t) c (needs c true is)))
+      (waits_on c succeeded says.3, tt))
+  device_announces new made posts (device.fails c kept is runs e m p) =
+      let says = announcing s.sizes (superblock_stage t) c false (needs c false is) in
+      let h = Fails w c kept in
+      let stops : has_stopped (h ∷ t) ≡ true = rw says.1 refl in
+      rw (e, m, p) (act_one known h (clears_all c failed says.3) (λ g fair. g (fair_before s h t fair)) (
+        record { is_open = is_open; fails = says.0; goes_on = λ writes. sym known.own.lists.stopped_is ∙ runs; made_for = for_none s t w c says.1; in_order = says.2 },
+        shown_then c failed says.3 (unannounced_stands s t w kept (superblock_stage t) c (needs c false is)),
+        known.right,
+      )
+      (after_failure known.own w c kept true says.0 (sym stops))
+      (waits_on c failed says.3, notices_ok s (h ∷ t) stops))
 
 -- The device zone makes the call of a request.
 module _ {s : Session} {t : Trace} {n : ℕ} {old : DeviceZone} {v : Vio} (known : Known s t n (at.Device old) (item.Request v ∷ [])) where
@@ -150,6 +241,16 @@ module _ {s : Session} {t : Trace} {n : ℕ} {old : DeviceZone} {v : Vio} (known
   store_over {h} succeeded k = by_all s h t v phase.Store v.page tt (λ held. tt) (λ page is. tt) (λ enters. absurd cc) k
   store_over {h} failed k = by_all s h t v phase.Store v.page tt (λ held. tt) (λ page is. tt) (λ enters. absurd cc) k
 
+  -- it comes once the superblock is durable, and writes another block
+  in_order : (x : Pbn) (bytes : List ℕ) (success : Bool) → IsFresh s x → old.superblock ≡ Durable → IsInOrder s.sizes (superblock_stage t) (call.Write x bytes success)
+  in_order x bytes success fresh durable = inr (sym known.own.lists.superblock_is ∙ durable, data_not_first s.sizes.geometry x.0 fresh.is_data)
+
+  passes : (x : Pbn) (bytes : List ℕ) → IsFresh s x → stage_after (call.Write x bytes true) (superblock_stage t) ≡ superblock_stage t
+  passes x bytes fresh = elim (eqb_tells x.0 0) [ inl same ↦ absurd (data_not_first s.sizes.geometry x.0 fresh.is_data same.1) | inr other ↦ rw other.0 refl ]
+
+  flush_passes : old.superblock ≡ Durable → stage_after (call.Flush true) (superblock_stage t) ≡ superblock_stage t
+  flush_passes durable = let is : superblock_stage t ≡ Durable = sym known.own.lists.superblock_is ∙ durable in rw is refl
+
   -- the read of its block is made for it
   made_for : (x : Pbn) (bytes : List ℕ) (success : Bool) → v.phase ≡ phase.Load → v.old ≡ At x → IsMadeFor s t v.request (call.Read x bytes success)
   made_for x bytes success is from =
@@ -164,33 +265,35 @@ module _ {s : Session} {t : Trace} {n : ℕ} {old : DeviceZone} {v : Vio} (known
       ∙ sym (value_past s t v.at.0 known.right (remappings (applied t)))
 
   pub device_serves : (new : DeviceZone) (made : Trace) (posts : List Post) → DeviceServes s.sizes old v new made posts → ActKept s t n (at.Device old) (item.Request v ∷ []) (at.Device new) made posts
-  device_serves new made posts (device.stores x is to runs inside e m p) =
+  device_serves new made posts (device.announces there act) = device_announces known v.request (vio_ok known).is_open new made posts act
+  device_serves new made posts (device.stores x is to runs durable inside e m p) =
       let bytes = stored s.sizes v x in
       let c = call.Write x bytes true in
       let h = Calls c in
       let carries = in_phase known phase.Store is in
       let fresh = store_fresh x v.page carries to in
       rw (e, m, p) (act_one known h (store_clears x bytes true succeeded is to fresh) (λ g fair. g (fair_before s h t fair))
-      (store_call s t x bytes true succeeded (record { succeeds = refl; goes_on = λ writes. goes runs }) fresh (unnamed x is to) known.right) (after_call known.own c refl)
+      (store_call s t x bytes true succeeded (record { succeeds = refl; goes_on = λ writes. goes runs; in_order = in_order x bytes true fresh durable }) fresh (unnamed x is to) known.right)
+      (after_call known.own c refl (passes x bytes fresh))
       ((omega arith, (vio_kept s h t v tt (vio_ok known), stored_carries (h ∷ t) x v.page (store_over succeeded carries) to (store_reads s t x bytes), refl)), tt))
-  device_serves new made posts (device.store_fails x kept is to runs inside e m p) =
+  device_serves new made posts (device.store_fails x kept is to runs durable inside e m p) =
       let bytes = stored s.sizes v x in
       let c = call.Write x bytes false in
       let h = Fails v.request c kept in
       let carries = in_phase known phase.Store is in
       let fresh = store_fresh x v.page carries to in
-      let now = store_call s t x bytes false failed (record { is_open = (vio_ok known).is_open; fails = refl; goes_on = λ writes. goes runs; made_for = tt }) fresh (unnamed x is to) known.right in
+      let now = store_call s t x bytes false failed (record { is_open = (vio_ok known).is_open; fails = refl; goes_on = λ writes. goes runs; made_for = tt; in_order = in_order x bytes false fresh durable }) fresh (unnamed x is to) known.right in
       rw (e, m, p) (act_one known h (store_clears x bytes false failed is to fresh) (λ g fair. g (fair_before s h t fair)) now (after_failure known.own v.request c kept true refl refl)
       (refused_post (h ∷ t) now refl (vio_kept s h t v tt (vio_ok known)) (store_over failed carries), notices_ok s (h ∷ t) refl))
   device_serves new made posts (device.store_unmade is halts e m p) =
       rw (e, m, p) (act_none known known.own (refused_post t known.right (sym known.own.lists.stopped_is ∙ halts) (vio_ok known) (in_phase known phase.Store is), tt))
-  device_serves new made posts (device.loads x bytes is from inside e m p) =
+  device_serves new made posts (device.loads x bytes is from ready inside e m p) =
       let c = call.Read x bytes true in
       let carries = (looks_at is).1 in
       let here = vio_kept s (Calls c) t v tt (vio_ok known) in
       let looked : CarriesOwn s (Calls c ∷ t) (record v { phase = phase.Loaded; bytes = bytes }) phase.Loaded = (looks_kept s (Calls c) t v tt tt carries.0, λ fair. load_value x bytes is from fair) in
       rw (e, m, p) (act_one known (Calls c) (quiet c succeeded (λ y. tt)) (λ g fair. g (fair_before s (Calls c) t fair))
-      (quiet_call s t c succeeded (record { succeeds = refl; goes_on = λ (writes : true ≡ false). absurd cc }) (λ x. tt) known.right) (after_call known.own c refl) (
+      (quiet_call s t c succeeded (record { succeeds = refl; goes_on = λ (writes : true ≡ false). absurd cc; in_order = tt }) (λ x. tt) known.right) (after_call known.own c refl refl) (
         (
           home,
           (
@@ -201,29 +304,29 @@ module _ {s : Session} {t : Trace} {n : ℕ} {old : DeviceZone} {v : Vio} (known
         ),
         tt,
       ))
-  device_serves new made posts (device.load_fails x bytes kept is from inside e m p) =
+  device_serves new made posts (device.load_fails x bytes kept is from ready inside e m p) =
       let c = call.Read x bytes false in
       let h = Fails v.request c kept in
       let k = looks_kept s h t v tt tt (looks_at is).1.0 in
       let aborted : CarriesOwn s (h ∷ t) (ended phase.Abort reply.ReadFault v) phase.Abort
       = (k.held, cause_fault s (h ∷ t) v.request v.asks v.at v.bytes k.is_read (some_is _ _ k.held.turn.is_placed.placed) (rw (same_self v.request) refl)) in
-      let may : FailureMayFollow s v.request c t = record { is_open = (vio_ok known).is_open; fails = refl; goes_on = λ (writes : true ≡ false). absurd cc; made_for = made_for x bytes false is from } in
+      let may : FailureMayFollow s v.request c t = record { is_open = (vio_ok known).is_open; fails = refl; goes_on = λ (writes : true ≡ false). absurd cc; made_for = made_for x bytes false is from; in_order = tt } in
       rw (e, m, p) (act_one known h (quiet c failed (λ x. tt)) (λ g fair. g (fair_before s h t fair)) (quiet_call s t c failed may (λ x. tt) known.right) (after_failure known.own v.request c kept old.stopped refl known.own.lists.stopped_is)
       ((home, (vio_kept s h t v tt (vio_ok known), carries_own s (h ∷ t) (ended phase.Abort reply.ReadFault v) phase.Abort (looks_at is).0 aborted, refl)), tt))
-  device_serves new made posts (device.flushes is runs e m p) =
+  device_serves new made posts (device.flushes is runs durable e m p) =
       let c = call.Flush true in
       let h = Calls c in
       let mark : IsMark (moments (h ∷ t)) (mark_of_vio (answered_flush old v))
       = record { later = []; older = moments t; at = refl; calls = ap (λ m. m + 1) known.own.lists.calls_is; begun_by_then = (vio_ok known).is_open.is_begun; not_answered = (vio_ok known).is_open.unanswered } in
       let earned : MayReply s (h ∷ t) (answered_flush old v) (Some reply.Ok)
       = subst (λ (q : Asks). IsEarned s (h ∷ t) (mark_of_vio (answered_flush old v)) (request_of v) reply.Ok (is_marked q reply.Ok)) (sym (flushes_at is).1) mark in
-      rw (e, m, p) (act_one known h (quiet c succeeded (λ x. tt)) (λ g fair. g (fair_before s h t fair)) (quiet_call s t c succeeded (record { succeeds = refl; goes_on = λ writes. goes runs }) (λ x. tt) known.right)
-      (after_call known.own c refl)
+      rw (e, m, p) (act_one known h (quiet c succeeded (λ x. tt)) (λ g fair. g (fair_before s h t fair)) (quiet_call s t c succeeded (record { succeeds = refl; goes_on = λ writes. goes runs; in_order = tt }) (λ x. tt) known.right)
+      (after_call known.own c refl (flush_passes durable))
       ((omega arith, (vio_kept s h t v tt (vio_ok known), carries_own s (h ∷ t) (answered_flush old v) phase.Reply (flushes_at is).0 earned, refl)), tt))
-  device_serves new made posts (device.flush_fails kept is runs e m p) =
+  device_serves new made posts (device.flush_fails kept is runs durable e m p) =
       let c = call.Flush false in
       let h = Fails v.request c kept in
-      let may : FailureMayFollow s v.request c t = record { is_open = (vio_ok known).is_open; fails = refl; goes_on = λ writes. goes runs; made_for = tt } in
+      let may : FailureMayFollow s v.request c t = record { is_open = (vio_ok known).is_open; fails = refl; goes_on = λ writes. goes runs; made_for = tt; in_order = tt } in
       rw (e, m, p) (act_one known h (quiet c failed (λ x. tt)) (λ g fair. g (fair_before s h t fair)) (quiet_call s t c failed may (λ x. tt) known.right) (after_failure known.own v.request c kept true refl refl)
       (unflushed_post s (h ∷ t) v refl (vio_kept s h t v tt (vio_ok known)) (flushes_at is).1 (flushes_at is).0, notices_ok s (h ∷ t) refl))
   device_serves new made posts (device.flush_unmade is halts e m p) =
@@ -335,13 +438,16 @@ module _ (s : Session) (t : Trace) (b : SealedBlock) (session : IsSession s) (vi
         (place_is s t b session vios right k head fair.opened slot place) (says s t b session vios right k head fair.opened) right (left_before s t b session vios right k head fair.opened) k.sealed_is rest new h ok is stands
         k.committed_is (shown_of s t right fair)
 
-  module _ (goes : has_stopped t ≡ false) where
+  module _ (goes : has_stopped t ≡ false) (durable : superblock_stage t ≡ Durable) where
+    slot_in_order : (success : Bool) (slot : Pbn) → IsItsSlot s.sizes b slot → IsInOrder s.sizes (superblock_stage t) (call.Write slot (journal_bytes s.sizes b) success)
+    slot_in_order success slot place = inr (durable, λ same. omega (arith, same, place))
+
     -- one that succeeds
     makes_by : (q : Stage) (c : Call) (slot : Pbn) → IsItsSlot s.sizes b slot → call_of s.sizes b slot true q ≡ Some c → RightTrace s t → StandsAt s t b.vios b.sequence q → Made (Calls c) (next_stage q)
     makes_by stage.Cover c slot place is right (k, stands) =
         let h = Calls (call.Flush true) in
         rw (sym (same_Some _ _ is)) (record {
-          right = quiet_call s t (call.Flush true) succeeded (record { succeeds = refl; goes_on = λ writes. goes }) (λ x. tt) right;
+          right = quiet_call s t (call.Flush true) succeeded (record { succeeds = refl; goes_on = λ writes. goes; in_order = tt }) (λ x. tt) right;
           stands = (
             sealed_over s t succeeded b.vios b.sequence k,
             λ fair. let before = stands (fair_before s h t fair) in (flush_rest s t k.older succeeded before.0, flushed s t (all_logged b.vios) before.1),
@@ -351,7 +457,7 @@ module _ (s : Session) (t : Trace) (b : SealedBlock) (session : IsSession s) (vi
         let h = Calls (call.Write slot (journal_bytes s.sizes b) true) in
         rw (sym (same_Some _ _ is)) (record {
           right = (
-            record { succeeds = refl; goes_on = λ writes. goes },
+            record { succeeds = refl; goes_on = λ writes. goes; in_order = slot_in_order true slot place },
             λ fair.
                 let was = fair_before s h t fair in
                 let before = stands was in
@@ -377,7 +483,7 @@ module _ (s : Session) (t : Trace) (b : SealedBlock) (session : IsSession s) (vi
           pages_more s (h ∷ t) (all_logged b.vios) (all_of k.older) (pages_kept s h t (all_of k.older) (spares_all h (λ x. tt) (all_of k.older)) way.2) new,
         )) in
         rw (sym (same_Some _ _ is)) (record {
-          right = quiet_call s t (call.Flush true) succeeded (record { succeeds = refl; goes_on = λ writes. goes }) (λ x. tt) right;
+          right = quiet_call s t (call.Flush true) succeeded (record { succeeds = refl; goes_on = λ writes. goes; in_order = tt }) (λ x. tt) right;
           stands = (ap all_of k.sealed_is ∙ ap (λ (es : List Logged). all_logged b.vios ++ es) (sym k.committed_is), λ fair. rw k.sealed_is (on fair));
         })
     makes_by other c slot place is right stands = absurd cc
@@ -388,14 +494,14 @@ module _ (s : Session) (t : Trace) (b : SealedBlock) (session : IsSession s) (vi
     fails_by stage.Cover c slot kept w is_open place is right (k, stands) =
         let h = Fails w (call.Flush false) kept in
         rw (sym (same_Some _ _ is)) (record {
-          right = quiet_call s t {h = h} (call.Flush false) failed (record { is_open = is_open; fails = refl; goes_on = λ writes. goes; made_for = tt }) (λ x. tt) right;
+          right = quiet_call s t {h = h} (call.Flush false) failed (record { is_open = is_open; fails = refl; goes_on = λ writes. goes; made_for = tt; in_order = tt }) (λ x. tt) right;
           stands = (sealed_over s t {h = h} failed b.vios b.sequence k, (λ fair. inl (flush_rest s t {h = h} k.older failed (stands (fair_before s h t fair)).0)), refl);
         })
     fails_by stage.Write c slot kept w is_open place is right (k, stands) =
         let h = Fails w (call.Write slot (journal_bytes s.sizes b) false) kept in
         rw (sym (same_Some _ _ is)) (record {
           right = (
-            record { is_open = is_open; fails = refl; goes_on = λ writes. goes; made_for = tt },
+            record { is_open = is_open; fails = refl; goes_on = λ writes. goes; made_for = tt; in_order = slot_in_order false slot place },
             λ fair.
                 let was = fair_before s h t fair in
                 let before = stands was in
@@ -412,7 +518,7 @@ module _ (s : Session) (t : Trace) (b : SealedBlock) (session : IsSession s) (vi
     fails_by stage.Harden c slot kept w is_open place is right (k, stands) =
         let h = Fails w (call.Flush false) kept in
         rw (sym (same_Some _ _ is)) (record {
-          right = quiet_call s t {h = h} (call.Flush false) failed (record { is_open = is_open; fails = refl; goes_on = λ writes. goes; made_for = tt }) (λ x. tt) right;
+          right = quiet_call s t {h = h} (call.Flush false) failed (record { is_open = is_open; fails = refl; goes_on = λ writes. goes; made_for = tt; in_order = tt }) (λ x. tt) right;
           stands = (sealed_over s t {h = h} failed b.vios b.sequence k, (λ fair. inr (flush_way s t {h = h} k.older (all_logged b.vios) failed (stands (fair_before s h t fair)).0)), refl);
         })
     fails_by other c slot kept w is_open place is right stands = absurd cc
@@ -459,18 +565,30 @@ module _ {s : Session} {t : Trace} {n : ℕ} {old : DeviceZone} {b : SealedBlock
   clears slot success c is place of_stage = call_clears is known.own.number_is
       (λ x. inr (λ inside. block_spared is x (misses_data s b b.stage slot success c (let some = known.session.sizes.journal.0 in omega (arith, some)) place of_stage x inside))) (inl (weighed (omega arith)))
 
+  durable_now : old.superblock ≡ Durable → superblock_stage t ≡ Durable
+  durable_now durable = sym known.own.lists.superblock_is ∙ durable
+
+  -- its call is none for the superblock
+  call_passes : (q : Stage) (c : Call) (slot : Pbn) → IsItsSlot s.sizes b slot → call_of s.sizes b slot true q ≡ Some c → superblock_stage t ≡ Durable → stage_after c (superblock_stage t) ≡ superblock_stage t
+  call_passes stage.Cover c slot place is durable = rw (sym (same_Some _ _ is), durable) refl
+  call_passes stage.Write c slot place is durable = rw (sym (same_Some _ _ is)) (elim (eqb_tells slot.0 0) [ inl same ↦ absurd (omega (arith, same.1, place)) | inr other ↦ rw other.0 refl ])
+  call_passes stage.Harden c slot place is durable = rw (sym (same_Some _ _ is), durable) refl
+  call_passes other c slot place is durable = absurd cc
+
   pub device_works : (new : DeviceZone) (made : Trace) (posts : List Post) → DeviceWorks s.sizes old b new made posts → ActKept s t n (at.Device old) (item.Block b ∷ []) (at.Device new) made posts
-  device_works new made posts (device.makes c slot v vs first place is runs e m p) =
+  device_works new made posts (device.announces v vs first there act) =
+      device_announces known v.request (each_at (KeptOk s t phase.Pending) v vs b.vios first vios_ok).0.0.is_open new made posts act
+  device_works new made posts (device.makes c slot v vs first place is runs durable e m p) =
       let k = known.own in
-      let now = makes_by s t b known.session vios_ok head_is (sym k.lists.stopped_is ∙ runs) b.stage c slot place is known.right stands in
+      let now = makes_by s t b known.session vios_ok head_is (sym k.lists.stopped_is ∙ runs) (durable_now durable) b.stage c slot place is known.right stands in
       rw (e, m, p) (act_one known (Calls c) (clears slot true c succeeded place is) (λ g fair. g (fair_before s (Calls c) t fair)) now.right
-      (after_call k c (call_is s.sizes b b.stage c slot true is).0)
+      (after_call k c (call_is s.sizes b b.stage c slot true is).0 (call_passes b.stage c slot place is (durable_now durable)))
       ((zone_is s b b.stage c slot is, ((vios_over s t succeeded b.vios vios_ok, now.stands, head_is), refl)), tt))
-  device_works new made posts (device.fails c slot kept v vs first place is runs e m p) =
+  device_works new made posts (device.fails c slot kept v vs first place is runs durable e m p) =
       let k = known.own in
       let h = Fails v.request c kept in
       let is_open = (each_at (KeptOk s t phase.Pending) v vs b.vios first vios_ok).0.0.is_open in
-      let now = fails_by s t b known.session vios_ok head_is (sym k.lists.stopped_is ∙ runs) b.stage c slot kept v.request is_open place is known.right stands in
+      let now = fails_by s t b known.session vios_ok head_is (sym k.lists.stopped_is ∙ runs) (durable_now durable) b.stage c slot kept v.request is_open place is known.right stands in
       let says_so = call_is s.sizes b b.stage c slot false is in
       let stops : has_stopped (h ∷ t) ≡ true = rw says_so.1 refl in
       rw (e, m, p) (act_one known h (clears slot false c failed place is) (λ g fair. g (fair_before s h t fair)) now.right

@@ -15,7 +15,7 @@ use Rattle.core_laws.proofs.journal.LogLaws.{filling_length, log_committed, log_
 use Rattle.core_laws.proofs.journal.SealedBlocks.{logged_length}
 use Rattle.core_laws.proofs.kept.Spared.{OffNumber, below_kept, leafy_kept, mapping_same, of_same, quiet_kept}
 use Rattle.core_laws.proofs.kept.BlockNames.{entries_apart}
-use Rattle.core_laws.proofs.kept.StandsOn.{AreElsewhere, SparesBlock, SparesMap, journal_kept, new_reads_kept, on_each, reads_kept, rests_kept, spares_all, stands_kept}
+use Rattle.core_laws.proofs.kept.StandsOn.{AreElsewhere, SparesBlock, SparesMap, journal_kept, new_reads_kept, on_each, reads_kept, rests_kept, spares_all, superblock_kept}
 use Rattle.core_laws.proofs.kept.Carried.{logged_request, pending_over}
 use Rattle.blk_base.specs.declared.place.Mapping.TheVariants.{At, Unmapped, Zero}
 use Rattle.blk_base.specs.declared.place.PageId.{PageId}
@@ -146,7 +146,7 @@ module _ (s : Session) (t : Trace) (v : Vio) (right : RightTrace s t) (ok : VioO
       let before = fair_before s enters t fair in
       let stood = shown_of s t right before in
       record {
-        superblock = stands_kept s enters t 0 _ tt stood.superblock;
+        superblock = superblock_kept s enters t tt stood.superblock;
         journal = journal_kept s enters t (record { sealed_same = refl; committed_same = refl }) tt (silent s t enters (λ x. tt) (all_of (sealed t))) stood.journal;
         filling = (
           on_each v.new (λ x to reads. reads_kept s enters t x.0 _ tt reads)
@@ -447,7 +447,7 @@ module _ {s : Session} {t : Trace} {n : ℕ} {old : JournalZone} {b : SealedBloc
     commit_shown fair =
         let stood = shown_of s t known.right (fair_before s commits t fair) in
         record {
-          superblock = stands_kept s commits t 0 _ tt stood.superblock;
+          superblock = superblock_kept s commits t tt stood.superblock;
           journal = inl (record { rest = all_logged vs; all = next; stands = rest_on fair });
           filling = new_reads_kept s commits t (filled t) (spares_all commits (λ x. tt) (filled t)) stood.filling;
         }
@@ -532,7 +532,7 @@ module _ {s : Session} {t : Trace} {n : ℕ} {old : JournalZone} {b : SealedBloc
 
     seal_shown : IsFair s (Seals ∷ t) → Shown s (Seals ∷ t)
     seal_shown fair = record {
-      superblock = stands_kept s Seals t 0 _ tt (shown_of s t known.right (fair_before s Seals t fair)).superblock;
+      superblock = superblock_kept s Seals t tt (shown_of s t known.right (fair_before s Seals t fair)).superblock;
       journal = inr (record { block = filled t; older = sealed t; sealed_is = refl; committed_is = sym all_there.0; stands = inl (rest_sealed fair) });
       filling = tt;
     }

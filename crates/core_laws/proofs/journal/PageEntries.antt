@@ -10,7 +10,7 @@ use Rattle.core_model.specs.DeviceRules.{page_at}
 use Rattle.core_laws.proofs.journal.LoggedEntries.{logged_makes}
 use Rattle.core_laws.proofs.kept.ActKept.{carries_page, vio_over}
 use Rattle.core_laws.proofs.kept.Spared.{below_kept, quiet_kept}
-use Rattle.core_laws.proofs.kept.StandsOn.{AreElsewhere, SparesMap, journal_kept, new_reads_kept, reads_kept, spares_all, stands_kept}
+use Rattle.core_laws.proofs.kept.StandsOn.{AreElsewhere, SparesMap, journal_kept, new_reads_kept, reads_kept, spares_all, superblock_kept}
 use Rattle.core_laws.proofs.trace.DeskOfTrace.{shown_of}
 use Rattle.core_laws.proofs.trace.PagesOfTrace.{dropped_entered, put_there, unlinked_still}
 
@@ -41,7 +41,7 @@ module _ (s : Session) (t : Trace) (v : Vio) (page : PageId) (x : Pbn) (right : 
       let before = fair_before s enters t fair in
       let stood = shown_of s t right before in
       record {
-        superblock = stands_kept s enters t 0 _ tt stood.superblock;
+        superblock = superblock_kept s enters t tt stood.superblock;
         journal = journal_kept s enters t (record { sealed_same = refl; committed_same = refl }) tt spared stood.journal;
         filling = (reads_kept s enters t x.0 _ tt (read_now before), new_reads_kept s enters t (filled t) (spares_all enters (λ y. tt) (filled t)) stood.filling);
       }

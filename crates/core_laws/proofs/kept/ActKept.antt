@@ -1,6 +1,6 @@
 -- What each act may use and what it owes.
 use Rattle.std.proofs.Common.{◌≡◌, ℕ, ◌+◌, ◌<◌, ◌≤◌, true, Option, None, Some, IsNone, List, [], ◌∷◌, ◌++◌, refl, sym, subst, inl, inr, arith, false}
-use Rattle.core_laws.proofs.Common.{all_of, AllByRecursion, begun, Calls, Carries, claims, Commits, DataOk, DeviceZone, done, entered, Enters, Fails, fair_before, filled, GivesRight, Happening, holds, IsFair, IsSession, IsWrite, Item, ItemOk, kept_by, KeptEach, KeptOk, lines, logged_of, LogicalZone, none_is, not_both, option_cases, Pbn, Phase, place_of, Placed, places, Post, RightTrace, same_Some, same_tells, sealed, Seals, Session, Shown, total, Trace, Vio, VioOk, Writer, zone_count, zone_number, ZoneData, cases_Bool, has_taken, Says, Flushes, Takes, journaled}
+use Rattle.core_laws.proofs.Common.{all_of, AllByRecursion, begun, Calls, Carries, claims, Commits, DataOk, DeviceZone, done, entered, Enters, Fails, fair_before, filled, GivesRight, Happening, holds, IsFair, IsSession, IsWrite, Item, ItemOk, kept_by, KeptEach, KeptOk, lines, logged_of, LogicalZone, none_is, not_both, option_cases, Pbn, Phase, place_of, Placed, places, Post, RightTrace, same_Some, same_tells, sealed, Seals, Session, Shown, total, Trace, Vio, VioOk, Writer, zone_count, zone_number, ZoneData, cases_Bool, has_taken, Says, Flushes, Takes, journaled, superblock_stage}
 use Rattle.blk_base.specs.declared.place.Mapping.TheVariants.{At}
 use Rattle.data_vio.specs.declared.items.Item.TheVariants as item
 use Rattle.data_vio.specs.declared.items.Phase.TheVariants as phase
@@ -8,6 +8,7 @@ use Rattle.core_model.specs.declared.zones.ZoneData.TheVariants as at
 use Rattle.blk_base.specs.declared.place.PageId.{PageId}
 use Rattle.core_model.specs.Facts.{CarriesFor, CarriesOwn, CarriesPage}
 use Rattle.core_model.specs.Legal.{ComesAfter}
+use Rattle.core_model.specs.Sessions.{SuperblockStands}
 use Rattle.core_laws.proofs.trace.DeskOfTrace.{logged_has, entered_writes, done_is_entered}
 use Rattle.core_laws.proofs.trace.PlacesOfTrace.{IsBegun, places_begun}
 use Rattle.core_laws.proofs.trace.Growth.{begun_stays}
@@ -15,7 +16,7 @@ use Rattle.core_laws.proofs.kept.Frame.{kept_each}
 use Rattle.core_laws.proofs.kept.Keys.{Key, OfRequest, OfAddress, OfJournal, OfPage, token_of, Spares, happens_in, IfAny, Clears, clears_with, mine_or_spared, own_name, holder_one, maker_one}
 use Rattle.core_laws.proofs.kept.Spared.{about}
 use Rattle.core_laws.proofs.tokens.Known.{LeasedIn}
-use Rattle.core_laws.proofs.kept.StandsOn.{AreElsewhere, SparesBlock, SparesBlocks, SparesJournal, SparesMap, SparesSealed, entered_parts, journal_kept, new_reads_kept, spares_all, spares_parts, stands_kept}
+use Rattle.core_laws.proofs.kept.StandsOn.{AreElsewhere, SparesBlock, SparesBlocks, SparesJournal, SparesMap, SparesSealed, entered_parts, journal_kept, new_reads_kept, spares_all, spares_parts, superblock_kept}
 
 -- In the hands of an act is what the front of the inbox weighs for, and what the zone's own data does. A request that isn't
 -- begun is in nobody's.
@@ -82,16 +83,20 @@ plain_journal s t (Fails w c kept) is = absurd is
 plain_journal s t other is = (record { sealed_same = refl; committed_same = refl }, tt, ((λ a x named. tt), spares_all other (λ x. tt) (journaled t)))
 
 -- What stands where the session is fair stands after a happening that writes no block of it, and adds nothing to the journal.
-pub shown_kept : (s : Session) (h : Happening) (t : Trace) → SparesSealed s h t → filled (h ∷ t) ≡ filled t → SparesJournal s h → SparesMap s h (journaled t) → SparesBlock h 0 → (IsFair s t → Shown s t)
-    → IsFair s (h ∷ t) → Shown s (h ∷ t)
-shown_kept s h t same filling journal blocks first before fair =
+pub shown_with : (s : Session) (h : Happening) (t : Trace) → SparesSealed s h t → filled (h ∷ t) ≡ filled t → SparesJournal s h → SparesMap s h (journaled t)
+    → (SuperblockStands s t (superblock_stage t) → SuperblockStands s (h ∷ t) (superblock_stage (h ∷ t))) → (IsFair s t → Shown s t) → IsFair s (h ∷ t) → Shown s (h ∷ t)
+shown_with s h t same filling journal blocks superblock before fair =
     let k = before (fair_before s h t fair) in
     let entries = spares_parts h (filled t) (all_of (sealed t)) (subst (SparesBlocks h) (entered_parts t) blocks.1) in
     record {
-      superblock = stands_kept s h t 0 _ first k.superblock;
+      superblock = superblock k.superblock;
       journal = journal_kept s h t same journal (blocks.0, entries.1) k.journal;
       filling = rw filling (new_reads_kept s h t (filled t) entries.0 k.filling);
     }
+
+pub shown_kept : (s : Session) (h : Happening) (t : Trace) → SparesSealed s h t → filled (h ∷ t) ≡ filled t → SparesJournal s h → SparesMap s h (journaled t) → SparesBlock h 0 → (IsFair s t → Shown s t)
+    → IsFair s (h ∷ t) → Shown s (h ∷ t)
+shown_kept s h t same filling journal blocks first = shown_with s h t same filling journal blocks (superblock_kept s h t first)
 
 pub shown_plain : (s : Session) (t : Trace) (h : Happening) → IsPlain h → (IsFair s t → Shown s t) → IsFair s (h ∷ t) → Shown s (h ∷ t)
 shown_plain s t (Enters e) is k = absurd is

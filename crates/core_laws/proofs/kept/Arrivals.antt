@@ -13,7 +13,8 @@ use Rattle.core_model.specs.Arrivals.{arrivals_at, drew_in, only_of, sent_to_zon
 use Rattle.core_model.specs.DeskRules as desk
 use Rattle.core_model.specs.DeskRules.{DeskBegins, DeskServes, first_zone, is_marked, vio_of, woken, mark_of_vio}
 use Rattle.core_model.specs.DeviceRules as device
-use Rattle.core_model.specs.DeviceRules.{DeviceServes, DeviceWorks, stop_notices}
+use Rattle.core_model.specs.DeviceRules.{Announces, DeviceServes, DeviceWorks, stop_notices}
+use Rattle.data_vio.specs.Phases.{AtDevice, row}
 use Rattle.core_model.specs.JournalRules as journal
 use Rattle.core_model.specs.PhysicalRules as physical
 use Rattle.core_model.specs.PhysicalRules.{PhysicalServes}
@@ -159,19 +160,31 @@ module _ (s : Session) (t : Trace) where
       still refl (rw q (every-append Still (all_dropped b.vios) (all_dropped old.filling ++ all_refused s.sizes _ old.waiting) (dropped_still b.vios)
       (every-append Still (all_dropped old.filling) (all_refused s.sizes _ old.waiting) (dropped_still old.filling) (refused_still s.sizes _ old.waiting)))) (rw m refl) (λ zone. rw m refl)
 
+  -- what waits for the superblock is none that has yet to draw its place
+  at_device : (v : Vio) (q : Phase) → (row q).zone ≡ AtDevice → arriving q v.request ≡ []
+  at_device v phase.Arrive is = absurd cc
+  at_device v other is = refl
+
+  announce_course : (old : DeviceZone) (front : Item) (w : Writer) (new : DeviceZone) (made : Trace) (posts : List Post) → arrival front ≡ [] → Announces s.sizes old front w new made posts
+      → Course s t (at.Device old) (front ∷ []) made posts
+  announce_course old front w new made posts none (Announces.succeeds call is goes n m q) = still (ap (λ (us : List Writer). us ++ []) none) (rw q (none, tt)) (rw m refl) (λ zone. rw m refl)
+  announce_course old front w new made posts none (Announces.fails call kept is goes n m q) = still (ap (λ (us : List Writer). us ++ []) none) (rw q (none, notices_still (notified s.sizes))) (rw m refl) (λ zone. rw m refl)
+
   device_course : (old : DeviceZone) (v : Vio) (new : DeviceZone) (made : Trace) (posts : List Post) → DeviceServes s.sizes old v new made posts → Course s t (at.Device old) (item.Request v ∷ []) made posts
-  device_course old v new made posts (device.stores x p to s inside n m q) = still (past v p) (rw q (refl, tt)) (rw m refl) (λ zone. rw m refl)
-  device_course old v new made posts (device.store_fails x kept p to up inside n m q) = still (past v p) (rw q (refl, notices_still (notified s.sizes))) (rw m refl) (λ zone. rw m refl)
+  device_course old v new made posts (device.announces there act) = announce_course old (item.Request v) v.request new made posts (at_device v v.phase there) act
+  device_course old v new made posts (device.stores x p to s durable inside n m q) = still (past v p) (rw q (refl, tt)) (rw m refl) (λ zone. rw m refl)
+  device_course old v new made posts (device.store_fails x kept p to up durable inside n m q) = still (past v p) (rw q (refl, notices_still (notified s.sizes))) (rw m refl) (λ zone. rw m refl)
   device_course old v new made posts (device.store_unmade p s n m q) = still (past v p) (rw q (refl, tt)) (rw m refl) (λ zone. rw m refl)
-  device_course old v new made posts (device.loads x bytes p from inside n m q) = still (past v p) (rw q (refl, tt)) (rw m refl) (λ zone. rw m refl)
-  device_course old v new made posts (device.load_fails x bytes kept p from inside n m q) = still (past v p) (rw q (refl, tt)) (rw m refl) (λ zone. rw m refl)
-  device_course old v new made posts (device.flushes p s n m q) = still (past v p) (rw q (refl, tt)) (rw m refl) (λ zone. rw m refl)
-  device_course old v new made posts (device.flush_fails kept p up n m q) = still (past v p) (rw q (refl, notices_still (notified s.sizes))) (rw m refl) (λ zone. rw m refl)
+  device_course old v new made posts (device.loads x bytes p from ready inside n m q) = still (past v p) (rw q (refl, tt)) (rw m refl) (λ zone. rw m refl)
+  device_course old v new made posts (device.load_fails x bytes kept p from ready inside n m q) = still (past v p) (rw q (refl, tt)) (rw m refl) (λ zone. rw m refl)
+  device_course old v new made posts (device.flushes p s durable n m q) = still (past v p) (rw q (refl, tt)) (rw m refl) (λ zone. rw m refl)
+  device_course old v new made posts (device.flush_fails kept p up durable n m q) = still (past v p) (rw q (refl, notices_still (notified s.sizes))) (rw m refl) (λ zone. rw m refl)
   device_course old v new made posts (device.flush_unmade p s n m q) = still (past v p) (rw q (refl, tt)) (rw m refl) (λ zone. rw m refl)
 
   work_course : (old : DeviceZone) (b : SealedBlock) (new : DeviceZone) (made : Trace) (posts : List Post) → DeviceWorks s.sizes old b new made posts → Course s t (at.Device old) (item.Block b ∷ []) made posts
-  work_course old b new made posts (device.makes call slot v vs first i c s n m q) = still refl (rw q (refl, tt)) (rw m refl) (λ zone. rw m refl)
-  work_course old b new made posts (device.fails call slot kept v vs w i c up n m q) = still refl (rw q (refl, notices_still (notified s.sizes))) (rw m refl) (λ zone. rw m refl)
+  work_course old b new made posts (device.announces v vs first there act) = announce_course old (item.Block b) v.request new made posts refl act
+  work_course old b new made posts (device.makes call slot v vs first i c s durable n m q) = still refl (rw q (refl, tt)) (rw m refl) (λ zone. rw m refl)
+  work_course old b new made posts (device.fails call slot kept v vs w i c up durable n m q) = still refl (rw q (refl, notices_still (notified s.sizes))) (rw m refl) (λ zone. rw m refl)
   work_course old b new made posts (device.unmade call slot v vs first c s n m q) = still refl (rw q (refl, tt)) (rw m refl) (λ zone. rw m refl)
 
 -- a request that goes to its home is posted to one logical zone

@@ -1,8 +1,9 @@
 -- A logical zone draws one place a step at most, and the device's zone makes one call.
 use Rattle.std.proofs.Common.{ℕ, ◌+◌, ◌≡◌, ◌≤◌, Option, None, Some, List, refl, ap, arith}
-use Rattle.core_laws.proofs.Common.{DeviceZone, Item, LogicalZone, Post, SealedBlock, Sizes, Trace, Vio, ZoneData, made_by}
+use Rattle.core_laws.proofs.Common.{DeviceZone, Item, LogicalZone, Post, SealedBlock, Sizes, Trace, Vio, ZoneData, made_by, Writer}
 use Rattle.core_model.specs.DeviceRules as device
-use Rattle.core_model.specs.DeviceRules.{DeviceServes, DeviceWorks}
+use Rattle.core_model.specs.DeviceRules.{Announces, DeviceServes, DeviceWorks}
+use Rattle.data_vio.specs.declared.items.Item.TheVariants as item
 use Rattle.core_model.specs.LogicalRules as logical
 use Rattle.core_model.specs.LogicalRules.{LogicalServes, first_for, passed_to}
 use Rattle.core_model.specs.Steps as steps
@@ -30,19 +31,25 @@ module _ (sizes : Sizes) where
   logical_once old v new made posts (logical.aborts p bare n m q) = rw n (omega (arith, passed_next v.at.0 old (first_for v.at.0 old.waiting)))
   logical_once old v new made posts (logical.aborts_entered p bare n m q) = rw n (omega arith)
 
+  announced_once : (old : DeviceZone) (front : Item) (w : Writer) (new : DeviceZone) (made : Trace) (posts : List Post) → Announces sizes old front w new made posts → new.calls ≤ old.calls + 1
+  announced_once old front w new made posts (Announces.succeeds call is going n m q) = rw n (omega arith)
+  announced_once old front w new made posts (Announces.fails call kept is going n m q) = rw n (omega arith)
+
   device_once : (old : DeviceZone) (v : Vio) (new : DeviceZone) (made : Trace) (posts : List Post) → DeviceServes sizes old v new made posts → new.calls ≤ old.calls + 1
-  device_once old v new made posts (device.stores x p to going inside n m q) = rw n (omega arith)
-  device_once old v new made posts (device.store_fails x kept p to going inside n m q) = rw n (omega arith)
+  device_once old v new made posts (device.announces there act) = announced_once old (item.Request v) v.request new made posts act
+  device_once old v new made posts (device.stores x p to going durable inside n m q) = rw n (omega arith)
+  device_once old v new made posts (device.store_fails x kept p to going durable inside n m q) = rw n (omega arith)
   device_once old v new made posts (device.store_unmade p stopped n m q) = rw n (omega arith)
-  device_once old v new made posts (device.loads x bytes p from inside n m q) = rw n (omega arith)
-  device_once old v new made posts (device.load_fails x bytes kept p from inside n m q) = rw n (omega arith)
-  device_once old v new made posts (device.flushes p going n m q) = rw n (omega arith)
-  device_once old v new made posts (device.flush_fails kept p going n m q) = rw n (omega arith)
+  device_once old v new made posts (device.loads x bytes p from ready inside n m q) = rw n (omega arith)
+  device_once old v new made posts (device.load_fails x bytes kept p from ready inside n m q) = rw n (omega arith)
+  device_once old v new made posts (device.flushes p going durable n m q) = rw n (omega arith)
+  device_once old v new made posts (device.flush_fails kept p going durable n m q) = rw n (omega arith)
   device_once old v new made posts (device.flush_unmade p stopped n m q) = rw n (omega arith)
 
   work_once : (old : DeviceZone) (b : SealedBlock) (new : DeviceZone) (made : Trace) (posts : List Post) → DeviceWorks sizes old b new made posts → new.calls ≤ old.calls + 1
-  work_once old b new made posts (device.makes call slot v vs first place needs going n m q) = rw n (omega arith)
-  work_once old b new made posts (device.fails call slot kept v vs vios place needs going n m q) = rw n (omega arith)
+  work_once old b new made posts (device.announces v vs first there act) = announced_once old (item.Block b) v.request new made posts act
+  work_once old b new made posts (device.makes call slot v vs first place needs going durable n m q) = rw n (omega arith)
+  work_once old b new made posts (device.fails call slot kept v vs vios place needs going durable n m q) = rw n (omega arith)
   work_once old b new made posts (device.unmade call slot v vs first needs stopped n m q) = rw n (omega arith)
 
   pub made_once : {old new : ZoneData} {front : List Item} {made : Trace} {posts : List Post} → Act sizes old front new made posts → made_by new ≤ made_by old + 1

@@ -6,6 +6,7 @@ use Rattle.blk_base.specs.Limits.{IsGeometry}
 use Rattle.blk_base.specs.Sectors.{zero_block}
 use Rattle.blk_base.specs.declared.request.Request.TheVariants as request
 use Rattle.image_layout.specs.FirstImage.{first_blocks}
+use Rattle.core_model.specs.declared.zones.SuperblockStage.TheVariants.{AsOpened}
 use Rattle.core_model.specs.declared.zones.ZoneData.TheVariants as at
 use Rattle.core_model.specs.Legal.{Legal}
 use Rattle.core_model.specs.Start.{first_log, IsFirstLogical, IsFirstData, IsFirstZone, IsFirst}
@@ -113,7 +114,7 @@ abbrev small_journal : JournalZone
 small_journal = record { notified = false; busy = false; broken = false; log = first_log sizes; filling = []; waiting = []; entered = []; committed = [] }
 
 abbrev small_device : DeviceZone
-small_device = record { stopped = false; calls = 0 }
+small_device = record { stopped = false; calls = 0; superblock = AsOpened }
 
 abbrev pub small_core : Core
 small_core = record {
@@ -158,7 +159,7 @@ small_first = record {
           empty_first 3 (at.Physical small_physical) (record { number_is = refl; notified = refl; free = refl }),
           (
             empty_first 4 (at.Journal small_journal) (record { number_is = refl; notified = refl; busy = refl; broken = refl; log = refl; filling = refl; waiting = refl; entered = refl; committed = refl }),
-            (empty_first 5 (at.Device small_device) (record { number_is = refl; stopped = refl; calls = refl }), tt),
+            (empty_first 5 (at.Device small_device) (record { number_is = refl; stopped = refl; calls = refl; superblock = refl }), tt),
           ),
         ),
       ),

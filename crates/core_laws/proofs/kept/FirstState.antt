@@ -12,7 +12,9 @@ use Rattle.core_model.specs.Arrivals.{arrivals_at}
 use Rattle.core_model.specs.Facts.{PagesOk}
 use Rattle.core_model.specs.Tokens.{making_at, making_token, page_entry_token}
 use Rattle.core_model.specs.Legal.{Legal}
-use Rattle.core_model.specs.Sessions.{HasNoneLeft}
+use Rattle.core_model.specs.Sessions.{HasNoneLeft, IsSuperblock}
+use Rattle.disk_model.specs.Log.{block_at, contents}
+use Rattle.disk_model.proofs.ImageLaws.{all_weaker}
 use Rattle.stop_laws.specs.Journals.{block_of_slot}
 use Rattle.core_model.specs.Streams.{Flows, counted}
 use Rattle.core_model.specs.Start.{IsFirstData, IsFirstZone, IsFirst}
@@ -122,7 +124,8 @@ module _ (s : Session) (session : IsSession s) (as_opened : IsAsOpened s) where
 
   pub shown_at_start : Shown s []
   shown_at_start = record {
-    superblock = as_opened.one_image.only 0 (omega (arith, as_opened.room)) (looked_low s.sizes.geometry 0 (omega arith));
+    superblock = all_weaker (λ content. content ≡ block_at s.image 0) (IsSuperblock s) (contents s.blocks s.before 0) (λ content is. inl is)
+        (as_opened.one_image.only 0 (omega (arith, as_opened.room)) (looked_low s.sizes.geometry 0 (omega arith)));
     journal = inl (record { rest = []; all = refl; stands = at_rest });
     filling = tt;
   }
@@ -208,7 +211,7 @@ module _ (s : Session) (session : IsSession s) where
     answers = subst (λ (b : Bool). RestsAt s [] b j.broken) (sym h.busy) (subst (λ (b : Bool). RestsAt s [] false b) (sym h.broken) (refl, λ fair. at_rest s session fair.opened));
     told = λ closed. absurd (let notified = h.notified in let broken = h.broken in let opened : is_closed j ≡ false = rw (notified, broken) refl in cc);
   }
-  data_at_start n (at.Device d) h = record { number_is = h.number_is; lists = record { calls_is = h.calls; stopped_is = h.stopped }; sound = tt; kept = tt; answers = tt; told = tt }
+  data_at_start n (at.Device d) h = record { number_is = h.number_is; lists = record { calls_is = h.calls; stopped_is = h.stopped; superblock_is = h.superblock }; sound = tt; kept = tt; answers = tt; told = tt }
 
   zone_at_start : (n : ℕ) (z : Zone) → IsFirstZone s n z → ZoneOk s [] n z
   zone_at_start n z f = record {

@@ -1,6 +1,6 @@
 -- A zone that weighs nothing for what a happening is about keeps all its facts. Paid once for all kinds of zone and item.
 use Rattle.std.proofs.Common.{◌≡◌, ◌≢◌, ◌⊎◌, ℕ, ◌≤◌, ◌==◌, Bool, true, false, Some, is_some, List, [], ◌∷◌, ◌++◌, slice_get, refl, ap, sym, ◌∙◌, subst, inl, inr, arith, ◌<◌}
-use Rattle.core_laws.proofs.Common.{all_of, AllBelow, AllByRecursion, Answers, calls, Calls, Commits, durable, desk_number, device_number, drawn, Draws, Each, journaled, Enters, eq-eqb, eqb_tells, every-front, Fails, fair_before, filled, Flushes, Gives, Happening, has_stopped, HasLists, Item, ItemOk, journal_number, kept_by, KeptEach, KeptOk, lines, logical_number, marks, name_of, of_address, Phase, physical_number, places, RestsAt, Says, sealed, Seals, Session, Remaps, Sets, Sizes, taken, Takes, Token, total, total-append, total-get, Trace, Vio, WasTold, weight, Zone, zone_number, zone_of, ZoneData, ZoneOk, Passes, applied, passed, remappings, Remapping}
+use Rattle.core_laws.proofs.Common.{all_of, AllBelow, AllByRecursion, Answers, calls, Calls, Commits, durable, desk_number, device_number, drawn, Draws, Each, journaled, Enters, eq-eqb, eqb_tells, every-front, Fails, fair_before, filled, Flushes, Gives, Happening, has_stopped, HasLists, Item, ItemOk, journal_number, kept_by, KeptEach, KeptOk, lines, logical_number, marks, name_of, of_address, Phase, physical_number, places, RestsAt, Says, sealed, Seals, Session, Remaps, Sets, Sizes, taken, Takes, Token, total, total-append, total-get, Trace, Vio, WasTold, weight, Zone, zone_number, zone_of, ZoneData, ZoneOk, Passes, applied, passed, remappings, Remapping, superblock_stage}
 use Rattle.core_laws.proofs.lists.Between.{every_between}
 use Rattle.vdo_model.specs.FlushMarks.{successes}
 use Rattle.vdo_model.specs.ZoneOrder.{places_in}
@@ -59,10 +59,10 @@ module _ (sizes : Sizes) where
   entries_same Seals t off = absurd (off refl)
   entries_same other t off = (refl, refl, refl, refl)
 
-  device_same : (h : Happening) (t : Trace) → device_number sizes ≢ happens_in sizes h → (calls (h ∷ t) ≡ calls t) × (has_stopped (h ∷ t) ≡ has_stopped t)
+  device_same : (h : Happening) (t : Trace) → device_number sizes ≢ happens_in sizes h → (calls (h ∷ t) ≡ calls t) × (has_stopped (h ∷ t) ≡ has_stopped t) × (superblock_stage (h ∷ t) ≡ superblock_stage t)
   device_same (Calls c) t off = absurd (off refl)
   device_same (Fails w c kept) t off = absurd (off refl)
-  device_same other t off = (refl, refl)
+  device_same other t off = (refl, refl, refl)
 
 module _ (s : Session) (h : Happening) (t : Trace) where
   lists_kept : (d : ZoneData) → zone_number s.sizes (name_of d) ≢ happens_in s.sizes h → HasLists s t d → HasLists s (h ∷ t) d
@@ -85,7 +85,7 @@ module _ (s : Session) (h : Happening) (t : Trace) where
     filling_few = k.filling_few;
     log_is = log_over s t (h ∷ t) j.log same.2 same.3 same.1 k.log_is;
   }
-  lists_kept (at.Device d) off k = let same = device_same s.sizes h t off in record { calls_is = k.calls_is ∙ ap successes (sym same.0); stopped_is = k.stopped_is ∙ sym same.1 }
+  lists_kept (at.Device d) off k = let same = device_same s.sizes h t off in record { calls_is = k.calls_is ∙ ap successes (sym same.0); stopped_is = k.stopped_is ∙ sym same.1; superblock_is = k.superblock_is ∙ sym same.2 }
 
   -- What it was told stays over everything.
   pub told_kept : (d : ZoneData) → WasTold t d → WasTold (h ∷ t) d

@@ -1,7 +1,7 @@
 -- What a zone does with an item, and the desk with none, is fixed, and at the device by how it answered: two acts on the
 -- same keep, make and post the same.
-use Rattle.std.proofs.Common.{ℕ, ◌+◌, ◌≡◌, Bool, true, false, not, ◌&&◌, Option, None, Some, List, [], ◌∷◌, ◌++◌, refl, sym, ap, ◌∙◌}
-use Rattle.core_laws.proofs.Common.{Aborts, Answer, Calls, Commits, Desk, DeviceZone, Draws, Enters, Flushes, Gives, Item, JournalZone, LogicalZone, Passes, Pbn, Phase, PhysicalZone, Post, Says, Request, SealedBlock, Seals, Sets, Sizes, Stage, Takes, Trace, Vio, Writer, ZoneData, ended, gift, logged, notified, request_at, staged, turned}
+use Rattle.std.proofs.Common.{ℕ, ◌+◌, ◌≡◌, Bool, true, false, not, ◌&&◌, Option, None, Some, List, [], ◌∷◌, ◌++◌, refl, sym, ap, ◌∙◌, inl, inr}
+use Rattle.core_laws.proofs.Common.{Aborts, Answer, Calls, Commits, Desk, DeviceZone, Draws, Enters, Flushes, Gives, Item, JournalZone, LogicalZone, Passes, Pbn, Phase, PhysicalZone, Post, Says, Request, SealedBlock, Seals, Sets, Sizes, Stage, Takes, Trace, Vio, Writer, ZoneData, ended, gift, logged, notified, request_at, staged, turned, Call, Fails, SuperblockStage}
 use Rattle.blk_base.specs.declared.place.ZoneId.TheVariants as id
 use Rattle.blk_base.specs.declared.request.Answer.TheVariants as reply
 use Rattle.disk_model.specs.declared.call.Call.TheVariants.{Read}
@@ -11,7 +11,8 @@ use Rattle.data_vio.specs.declared.items.Phase.TheVariants as phase
 use Rattle.data_vio.specs.declared.items.Stage.TheVariants as stage
 use Rattle.core_model.specs.declared.zones.ZoneData.TheVariants as at
 use Rattle.core_model.specs.DeskRules.{BeginsNext, DeskBegins, DeskServes, parks, answers, marks, at_once, first_zone, vio_of, is_notified, is_stopped, is_marked, mark_of_vio}
-use Rattle.core_model.specs.DeviceRules.{DeviceServes, DeviceWorks, counted, halted, stop_notices, next_stage, next_zone}
+use Rattle.core_model.specs.DeviceRules.{Announces, DeviceServes, DeviceWorks, IsReady, counted, halted, stop_notices, next_stage, next_superblock, next_zone, superblock_call}
+use Rattle.core_model.specs.declared.zones.SuperblockStage.TheVariants.{AsOpened, Written, Durable}
 use Rattle.core_model.specs.PhysicalRules.{PhysicalServes}
 use Rattle.core_model.specs.JournalRules.{JournalServes, JournalEnds, is_closed, has_block, has_room, next_block, refused, all_refused, all_again, all_dropped, entered_by, committed_by, sealed_by, hands_out}
 use Rattle.blk_base.specs.declared.place.Mapping.{Mapping}
@@ -220,6 +221,46 @@ end_is sizes j b new made posts (JournalEnds.fails is n m q) = rw (n, m, q, is) 
 abbrev Behind : Type 0
 Behind = DeviceZone × List Post
 
+-- what waits for the superblock, and what the zone does else
+abbrev waiting_at : Sizes → DeviceZone → Item → Bool → SuperblockStage → Trace → Behind → Behind
+waiting_at sizes d front true now made other = other
+waiting_at sizes d front false Durable made other = other
+waiting_at sizes d front false now (Calls call ∷ []) other = (record (counted d) { superblock = next_superblock now }, (id.Device, front) ∷ [])
+waiting_at sizes d front false now made other = (halted d, (id.Device, front) ∷ stop_notices (notified sizes))
+
+announced_is : (sizes : Sizes) (d : DeviceZone) (front : Item) (stopped : Bool) (now : SuperblockStage) (call : Call) (other : Behind) → stopped ≡ false → superblock_call sizes true now ≡ Some call
+    → (record (counted d) { superblock = next_superblock now }, (id.Device, front) ∷ []) ≡ waiting_at sizes d front stopped now (Calls call ∷ []) other
+announced_is sizes d front true now call other goes is = absurd cc
+announced_is sizes d front false AsOpened call other goes is = refl
+announced_is sizes d front false Written call other goes is = refl
+announced_is sizes d front false Durable call other goes is = absurd cc
+
+unannounced_is : (sizes : Sizes) (d : DeviceZone) (front : Item) (stopped : Bool) (now : SuperblockStage) (w : Writer) (call : Call) (kept : Bool) (other : Behind) → stopped ≡ false
+    → superblock_call sizes false now ≡ Some call → (halted d, (id.Device, front) ∷ stop_notices (notified sizes)) ≡ waiting_at sizes d front stopped now (Fails w call kept ∷ []) other
+unannounced_is sizes d front true now w call kept other goes is = absurd cc
+unannounced_is sizes d front false AsOpened w call kept other goes is = refl
+unannounced_is sizes d front false Written w call kept other goes is = refl
+unannounced_is sizes d front false Durable w call kept other goes is = absurd cc
+
+waits_is : (sizes : Sizes) (d : DeviceZone) (front : Item) (w : Writer) (new : DeviceZone) (made : Trace) (posts : List Post) (other : Trace → Behind) → Announces sizes d front w new made posts
+    → (new, posts) ≡ waiting_at sizes d front d.stopped d.superblock made (other made)
+waits_is sizes d front w new made posts other (Announces.succeeds call is goes n m q) = rw (n, m, q) (announced_is sizes d front d.stopped d.superblock call (other (Calls call ∷ [])) goes is)
+waits_is sizes d front w new made posts other (Announces.fails call kept is goes n m q) = rw (n, m, q) (unannounced_is sizes d front d.stopped d.superblock w call kept (other (Fails w call kept ∷ [])) goes is)
+
+stopped_is : (sizes : Sizes) (d : DeviceZone) (front : Item) (now : SuperblockStage) (made : Trace) (other : Behind) (stopped : Bool) → stopped ≡ true → waiting_at sizes d front stopped now made other ≡ other
+stopped_is sizes d front now made other true is = refl
+stopped_is sizes d front now made other false is = absurd cc
+
+durable_is : (sizes : Sizes) (d : DeviceZone) (front : Item) (made : Trace) (other : Behind) (stopped : Bool) (now : SuperblockStage) → now ≡ Durable → waiting_at sizes d front stopped now made other ≡ other
+durable_is sizes d front made other true now is = refl
+durable_is sizes d front made other false AsOpened is = absurd cc
+durable_is sizes d front made other false Written is = absurd cc
+durable_is sizes d front made other false Durable is = refl
+
+ready_is : (sizes : Sizes) (d : DeviceZone) (front : Item) (made : Trace) (other : Behind) → IsReady d → waiting_at sizes d front d.stopped d.superblock made other ≡ other
+ready_is sizes d front made other (inl stops) = stopped_is sizes d front d.superblock made other d.stopped stops
+ready_is sizes d front made other (inr durable) = durable_is sizes d front made other d.stopped d.superblock durable
+
 abbrev store_at : Sizes → DeviceZone → Vio → Bool → Trace → Behind
 store_at sizes d v true made = (d, (id.Physical 0, item.Request (ended phase.AbortClaim reply.Stopped v)) ∷ [])
 store_at sizes d v false (Calls call ∷ []) = (counted d, (id.Journal, item.Request (turned phase.Enter v)) ∷ [])
@@ -240,15 +281,19 @@ device_at sizes d v made phase.Load = load_at d v made
 device_at sizes d v made phase.Flush = flush_at sizes d v d.stopped made
 device_at sizes d v made other = (d, [])
 
+abbrev served_at : Sizes → DeviceZone → Vio → Trace → Behind
+served_at sizes d v made = waiting_at sizes d (item.Request v) d.stopped d.superblock made (device_at sizes d v made v.phase)
+
 device_is : (sizes : Sizes) (d : DeviceZone) (v : Vio) (new : DeviceZone) (made : Trace) (posts : List Post) → DeviceServes sizes d v new made posts
-    → (new, posts) ≡ device_at sizes d v made v.phase
-device_is sizes d v new made posts (DeviceServes.stores x is to goes inside n m q) = rw (n, m, q, is, goes) refl
-device_is sizes d v new made posts (DeviceServes.store_fails x kept is to goes inside n m q) = rw (n, m, q, is, goes) refl
+    → (new, posts) ≡ served_at sizes d v made
+device_is sizes d v new made posts (DeviceServes.announces there act) = waits_is sizes d (item.Request v) v.request new made posts (λ m. device_at sizes d v m v.phase) act
+device_is sizes d v new made posts (DeviceServes.stores x is to goes durable inside n m q) = rw (n, m, q, is, goes, durable) refl
+device_is sizes d v new made posts (DeviceServes.store_fails x kept is to goes durable inside n m q) = rw (n, m, q, is, goes, durable) refl
 device_is sizes d v new made posts (DeviceServes.store_unmade is stops n m q) = rw (n, m, q, is, stops) refl
-device_is sizes d v new made posts (DeviceServes.loads x bytes is from inside n m q) = rw (n, m, q, is) refl
-device_is sizes d v new made posts (DeviceServes.load_fails x bytes kept is from inside n m q) = rw (n, m, q, is) refl
-device_is sizes d v new made posts (DeviceServes.flushes is goes n m q) = rw (n, m, q, is, goes) refl
-device_is sizes d v new made posts (DeviceServes.flush_fails kept is goes n m q) = rw (n, m, q, is, goes) refl
+device_is sizes d v new made posts (DeviceServes.loads x bytes is from ready inside n m q) = rw (ready_is sizes d (item.Request v) made (device_at sizes d v made v.phase) ready, n, m, q, is) refl
+device_is sizes d v new made posts (DeviceServes.load_fails x bytes kept is from ready inside n m q) = rw (ready_is sizes d (item.Request v) made (device_at sizes d v made v.phase) ready, n, m, q, is) refl
+device_is sizes d v new made posts (DeviceServes.flushes is goes durable n m q) = rw (n, m, q, is, goes, durable) refl
+device_is sizes d v new made posts (DeviceServes.flush_fails kept is goes durable n m q) = rw (n, m, q, is, goes, durable) refl
 device_is sizes d v new made posts (DeviceServes.flush_unmade is stops n m q) = rw (n, m, q, is, stops) refl
 
 abbrev work_at : Sizes → DeviceZone → SealedBlock → Bool → Trace → Behind
@@ -256,10 +301,14 @@ work_at sizes d b true made = (d, (id.Journal, item.Block (staged stage.Fail b))
 work_at sizes d b false (Calls call ∷ []) = (counted d, (next_zone b.stage, item.Block (staged (next_stage b.stage) b)) ∷ [])
 work_at sizes d b false other = (halted d, (id.Journal, item.Block (staged stage.Fail b)) ∷ stop_notices (notified sizes))
 
+abbrev worked_at : Sizes → DeviceZone → SealedBlock → Trace → Behind
+worked_at sizes d b made = waiting_at sizes d (item.Block b) d.stopped d.superblock made (work_at sizes d b d.stopped made)
+
 work_is : (sizes : Sizes) (d : DeviceZone) (b : SealedBlock) (new : DeviceZone) (made : Trace) (posts : List Post) → DeviceWorks sizes d b new made posts
-    → (new, posts) ≡ work_at sizes d b d.stopped made
-work_is sizes d b new made posts (DeviceWorks.makes call slot v vs first its calls goes n m q) = rw (n, m, q, goes) refl
-work_is sizes d b new made posts (DeviceWorks.fails call slot kept v vs vios its calls goes n m q) = rw (n, m, q, goes) refl
+    → (new, posts) ≡ worked_at sizes d b made
+work_is sizes d b new made posts (DeviceWorks.announces v vs first there act) = waits_is sizes d (item.Block b) v.request new made posts (λ m. work_at sizes d b d.stopped m) act
+work_is sizes d b new made posts (DeviceWorks.makes call slot v vs first its calls goes durable n m q) = rw (n, m, q, goes, durable) refl
+work_is sizes d b new made posts (DeviceWorks.fails call slot kept v vs vios its calls goes durable n m q) = rw (n, m, q, goes, durable) refl
 work_is sizes d b new made posts (DeviceWorks.unmade call slot v vs first calls stops n m q) = rw (n, m, q, stops) refl
 
 -- two results are the same
@@ -286,12 +335,12 @@ begin_one sizes desk new new' made made' posts posts' a b =
 device_one : (sizes : Sizes) (d new new' : DeviceZone) (v : Vio) (made made' : Trace) (posts posts' : List Post)
     → DeviceServes sizes d v new made posts → DeviceServes sizes d v new' made' posts' → made ≡ made' → Same (at.Device new) (at.Device new') made made' posts posts'
 device_one sizes d new new' v made made' posts posts' a b is =
-    same_behind new new' made made' posts posts' (λ m. device_at sizes d v m v.phase) is (device_is sizes d v new made posts a) (device_is sizes d v new' made' posts' b)
+    same_behind new new' made made' posts posts' (λ m. served_at sizes d v m) is (device_is sizes d v new made posts a) (device_is sizes d v new' made' posts' b)
 
 work_one : (sizes : Sizes) (d new new' : DeviceZone) (b : SealedBlock) (made made' : Trace) (posts posts' : List Post)
     → DeviceWorks sizes d b new made posts → DeviceWorks sizes d b new' made' posts' → made ≡ made' → Same (at.Device new) (at.Device new') made made' posts posts'
 work_one sizes d new new' b made made' posts posts' x y is =
-    same_behind new new' made made' posts posts' (work_at sizes d b d.stopped) is (work_is sizes d b new made posts x) (work_is sizes d b new' made' posts' y)
+    same_behind new new' made made' posts posts' (λ m. worked_at sizes d b m) is (work_is sizes d b new made posts x) (work_is sizes d b new' made' posts' y)
 
 -- Two acts of a zone on one item, or of the desk on none, keep, make and post the same; at the device those that had the
 -- same answer of it.

@@ -2,7 +2,7 @@
 use Rattle.std.proofs.Common.{◌≡◌, ℕ, ◌<◌, ◌≤◌, true, false, None, Some, Option, List, [], ◌∷◌, ◌++◌, length, slice_get, refl, ap, sym, ◌∙◌, subst, inl, inr, arith}
 use Rattle.std.proofs.lemmas.Option.{slice_get_within}
 use Rattle.core_laws.proofs.journal.LogLaws.{has_next, is_sealable}
-use Rattle.core_laws.proofs.Common.{HasAddress, all_logged, all_of, AllByRecursion, Answer, Asks, Call, cases_Bool, DataOk, Desk, desk_number, device_number, DeviceZone, IsForBlock, IsFresh, IsServed, IsSession, IsToFresh, IsToInside, Item, ItemOk, journal_number, JournalLists, JournalZone, logical_number, LogicalZone, Mapping, MayReply, notified_zones, option_cases, Pbn, Phase, physical_number, PhysicalZone, Post, Request, request_at, Script, sealed, SealedBlock, Session, some_of, Stage, StandsAt, Trace, Vio, VioOk, Writer, Zone, zone_at, zone_count, zone_number, zone_of, zone_of_stage, ZoneData, applied, durable}
+use Rattle.core_laws.proofs.Common.{HasAddress, all_logged, all_of, AllByRecursion, Answer, Asks, Call, cases_Bool, DataOk, Desk, desk_number, device_number, DeviceZone, IsForBlock, IsFresh, IsServed, IsSession, IsToFresh, IsToInside, Item, ItemOk, journal_number, JournalLists, JournalZone, logical_number, LogicalZone, Mapping, MayReply, notified_zones, option_cases, Pbn, Phase, physical_number, PhysicalZone, Post, Request, request_at, Script, sealed, SealedBlock, Session, some_of, Stage, StandsAt, Trace, Vio, VioOk, Writer, Zone, zone_at, zone_count, zone_number, zone_of, zone_of_stage, ZoneData, applied, durable, SuperblockStage}
 use Rattle.blk_base.specs.Regions.{journal_slot_of}
 use Rattle.blk_base.specs.declared.request.Answer.TheVariants as reply
 use Rattle.blk_base.specs.declared.request.Request.TheVariants as request
@@ -14,7 +14,10 @@ use Rattle.data_vio.specs.declared.items.Phase.TheVariants as phase
 use Rattle.data_vio.specs.declared.items.Stage.TheVariants as stage
 use Rattle.core_model.specs.declared.zones.ZoneData.TheVariants as at
 use Rattle.core_model.specs.DeskRules.{DeskBegins, DeskServes, at_once, vio_of, is_marked, is_stopped, is_notified}
-use Rattle.core_model.specs.DeviceRules.{DeviceServes, DeviceWorks, IsInside, call_of, journal_bytes}
+use Rattle.blk_base.specs.declared.place.ZoneId.TheVariants as id
+use Rattle.data_vio.specs.Phases.{AtDevice, row, stage_row}
+use Rattle.core_model.specs.DeviceRules.{Announces, DeviceServes, DeviceWorks, IsInside, call_of, journal_bytes, superblock_call}
+use Rattle.core_model.specs.declared.zones.SuperblockStage.TheVariants.{AsOpened, Written, Durable}
 use Rattle.core_model.specs.PhysicalRules.{PhysicalServes}
 use Rattle.core_model.specs.JournalRules.{JournalServes, JournalEnds, is_closed, has_block, has_room}
 use Rattle.core_model.specs.Legal.{Legal}
@@ -163,12 +166,24 @@ module _ (s : Session) (session : IsSession s) (t : Trace) where
       let some = ap length fills in
       (_, _, _, steps.ends (JournalEnds.seals v vs is are fills (is_sealable s t j.log lists.log_is (omega (arith, few, some)) left) refl refl refl))
 
-  -- the device
+  -- the device: the session is stopped, or the superblock is durable, or its next call comes first
+  when_ready : (d : DeviceZone) {X : Type 0} → (d.stopped ≡ true → X) → (d.stopped ≡ false → d.superblock ≡ Durable → X)
+      → ((call : Call) → superblock_call s.sizes true d.superblock ≡ Some call → d.stopped ≡ false → X) → X
+  when_ready d {X} stopped durable waits = elim (cases_Bool d.stopped) [ inl stops ↦ stopped stops | inr goes ↦ by_stage d.superblock refl goes ]
+    where
+      by_stage : (now : SuperblockStage) → d.superblock ≡ now → d.stopped ≡ false → X
+      by_stage AsOpened is goes = waits _ (ap (superblock_call s.sizes true) is) goes
+      by_stage Written is goes = waits _ (ap (superblock_call s.sizes true) is) goes
+      by_stage Durable is goes = durable goes is
+
+  announces : (d : DeviceZone) (v : Vio) → (row v.phase).zone ≡ AtDevice → (call : Call) → superblock_call s.sizes true d.superblock ≡ Some call → d.stopped ≡ false → HasAct s.sizes (at.Device d) (item.Request v ∷ [])
+  announces d v there call is goes = (_, _, _, steps.calls (DeviceServes.announces there (Announces.succeeds call is goes refl refl refl)))
+
   stores : (d : DeviceZone) (v : Vio) (x : Pbn) → v.phase ≡ phase.Store → v.new ≡ At x → IsInside s.sizes x → HasAct s.sizes (at.Device d) (item.Request v ∷ [])
-  stores d v x is to inside = elim (cases_Bool d.stopped) [
-    | inl stopped ↦ (_, _, _, steps.calls (DeviceServes.store_unmade is stopped refl refl refl))
-    | inr goes ↦ (_, _, _, steps.calls (DeviceServes.stores x is to goes inside refl refl refl))
-  ]
+  stores d v x is to inside = when_ready d
+      (λ stopped. (_, _, _, steps.calls (DeviceServes.store_unmade is stopped refl refl refl)))
+      (λ goes durable. (_, _, _, steps.calls (DeviceServes.stores x is to goes durable inside refl refl refl)))
+      (announces d v (ap (λ q. (row q).zone) is))
 
   stores_by : (d : DeviceZone) (v : Vio) (m : Mapping) → v.phase ≡ phase.Store → v.new ≡ m → IsToFresh s m → HasAct s.sizes (at.Device d) (item.Request v ∷ [])
   stores_by d v (At x) is to fresh = stores d v x is to fresh.inside
@@ -176,27 +191,36 @@ module _ (s : Session) (session : IsSession s) (t : Trace) where
   stores_by d v Zero is to fresh = absurd fresh
 
   loads_by : (d : DeviceZone) (v : Vio) (m : Mapping) → v.phase ≡ phase.Load → v.old ≡ m → IsToInside s m → HasAct s.sizes (at.Device d) (item.Request v ∷ [])
-  loads_by d v (At x) is from inside = (_, _, _, steps.calls (DeviceServes.loads x [] is from inside refl refl refl))
+  loads_by d v (At x) is from inside = when_ready d
+      (λ stopped. (_, _, _, steps.calls (DeviceServes.loads x [] is from (inl stopped) inside refl refl refl)))
+      (λ goes durable. (_, _, _, steps.calls (DeviceServes.loads x [] is from (inr durable) inside refl refl refl)))
+      (announces d v (ap (λ q. (row q).zone) is))
   loads_by d v Unmapped is from inside = absurd inside
   loads_by d v Zero is from inside = absurd inside
 
   flushes : (d : DeviceZone) (v : Vio) → v.phase ≡ phase.Flush → HasAct s.sizes (at.Device d) (item.Request v ∷ [])
-  flushes d v is = elim (cases_Bool d.stopped) [
-    | inl stopped ↦ (_, _, _, steps.calls (DeviceServes.flush_unmade is stopped refl refl refl))
-    | inr goes ↦ (_, _, _, steps.calls (DeviceServes.flushes is goes refl refl refl))
-  ]
+  flushes d v is = when_ready d
+      (λ stopped. (_, _, _, steps.calls (DeviceServes.flush_unmade is stopped refl refl refl)))
+      (λ goes durable. (_, _, _, steps.calls (DeviceServes.flushes is goes durable refl refl refl)))
+      (announces d v (ap (λ q. (row q).zone) is))
 
   module _ (d : DeviceZone) (b : SealedBlock) where
     abbrev slot : Pbn
     slot = record { 0 = block_of_slot (journal_slot_of s.sizes.geometry b.sequence) }
 
+    there : (q : Stage) (call : Call) → call_of s.sizes b slot true q ≡ Some call → (stage_row q).zone ≡ id.Device
+    there stage.Cover call is = refl
+    there stage.Write call is = refl
+    there stage.Harden call is = refl
+    there other call is = absurd cc
+
     works : (made unmade : Call) (vios : List Vio) → b.vios ≡ vios → 0 < length vios → call_of s.sizes b slot true b.stage ≡ Some made → call_of s.sizes b slot false b.stage ≡ Some unmade
         → HasAct s.sizes (at.Device d) (item.Block b ∷ [])
     works made unmade [] are some does fails = absurd (omega (arith, some))
-    works made unmade (v ∷ vs) are some does fails = elim (cases_Bool d.stopped) [
-      | inl stopped ↦ (_, _, _, steps.works (DeviceWorks.unmade unmade slot v vs are fails stopped refl refl refl))
-      | inr goes ↦ (_, _, _, steps.works (DeviceWorks.makes made slot v vs are refl does goes refl refl refl))
-    ]
+    works made unmade (v ∷ vs) are some does fails = when_ready d
+        (λ stopped. (_, _, _, steps.works (DeviceWorks.unmade unmade slot v vs are fails stopped refl refl refl)))
+        (λ goes durable. (_, _, _, steps.works (DeviceWorks.makes made slot v vs are refl does goes durable refl refl refl)))
+        (λ call is goes. (_, _, _, steps.works (DeviceWorks.announces v vs are (there b.stage made does) (Announces.succeeds call is goes refl refl refl))))
 
     flushes_block : (stage_is : Stage) → b.stage ≡ stage_is → call_of s.sizes b slot true stage_is ≡ Some (call.Flush true) → call_of s.sizes b slot false stage_is ≡ Some (call.Flush false) → 0 < length b.vios
         → HasAct s.sizes (at.Device d) (item.Block b ∷ [])

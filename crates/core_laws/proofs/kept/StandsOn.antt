@@ -1,15 +1,17 @@
 -- What stands on the device goes on over each call that misses it.
 use Rattle.std.proofs.Common.{◌≡◌, ◌≢◌, ◌⊎◌, ℕ, ◌<◌, Bool, true, false, List, [], ◌∷◌, ◌++◌, refl, inl, inr, subst, sym, ap, ◌∙◌, arith}
-use Rattle.core_laws.proofs.Common.{AllByRecursion, AreAllThere, AtRest, Call, Calls, ComesLast, Enters, Fails, Happening, HasBlocks, Logged, Makes, MapStands, Mapping, NewReads, NewStands, OnBlock, OnItsWay, PagesStand, Pbn, ReadsAs, ReadsBlock, Remaps, Seals, Session, Stands, Trace, Writer, all_of, durable, journaled, entries_of, eqb_tells, filled, log, new_of, sealed}
+use Rattle.core_laws.proofs.Common.{AllByRecursion, AreAllThere, AtRest, Call, Calls, ComesLast, Enters, Fails, Happening, HasBlocks, Logged, Makes, MapStands, Mapping, NewReads, NewStands, OnBlock, OnItsWay, PagesStand, Pbn, ReadsAs, ReadsBlock, Remaps, Seals, Session, Stands, Trace, Writer, all_of, durable, journaled, entries_of, eqb_tells, filled, log, new_of, sealed, SuperblockStage, superblock_bytes, superblock_stage}
 pub use Rattle.core_model.specs.RightTraces.{AreElsewhere}
 use Rattle.blk_base.specs.declared.place.Mapping.TheVariants.{Unmapped, Zero, At}
 use Rattle.disk_model.specs.Log.{Misses}
-use Rattle.disk_model.specs.declared.call.Call.TheVariants.{Write}
+use Rattle.disk_model.specs.declared.call.Call.TheVariants.{Read, Write, Flush}
 use Rattle.disk_model.proofs.ImageLaws.{kept, settled-misses}
 use Rattle.image_layout.specs.Values.{mapping_of}
 use Rattle.stop_laws.specs.Journals.{MissesJournal, block_of_slot}
 use Rattle.journal_stops.proofs.StepLaws.{rest_kept, under_way_kept, written_kept}
-use Rattle.core_model.specs.Sessions.{StandsAsOpened, blocks_of, sealed_with}
+use Rattle.core_model.specs.Sessions.{IsSuperblock, StandsAsOpened, SuperblockStands, blocks_of, sealed_with}
+use Rattle.core_model.specs.Superblocks.{stage_flushed}
+use Rattle.core_model.specs.declared.zones.SuperblockStage.TheVariants.{AsOpened, Written, Durable}
 use Rattle.journal_stops.specs.Rings.{IsAtRest, IsUnderWay}
 
 -- the happening is no write of the block
@@ -93,6 +95,33 @@ module _ (s : Session) where
   reads_kept (Calls c) t x bytes apart k = subst (λ (options : List (List ℕ)). AllByRecursion (λ content. content ≡ bytes) options) (sym (settled-misses s.blocks (log s t) c x apart)) k
   reads_kept (Fails w c true) t x bytes apart k = subst (λ (options : List (List ℕ)). AllByRecursion (λ content. content ≡ bytes) options) (sym (settled-misses s.blocks (log s t) c x apart)) k
   reads_kept other t x bytes apart k = k
+
+  -- the superblock, over a call that doesn't write it
+  stage_kept : (c : Call) (h : Happening) (t : Trace) → log s (h ∷ t) ≡ c ∷ log s t → Misses c 0 → (now : SuperblockStage) → SuperblockStands s t now → SuperblockStands s (h ∷ t) now
+  stage_kept c h t is misses AsOpened k = rw is (kept (IsSuperblock s) s.blocks (log s t) c 0 misses k)
+  stage_kept c h t is misses Written k = rw is (
+    kept (IsSuperblock s) s.blocks (log s t) c 0 misses k.0,
+    subst (λ (options : List (List ℕ)). AllByRecursion (λ content. content ≡ superblock_bytes s.sizes) options) (sym (settled-misses s.blocks (log s t) c 0 misses)) k.1,
+  )
+  stage_kept c h t is misses Durable k = rw is (kept (λ content. content ≡ superblock_bytes s.sizes) s.blocks (log s t) c 0 misses k)
+
+  -- and over a flush, by which it lasts once it is written
+  stage_flushes : (t : Trace) (now : SuperblockStage) → SuperblockStands s t now → SuperblockStands s (Calls (Flush true) ∷ t) (stage_flushed now)
+  stage_flushes t AsOpened k = stage_kept (Flush true) (Calls (Flush true)) t refl tt AsOpened k
+  stage_flushes t Written k = k.1
+  stage_flushes t Durable k = stage_kept (Flush true) (Calls (Flush true)) t refl tt Durable k
+
+  pub superblock_kept : (h : Happening) (t : Trace) → SparesBlock h 0 → SuperblockStands s t (superblock_stage t) → SuperblockStands s (h ∷ t) (superblock_stage (h ∷ t))
+  superblock_kept (Calls (Read at bytes ok)) t apart k = stage_kept (Read at bytes ok) (Calls (Read at bytes ok)) t refl tt (superblock_stage t) k
+  superblock_kept (Calls (Write at bytes true)) t apart k = elim (eqb_tells at.0 0) [
+    | inl same ↦ absurd (apart same.1)
+    | inr other ↦ rw other.0 (stage_kept (Write at bytes true) (Calls (Write at bytes true)) t refl apart (superblock_stage t) k)
+  ]
+  superblock_kept (Calls (Write at bytes false)) t apart k = stage_kept (Write at bytes false) (Calls (Write at bytes false)) t refl apart (superblock_stage t) k
+  superblock_kept (Calls (Flush true)) t apart k = stage_flushes t (superblock_stage t) k
+  superblock_kept (Calls (Flush false)) t apart k = stage_kept (Flush false) (Calls (Flush false)) t refl tt (superblock_stage t) k
+  superblock_kept (Fails w c true) t apart k = stage_kept c (Fails w c true) t refl apart (superblock_stage t) k
+  superblock_kept other t apart k = k
 
   -- the block of a mapping that they give is spared
   mapped_spared : (h : Happening) (es : List Logged) → SparesMap s h es → (a : ℕ) (x : Pbn) → mapping_of (entries_of s.window es) a ≡ At x → SparesBlock h x.0

@@ -109,14 +109,18 @@ module _ {s : Session} {t : Trace} {n : ℕ} {old : PhysicalZone} {v : Vio} (kno
 
     full_for : (o : Option PageId) → CarriesFor s t v phase.Claim o → CarriesFor s t (ended phase.Abort reply.Full v) phase.Abort o
     full_for None k = (k.0, write_full s t v k.1 k.0.turn.is_placed (inr (inl (k.2, all_taken))))
-    full_for (Some page) k = (k.0, k.1, write_full s t v k.0.is_write k.0.turn.is_placed (inr (inr (record {
-      newer = [];
-      older = t;
-      moment = refl;
-      placed = some_is _ _ k.0.turn.is_placed.placed;
-      lacking = lacks_now page k.0 k.1;
-      all_taken = all_taken;
-    }))))
+    full_for (Some page) k = (
+      k.0,
+      k.1,
+      write_full s t v k.0.is_write k.0.turn.is_placed (inr (inr (record {
+        newer = [];
+        older = t;
+        moment = refl;
+        placed = some_is _ _ k.0.turn.is_placed.placed;
+        lacking = lacks_now page k.0 k.1;
+        all_taken = all_taken;
+      }))),
+    )
 
   -- what it carries of an abort it carries on
   aborts_for : (o : Option PageId) → CarriesFor s t v phase.AbortClaim o → CarriesFor s t (turned phase.Abort v) phase.Abort o

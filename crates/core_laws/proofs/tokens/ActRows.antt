@@ -9,7 +9,7 @@ use Rattle.data_vio.specs.declared.items.Phase.TheVariants as phase
 use Rattle.data_vio.specs.declared.items.Stage.TheVariants as stage
 use Rattle.core_model.specs.declared.zones.ZoneData.TheVariants as at
 use Rattle.core_model.specs.DeskRules.{with_notice}
-use Rattle.core_model.specs.DeviceRules.{counted, halted}
+use Rattle.core_model.specs.DeviceRules.{announced, counted, halted}
 use Rattle.core_model.specs.JournalRules.{committed_by, entered_by, next_block, sealed_by}
 use Rattle.core_model.specs.LogicalRules.{drawn_by, placed, lock_of, without, all_for, none_for, retire}
 use Rattle.core_model.specs.PageTrees.{but_page}
@@ -143,6 +143,8 @@ pub data Row (sizes : Sizes) : ZoneData → ZoneData → Sum → Sum → Type 0 
       → Row sizes (at.Journal j) (at.Journal (record j { notified = true; waiting = [] })) (λ f. f StopNotice + (all_there j.filling f + all_in phase.Enter j.waiting f))
       (λ f. f StopNotice + (all_there j.filling f + all_ended phase.AbortClaim reply.Stopped j.waiting f))
   -- the device
+  announces : (d : DeviceZone) (front : Item) → Row sizes (at.Device d) (at.Device (announced d)) (λ f. f front) (λ f. f front)
+  announce_fails : (d : DeviceZone) (front : Item) → Row sizes (at.Device (record d { stopped = false })) (at.Device (halted d)) (λ f. f front) (λ f. f front + notified_zones sizes * f StopNotice)
   stores : (d : DeviceZone) (v : Vio) → Row sizes (at.Device d) (at.Device (counted d)) (λ f. f (Request (turned phase.Store v))) (λ f. f (Request (turned phase.Enter v)))
   store_fails : (d : DeviceZone) (v : Vio)
       → Row sizes (at.Device (record d { stopped = false })) (at.Device (halted d)) (λ f. f (Request (turned phase.Store v))) (λ f. f (Request (ended phase.AbortClaim reply.Stopped v)) + notified_zones sizes * f StopNotice)

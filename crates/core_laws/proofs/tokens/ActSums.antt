@@ -1,6 +1,6 @@
 -- Each act is one of the rows that the tokens see.
 use Rattle.std.proofs.Common.{◌≡◌, ℕ, suc, ◌+◌, ◌*◌, true, false, not, Option, None, Some, is_some, List, [], ◌∷◌, ◌++◌, length, length-append, map, refl, ap, sym, ◌∙◌, subst, inl, inr, arith, ◌&&◌}
-use Rattle.core_laws.proofs.Common.{AllByRecursion, Answer, Desk, DeviceZone, Item, JournalZone, Remapping, LogicalZone, Mapping, Pbn, Phase, PhysicalZone, Post, SealedBlock, Sizes, Trace, Vio, ZoneData, ZoneId, as_items, bit, claims, eqb_tells, every-map, has_entry, holds, notified, notified_zones, queued, same_Some, total, turned, names}
+use Rattle.core_laws.proofs.Common.{AllByRecursion, Answer, Desk, DeviceZone, Item, JournalZone, Remapping, LogicalZone, Mapping, Pbn, Phase, PhysicalZone, Post, SealedBlock, Sizes, Trace, Vio, ZoneData, ZoneId, as_items, bit, claims, eqb_tells, every-map, has_entry, holds, notified, notified_zones, queued, same_Some, total, turned, names, Writer}
 use Rattle.blk_base.specs.Sectors.{zero_block}
 use Rattle.blk_base.specs.declared.place.Mapping.TheVariants.{Unmapped, Zero, At}
 use Rattle.blk_base.specs.declared.place.ZoneId.TheVariants as id
@@ -12,7 +12,7 @@ use Rattle.core_model.specs.declared.zones.ZoneData.TheVariants as at
 use Rattle.core_model.specs.DeskRules as desk
 use Rattle.core_model.specs.DeskRules.{DeskBegins, DeskServes, woken}
 use Rattle.core_model.specs.DeviceRules as device
-use Rattle.core_model.specs.DeviceRules.{DeviceServes, DeviceWorks, stop_notices}
+use Rattle.core_model.specs.DeviceRules.{Announces, DeviceServes, DeviceWorks, stop_notices}
 use Rattle.core_model.specs.JournalRules as journal
 use Rattle.core_model.specs.PhysicalRules as physical
 use Rattle.core_model.specs.PhysicalRules.{PhysicalServes}
@@ -356,21 +356,27 @@ module _ (sizes : Sizes) where
       let is : record old { stopped = false } ≡ old = rw (← going) refl in
       subst (λ (o : DeviceZone). IsRow sizes (at.Device o) front (at.Device new) posts) is is_one
 
+  announce_row : (old : DeviceZone) (front : Item) (w : Writer) (new : DeviceZone) (made : Trace) (posts : List Post) → Announces sizes old front w new made posts → IsRow sizes (at.Device old) (front ∷ []) (at.Device new) posts
+  announce_row old front w new made posts (device.succeeds call is going n m q) = rw (n, q) (is_row (row.announces old front) (λ f. omega arith) (λ f. omega arith))
+  announce_row old front w new made posts (device.fails call known is going n m q) = rw (n, q) (runs old _ _ _ going (is_row (row.announce_fails old front) (λ f. omega arith) (λ f. omega (arith, all_notices f))))
+
   device_row : (old : DeviceZone) (v : Vio) (new : DeviceZone) (made : Trace) (posts : List Post) → DeviceServes sizes old v new made posts → IsRow sizes (at.Device old) (Request v ∷ []) (at.Device new) posts
-  device_row old v new made posts (device.stores x p to going inside n m q) = rw (n, q) (is_row (row.stores old v) (λ f. omega (arith, in_phase f v phase.Store p)) (λ f. omega arith))
-  device_row old v new made posts (device.store_fails x known p to going inside n m q) =
+  device_row old v new made posts (device.announces there act) = announce_row old (Request v) v.request new made posts act
+  device_row old v new made posts (device.stores x p to going durable inside n m q) = rw (n, q) (is_row (row.stores old v) (λ f. omega (arith, in_phase f v phase.Store p)) (λ f. omega arith))
+  device_row old v new made posts (device.store_fails x known p to going durable inside n m q) =
       rw (n, q) (runs old _ _ _ going (is_row (row.store_fails old v) (λ f. omega (arith, in_phase f v phase.Store p)) (λ f. omega (arith, all_notices f))))
   device_row old v new made posts (device.store_unmade p stopped n m q) = rw (n, q) (is_row (row.store_unmade old v) (λ f. omega (arith, in_phase f v phase.Store p)) (λ f. omega arith))
-  device_row old v new made posts (device.loads x bytes p from inside n m q) = rw (n, q) (is_row (row.loads old v bytes) (λ f. omega (arith, in_phase f v phase.Load p)) (λ f. omega arith))
-  device_row old v new made posts (device.load_fails x bytes known p from inside n m q) = rw (n, q) (is_row (row.load_fails old v) (λ f. omega (arith, in_phase f v phase.Load p)) (λ f. omega arith))
-  device_row old v new made posts (device.flushes p going n m q) = rw (n, q) (is_row (row.flushes old v) (λ f. omega (arith, in_phase f v phase.Flush p)) (λ f. omega arith))
-  device_row old v new made posts (device.flush_fails known p going n m q) =
+  device_row old v new made posts (device.loads x bytes p from ready inside n m q) = rw (n, q) (is_row (row.loads old v bytes) (λ f. omega (arith, in_phase f v phase.Load p)) (λ f. omega arith))
+  device_row old v new made posts (device.load_fails x bytes known p from ready inside n m q) = rw (n, q) (is_row (row.load_fails old v) (λ f. omega (arith, in_phase f v phase.Load p)) (λ f. omega arith))
+  device_row old v new made posts (device.flushes p going durable n m q) = rw (n, q) (is_row (row.flushes old v) (λ f. omega (arith, in_phase f v phase.Flush p)) (λ f. omega arith))
+  device_row old v new made posts (device.flush_fails known p going durable n m q) =
       rw (n, q) (runs old _ _ _ going (is_row (row.flush_fails old v) (λ f. omega (arith, in_phase f v phase.Flush p)) (λ f. omega (arith, all_notices f))))
   device_row old v new made posts (device.flush_unmade p stopped n m q) = rw (n, q) (is_row (row.flush_unmade old v) (λ f. omega (arith, in_phase f v phase.Flush p)) (λ f. omega arith))
 
   work_row : (old : DeviceZone) (b : SealedBlock) (new : DeviceZone) (made : Trace) (posts : List Post) → DeviceWorks sizes old b new made posts → IsRow sizes (at.Device old) (Block b ∷ []) (at.Device new) posts
-  work_row old b new made posts (device.makes call slot v vs first place needs going n m q) = rw (n, q) (is_row (row.works old _ b (device.next_stage b.stage)) (λ f. omega arith) (λ f. omega arith))
-  work_row old b new made posts (device.fails call slot known v vs vios place needs going n m q) =
+  work_row old b new made posts (device.announces v vs first there act) = announce_row old (Block b) v.request new made posts act
+  work_row old b new made posts (device.makes call slot v vs first place needs going durable n m q) = rw (n, q) (is_row (row.works old _ b (device.next_stage b.stage)) (λ f. omega arith) (λ f. omega arith))
+  work_row old b new made posts (device.fails call slot known v vs vios place needs going durable n m q) =
       rw (n, q) (runs old _ _ _ going (is_row (row.work_fails old b stage.Fail) (λ f. omega arith) (λ f. omega (arith, all_notices f))))
   work_row old b new made posts (device.unmade call slot v vs first needs stopped n m q) = rw (n, q) (is_row (row.works old old.calls b stage.Fail) (λ f. omega arith) (λ f. omega arith))
 

@@ -1,11 +1,11 @@
 -- A stop before or after any call of a right trace is right.
-use Rattle.std.proofs.Common.{ℕ, min, drop, length-drop, length-take, ◌+◌, ◌-◌, ◌≡◌, ◌⊎◌, ◌<◌, false, List, [], ◌∷◌, ◌++◌, length, refl, ◌∙◌, ap, inl, inr, arith, ◌≤◌, Bool, true, sym, subst, append_assoc, IsSome}
-use Rattle.core_laws.proofs.Common.{all_of, AllByRecursion, answer_of, append-nil, AreAllThere, AtRest, begun, Call, calls, Calls, ComesLast, committed, DeskLine, done, each_both, entered, entries_of, every-append, every-front, every-map, fair_part, filled, FlushMark, HasBlocks, HasWholeBlocks, HistoryEntry, IsFair, IsSession, IsWrite, lines, log, Logged, Remapping, Mapping, MapStands, Mark, marks, newest, NewStands, of_address, OnBlock, OnItsWay, PagesStand, places, request_at, RightTrace, RunReport, same_self, sealed, Session, Shown, Stands, Trace, value_from, value_written, Writer, content_of, new_of, journaled, durable, remappings, passed}
+use Rattle.std.proofs.Common.{ℕ, min, drop, length-drop, length-take, ◌+◌, ◌-◌, ◌≡◌, ◌⊎◌, ◌≢◌, ◌<◌, IsTrue, false, List, [], ◌∷◌, ◌++◌, length, refl, ◌∙◌, ap, inl, inr, arith, ◌≤◌, Bool, true, sym, subst, append_assoc, IsSome}
+use Rattle.core_laws.proofs.Common.{all_of, AllByRecursion, answer_of, append-nil, AreAllThere, AtRest, begun, Call, calls, Calls, ComesLast, committed, DeskLine, done, each_both, entered, entries_of, every-append, every-front, every-map, fair_part, filled, FlushMark, HasBlocks, HasWholeBlocks, HistoryEntry, IsFair, IsSession, IsWrite, lines, log, Logged, Remapping, Mapping, MapStands, Mark, marks, newest, NewStands, of_address, OnBlock, OnItsWay, PagesStand, places, request_at, RightTrace, RunReport, same_self, sealed, Session, Shown, Stands, Trace, value_from, value_written, Writer, content_of, new_of, journaled, durable, remappings, passed, superblock_bytes, superblock_stage, SuperblockStage}
 use Rattle.core_laws.proofs.trace.PassesOfTrace.{entered_at_both, entered_once, has_either, value_past}
 use Rattle.blk_base.specs.declared.place.Mapping.TheVariants.{Unmapped, Zero, At}
 use Rattle.disk_model.specs.Images.{IsImage}
-use Rattle.disk_model.specs.Log.{Blocks, block_at}
-use Rattle.disk_model.proofs.ImageLaws.{block_of_image}
+use Rattle.disk_model.specs.Log.{Blocks, block_at, contents}
+use Rattle.disk_model.proofs.ImageLaws.{all_weaker, block_of_image, sector_of_mix}
 use Rattle.image_layout.specs.Values.{journal_of, mapping_of, value_in, value_of}
 use Rattle.blk_base.proofs.RegionLaws.{data_block_inside}
 use Rattle.core_laws.proofs.device.DeviceCalls.{mapped_is_data, value_whole}
@@ -14,9 +14,11 @@ use Rattle.stop_laws.specs.Histories.{is_lasting}
 use Rattle.vdo_model.specs.Stops.{is_covered, covered, MayLast, last_value, IsBegunBefore, before_answer, length_at, MayShow, RightAfterStops}
 use Rattle.vdo_model.specs.declared.report.Mark.TheVariants.{Settled, Unsettled, Refused}
 use Rattle.stop_laws.proofs.HistoryLaws.{covered_within}
-use Rattle.core_model.specs.Reports.{opening_values, ShowsValues, report_of, drawn_histories}
+use Rattle.core_model.specs.Reports.{opening_values, SaysSuperblock, ShowsValues, report_of, drawn_histories}
+use Rattle.core_model.specs.declared.zones.SuperblockStage.TheVariants.{AsOpened, Written, Durable}
 use Rattle.core_laws.proofs.trace.CoveredEntries.{IsBegunBy, entered_begun, not_covered}
 use Rattle.core_laws.proofs.lists.CoreLists.{Has, has_older, not_in_both, each_older, each_newer, begun_later, before_answer_part}
+use Rattle.core_laws.proofs.trace.SuperblockOfTrace.{others_stand, writes_no_other}
 use Rattle.core_laws.proofs.trace.Walks.{Walks, walks_front, walks_split}
 use Rattle.disk_model.specs.declared.call.Call.TheVariants.{Flush}
 use Rattle.vdo_model.specs.Histories.{history_of, is_settled}
@@ -27,13 +29,14 @@ use Rattle.core_laws.proofs.trace.MarksOfTrace.{HasMark, all_marks}
 use Rattle.core_laws.proofs.kept.StandsOn.{entered_parts, map_more, pages_more}
 use Rattle.core_laws.proofs.kept.Spared.{mapping_by}
 use Rattle.core_laws.proofs.trace.ZeroWrites.{zeros_by}
+use Rattle.image_model.specs.Looked.{is_looked_at}
 use Rattle.image_model.specs.Windows.{IsWindow}
 use Rattle.journal_stops.specs.Sealed.{Sealed, next_of, window_of}
 use Rattle.journal_stops.proofs.ShownLaws.{slot_there, window_at_rest, window_under_way}
-use Rattle.stop_laws.specs.Journals.{block_of_slot}
-use Rattle.blk_base.specs.Sectors.{zero_block}
+use Rattle.stop_laws.specs.Journals.{Surely, block_of_slot}
+use Rattle.blk_base.specs.Sectors.{sector, zero_block}
 use Rattle.journal_stops.proofs.EntryLaws.{window_of_all}
-use Rattle.core_model.specs.Sessions.{StandsAsOpened, blocks_of, said_by, sealed_with}
+use Rattle.core_model.specs.Sessions.{HasSuperblock, IsSuperblock, StandsAsOpened, SuperblockStands, blocks_of, said_by, sealed_with}
 use Rattle.blk_base.specs.declared.journal_entry.CommittedEntry.{CommittedEntry}
 use Rattle.std.proofs.lemmas.List.{ext_get_or}
 use Rattle.journal_stops.specs.Sealed as blocks
@@ -182,11 +185,43 @@ module _ (s : Session) (u : Trace) (image : Blocks) (session : IsSession s) (fai
   pub image_entries : Shown s u → ImageEntries s u image
   image_entries shown = journal_entries shown.journal
 
-  -- The superblock stays.
-  pub same_superblock : Shown s u → block_at image 0 ≡ block_at s.image 0
-  same_superblock shown =
-      let some : 0 < length s.blocks = omega (arith, fair.opened.room) in
-      block_of_image s.blocks (log s u) image 0 (block_at s.image 0) some (fair.opened.one_image.whole 0 some) shown.superblock is
+  -- The superblock is the session's in its first sector; or it is the one that was opened, and nothing else was written.
+  some_block : 0 < length s.blocks
+  some_block = omega (arith, fair.opened.room)
+
+  first_sector : (P : List ℕ → Type 0) → Surely s.blocks (log s u) 0 (λ content. P (sector 0 content)) → P (sector 0 (block_at image 0))
+  first_sector P all = sector_of_mix P (contents s.blocks (log s u) 0) (block_at image 0) 0 (omega arith) (is.sectors 0 some_block) all
+
+  abbrev SaysEither : List ℕ → Type 0
+  SaysEither first = (first ≡ sector 0 (block_at s.image 0)) ⊎ (first ≡ sector 0 (superblock_bytes s.sizes))
+
+  either : (content : List ℕ) → IsSuperblock s content → SaysEither (sector 0 content)
+  either content (inl opened) = inl (ap (sector 0) opened)
+  either content (inr session) = inr (ap (sector 0) session)
+
+  says_either : HasSuperblock s u → SaysEither (sector 0 (block_at image 0))
+  says_either has = first_sector SaysEither (all_weaker (IsSuperblock s) (λ content. SaysEither (sector 0 content)) (contents s.blocks (log s u) 0) either has)
+
+  says_session : Stands s u 0 (superblock_bytes s.sizes) → sector 0 (block_at image 0) ≡ sector 0 (superblock_bytes s.sizes)
+  says_session stands =
+      first_sector (λ first. first ≡ sector 0 (superblock_bytes s.sizes))
+      (all_weaker (λ content. content ≡ superblock_bytes s.sizes) (λ content. sector 0 content ≡ sector 0 (superblock_bytes s.sizes)) (contents s.blocks (log s u) 0) (λ content same. ap (sector 0) same) stands)
+
+  others_opened : RightTrace s u → superblock_stage u ≢ Durable → (x : ℕ) → x < length s.blocks → x ≢ 0 → IsTrue (is_looked_at s.sizes.geometry x) → block_at image x ≡ block_at s.image x
+  others_opened right not_yet x below other looked =
+      let stands = others_stand (λ content. content ≡ block_at s.image x) s.blocks s.before s.sizes x other (calls u) (writes_no_other s u right not_yet) (fair.opened.one_image.only x below looked) in
+      block_of_image s.blocks (log s u) image x (block_at s.image x) below (fair.opened.one_image.whole x below) stands is
+
+  not_durable : RightTrace s u → HasSuperblock s u → superblock_stage u ≢ Durable → SaysSuperblock s image
+  not_durable right has not_yet = elim (says_either has) [ inl opened ↦ inl (record { says = opened; others = others_opened right not_yet }) | inr session ↦ inr session ]
+
+  pub says_superblock : RightTrace s u → Shown s u → SaysSuperblock s image
+  says_superblock right shown = by (superblock_stage u) refl shown.superblock
+    where
+      by : (now : SuperblockStage) → superblock_stage u ≡ now → SuperblockStands s u now → SaysSuperblock s image
+      by AsOpened is k = not_durable right k (λ durable. absurd cc)
+      by Written is k = not_durable right k.0 (λ durable. absurd cc)
+      by Durable is k = inr (says_session k)
 
   -- An address has the value of its newest entry, or that which it had.
   module _ (right : RightTrace s u) (es : List Logged) (a : ℕ) (stand : MapStands s u es) (writes : AllByRecursion (IsWrite s u) (remappings es)) (to_data : AreData s (remappings es)) where
@@ -406,7 +441,7 @@ stops_right s t session right fair later prefix calls_are image is =
     let writes = (every-front (IsWrite s u) (remappings entries.es) (passed u) (each_older (IsWrite s u) (remappings entries.more) es (subst (AllByRecursion (IsWrite s u)) of_entered (entered_writes s u right_cut)))).0 in
     let to_data = (every-front (HasData s) (remappings entries.es) (passed u) (each_older (HasData s) (remappings entries.more) es (subst (AreData s) of_entered (entered_data s u right_cut)))).0 in (
       value_of image (entries_of s.window entries.es),
-      (same_superblock s u image session fair_cut is_cut stands, record { last = entries.window.last; window = entries.window.shown; is_window = entries.window.is_window; values_are = ap (value_of image) entries.window.said }),
+      (says_superblock s u image session fair_cut is_cut right_cut stands, record { last = entries.window.last; window = entries.window.shown; is_window = entries.window.is_window; values_are = ap (value_of image) entries.window.said }),
       λ a below. may_show s t session right prefix c es (remappings entries.more) (remappings entries.fewer) of_entered has_committed a below
           (value_of image (entries_of s.window entries.es) a) (shown_value s u image session fair_cut is_cut right_cut entries.es a entries.stand writes to_data ∙ sym (value_past s u a right_cut (remappings entries.es))),
     )

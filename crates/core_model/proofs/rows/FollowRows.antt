@@ -1,5 +1,6 @@
 -- Which happening may follow: for each one a trace that it may follow, and for each of its conditions one that breaks it.
-use Rattle.std.proofs.Common.{None, ℕ, zero, suc, length-append, ◌≡◌, true, false, List, [], ◌∷◌, ◌++◌, Some, length, refl, ap, sym, ◌∙◌, subst, inl, inr, arith}
+use Rattle.std.proofs.Common.{None, ℕ, zero, suc, length-append, ◌≡◌, true, false, List, [], ◌∷◌, ◌++◌, Some, length, refl, ap, sym, ◌∙◌, subst, inl, inr, arith, replicate}
+use Rattle.std.proofs.lemmas.List.{length-replicate}
 use Rattle.std.proofs.lemmas.Option.{same_Some}
 use Rattle.blk_base.specs.Sectors.{zero_block}
 use Rattle.blk_base.specs.declared.place.Mapping.{Mapping}
@@ -20,13 +21,15 @@ use Rattle.data_vio.specs.declared.items.Asks.TheVariants as asks
 use Rattle.core_model.specs.PageLinks.{MayLack, page_in}
 use Rattle.core_model.specs.RightTraces.{IsLeafy, MapsTo, MayAnswer, MayFollow, NeedsPage, StopsAtFailure}
 use Rattle.core_model.specs.Sessions.{Session}
+use Rattle.core_model.specs.Superblocks.{session_super, superblock_bytes}
+use Rattle.image_layout.specs.Superblock.{super_block, super_bytes}
 use Rattle.data_vio.specs.Vios.{asked}
 use Rattle.data_vio.specs.declared.logged.Logged.{Logged}
 use Rattle.core_model.specs.Trace.{applied, filled, Says, Flushes, Draws, Enters, Seals, Commits, Sets, Gives, Takes, Aborts, Calls, Fails, Trace, Happening}
 use Rattle.core_model.proofs.rows.WorkedTraces.{address, block, leafy, writer, x, y, first, reader, second, other, late, flush, sizes, session, begun, drawn, took, handed_in, in_block, lasting, set, stopped, place, entry, of_first, of_second, of_other, given, one_not_zeros, two_not_zeros}
 
 -- the session, with a journal that takes two blocks; and without leaves
-abbrev roomy : Session
+abbrev pub roomy : Session
 roomy = record leafy { sizes = record sizes { geometry = record sizes.geometry { journal = 3 } } }
 
 abbrev bare : Session
@@ -437,12 +440,19 @@ aborts_what_is_unset may = let no = may.unset in absurd cc
 aborts_after_a_stop : May (Aborts (Remaps of_first)) handed_in → ⊥
 aborts_after_a_stop may = let stopped = may.stopped in absurd cc
 
+-- the session's superblock is written, and durable
+abbrev pub superblock : Happening
+superblock = Calls (Write (block 0) (superblock_bytes roomy.sizes) true)
+
+abbrev pub announced : Trace → Trace
+announced t = Calls (Flush true) ∷ superblock ∷ t
+
 -- A call succeeds; after a write or flush that failed only reads do.
 calls : May (Calls (Flush true)) []
-calls = record { succeeds = refl; goes_on = λ is. refl }
+calls = record { succeeds = refl; goes_on = λ is. refl; in_order = tt }
 
 calls_a_read_after_a_stop : May (Calls (Read (block 85) x true)) (stopped set)
-calls_a_read_after_a_stop = record { succeeds = refl; goes_on = λ is. absurd cc }
+calls_a_read_after_a_stop = record { succeeds = refl; goes_on = λ is. absurd cc; in_order = tt }
 
 calls_that_succeed : May (Calls (Flush false)) [] → ⊥
 calls_that_succeed may = let succeeds = may.succeeds in absurd cc
@@ -450,23 +460,55 @@ calls_that_succeed may = let succeeds = may.succeeds in absurd cc
 calls_no_flush_after_a_stop : May (Calls (Flush true)) (stopped set) → ⊥
 calls_no_flush_after_a_stop may = let goes_on = may.goes_on refl in absurd cc
 
-calls_no_write_after_a_stop : May (Calls (Write (block 85) x true)) (stopped set) → ⊥
+calls_no_write_after_a_stop : May (Calls (Write (block 85) x true)) (stopped (announced set)) → ⊥
 calls_no_write_after_a_stop may = let goes_on = may.goes_on refl in absurd cc
 
+-- The first write is that of the session's superblock, once; and no other comes before that was flushed.
+calls_the_superblock : May superblock took
+calls_the_superblock = record { succeeds = refl; goes_on = λ is. refl; in_order = inl (refl, record { first = refl; says = refl }) }
+
+calls_a_write_then : May (Calls (Write (block 85) x true)) (announced took)
+calls_a_write_then = record { succeeds = refl; goes_on = λ is. refl; in_order = inr (refl, λ is. absurd cc) }
+
+calls_the_superblock_once : May superblock (announced took) → ⊥
+calls_the_superblock_once may = elim may.in_order [ inl before ↦ let no = before.0 in absurd cc | inr behind ↦ behind.1 refl ]
+
+calls_no_write_before_it : May (Calls (Write (block 85) x true)) took → ⊥
+calls_no_write_before_it may = elim may.in_order [ inl first ↦ let at = first.1.first in absurd (omega (arith, at)) | inr behind ↦ let no = behind.0 in absurd cc ]
+
+calls_it_at_its_block : May (Calls (Write (block 85) (superblock_bytes roomy.sizes) true)) took → ⊥
+calls_it_at_its_block may = elim may.in_order [ inl first ↦ let at = first.1.first in absurd (omega (arith, at)) | inr behind ↦ let no = behind.0 in absurd cc ]
+
+calls_no_write_before_its_flush : May (Calls (Write (block 85) x true)) (superblock ∷ took) → ⊥
+calls_no_write_before_its_flush may = elim may.in_order [ inl first ↦ let no = first.0 in absurd cc | inr behind ↦ let no = behind.0 in absurd cc ]
+
+pub no_superblock : [] ≡ superblock_bytes roomy.sizes → ⊥
+unfolding super_block
+no_superblock is =
+    let none : 0 ≡ length (superblock_bytes roomy.sizes) = ap length is in
+    let all = length-append (super_bytes (session_super roomy.sizes)) (replicate 3584 0) in
+    absurd (omega (arith, none, all, length-replicate {A = ℕ} 3584 0))
+
+calls_what_it_says : May (Calls (Write (block 0) [] true)) took → ⊥
+calls_what_it_says may = elim may.in_order [ inl first ↦ no_superblock first.1.says | inr behind ↦ let no = behind.0 in absurd cc ]
+
 -- A call fails that was made for an open request; a read is made for one of an address that is mapped to its block.
-fails : May (Fails first (Write (block 85) x false) true) took
-fails = record { is_open = record { is_begun = omega arith; unanswered = refl }; fails = refl; goes_on = λ is. refl; made_for = tt }
+fails : May (Fails first (Write (block 85) x false) true) (announced took)
+fails = record { is_open = record { is_begun = omega arith; unanswered = refl }; fails = refl; goes_on = λ is. refl; made_for = tt; in_order = inr (refl, λ is. absurd cc) }
 
 fails_to_read : May (Fails reader (Read (block 85) y false) false) set
-fails_to_read = record { is_open = record { is_begun = omega arith; unanswered = refl }; fails = refl; goes_on = λ is. absurd cc; made_for = (address 0, refl, refl) }
+fails_to_read = record { is_open = record { is_begun = omega arith; unanswered = refl }; fails = refl; goes_on = λ is. absurd cc; made_for = (address 0, refl, refl); in_order = tt }
 
-fails_while_open : May (Fails first (Write (block 85) x false) true) (Says (Answer first Stopped) ∷ took) → ⊥
+fails_in_order : May (Fails first (Write (block 85) x false) true) took → ⊥
+fails_in_order may = elim may.in_order [ inl before ↦ let at = before.1.first in absurd (omega (arith, at)) | inr behind ↦ let no = behind.0 in absurd cc ]
+
+fails_while_open : May (Fails first (Write (block 85) x false) true) (Says (Answer first Stopped) ∷ announced took) → ⊥
 fails_while_open may = let no = may.is_open.unanswered in absurd cc
 
-fails_if_it_fails : May (Fails first (Write (block 85) x true) true) took → ⊥
+fails_if_it_fails : May (Fails first (Write (block 85) x true) true) (announced took) → ⊥
 fails_if_it_fails may = let fails = may.fails in absurd cc
 
-fails_once : May (Fails second (Write (block 86) y false) true) (stopped took) → ⊥
+fails_once : May (Fails second (Write (block 86) y false) true) (stopped (announced took)) → ⊥
 fails_once may = let goes_on = may.goes_on refl in absurd cc
 
 fails_to_read_for_a_read : May (Fails second (Read (block 85) x false) true) set → ⊥

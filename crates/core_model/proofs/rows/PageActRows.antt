@@ -79,7 +79,7 @@ claims_for_a_page : Acts (physical (block 85 ∷ block 86 ∷ [])) (Request (rec
 claims_for_a_page = takes (PhysicalServes.claims (block 85) (block 86 ∷ []) refl refl refl refl refl)
 
 stores_a_page : Acts (device false 6) (Request (maker phase.Store) ∷ []) (device false 7) (Calls (Write (block 85) (page_at sizes leaf (block 85)) true) ∷ []) ((id.Journal, Request (maker phase.Enter)) ∷ [])
-stores_a_page = calls (DeviceServes.stores (block 85) refl refl refl (omega arith) refl refl refl)
+stores_a_page = calls (DeviceServes.stores (block 85) refl refl refl refl (omega arith) refl refl refl)
 
 -- Settle: the page is linked, and its maker and who waited for it look again
 links : (tree linked : Tree) → MayLink tree leaf (block 85) → Links tree linked leaf (block 85) least_point

@@ -1,5 +1,5 @@
 -- Each row of the table of phases at a small zone: what the zone keeps, what happens, and what it posts.
-use Rattle.std.proofs.Common.{ℕ, Bool, true, false, None, Some, List, [], ◌∷◌, refl, replicate, arith}
+use Rattle.std.proofs.Common.{ℕ, Bool, true, false, None, Some, List, [], ◌∷◌, refl, ap, replicate, inl, inr, arith}
 use Rattle.blk_base.specs.Sectors.{zero_block}
 use Rattle.blk_base.specs.declared.journal_entry.CommittedEntry.{CommittedEntry}
 use Rattle.blk_base.specs.declared.journal_entry.Entry.{Entry}
@@ -8,6 +8,7 @@ use Rattle.blk_base.specs.declared.place.Mapping.{Mapping}
 use Rattle.blk_base.specs.declared.place.Mapping.TheVariants.{Unmapped, Zero, At}
 use Rattle.block_map_tree.specs.Tree.{Tree}
 use Rattle.blk_base.specs.declared.place.Pbn.{Pbn}
+use Rattle.blk_base.specs.declared.place.ZoneId.{ZoneId}
 use Rattle.blk_base.specs.declared.place.ZoneId.TheVariants as id
 use Rattle.blk_base.specs.declared.request.Answer.{Answer}
 use Rattle.blk_base.specs.declared.request.Answer.TheVariants as reply
@@ -36,7 +37,10 @@ use Rattle.data_vio.specs.declared.logged.Remapping.{Remapping}
 use Rattle.core_model.specs.declared.zones.ZoneData.{ZoneData}
 use Rattle.core_model.specs.declared.zones.ZoneData.TheVariants as at
 use Rattle.core_model.specs.DeskRules.{DeskBegins, DeskServes}
-use Rattle.core_model.specs.DeviceRules.{DeviceServes, DeviceWorks, journal_bytes}
+use Rattle.core_model.specs.DeviceRules.{DeviceServes, DeviceWorks, journal_bytes, Announces}
+use Rattle.core_model.specs.Superblocks.{superblock_bytes}
+use Rattle.core_model.specs.declared.zones.SuperblockStage.{SuperblockStage}
+use Rattle.core_model.specs.declared.zones.SuperblockStage.TheVariants.{AsOpened, Written, Durable}
 use Rattle.core_model.specs.PhysicalRules.{PhysicalServes}
 use Rattle.core_model.specs.JournalRules.{JournalServes, JournalEnds}
 use Rattle.core_model.specs.LogicalRules.{LogicalServes}
@@ -157,7 +161,11 @@ abbrev sealed : Stage → SealedBlock
 sealed now = block_of now (writes phase.Pending ∷ [])
 
 abbrev pub device : Bool → ℕ → ZoneData
-device stopped made = at.Device (record { stopped = stopped; calls = made })
+device stopped made = at.Device (record { stopped = stopped; calls = made; superblock = Durable })
+
+-- one whose superblock has come so far
+abbrev beginning : Bool → ℕ → SuperblockStage → ZoneData
+beginning stopped made now = at.Device (record { stopped = stopped; calls = made; superblock = now })
 
 -- what the device sends where the session is stopped
 abbrev notify : List Post
@@ -248,13 +256,79 @@ claims = takes (PhysicalServes.claims (block 85) (block 86 ∷ []) refl refl ref
 claims_none : Acts (physical []) (Request (vio first asks.Write phase.Claim 0) ∷ []) (physical []) [] ((id.Logical 0, Request (answered reply.Full (vio first asks.Write phase.Abort 0))) ∷ [])
 claims_none = takes (PhysicalServes.is_full refl refl refl refl refl)
 
+-- Before all else the superblock is written and flushed, or that fails; what came waits.
+announces : Acts (beginning false 0 AsOpened) (Request (writes phase.Store) ∷ []) (beginning false 1 Written) (Calls (Write (block 0) (superblock_bytes sizes) true) ∷ []) ((id.Device, Request (writes phase.Store)) ∷ [])
+announces = calls (DeviceServes.announces refl (Announces.succeeds _ refl refl refl refl refl))
+
+announces_by_a_flush : Acts (beginning false 1 Written) (Block (sealed stage.Cover) ∷ []) (beginning false 2 Durable) (Calls (Flush true) ∷ []) ((id.Device, Block (sealed stage.Cover)) ∷ [])
+announces_by_a_flush = works (DeviceWorks.announces _ _ refl refl (Announces.succeeds _ refl refl refl refl refl))
+
+announces_in_vain : Acts (beginning false 1 Written) (Request (finds phase.Load) ∷ []) (beginning true 1 Written) (Fails reader (Flush false) true ∷ []) ((id.Device, Request (finds phase.Load)) ∷ notify)
+announces_in_vain = calls (DeviceServes.announces refl (Announces.fails _ true refl refl refl refl refl))
+
+loads_once_stopped : Acts (beginning true 1 Written) (Request (finds phase.Load) ∷ []) (beginning true 2 Written) (Calls (Read (block 85) y true) ∷ []) ((id.Logical 0, Request (record (finds phase.Loaded) { bytes = y })) ∷ [])
+loads_once_stopped = calls (DeviceServes.loads (block 85) y refl refl (inl refl) (omega arith) refl refl refl)
+
+-- no request that belongs elsewhere waits there
+announces_at_the_device : (new : ZoneData) (made : Trace) (posts : List Post) → Act sizes (beginning false 0 AsOpened) (Request (writes phase.Enter) ∷ []) new made posts → ⊥
+announces_at_the_device new made posts (calls (DeviceServes.announces there act)) = absurd cc
+announces_at_the_device new made posts (calls (DeviceServes.stores a is b c d e f g h)) = absurd cc
+announces_at_the_device new made posts (calls (DeviceServes.store_fails a k is b c d e f g h)) = absurd cc
+announces_at_the_device new made posts (calls (DeviceServes.store_unmade is b c d e)) = absurd cc
+announces_at_the_device new made posts (calls (DeviceServes.loads a b is c d e f g h)) = absurd cc
+announces_at_the_device new made posts (calls (DeviceServes.load_fails a b k is c d e f g h)) = absurd cc
+announces_at_the_device new made posts (calls (DeviceServes.flushes is a b c d e)) = absurd cc
+announces_at_the_device new made posts (calls (DeviceServes.flush_fails k is a b c d e)) = absurd cc
+announces_at_the_device new made posts (calls (DeviceServes.flush_unmade is a b c d)) = absurd cc
+
+-- no data are stored, read or flushed before it is durable, unless the session is stopped
+stores_none_before : (new : ZoneData) (posts : List Post) → Act sizes (beginning false 1 Written) (Request (writes phase.Store) ∷ []) new (Calls (Write (block 85) x true) ∷ []) posts → ⊥
+stores_none_before new posts (calls (DeviceServes.announces there (Announces.succeeds c is a b m p))) = absurd cc
+stores_none_before new posts (calls (DeviceServes.announces there (Announces.fails c k is a b m p))) = absurd cc
+stores_none_before new posts (calls (DeviceServes.stores a is b c d e f g h)) = absurd cc
+stores_none_before new posts (calls (DeviceServes.store_fails a k is b c d e f g h)) = absurd cc
+stores_none_before new posts (calls (DeviceServes.store_unmade is b c d e)) = absurd cc
+stores_none_before new posts (calls (DeviceServes.loads a b is c d e f g h)) = absurd cc
+stores_none_before new posts (calls (DeviceServes.load_fails a b k is c d e f g h)) = absurd cc
+stores_none_before new posts (calls (DeviceServes.flushes is a b c d e)) = absurd cc
+stores_none_before new posts (calls (DeviceServes.flush_fails k is a b c d e)) = absurd cc
+stores_none_before new posts (calls (DeviceServes.flush_unmade is a b c d)) = absurd cc
+
+loads_none_before : (new : ZoneData) (posts : List Post) → Act sizes (beginning false 1 Written) (Request (finds phase.Load) ∷ []) new (Calls (Read (block 85) y true) ∷ []) posts → ⊥
+loads_none_before new posts (calls (DeviceServes.announces there (Announces.succeeds c is a b m p))) = absurd cc
+loads_none_before new posts (calls (DeviceServes.announces there (Announces.fails c k is a b m p))) = absurd cc
+loads_none_before new posts (calls (DeviceServes.stores a is b c d e f g h)) = absurd cc
+loads_none_before new posts (calls (DeviceServes.store_fails a k is b c d e f g h)) = absurd cc
+loads_none_before new posts (calls (DeviceServes.store_unmade is b c d e)) = absurd cc
+loads_none_before new posts (calls (DeviceServes.loads a b is c d e f g h)) = elim d [ inl stopped ↦ absurd cc | inr durable ↦ absurd cc ]
+loads_none_before new posts (calls (DeviceServes.load_fails a b k is c d e f g h)) = absurd cc
+loads_none_before new posts (calls (DeviceServes.flushes is a b c d e)) = absurd cc
+loads_none_before new posts (calls (DeviceServes.flush_fails k is a b c d e)) = absurd cc
+loads_none_before new posts (calls (DeviceServes.flush_unmade is a b c d)) = absurd cc
+
+abbrev first_zone : List Post → ZoneId
+first_zone [] = id.Device
+first_zone (post ∷ posts) = post.0
+
+flushes_none_before : (new : ZoneData) (made : Trace) → Act sizes (beginning false 1 Written) (Request (vio flush asks.Flush phase.Flush 0) ∷ []) new made ((id.Desk, Request (record (vio flush asks.Flush phase.Reply 0) { answer = Some reply.Ok; calls = 2 })) ∷ []) → ⊥
+flushes_none_before new made (calls (DeviceServes.announces there (Announces.succeeds c is a b m p))) = let to = ap first_zone p in absurd cc
+flushes_none_before new made (calls (DeviceServes.announces there (Announces.fails c k is a b m p))) = let to = ap first_zone p in absurd cc
+flushes_none_before new made (calls (DeviceServes.stores a is b c d e f g h)) = absurd cc
+flushes_none_before new made (calls (DeviceServes.store_fails a k is b c d e f g h)) = absurd cc
+flushes_none_before new made (calls (DeviceServes.store_unmade is b c d e)) = absurd cc
+flushes_none_before new made (calls (DeviceServes.loads a b is c d e f g h)) = absurd cc
+flushes_none_before new made (calls (DeviceServes.load_fails a b k is c d e f g h)) = absurd cc
+flushes_none_before new made (calls (DeviceServes.flushes is a b c d e)) = absurd cc
+flushes_none_before new made (calls (DeviceServes.flush_fails k is a b c d e)) = absurd cc
+flushes_none_before new made (calls (DeviceServes.flush_unmade is a b c d)) = absurd cc
+
 -- Store: the data is written, or not
 stores : Acts (device false 6) (Request (writes phase.Store) ∷ []) (device false 7) (Calls (Write (block 85) x true) ∷ []) ((id.Journal, Request (writes phase.Enter)) ∷ [])
-stores = calls (DeviceServes.stores (block 85) refl refl refl (omega arith) refl refl refl)
+stores = calls (DeviceServes.stores (block 85) refl refl refl refl (omega arith) refl refl refl)
 
 stores_in_vain : Acts (device false 6) (Request (writes phase.Store) ∷ []) (device true 6) (Fails first (Write (block 85) x false) true ∷ [])
     ((id.Physical 0, Request (answered reply.Stopped (writes phase.AbortClaim))) ∷ notify)
-stores_in_vain = calls (DeviceServes.store_fails (block 85) true refl refl refl (omega arith) refl refl refl)
+stores_in_vain = calls (DeviceServes.store_fails (block 85) true refl refl refl refl (omega arith) refl refl refl)
 
 stores_no_more : Acts (device true 6) (Request (writes phase.Store) ∷ []) (device true 6) [] ((id.Physical 0, Request (answered reply.Stopped (writes phase.AbortClaim))) ∷ [])
 stores_no_more = calls (DeviceServes.store_unmade refl refl refl refl refl)
@@ -278,16 +352,16 @@ enters_full = enters (JournalServes.is_full refl refl refl refl refl refl)
 
 -- Cover, Write, Harden: each call leads to the next stage, or to Fail
 covers : Acts (device false 7) (Block (sealed stage.Cover) ∷ []) (device false 8) (Calls (Flush true) ∷ []) ((id.Device, Block (sealed stage.Write)) ∷ [])
-covers = works (DeviceWorks.makes (Flush true) (block 2) _ _ refl refl refl refl refl refl refl)
+covers = works (DeviceWorks.makes (Flush true) (block 2) _ _ refl refl refl refl refl refl refl refl)
 
 hardens : Acts (device false 9) (Block (sealed stage.Harden) ∷ []) (device false 10) (Calls (Flush true) ∷ []) ((id.Journal, Block (sealed stage.Commit)) ∷ [])
-hardens = works (DeviceWorks.makes (Flush true) (block 2) _ _ refl refl refl refl refl refl refl)
+hardens = works (DeviceWorks.makes (Flush true) (block 2) _ _ refl refl refl refl refl refl refl refl)
 
 writes_a_block : Acts (device false 8) (Block (sealed stage.Write) ∷ []) (device false 9) (Calls (Write (block 2) (journal_bytes sizes (sealed stage.Write)) true) ∷ []) ((id.Device, Block (sealed stage.Harden)) ∷ [])
-writes_a_block = works (DeviceWorks.makes (Write (block 2) (journal_bytes sizes (sealed stage.Write)) true) (block 2) _ _ refl refl refl refl refl refl refl)
+writes_a_block = works (DeviceWorks.makes (Write (block 2) (journal_bytes sizes (sealed stage.Write)) true) (block 2) _ _ refl refl refl refl refl refl refl refl)
 
 hardens_in_vain : Acts (device false 9) (Block (sealed stage.Harden) ∷ []) (device true 9) (Fails first (Flush false) false ∷ []) ((id.Journal, Block (sealed stage.Fail)) ∷ notify)
-hardens_in_vain = works (DeviceWorks.fails (Flush false) (block 2) false _ _ refl refl refl refl refl refl refl)
+hardens_in_vain = works (DeviceWorks.fails (Flush false) (block 2) false _ _ refl refl refl refl refl refl refl refl)
 
 hardens_no_more : Acts (device true 9) (Block (sealed stage.Harden) ∷ []) (device true 9) [] ((id.Journal, Block (sealed stage.Fail)) ∷ [])
 hardens_no_more = works (DeviceWorks.unmade (Flush false) (block 2) _ _ refl refl refl refl refl refl)
@@ -320,10 +394,10 @@ settles = serves (LogicalServes.settles refl refl refl refl refl)
 
 -- Load: the block is read, or not
 loads : Acts (device true 6) (Request (finds phase.Load) ∷ []) (device true 7) (Calls (Read (block 85) y true) ∷ []) ((id.Logical 0, Request (record (finds phase.Loaded) { bytes = y })) ∷ [])
-loads = calls (DeviceServes.loads (block 85) y refl refl (omega arith) refl refl refl)
+loads = calls (DeviceServes.loads (block 85) y refl refl (inl refl) (omega arith) refl refl refl)
 
 loads_in_vain : Acts (device false 6) (Request (finds phase.Load) ∷ []) (device false 6) (Fails reader (Read (block 85) y false) true ∷ []) ((id.Logical 0, Request (answered reply.ReadFault (finds phase.Abort))) ∷ [])
-loads_in_vain = calls (DeviceServes.load_fails (block 85) y true refl refl (omega arith) refl refl refl)
+loads_in_vain = calls (DeviceServes.load_fails (block 85) y true refl refl (inr refl) (omega arith) refl refl refl)
 
 -- Loaded: it is given its bytes, and the lock is free
 gives : Acts (logical 3 [] (lock 2 ∷ []) [] [] []) (Request (reads phase.Loaded) ∷ []) (logical 3 [] [] [] [] []) (Gives (given 2) ∷ []) ((id.Desk, Request (answered (reply.Bytes x) (reads phase.Reply))) ∷ [])
@@ -348,11 +422,11 @@ aborts_entered = serves (LogicalServes.aborts_entered refl refl refl refl refl)
 -- Flush: it returns with its mark, or is stopped
 flushes : Acts (device false 9) (Request (vio flush asks.Flush phase.Flush 0) ∷ []) (device false 10) (Calls (Flush true) ∷ [])
     ((id.Desk, Request (record (vio flush asks.Flush phase.Reply 0) { answer = Some reply.Ok; calls = 10 })) ∷ [])
-flushes = calls (DeviceServes.flushes refl refl refl refl refl)
+flushes = calls (DeviceServes.flushes refl refl refl refl refl refl)
 
 flushes_in_vain : Acts (device false 9) (Request (vio flush asks.Flush phase.Flush 0) ∷ []) (device true 9) (Fails flush (Flush false) true ∷ [])
     ((id.Desk, Request (answered reply.Stopped (vio flush asks.Flush phase.Reply 0))) ∷ notify)
-flushes_in_vain = calls (DeviceServes.flush_fails true refl refl refl refl refl)
+flushes_in_vain = calls (DeviceServes.flush_fails true refl refl refl refl refl refl)
 
 flushes_no_more : Acts (device true 9) (Request (vio flush asks.Flush phase.Flush 0) ∷ []) (device true 9) [] ((id.Desk, Request (answered reply.Stopped (vio flush asks.Flush phase.Reply 0))) ∷ [])
 flushes_no_more = calls (DeviceServes.flush_unmade refl refl refl refl refl)

@@ -9,6 +9,7 @@ use Rattle.data_vio.specs.declared.items.Phase.TheVariants as phase
 use Rattle.data_vio.specs.declared.items.Vio.{Vio}
 use Rattle.blk_base.specs.declared.place.PageId.{PageId}
 use Rattle.block_map_tree.specs.Tree.{Tree}
+use Rattle.core_model.specs.declared.zones.SuperblockStage.TheVariants.{AsOpened}
 use Rattle.core_model.specs.declared.zones.DeviceZone.{DeviceZone}
 use Rattle.core_model.specs.JournalData.{JournalZone}
 use Rattle.core_model.specs.LogicalData.{Lock, LogicalZone}
@@ -137,7 +138,7 @@ journal_committed is = absurd (omega (arith, is.committed, length-replicate 1966
 
 -- a device that made so many calls, as the zone that made nine steps, with so many items in its inbox and its two outboxes
 abbrev device : ℕ → DeviceZone
-device calls = record { stopped = false; calls = calls }
+device calls = record { stopped = false; calls = calls; superblock = AsOpened }
 
 abbrev lane : ℕ → List Item
 lane items = replicate items StopNotice

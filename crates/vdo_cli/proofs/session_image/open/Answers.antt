@@ -11,7 +11,7 @@ pub returns-in_err-journal-clause-fault : goal.returns-in_err-journal-clause-fau
 returns-in_err-journal-clause-fault g c =
     let head = c.in_ok-head.ensures.read in
     passed_on c.from_residual-in_err-journal.result (OpeningFails (trust g.D.Disk.tells g.D.Disk.honest) (g.D.Disk.seen c.args.device.now) (g.D.Disk.seen c.read_journal.new.device)) c.in_err-journal.field-0.0 c.from_residual-in_err-journal.ensures.1
-    (journal_fails _ _ _ _ _ c.in_ok-head.head head.0 head.1 head.2 c.in_err-journal.field-0.0 (rw c.of-layout.ensures at c.in_err-journal.ensures.fault))
+    (journal_fails _ _ _ _ _ c.in_ok-head.head head.0 head.1 c.in_ok-head.ensures.named head.2 c.in_err-journal.field-0.0 (rw c.of-layout.ensures at c.in_err-journal.ensures.fault))
 
 pub returns-in_err-journal-clause-untouched : goal.returns-in_err-journal-clause-untouched
 returns-in_err-journal-clause-untouched g c = untouched_on _ _ _ _ c.read_head.ensures.untouched c.read_journal.ensures.untouched
@@ -21,7 +21,7 @@ read : (g : _) (c : goal.After-drop-journal g) → IsRead (trust g.D.Disk.tells 
 read g c =
     let head = c.in_ok-head.ensures.read in
     let journal = c.in_ok-journal.journal.items in
-    all_read _ _ _ _ _ c.in_ok-head.head head.0 head.1 head.2 journal (omega (arith, c.in_ok-journal.ensures.count, ap (λ (g : Geometry). g.journal) c.of-layout.ensures, c.in_ok-journal.journal.ok)) c.in_ok-journal.ensures.read
+    all_read _ _ _ _ _ c.in_ok-head.head head.0 head.1 c.in_ok-head.ensures.named head.2 journal (omega (arith, c.in_ok-journal.ensures.count, ap (λ (g : Geometry). g.journal) c.of-layout.ensures, c.in_ok-journal.journal.ok)) c.in_ok-journal.ensures.read
 
 pub returns-clause-opened : goal.returns-clause-opened
 returns-clause-opened g c =
