@@ -10,6 +10,8 @@ mod formats;
 #[cfg(test)]
 mod fuses;
 #[cfg(test)]
+mod growths;
+#[cfg(test)]
 mod heads;
 #[cfg(test)]
 mod maps;

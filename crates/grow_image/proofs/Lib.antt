@@ -1,0 +1,13 @@
+pub mod SizeLaws
+pub mod GrownLaws
+pub mod PutLaws
+pub mod StillLaws
+pub mod MomentLaws
+pub mod WholeLaws
+pub mod LeafLaws
+pub mod SearchLaws
+pub mod FreshLaws
+pub mod OpenedLaws
+pub mod GrowthLaws
+pub mod Rows
+pub mod SearchRows
