@@ -1,6 +1,6 @@
 -- Audits that are accepted: the report of an image that has nothing, the numbers of blocks that no list has, and a device
 -- without a superblock.
-use Rattle.std.proofs.Common.{ℕ, ◌≡◌, Bool, List, [], length, replicate, slice_index, Contains, Ok, refl, sym, ◌∙◌, ap, subst, inl, inr, arith}
+use Rattle.std.proofs.Common.{ℕ, ◌≡◌, Bool, List, [], replicate, slice_index, Contains, Ok, refl, sym, ◌∙◌, ap, subst, inl, inr, arith}
 use Rattle.std.proofs.lemmas.List.{get_or-replicate, length-replicate}
 use Rattle.blk_base.specs.Regions.{DataBlock, block_of}
 use Rattle.blk_base.specs.declared.layout.DataPlace.{DataPlace}

@@ -1,5 +1,5 @@
 -- What was read of the map and of the counts, one after the other.
-use Rattle.std.proofs.Common.{ℕ, zero, suc, ◌≡◌, ◌+◌, ◌-◌, ◌*◌, ◌/◌, ◌%◌, ◌<◌, ◌≤◌, ◌↔◌, Bool, List, [], ◌∷◌, All, length, Contains, Some, Result, Ok, Err, IfOk, slice_index, refl, sym, ◌∙◌, ap, ap₂, subst, inr, arith}
+use Rattle.std.proofs.Common.{ℕ, ◌≡◌, ◌+◌, ◌-◌, ◌*◌, ◌/◌, ◌%◌, ◌<◌, ◌≤◌, ◌↔◌, Bool, List, All, length, Contains, Some, Result, Ok, Err, IfOk, slice_index, refl, sym, ◌∙◌, ap, ap₂, subst, inr, arith}
 use Rattle.std.proofs.lemmas.Nat.{div-add-mod', mod_below, mul-add-lt, same_from_place}
 use Rattle.blk_base.specs.Counters.{limit_of}
 use Rattle.blk_base.specs.Regions.{first_slab_of, needed_blocks, slab_stride_of}
@@ -17,6 +17,7 @@ use Rattle.image_model.specs.Pages.{address_count}
 use Rattle.image_model.specs.Sound.{AreUnshared, IsDataPlace, image_of}
 use Rattle.image_model.specs.declared.fault.ImageFault.{ImageFault}
 use Rattle.image_model.specs.declared.fault.ImageFault.TheVariants.{Super, Window, Page, Counter, SharedPage, Counts, Device, Unclean, Memory}
+use Rattle.image_model.proofs.WholeRows.{listed, at_listed}
 use Rattle.blk_base.specs.declared.place.Pbn.{Pbn}
 use Rattle.journal_window.specs.States.{WindowState}
 use Rattle.replay_counts.specs.Recovered.{AreCountsRead, CountsFail, HasCounts, Holds}
@@ -37,16 +38,6 @@ use Rattle.audit.specs.declared.forms.Contents.{Contents}
 use Rattle.audit.specs.declared.forms.Report.{Report}
 
 -- There is an image that has what was read of the slabs.
-
-listed : (ℕ → List ℕ) → ℕ → ℕ → Blocks
-listed f from zero = []
-listed f from (suc n) = f from ∷ listed f (suc from) n
-
-at_listed : (f : ℕ → List ℕ) (from n k : ℕ) → k < n → block_at (listed f from n) k ≡ f (from + k)
-unfolding listed
-at_listed f from zero k below = absurd (omega (arith, below))
-at_listed f from (suc n) zero below = ap f (omega arith)
-at_listed f from (suc n) (suc k) below = let place : suc from + k ≡ from + suc k = omega arith in at_listed f (suc from) n k (omega (arith, below)) ∙ ap f place
 
 read_at : Geometry → List Blocks → ℕ → List ℕ
 read_at g reads b =

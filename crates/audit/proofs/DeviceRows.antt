@@ -18,6 +18,7 @@ use Rattle.image_model.specs.Counts.{Stores}
 use Rattle.image_model.specs.Empty.{HasNothing, empty_root, root_head}
 use Rattle.image_model.specs.Maps.{ArePagesGood}
 use Rattle.image_model.specs.declared.fault.ImageFault.TheVariants.{Device, Memory, Unclean}
+use Rattle.image_model.proofs.ReadExample.{seen, next_failed, were_read, failed}
 use Rattle.page_codec.proofs.SpellingLaws.{page_size}
 use Rattle.replay_counts.specs.Recovered.{AreSlabsRead, HasCounts, Holds, no_points}
 use Rattle.replay_counts.specs.declared.forms.SectorPoints.{SectorPoints}
@@ -25,21 +26,21 @@ use Rattle.replay_map.proofs.ReplayRows.{map_of_nothing}
 use Rattle.replay_map.specs.Reads.{BlocksRead, Reading, Shows}
 use Rattle.slab_reading.specs.Slabs.{first_of_slab}
 use Rattle.audit.proofs.AcceptedRows.{its_report}
-use Rattle.audit.proofs.ReadExample.{head_is_read, head_of, next_failed, no_entries, seen, seen_failed, were_read, window_is_read}
+use Rattle.audit.proofs.ReadExample.{head_is_read, head_of, no_entries, window_is_read}
 use Rattle.audit.specs.Audits.{AreBothRead, AuditFails, IsAudited, IsOpenedTo}
 use Rattle.audit.specs.Reads.{AreContents}
 use Rattle.audit.specs.declared.forms.Contents.{Contents}
 use Rattle.audit.specs.declared.forms.Report.{Report}
 
-none_told : {A : Type 0} → IsTrue false → A
+pub none_told : {A : Type 0} → IsTrue false → A
 none_told told = absurd (cc told)
 
 -- the roots of the first trees, one after the other
-root_readings : ℕ → List Reading
+pub root_readings : ℕ → List Reading
 root_readings zero = []
 root_readings (suc n) = record { at = pbn (block_of small (Root n)); bytes = empty_root small n } ∷ root_readings n
 
-roots_read : (honest : Bool) (n : ℕ) → n ≤ 60 → BlocksRead false honest small seen seen (root_readings n)
+pub roots_read : (honest : Bool) (n : ℕ) → n ≤ 60 → BlocksRead false honest small seen seen (root_readings n)
 unfolding root_readings
 roots_read honest zero within = refl
 roots_read honest (suc n) within = (
@@ -50,7 +51,7 @@ roots_read honest (suc n) within = (
   inr (n, omega (arith, within), refl),
 )
 
-roots_shown : (blocks : Blocks) (n : ℕ) → Shows blocks (root_readings n) → (tree : ℕ) → tree < n → block_at blocks (block_of small (Root tree)) ≡ empty_root small tree
+pub roots_shown : (blocks : Blocks) (n : ℕ) → Shows blocks (root_readings n) → (tree : ℕ) → tree < n → block_at blocks (block_of small (Root tree)) ≡ empty_root small tree
 unfolding root_readings
 roots_shown blocks zero shown tree below = absurd (omega (arith, below))
 roots_shown blocks (suc n) shown tree below = elim (cases_eq tree n) [
@@ -128,7 +129,7 @@ module _ (blocks : Blocks) (shown : Shows blocks (root_readings 60)) (holds : Ho
   }
 
 -- IsOpenedTo, IsAudited: the superblock of a closed session, and no window; and no block differs
-opened_to : (honest : Bool) → IsOpenedTo false honest seen seen (head_of true) no_entries
+pub opened_to : (honest : Bool) → IsOpenedTo false honest seen seen (head_of true) no_entries
 opened_to honest = record { middle = seen; head_read = head_is_read honest true; window_read = window_is_read honest true }
 
 audited : (honest : Bool) (report : Report) → report.differs.items ≡ [] → report.used ≡ 0 → report.total ≡ 64 → IsAudited false honest seen seen report
@@ -169,17 +170,17 @@ no_slab_shown : (tells honest : Bool) (contents : Contents) (are : AreContents t
 no_slab_shown tells honest contents are none = let count = are.shown.2.slabs_read.count in let size = ap length none in omega (arith, count, size)
 
 -- AuditFails, behind a superblock: a block of the journal isn't read; there is no memory for it
-window_not_read : (honest : Bool) → AuditFails false honest seen seen_failed Device
+window_not_read : (honest : Bool) → AuditFails false honest seen failed Device
 window_not_read honest = inr (inl (head_of true, seen, head_is_read honest true, ([], omega arith, next_failed honest 1)))
 
 no_memory_for_it : (honest : Bool) → AuditFails false honest seen seen Memory
 no_memory_for_it honest = inr (inl (head_of true, seen, head_is_read honest true, tt))
 
 -- behind a window: a page isn't read, or a block of the slab
-page_not_read : (honest : Bool) → AuditFails false honest seen seen_failed Device
+page_not_read : (honest : Bool) → AuditFails false honest seen failed Device
 page_not_read honest = inr (inr (head_of true, no_entries, seen, opened_to honest, inl ([], seen, pbn 9, refl, next_failed honest 9, inr (0, omega arith, refl))))
 
-slab_not_read : (honest : Bool) → AuditFails false honest seen seen_failed Device
+slab_not_read : (honest : Bool) → AuditFails false honest seen failed Device
 slab_not_read honest = inr (inr (head_of true, no_entries, seen, opened_to honest, inr ([], seen, refl, ([], omega arith, seen, refl, ([], omega arith, next_failed honest 149)))))
 
 -- that the image wasn't closed is no fault here; and no read failed where there is no block but the first one to read

@@ -5,3 +5,4 @@ pub mod Rows
 pub mod ReadExample
 mod AcceptedRows
 mod DeviceRows
+pub mod DifferRows

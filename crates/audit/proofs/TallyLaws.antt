@@ -1,9 +1,8 @@
 -- How the numbers of blocks are changed, one after another.
 use Rattle.std.proofs.Common.{ℕ, ◌≡◌, ◌⊎◌, ◌+◌, ◌<◌, ◌≤◌, ◌==◌, nat_lt, true, false, cond, Option, Some, List, [], ◌∷◌, ◌++◌, length, get_or, take, replicate, Contains, slice_index, slice_set, refl, sym, ◌∙◌, ap, ap₂, subst, inl, inr, arith, ◌-◌, length-append}
 use Rattle.std.specs.BTreeMap.{BTreeMap, get, is_at}
-use Rattle.std.specs.Cmp.{unsigned_ties}
 use Rattle.std.specs.Map.{lookup}
-use Rattle.std.specs.Ordering.{is_eq, nat_cmp}
+use Rattle.std.specs.Ordering.{nat_cmp}
 use Rattle.std.specs.Prelude.{unwrap_or}
 use Rattle.std.proofs.lemmas.Bool.{cond-false, cond-true, eq-eqb, lt-ltb, le-ltb, ne_eqb}
 use Rattle.std.proofs.lemmas.Bool.Decides.{eqb_tells}
@@ -26,6 +25,7 @@ use Rattle.plain_laws.proofs.ListLaws.{total-append}
 use Rattle.plain_laws.specs.Sums.{bit, total}
 use Rattle.replay_map.specs.Replayed.{times}
 use Rattle.replay_map.specs.declared.links.Link.{Link}
+use Rattle.replay_map.proofs.ChangeLaws.{tie}
 use Rattle.audit.specs.Tallies.{AreNumbers, AreTallied, IsChanged, IsSplit, more_of, number_in, used_in}
 use Rattle.audit.specs.declared.tallies.MappingCounts.{MappingCounts}
 
@@ -167,9 +167,6 @@ few_counted g links mapped counts place inside are =
     ]
 
 -- What a byte holds, and what it doesn't.
-
-tie : (x y : ℕ) → is_eq (nat_cmp x y) ≡ (x == y)
-tie x y = sym (unsigned_ties x y)
 
 alike : (n : ℕ) → is_at (nat_cmp n) n ≡ true
 alike n = tie n n ∙ eq-eqb n n refl

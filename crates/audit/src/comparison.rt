@@ -125,8 +125,8 @@ fn push_difference(
     requires mapped { length mapped.now.low.items ≡ all_blocks layout.now.geometry }
     requires few { number_in mapped.now n < 2 ^ 64 }
     ensures { OnOk result
-        (differs.new.items
-        ≡ differs.old.items ++ difference_in layout.now.geometry stored.now (number_in mapped.now) n) }
+        (differs.new.items ≡ differs.old.items
+        ++ difference_in layout.now.geometry stored.now (number_in mapped.now) n) }
 {
     let count = u32::from(stored[n as usize]);
     let mappings = mapped.of(n);

@@ -11,8 +11,8 @@
 //! those of linked pages, and each of them once, so that of a device which gives two contents of one block nothing is
 //! said.
 //!
-//! No rows yet: a report with blocks that differ (`IsAudited`), and faults of a page, of a count and of a shared block
-//! behind a window (`AuditFails`), as a device gives them whole; the parts are pinned each.
+//! No rows yet: the fault of a shared block behind a window (`AuditFails`), as a device gives it whole; the parts are
+//! pinned each.
 #![tactic(auto)]
 
 mod auditor;

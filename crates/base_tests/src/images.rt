@@ -1,7 +1,6 @@
-use blk_base::{Block, Entry, Geometry, Layout, Lba, Mapping, Pbn, Super};
+use blk_base::{Block, Entry, Geometry, Lba, Mapping, Pbn, Super};
 use image_layout::SuperFault::{BadField, NotAnImage, Version};
-use image_layout::{Field, SuperFault, first_image, mapping_at, read_super, write_super};
-use std::alloc::AllocError;
+use image_layout::{Field, SuperFault, mapping_at, read_super, write_super};
 use test_images::{not_shown, with_byte};
 
 const HEAD: Super = Super {
@@ -224,37 +223,6 @@ fn logical_limits(rt: HostRuntime) {
         };
     }
     assert_eq!(rt; found, wanted);
-}
-
-fn are_zeros(blocks: &[Block]) -> bool {
-    for block in blocks {
-        if !is_zero(&block.bytes) {
-            return false;
-        }
-    }
-    true
-}
-
-// How many blocks an image has, its first 64 bytes, and whether the others are zeros.
-fn told(image: &[Block]) -> (usize, [u8; 64], bool) {
-    match image {
-        [first, others @ ..] => {
-            let (bytes, zeros) = first_bytes(first);
-            (image.len(), bytes, zeros && are_zeros(others))
-        }
-        [] => (0, [0; 64], false),
-    }
-}
-
-fn told_of_first_image(rt: &HostRuntime) -> Result<(usize, [u8; 64], bool), AllocError> {
-    let layout = Layout::of(&Geometry::DEFAULT);
-    let image = first_image(rt.alloc(), &Geometry::DEFAULT, &layout)?;
-    Ok(told(&image))
-}
-
-#[test]
-fn the_first_image(rt: HostRuntime) {
-    assert_eq!(rt; told_of_first_image(&rt), Ok((154, DEFAULT_BYTES, true)));
 }
 
 fn remap(at: u32, block: u32) -> Entry {

@@ -6,3 +6,6 @@ pub mod OpeningLaws
 pub mod HistoryLaws
 pub mod OneLaws
 pub mod Rows
+pub mod TreeRows
+pub mod OpeningRows
+pub mod RunRows

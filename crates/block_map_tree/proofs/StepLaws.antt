@@ -18,6 +18,7 @@ use Rattle.dirty_pages.proofs.MarkLaws.{due_inside, out_inside}
 use Rattle.block_map_tree.specs.Pages.{IsInner, IsOnPath, IsRoot}
 use Rattle.block_map_tree.specs.Tree.{Tree, IsTree, IsAt, IsThere, IsLinkable, Links, Expires, IsWriting, Writes, number_of, mappings_of}
 use Rattle.block_map_tree.proofs.TreeLaws.{HasPlace, marks_keep, marks_move_none, marks_move_none_back, links, place_above}
+use Rattle.plain_laws.proofs.OptionLaws.{some_of}
 
 -- where the page above stands
 pub parent_place : (known tree : Tree) (page : PageId) → tree ≡ known → IsTree tree → IsLinkable known page → HasPlace tree page
@@ -86,10 +87,6 @@ expires known tree new into page point n row same form out inner number stands g
       form = handed_form tree new point n form out;
       set = ap (λ (ms : List Marks). record { forest = tree.forest; pages = tree.pages; marks = ms }) (out.after ∙ ap (λ (k : ℕ). with_marks tree.marks k handed_out) (sym number));
     })
-
-some_of : (o : Option Point) → is_some o ≡ true → (point : Point) × (o ≡ Some point)
-some_of None is = cc
-some_of (Some point) is = (point, refl)
 
 -- whether a page is being written, by its marks
 pub out_so : (known tree : Tree) (page : PageId) (n : ℕ) (marks : Marks) (some : Bool) → tree ≡ known → IsInner tree.forest page → n ≡ number_of tree.forest page

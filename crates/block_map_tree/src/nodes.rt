@@ -41,7 +41,8 @@ impl Model for TreeNodes {
 
     ghost view = { λ t. record { forest = t.forest; pages = t.pages.items; marks = t.marks } };
 
-    ghost invariant = { λ t. IsTree (record { forest = t.forest; pages = t.pages.items; marks = t.marks }) };
+    ghost invariant = { λ t.
+        IsTree (record { forest = t.forest; pages = t.pages.items; marks = t.marks }) };
 }
 
 impl TreeNodes {

@@ -1,6 +1,6 @@
 -- What stands of the counts: for each clause a case that it accepts and one that it refuses. The image and the entries are
 -- those of the example; what its counters and its window have of them is accepted there.
-use Rattle.std.proofs.Common.{ℕ, zero, suc, ◌≡◌, ◌/◌, ◌<◌, ◌≤◌, true, false, List, [], ◌∷◌, Contains, Result, Ok, refl, ap, subst, inl, inr, arith}
+use Rattle.std.proofs.Common.{ℕ, zero, suc, ◌≡◌, ◌+◌, ◌/◌, ◌%◌, ◌<◌, ◌≤◌, true, false, List, [], ◌∷◌, Contains, Result, Ok, refl, ap, subst, inl, inr, arith}
 use Rattle.std.proofs.lemmas.Bool.Decides.{eqb_tells}
 use Rattle.std.proofs.lemmas.List.Elements.{All-cons, All-nil}
 use Rattle.blk_base.specs.Regions.{DataBlock, ReferenceBlock, SlabJournalSlot, block_of}
@@ -17,7 +17,7 @@ use Rattle.disk_model.specs.Log.{Blocks, block_at}
 use Rattle.image_model.proofs.CountLaws.{none_in_nothing}
 use Rattle.image_model.proofs.Example.{pbn, small}
 use Rattle.image_model.proofs.ZeroLaws.{no_slab_sector}
-use Rattle.image_model.specs.Counts.{HasMappings, IsUpdate, Stores, block_of_data, commit_at, commit_of, count_after, counter_of}
+use Rattle.image_model.specs.Counts.{HasMappings, IsUpdate, Stores, block_of_data, commit_at, commit_of, count_after, counter_of, reference_sector_at}
 use Rattle.image_model.specs.Empty.{IsEmpty}
 use Rattle.image_model.specs.Maps.{Image, IsTreePage, mapping_of}
 use Rattle.image_model.specs.Sound.{IsDataPlace}
@@ -27,7 +27,7 @@ use Rattle.slab_codec.specs.Spelling.{block_bytes}
 use Rattle.slab_codec.specs.declared.forms.SlabEntry.{SlabEntry}
 use Rattle.stop_laws.specs.Journals.{Surely}
 use Rattle.count_laws.specs.Closed.{HasClosedCounts}
-use Rattle.count_laws.specs.Counters.{CountsStand, HasUpdate, IsCounted, IsKnown, IsOfSector, MayWrite, SurelyCounters, UpdateStands, entry_at, points_at}
+use Rattle.count_laws.specs.Counters.{CountsStand, HasUpdate, IsCounted, IsKnown, IsOfSector, MayWrite, SurelyCounters, UpdateStands, counter_in, entry_at, points_at}
 use Rattle.count_laws.specs.Points.{up_to}
 use Rattle.count_laws.proofs.Example.{closed, commit_behind, commits_before, counter_none, four, opened, place}
 
@@ -98,6 +98,15 @@ module _ (blocks : Blocks) (empty : IsEmpty small blocks) where
   low_commit = commits_before blocks empty 0 0 (omega arith) (omega arith)
 
   -- A sector of counters. One with the updates up to its commit point is accepted in the example.
+
+  -- so is one that stands as it was opened
+  as_opened : IsCounted image [] 0 0 (reference_sector_at small blocks 0 0)
+  as_opened = record { commit = omega arith; reached = inl refl; counters = λ x there. counted x.slab x.offset there }
+    where
+      counted : (slab offset : ℕ) → IsOfSector small 0 0 (record { slab = slab; offset = offset })
+          → count_after 254 (counter_of image (record { slab = slab; offset = offset })) [] ≡ Ok (counter_in small (reference_sector_at small blocks 0 0) (record { slab = slab; offset = offset }))
+      counted (suc slab) offset there = let one = there.0.0 in absurd (omega (arith, one))
+      counted zero offset there = ap (λ (n : ℕ). let it : Result ℕ ℕ = Ok (number_at 1 (8 + offset % 504) (reference_sector_at small blocks 0 n)) in it) there.2
 
   -- a commit point that is lower than the opened one
   lower_than_opened : (other : Image) (slab n : ℕ) (bytes : List ℕ) → number_at 8 0 bytes < commit_at other.geometry other.blocks slab n → IsCounted other four slab n bytes → ⊥
@@ -244,7 +253,7 @@ module _ (blocks : Blocks) (empty : IsEmpty small blocks) where
       omega (arith, most, is, low)
 
   -- none with a lower commit point, where the counts stood by a newer one
-  lower_commit : (bytes : List ℕ) (log : List Call) → number_at 8 0 (sector 0 bytes) ≡ 0
+  lower_commit : (bytes : List ℕ) (log : List Call) → number_at 8 0 (sector 0 bytes) ≡ 511
       → SurelyCounters blocks log small 0 0 (λ old. 512 ≤ number_at 8 0 old)
       → MayWrite blocks log image four [] (block_of small (ReferenceBlock 0 0)) bytes → ⊥
   lower_commit bytes log low counted may =

@@ -13,3 +13,5 @@ pub mod WriteExample
 pub mod PointRows
 pub mod TurnRows
 pub mod CounterRows
+pub mod ClosedRows
+pub mod WriteRows

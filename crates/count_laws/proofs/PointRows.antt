@@ -73,6 +73,13 @@ takes_one = record { takes = λ odd. omega arith; adds = λ even. omega arith }
 takes_from_none : FitsCounter 254 0 (update 86 519) → ⊥
 takes_from_none fits = let some = fits.takes refl in omega (arith, some)
 
+-- up to the limit; and what takes away has no limit
+adds_below_limit : FitsCounter 254 253 (update 86 516)
+adds_below_limit = record { takes = λ odd. absurd (let no : ◌≡◌ {A = ℕ} 0 1 = odd in omega (arith, no)); adds = λ even. omega arith }
+
+takes_at_limit : FitsCounter 254 254 (update 86 519)
+takes_at_limit = record { takes = λ odd. omega arith; adds = λ even. absurd (let no : ◌≡◌ {A = ℕ} 1 0 = even in omega (arith, no)) }
+
 adds_at_limit : FitsCounter 254 254 (update 86 516) → ⊥
 adds_at_limit fits = let room = fits.adds refl in omega (arith, room)
 

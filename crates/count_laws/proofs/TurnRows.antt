@@ -1,6 +1,6 @@
 -- Turns, and the numbers of mappings after them: for each clause a case that it accepts and one that it refuses. The image
 -- and the entries are those of the example, which come in turn.
-use Rattle.std.proofs.Common.{ℕ, ◌≡◌, List, [], ◌∷◌, Result, Some, None, Ok, refl, sym, ◌∙◌, inl, inr, arith}
+use Rattle.std.proofs.Common.{ℕ, ◌≡◌, List, [], ◌∷◌, Option, Result, Some, None, Ok, refl, sym, ◌∙◌, inl, inr, arith}
 use Rattle.blk_base.specs.declared.journal_entry.CommittedEntry.{CommittedEntry}
 use Rattle.blk_base.specs.declared.journal_entry.Entry.TheVariants.{NewPage}
 use Rattle.blk_base.specs.declared.place.Mapping.TheVariants.{Unmapped, Zero, At}
@@ -8,6 +8,8 @@ use Rattle.blk_base.specs.declared.place.PageId.{PageId}
 use Rattle.blk_base.specs.declared.place.Pbn.{Pbn}
 use Rattle.blk_base.specs.Pages.{above}
 use Rattle.disk_model.specs.Log.{Blocks}
+use Rattle.blk_base.specs.declared.journal_entry.Entry.{Entry}
+use Rattle.image_model.proofs.EmptyLaws.{has_nothing}
 use Rattle.image_model.proofs.Example.{pbn, small}
 use Rattle.image_model.specs.Counts.{leads_to, mapped_below}
 use Rattle.image_model.specs.Empty.{IsEmpty}
@@ -17,12 +19,20 @@ use Rattle.journal_stops.specs.Mapped.{mapping_after, page_after}
 use Rattle.plain_laws.specs.Sums.{bit}
 use Rattle.count_laws.specs.Running.{RunningCount}
 use Rattle.count_laws.specs.Turns.{AreInTurn, AreUnsharedAfter, ComesInTurn, HasMappingsAfter, IsLinkedAfter, IsPageAfter, IsUnusedAfter, MayLeadTo}
+use Rattle.count_laws.proofs.StepLaws.{new_mapping}
+use Rattle.count_laws.proofs.TurnLaws.{one_number_after, opened_mapping}
+use Rattle.blk_base.specs.Regions.{IsDataBlock}
 use Rattle.count_laws.proofs.BelowLaws.{counts_one}
-use Rattle.count_laws.proofs.Example.{at_point, first_has, first_unused, fits, four, leaf, leaf_gone, one, one_maps_none, opened, page, remap, three, two}
+use Rattle.count_laws.proofs.Example.{at_point, data_block, first_has, first_unused, fits, four, leaf, leaf_gone, one, one_maps_none, opened, page, remap, three, two}
 
 -- at the limit nothing more leads to a block
 at_limit : (image : Image) (older : List CommittedEntry) (block : Pbn) → HasMappingsAfter image older block 254 → MayLeadTo image older (At block) → ⊥
 at_limit image older block has may = let room = may.2 254 has in omega (arith, room)
+
+-- one below it one more does
+below_limit : (image : Image) (older : List CommittedEntry) (block : Pbn) → IsDataBlock image.geometry block.0 → (IsPageAfter image older block → ⊥) → HasMappingsAfter image older block 253
+    → MayLeadTo image older (At block)
+below_limit image older block stands no_page has = (stands, no_page, λ count other. let same = one_number_after image older block count 253 other has in omega (arith, same))
 
 -- a page whose parent isn't linked isn't made
 parent_gone : (image : Image) (older : List CommittedEntry) (made : PageId) (at : Pbn) → page_after image older (above made) ≡ None → ComesInTurn image older (NewPage made at) → ⊥
@@ -102,6 +112,26 @@ module _ (blocks : Blocks) (empty : IsEmpty small blocks) where
   unlinked_leaf : ComesInTurn image [] (remap 5 Unmapped Zero) → ⊥
   unlinked_leaf turn = leaf_unlinked turn.1
 
+  -- the last address, in a leaf of tree 1
+  abbrev last_leaf : Entry
+  last_leaf = NewPage (page 1 0 0) (pbn 85)
+
+  last_leaf_gone : page_after image [] (page 1 0 0) ≡ None
+  last_leaf_gone = through (page_after image [] (page 1 0 0)) refl
+    where
+      through : (o : Option Pbn) → page_after image [] (page 1 0 0) ≡ o → o ≡ None
+      through (Some at) there = absurd ((first_unused blocks empty at).no_page (page 1 0 0, omega arith, there))
+      through None there = refl
+
+  last_leaf_turn : ComesInTurn image [] last_leaf
+  last_leaf_turn = (record { address = 999; inside = omega arith; level = omega arith; there = refl }, (pbn 10, refl), last_leaf_gone, data_block 0 (omega arith), first_unused blocks empty (pbn 85))
+
+  last_address : ComesInTurn image (at_point last_leaf 512 ∷ []) (remap 999 Unmapped Zero)
+  last_address = (omega arith, (pbn 85, refl), sym none, tt)
+    where
+      none : mapping_after image (at_point last_leaf 512 ∷ []) 999 ≡ Unmapped
+      none = new_mapping image [] tt (record { 0 = 512 }) (page 1 0 0) (pbn 85) last_leaf_turn 999 ∙ opened_mapping image 999 ∙ (has_nothing small blocks empty).unmapped 999
+
   past_the_size : ComesInTurn image one (remap 1000 Unmapped Zero) → ⊥
   past_the_size turn = let inside = turn.0 in omega (arith, inside)
 
@@ -146,6 +176,10 @@ module _ (blocks : Blocks) (empty : IsEmpty small blocks) where
   leaf_too_late turns = leaf_missing turns.1
 
   -- What the counts come to: by their sum, by the count in the order of points, and by the map.
+
+  -- without entries the count is what it was
+  as_before : (block : Pbn) (count : ℕ) (running : RunningCount image [] block count) → running.now ≡ count
+  as_before block count running = let sum = running.sum in omega (arith, sum)
 
   two_by_sum : (running : RunningCount image four (pbn 86) 0) → running.now ≡ 2 → ⊥
   two_by_sum running is = let sum = running.sum in omega (arith, sum, is)

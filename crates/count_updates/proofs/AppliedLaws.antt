@@ -20,9 +20,7 @@ use Rattle.count_updates.specs.Applied.{IsGreatest, IsOfSector, AreApplied}
 use Rattle.count_updates.specs.Counted.{commit_in}
 use Rattle.count_updates.specs.Listed.{Lists}
 use Rattle.count_updates.specs.Numbers.{sector_number}
-
-abbrev made : ℕ → ℕ → Update
-made at point = record { at = record { 0 = at }; point = record { 0 = point } }
+use Rattle.count_updates.proofs.PointLaws.{made}
 
 -- The greatest of some points, and of one more.
 

@@ -7,13 +7,12 @@ use Rattle.std.proofs.Math.Seq.{get_or-append_right}
 use Rattle.blk_base.specs.Counters.{sectors_per_slab}
 use Rattle.blk_base.specs.Regions.{slab_stride_of}
 use Rattle.blk_base.specs.declared.geometry.Geometry.{Geometry}
-use Rattle.blk_base.specs.declared.journal_entry.Update.{Update}
 use Rattle.blk_base.specs.declared.layout.DataPlace.{DataPlace}
-use Rattle.blk_base.specs.declared.point.Point.{Point}
 use Rattle.image_model.specs.Counts.{block_of_data}
 use Rattle.image_model.specs.Sound.{IsDataPlace}
 use Rattle.count_updates.specs.Counted.{AreCounted, AreCountedUpTo, IsCountedAt, Leaves}
 use Rattle.count_updates.specs.Numbers.{all_blocks, all_sectors, block_number, sector_number, IsEarlier}
+use Rattle.count_updates.specs.FoundLists.{FoundLists}
 
 abbrev pub place_of : ℕ → ℕ → DataPlace
 place_of slab offset = record { slab = slab; offset = offset }
@@ -75,47 +74,47 @@ next_block g slab offset = omega arith
 pub next_slab : (g : Geometry) (slab : ℕ) → (block_of_data g (place_of slab g.slab_blocks)).0 ≤ (block_of_data g (place_of (slab + 1) 0)).0
 next_slab g slab = omega arith
 
-module _ (g : Geometry) (counters : List ℕ) (commits : List Point) (updates : List Update) where
-  pub none_counted : AreCountedUpTo g counters commits updates 0 0 []
+module _ (g : Geometry) (found : FoundLists) where
+  pub none_counted : AreCountedUpTo g found 0 0 []
   none_counted = record {
     size = omega arith;
     each = λ place inside earlier. elim earlier [ inl less ↦ absurd (omega (arith, less)) | inr (same, less) ↦ absurd (omega (arith, less)) ];
   }
 
-  pub one_counted : (slab offset count : ℕ) (counts : List ℕ) → AreCountedUpTo g counters commits updates slab offset counts
-      → IsCountedAt g counters commits updates (place_of slab offset) (Ok count)
-      → AreCountedUpTo g counters commits updates slab (offset + 1) (counts ++ (count ∷ []))
+  pub one_counted : (slab offset count : ℕ) (counts : List ℕ) → AreCountedUpTo g found slab offset counts
+      → IsCountedAt g found (place_of slab offset) (Ok count)
+      → AreCountedUpTo g found slab (offset + 1) (counts ++ (count ∷ []))
   one_counted slab offset count counts were is = record {
     size = let size = were.size in omega (arith, size, length-append counts (count ∷ []));
     each = λ place inside earlier. elim (earlier_or_here place slab offset earlier) [
       | inl before ↦
           let below = earlier_below g place slab offset inside.1 before in
           let low : block_number g place < length counts = let size = were.size in omega (arith, size, below) in
-          subst (λ (n : ℕ). IsCountedAt g counters commits updates place (Ok n)) (sym (get_or-append counts (count ∷ []) 0 (block_number g place) low)) (were.each place inside before)
+          subst (λ (n : ℕ). IsCountedAt g found place (Ok n)) (sym (get_or-append counts (count ∷ []) 0 (block_number g place) low)) (were.each place inside before)
       | inr here ↦
           let last : length counts ≤ slab * g.slab_blocks + offset = let size = were.size in omega (arith, size) in
           let none : slab * g.slab_blocks + offset - length counts ≡ 0 = let size = were.size in omega (arith, size) in
-          let found : get_or (counts ++ (count ∷ [])) (slab * g.slab_blocks + offset) 0 ≡ count =
+          let read : get_or (counts ++ (count ∷ [])) (slab * g.slab_blocks + offset) 0 ≡ count =
           get_or-append_right counts (count ∷ []) (slab * g.slab_blocks + offset) 0 last ∙ ap (λ (n : ℕ). get_or (count ∷ []) n 0) none in
-          subst (λ (other : DataPlace). IsCountedAt g counters commits updates other (Ok (get_or (counts ++ (count ∷ [])) (block_number g other) 0))) (sym here)
-          (subst (λ (n : ℕ). IsCountedAt g counters commits updates (place_of slab offset) (Ok n)) (sym found) is)
+          subst (λ (other : DataPlace). IsCountedAt g found other (Ok (get_or (counts ++ (count ∷ [])) (block_number g other) 0))) (sym here)
+          (subst (λ (n : ℕ). IsCountedAt g found (place_of slab offset) (Ok n)) (sym read) is)
     ];
   }
 
-  pub slab_counted : (slab : ℕ) (counts : List ℕ) → AreCountedUpTo g counters commits updates slab g.slab_blocks counts → AreCountedUpTo g counters commits updates (slab + 1) 0 counts
+  pub slab_counted : (slab : ℕ) (counts : List ℕ) → AreCountedUpTo g found slab g.slab_blocks counts → AreCountedUpTo g found (slab + 1) 0 counts
   slab_counted slab counts were = record {
     size = let size = were.size in omega (arith, size);
     each = λ place inside earlier. were.each place inside (earlier_row place slab g.slab_blocks inside.1 earlier);
   }
 
-  pub all_counted : (counts : List ℕ) → AreCountedUpTo g counters commits updates g.slabs 0 counts → AreCounted g counters commits updates counts
+  pub all_counted : (counts : List ℕ) → AreCountedUpTo g found g.slabs 0 counts → AreCounted g found counts
   all_counted counts were = record {
     size = let size = were.size in omega (arith, size);
     each = λ place inside. were.each place inside (inl inside.0);
   }
 
   pub one_leaves : (slab offset at point : ℕ) (counts : List ℕ) → IsDataPlace g (place_of slab offset) → at ≡ (block_of_data g (place_of slab offset)).0
-      → AreCountedUpTo g counters commits updates slab offset counts → IsCountedAt g counters commits updates (place_of slab offset) (Err point) → Leaves g counters commits updates at point
+      → AreCountedUpTo g found slab offset counts → IsCountedAt g found (place_of slab offset) (Err point) → Leaves g found at point
   one_leaves slab offset at point counts inside stands were leaves = record {
     place = place_of slab offset;
     inside = inside;

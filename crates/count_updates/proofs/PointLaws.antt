@@ -66,7 +66,7 @@ are_rising at above (update ∷ later) = elim (sort_out at above update) [
 
 -- They are the block's points, and all of them.
 
-abbrev made : ℕ → ℕ → Update
+abbrev pub made : ℕ → ℕ → Update
 made at point = record { at = record { 0 = at }; point = record { 0 = point } }
 
 from_list : (at above : ℕ) (updates : List Update) (point : ℕ) → Contains (points_above at above updates) point → (above < point) × Lists updates at point

@@ -1,11 +1,9 @@
 -- For each definition small lists that it accepts, and some that it refuses.
 use Rattle.std.proofs.Common.{ℕ, ◌≡◌, ◌⊎◌, ◌<◌, ◌≤◌, List, [], ◌∷◌, get_or, Result, Ok, Err, refl, sym, ◌∙◌, ap, ap₂, subst, inl, inr, arith}
 use Rattle.blk_base.specs.declared.geometry.Geometry.{Geometry}
-use Rattle.blk_base.specs.declared.journal_entry.CommittedEntry.{CommittedEntry}
-use Rattle.blk_base.specs.declared.journal_entry.Entry.TheVariants.{Remap, NewPage}
+use Rattle.blk_base.specs.declared.journal_entry.Entry.TheVariants.{NewPage}
 use Rattle.blk_base.specs.declared.journal_entry.Update.{Update}
 use Rattle.blk_base.specs.declared.layout.DataPlace.{DataPlace}
-use Rattle.blk_base.specs.declared.place.Mapping.{Mapping}
 use Rattle.blk_base.specs.declared.place.Mapping.TheVariants.{Unmapped, Zero, At}
 use Rattle.blk_base.specs.declared.place.Pbn.{Pbn}
 use Rattle.blk_base.specs.declared.point.Point.{Point}
@@ -13,16 +11,15 @@ use Rattle.image_model.specs.Counts.{block_of_data, count_from}
 use Rattle.image_model.specs.Sound.{IsDataPlace}
 use Rattle.image_model.proofs.CountLaws.{one_rising, none_in_nothing, is_first_or_behind}
 use Rattle.image_model.proofs.Example.{small}
+use Rattle.image_model.proofs.CountRows.{remap, place}
 use Rattle.count_updates.specs.Applied.{IsGreatest, AreApplied}
 use Rattle.count_updates.specs.Counted.{IsCountedAt, AreCounted, Leaves}
 use Rattle.count_updates.specs.Entries.{updates_in}
 use Rattle.count_updates.specs.Listed.{Lists, IsUpTo, AreInOrder, ArePoints, IsCounted, IsPassed}
 use Rattle.count_updates.specs.Numbers.{all_blocks, all_sectors, block_number, sector_number, IsEarlier}
 use Rattle.count_updates.proofs.AppliedLaws.{none_yet}
-use Rattle.count_updates.proofs.PointLaws.{are_points, is_counted}
-
-abbrev one : ℕ → ℕ → Update
-one at point = record { at = record { 0 = at }; point = record { 0 = point } }
+use Rattle.count_updates.proofs.PointLaws.{are_points, is_counted, made as one}
+use Rattle.count_updates.specs.FoundLists.{found_lists}
 
 -- Order: by the block, and then by the point.
 later_block : IsUpTo (one 85 512) (one 86 3)
@@ -109,9 +106,6 @@ passed_too_many : IsPassed (one 85 512 ∷ []) 2 86 → ⊥
 passed_too_many passed = let most = passed.within in omega (arith, most)
 
 -- What an entry makes.
-abbrev remap : Mapping → Mapping → CommittedEntry
-remap old new = record { entry = Remap (record { 0 = 5 }) old new; point = record { 0 = 512 } }
-
 abbrev pbn : ℕ → Pbn
 pbn n = record { 0 = n }
 
@@ -179,9 +173,6 @@ greatest_of_none is = of_none 2048 is.reached refl
 abbrev blocks : ℕ → Geometry
 blocks n = record small { slab_blocks = n }
 
-abbrev place : ℕ → DataPlace
-place offset = record { slab = 0; offset = offset }
-
 abbrev at_512 : List Point
 at_512 = record { 0 = 512 } ∷ []
 
@@ -194,27 +185,27 @@ only_place p inside =
     let offset : p.offset ≡ 0 = let less = inside.1 in omega (arith, less) in
     ap₂ (λ (s o : ℕ). here s o) slab offset
 
-counted_at : (counter : ℕ) (result : Result ℕ ℕ) → count_from 254 512 counter [] ≡ result → IsCountedAt (blocks 1) (counter ∷ []) at_512 [] (place 0) result
+counted_at : (counter : ℕ) (result : Result ℕ ℕ) → count_from 254 512 counter [] ≡ result → IsCountedAt (blocks 1) (found_lists (counter ∷ []) at_512 []) (place 0) result
 counted_at counter result is = is_counted 254 (block_of_data (blocks 1) (place 0)).0 512 counter [] result tt is
 
-all_counted : AreCounted (blocks 1) (3 ∷ []) at_512 [] (3 ∷ [])
+all_counted : AreCounted (blocks 1) (found_lists (3 ∷ []) at_512 []) (3 ∷ [])
 all_counted = record {
   size = refl;
-  each = λ p inside. subst (λ (q : DataPlace). IsCountedAt (blocks 1) (3 ∷ []) at_512 [] q (Ok (get_or (3 ∷ []) (block_number (blocks 1) q) 0))) (sym (only_place p inside))
+  each = λ p inside. subst (λ (q : DataPlace). IsCountedAt (blocks 1) (found_lists (3 ∷ []) at_512 []) q (Ok (get_or (3 ∷ []) (block_number (blocks 1) q) 0))) (sym (only_place p inside))
       (counted_at 3 (Ok 3) refl);
 }
 
-too_many_counted : AreCounted (blocks 1) (3 ∷ []) at_512 [] (3 ∷ 3 ∷ []) → ⊥
+too_many_counted : AreCounted (blocks 1) (found_lists (3 ∷ []) at_512 []) (3 ∷ 3 ∷ []) → ⊥
 too_many_counted are = let size = are.size in omega (arith, size)
 
-counted_otherwise : AreCounted (blocks 1) (3 ∷ []) at_512 [] (4 ∷ []) → ⊥
+counted_otherwise : AreCounted (blocks 1) (found_lists (3 ∷ []) at_512 []) (4 ∷ []) → ⊥
 counted_otherwise are =
     absurd (let same = one_result 254 [] (block_of_data (blocks 1) (place 0)).0 512 3 (Ok 4) (Ok 3) (are.each (place 0) (omega arith, omega arith)) (counted_at 3 (Ok 3) refl) in cc same)
 
 no_block_before : (p : DataPlace) → (block_of_data (blocks 1) p).0 < (block_of_data (blocks 1) (place 0)).0 → ⊥
 no_block_before p less = omega (arith, less)
 
-leaves : Leaves (blocks 1) (255 ∷ []) at_512 [] (block_of_data (blocks 1) (place 0)).0 512
+leaves : Leaves (blocks 1) (found_lists (255 ∷ []) at_512 []) (block_of_data (blocks 1) (place 0)).0 512
 leaves = record {
   place = place 0;
   inside = (omega arith, omega arith);
@@ -227,18 +218,18 @@ abbrev point_in : Result ℕ ℕ → ℕ
 point_in (Ok count) = 0
 point_in (Err point) = point
 
-leaves_at_another : Leaves (blocks 1) (255 ∷ []) at_512 [] (block_of_data (blocks 1) (place 0)).0 513 → ⊥
+leaves_at_another : Leaves (blocks 1) (found_lists (255 ∷ []) at_512 []) (block_of_data (blocks 1) (place 0)).0 513 → ⊥
 leaves_at_another is =
     let here = only_place is.place is.inside in
     let same = ap point_in (one_result 254 [] (block_of_data (blocks 1) (place 0)).0 512 255 (Err 513) (Err 512)
-    (subst (λ (q : DataPlace). IsCountedAt (blocks 1) (255 ∷ []) at_512 [] q (Err 513)) here is.leaves) (counted_at 255 (Err 512) refl)) in
+    (subst (λ (q : DataPlace). IsCountedAt (blocks 1) (found_lists (255 ∷ []) at_512 []) q (Err 513)) here is.leaves) (counted_at 255 (Err 512) refl)) in
     omega (arith, same)
 
 -- not the second block, where the first one leaves its range too
 abbrev two_past : List ℕ
 two_past = 255 ∷ 255 ∷ []
 
-not_the_first : Leaves (blocks 2) two_past at_512 [] (block_of_data (blocks 2) (place 1)).0 512 → ⊥
+not_the_first : Leaves (blocks 2) (found_lists two_past at_512 []) (block_of_data (blocks 2) (place 1)).0 512 → ⊥
 not_the_first is =
     let first = is.first (place 0) (omega arith, omega arith) (omega arith) in
     absurd (let same = one_result 254 [] (block_of_data (blocks 2) (place 0)).0 512 255 (Ok first.0) (Err 512) first.1

@@ -13,6 +13,7 @@ use Rattle.count_updates.proofs.PointLaws.{without_updates}
 use Rattle.count_updates.specs.Counted.{AreCountedUpTo, IsCountedAt, commit_in}
 use Rattle.count_updates.specs.Listed.{AreInOrder, IsPassed}
 use Rattle.count_updates.specs.Numbers.{all_blocks, block_number, sector_number}
+use Rattle.count_updates.specs.FoundLists.{found_lists}
 
 -- A part of a list.
 
@@ -31,7 +32,7 @@ module _ (g : Geometry) (counters : List ℕ) (commits : List Point) (all update
     (within : from ≤ length all) (ended : (d : Update) → from < length all → last < (get_or all from d).at.0)
     (most : (k : ℕ) → k < g.slab_blocks → (block_of_data g (place_of slab k)).0 ≤ last)
     (fit : (k : ℕ) → k < g.slab_blocks → slice_index counters (block_number g (place_of slab k)) ≤ limit_of g) where
-  one_settled : (k : ℕ) → k < g.slab_blocks → IsCountedAt g counters commits updates (place_of slab k) (Ok (slice_index counters (block_number g (place_of slab k))))
+  one_settled : (k : ℕ) → k < g.slab_blocks → IsCountedAt g (found_lists counters commits updates) (place_of slab k) (Ok (slice_index counters (block_number g (place_of slab k))))
   one_settled k below =
       let place = place_of slab k in
       let at = (block_of_data g place).0 in
@@ -43,9 +44,9 @@ module _ (g : Geometry) (counters : List ℕ) (commits : List Point) (all update
       (λ d low. let more = ended d low in omega (arith, more, upto)) (limit_of g) commit counter (Ok counter)
       (without_updates (limit_of g) at commit counter (take (from - from) (drop from all)) (ap (λ (n : ℕ). take n (drop from all)) none) (fit k below))
 
-  settled : (k : ℕ) → k ≤ g.slab_blocks → (counts : List ℕ) → AreCountedUpTo g counters commits updates slab 0 counts
-      → AreCountedUpTo g counters commits updates slab k (counts ++ take k (drop (slab * g.slab_blocks) counters))
-  settled zero upto counts were = subst (λ (cs : List ℕ). AreCountedUpTo g counters commits updates slab 0 cs) (sym (append-nil counts)) were
+  settled : (k : ℕ) → k ≤ g.slab_blocks → (counts : List ℕ) → AreCountedUpTo g (found_lists counters commits updates) slab 0 counts
+      → AreCountedUpTo g (found_lists counters commits updates) slab k (counts ++ take k (drop (slab * g.slab_blocks) counters))
+  settled zero upto counts were = subst (λ (cs : List ℕ). AreCountedUpTo g (found_lists counters commits updates) slab 0 cs) (sym (append-nil counts)) were
   settled (suc k) upto counts were =
       let row = drop (slab * g.slab_blocks) counters in
       let below : k < g.slab_blocks = omega (arith, upto) in
@@ -56,11 +57,11 @@ module _ (g : Geometry) (counters : List ℕ) (commits : List Point) (all update
       let here : get_or row k 0 ≡ counter = get_or-drop (slab * g.slab_blocks) counters k 0 in
       let more : take (suc k) row ≡ take k row ++ (counter ∷ []) =
       take-suc row k 0 (omega (arith, long, ends, size, below)) ∙ ap (λ (n : ℕ). take k row ++ (n ∷ [])) here in
-      subst (λ (n : ℕ). AreCountedUpTo g counters commits updates slab n (counts ++ take (suc k) row)) next
-      (subst (λ (cs : List ℕ). AreCountedUpTo g counters commits updates slab (k + 1) cs)
+      subst (λ (n : ℕ). AreCountedUpTo g (found_lists counters commits updates) slab n (counts ++ take (suc k) row)) next
+      (subst (λ (cs : List ℕ). AreCountedUpTo g (found_lists counters commits updates) slab (k + 1) cs)
       (append_assoc counts (take k row) (counter ∷ []) ∙ ap (λ (xs : List ℕ). counts ++ xs) (sym more))
-      (one_counted g counters commits updates slab k counter (counts ++ take k row) (settled k (omega (arith, upto)) counts were) (one_settled k below)))
+      (one_counted g (found_lists counters commits updates) slab k counter (counts ++ take k row) (settled k (omega (arith, upto)) counts were) (one_settled k below)))
 
-  pub slab_settled : (counts : List ℕ) → AreCountedUpTo g counters commits updates slab 0 counts
-      → AreCountedUpTo g counters commits updates slab g.slab_blocks (counts ++ take g.slab_blocks (drop (slab * g.slab_blocks) counters))
+  pub slab_settled : (counts : List ℕ) → AreCountedUpTo g (found_lists counters commits updates) slab 0 counts
+      → AreCountedUpTo g (found_lists counters commits updates) slab g.slab_blocks (counts ++ take g.slab_blocks (drop (slab * g.slab_blocks) counters))
   slab_settled counts were = settled g.slab_blocks (omega arith) counts were

@@ -13,9 +13,7 @@ use Rattle.image_model.specs.Maps.{target_of}
 use Rattle.image_model.proofs.CountLaws.{is_first_or_behind, is_first, is_behind, none_in_nothing}
 use Rattle.count_updates.specs.Entries.{update_at, updates_in}
 use Rattle.count_updates.specs.Listed.{Lists}
-
-abbrev made : ℕ → ℕ → Update
-made at point = record { at = record { 0 = at }; point = record { 0 = point } }
+use Rattle.count_updates.proofs.PointLaws.{made}
 
 abbrev pbn : ℕ → Pbn
 pbn at = record { 0 = at }

@@ -2,11 +2,11 @@
 use Rattle.std.specs.Prelude.{ℕ, ◌≡◌, ◌+◌, ◌*◌, ◌<◌, List, length, get_or, slice_index, Result, Ok, Err}
 use Rattle.blk_base.specs.Counters.{limit_of}
 use Rattle.blk_base.specs.declared.geometry.Geometry.{Geometry}
-use Rattle.blk_base.specs.declared.journal_entry.Update.{Update}
 use Rattle.blk_base.specs.declared.layout.DataPlace.{DataPlace}
 use Rattle.blk_base.specs.declared.point.Point.{Point}
 use Rattle.image_model.specs.Counts.{block_of_data}
 use Rattle.image_model.specs.Sound.{IsDataPlace}
+use Rattle.count_updates.specs.FoundLists.{FoundLists}
 use Rattle.count_updates.specs.Listed.{IsCounted}
 use Rattle.count_updates.specs.Numbers.{all_blocks, block_number, sector_number, IsEarlier}
 use Rattle.count_updates.specs.declared.forms.CountFault.{CountFault}
@@ -17,31 +17,31 @@ abbrev pub commit_in : List Point → ℕ → ℕ
 commit_in commits number = (get_or commits number (record { 0 = 0 })).0
 
 -- a data block has this count, or leaves its range at this point
-abbrev pub IsCountedAt : Geometry → List ℕ → List Point → List Update → DataPlace → Result ℕ ℕ → Type 0
-IsCountedAt g counters commits updates place result =
-    IsCounted (limit_of g) updates (block_of_data g place).0 (commit_in commits (sector_number g place)) (slice_index counters (block_number g place)) result
+abbrev pub IsCountedAt : Geometry → FoundLists → DataPlace → Result ℕ ℕ → Type 0
+IsCountedAt g found place result =
+    IsCounted (limit_of g) found.updates (block_of_data g place).0 (commit_in found.commits (sector_number g place)) (slice_index found.counters (block_number g place)) result
 
 -- the counts of the data blocks before this offset of this slab
-pub record AreCountedUpTo (g : Geometry) (counters : List ℕ) (commits : List Point) (updates : List Update) (slab offset : ℕ) (counts : List ℕ) : Type 0 where
+pub record AreCountedUpTo (g : Geometry) (found : FoundLists) (slab offset : ℕ) (counts : List ℕ) : Type 0 where
   pub size : length counts ≡ slab * g.slab_blocks + offset
   pub each : (place : DataPlace) → IsDataPlace g place → IsEarlier place slab offset
-      → IsCountedAt g counters commits updates place (Ok (slice_index counts (block_number g place)))
+      → IsCountedAt g found place (Ok (slice_index counts (block_number g place)))
 
 -- the counts of all data blocks
-pub record AreCounted (g : Geometry) (counters : List ℕ) (commits : List Point) (updates : List Update) (counts : List ℕ) : Type 0 where
+pub record AreCounted (g : Geometry) (found : FoundLists) (counts : List ℕ) : Type 0 where
   pub size : length counts ≡ all_blocks g
-  pub each : (place : DataPlace) → IsDataPlace g place → IsCountedAt g counters commits updates place (Ok (slice_index counts (block_number g place)))
+  pub each : (place : DataPlace) → IsDataPlace g place → IsCountedAt g found place (Ok (slice_index counts (block_number g place)))
 
 -- the count of this data block leaves its range at this point; the least such block
-pub record Leaves (g : Geometry) (counters : List ℕ) (commits : List Point) (updates : List Update) (at point : ℕ) : Type 0 where
+pub record Leaves (g : Geometry) (found : FoundLists) (at point : ℕ) : Type 0 where
   pub place : DataPlace
   pub inside : IsDataPlace g place
   pub stands : (block_of_data g place).0 ≡ at
-  pub leaves : IsCountedAt g counters commits updates place (Err point)
+  pub leaves : IsCountedAt g found place (Err point)
   pub first : (other : DataPlace) → IsDataPlace g other → (block_of_data g other).0 < at
-      → (count : ℕ) × IsCountedAt g counters commits updates other (Ok count)
+      → (count : ℕ) × IsCountedAt g found other (Ok count)
 
 -- why there are no counts; of want of memory nothing
-abbrev pub IsCountRefusal : Geometry → List ℕ → List Point → List Update → CountFault → Type 0
-IsCountRefusal g counters commits updates (Counter at point) = Leaves g counters commits updates at.0 point.0
-IsCountRefusal g counters commits updates Memory = Unit {0}
+abbrev pub IsCountRefusal : Geometry → FoundLists → CountFault → Type 0
+IsCountRefusal g found (Counter at point) = Leaves g found at.0 point.0
+IsCountRefusal g found Memory = Unit {0}

@@ -4,6 +4,7 @@ ghost use Rattle.blk_base.specs.declared.journal_entry.Update.{Update};
 ghost use Rattle.image_model.specs.Counts.{block_of_data, count_after};
 ghost use Rattle.image_model.specs.Sound.{IsDataPlace};
 ghost use Rattle.count_updates.specs.Counted.{AreCounted, AreCountedUpTo, IsCountedAt, IsCountRefusal};
+ghost use Rattle.count_updates.specs.FoundLists.{found_lists, lists_of};
 ghost use Rattle.count_updates.specs.Listed.{AreInOrder, IsCounted, IsPassed};
 ghost use Rattle.count_updates.specs.Numbers.{all_blocks, all_sectors};
 
@@ -19,11 +20,9 @@ pub fn counts_of(alloc: Global, layout: &Layout, found: &Found) -> Result<Vec<u1
     requires commits { length found.now.commits.items ≡ all_sectors layout.now.geometry }
     requires order { AreInOrder found.now.updates.items }
     ensures counts { IfOk result (λ counts.
-        AreCounted layout.now.geometry found.now.counters.items found.now.commits.items
-        found.now.updates.items counts.items) }
+        AreCounted layout.now.geometry (lists_of found.now) counts.items) }
     ensures refused { IfErr result
-        (IsCountRefusal layout.now.geometry found.now.counters.items found.now.commits.items
-        found.now.updates.items) }
+        (IsCountRefusal layout.now.geometry (lists_of found.now)) }
 {
     let Ok(mut counts) = Vec::with_capacity(alloc, found.counters.len()) else {
         return Err(CountFault::Memory);
@@ -51,19 +50,17 @@ fn count_slab(
     requires order { AreInOrder found.now.updates.items }
     requires before { IsPassed found.now.updates.items passed
         (block_of_data layout.now.geometry (record { slab = slab; offset = 0 })).0 }
-    requires counted { AreCountedUpTo layout.now.geometry found.now.counters.items
-        found.now.commits.items found.now.updates.items slab 0 counts.old.items }
+    requires counted { AreCountedUpTo layout.now.geometry (lists_of found.now) slab 0
+        counts.old.items }
     ensures passed { IfOk result (λ after.
         (block : ℕ) →
         (block_of_data layout.now.geometry
         (record { slab = slab; offset = layout.now.geometry.slab_blocks })).0 ≤ block
         → IsPassed found.now.updates.items after block) }
     ensures counted { OnOk result
-        (AreCountedUpTo layout.now.geometry found.now.counters.items found.now.commits.items
-        found.now.updates.items (slab + 1) 0 counts.new.items) }
+        (AreCountedUpTo layout.now.geometry (lists_of found.now) (slab + 1) 0 counts.new.items) }
     ensures refused { IfErr result
-        (IsCountRefusal layout.now.geometry found.now.counters.items found.now.commits.items
-        found.now.updates.items) }
+        (IsCountRefusal layout.now.geometry (lists_of found.now)) }
 {
     let all = found.updates.as_slice();
     let size = layout.geometry.slab_blocks;
@@ -94,7 +91,8 @@ fn count_slab(
 
 // Whether no counter is above the limit. It goes over all of them, so that many are compared at once.
 fn are_within(counters: &[u8], limit: u16) -> bool
-    ensures { OnTrue result ((k : ℕ) → k < length counters.now → slice_index counters.now k ≤ limit) }
+    ensures { OnTrue result ((k : ℕ) →
+        k < length counters.now → slice_index counters.now k ≤ limit) }
 {
     let mut others = 0_usize;
     for counter in counters {
@@ -148,10 +146,12 @@ fn count_of(
     requires commits { length found.now.commits.items ≡ all_sectors layout.now.geometry }
     requires order { AreInOrder updates.now }
     ensures counted { IfOk result (λ count.
-        IsCountedAt layout.now.geometry found.now.counters.items found.now.commits.items updates.now
+        IsCountedAt layout.now.geometry
+        (found_lists found.now.counters.items found.now.commits.items updates.now)
         place (Ok count)) }
     ensures left { IfErr result (λ point.
-        IsCountedAt layout.now.geometry found.now.counters.items found.now.commits.items updates.now
+        IsCountedAt layout.now.geometry
+        (found_lists found.now.counters.items found.now.commits.items updates.now)
         place (Err point.0)) }
 {
     let counter = found.counters[layout.block_number(place.slab, place.offset) as usize];

@@ -74,5 +74,6 @@ pub trait Disk {
         ensures all_kept { OnOk result ((seen self.new).unkept ≡ (seen self.old).unkept) };
 
     /// A device that tells has as many opening blocks as it has blocks.
-    ghost told: { (device : Self) → IsTrue tells → length (seen device).opening ≡ (seen device).size };
+    ghost told: { (device : Self) → IsTrue tells →
+        length (seen device).opening ≡ (seen device).size };
 }

@@ -3,6 +3,7 @@
 //! Only tested: the countdown of planned faults, fuses and picked images, by tables.
 #![tactic(auto)]
 
+mod bent;
 mod call;
 mod disk;
 mod faults;
@@ -14,6 +15,7 @@ mod picks;
 mod reads;
 mod streams;
 
+pub use bent::{BendAt, BentDisk};
 pub use call::{Call, Failed};
 pub use disk::Disk;
 pub use faults::{CallKind, FaultAt, faults_of_a_plan};

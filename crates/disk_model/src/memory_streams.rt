@@ -23,7 +23,11 @@ impl Model for MemSource {
 
     ghost Value = { SourceState };
 
-    ghost view = { λ s. record { bytes = drop s.taken s.bytes.items; fails_in = s.fails_in; faults = s.faults } };
+    ghost view = { λ s. record {
+      bytes = drop s.taken s.bytes.items;
+      fails_in = s.fails_in;
+      faults = s.faults;
+    } };
 
     ghost invariant = { λ s. s.taken ≤ length s.bytes.items };
 }

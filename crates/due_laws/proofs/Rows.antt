@@ -1,5 +1,5 @@
 -- A slab as it is opened: nothing is being written, nothing is due, and so nothing is dirty. And what each clause refuses.
-use Rattle.std.proofs.Common.{◌≡◌, ℕ, zero, suc, ◌^◌, None, Some, List, [], ◌∷◌, replicate, refl, ap, sym, arith, ◌∙◌, inl, inr}
+use Rattle.std.proofs.Common.{◌≡◌, ℕ, zero, suc, ◌^◌, ◌-◌, None, Some, List, [], ◌∷◌, replicate, refl, ap, sym, arith, ◌∙◌, inl, inr}
 use Rattle.std.proofs.lemmas.Bool.{cases_lt}
 use Rattle.std.proofs.lemmas.List.{get_or-replicate, get_or_past, length-replicate}
 use Rattle.std.proofs.lemmas.Option.{none-some}
@@ -55,6 +55,10 @@ one_out none = none 1 (record { first = record { 0 = 5 }; is = refl })
 spelled : AreSpelled (record { point = record { 0 = 512 }; offset = 3 } ∷ [])
 spelled x (zero, inside, is) = omega (arith, ap (λ (e : SlabEntry). e.point.0) is)
 spelled x (suc k, inside, is) = absurd (omega (arith, inside))
+
+last_of_all : AreSpelled (record { point = record { 0 = 2 ^ 64 - 1 }; offset = 3 } ∷ [])
+last_of_all x (zero, inside, is) = omega (arith, ap (λ (e : SlabEntry). e.point.0) is)
+last_of_all x (suc k, inside, is) = absurd (omega (arith, inside))
 
 above_all : AreSpelled (record { point = record { 0 = 2 ^ 64 }; offset = 3 } ∷ []) → ⊥
 above_all are = omega (arith, are (record { point = record { 0 = 2 ^ 64 }; offset = 3 }) (0, omega arith, refl))

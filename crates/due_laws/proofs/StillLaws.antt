@@ -1,7 +1,7 @@
 -- What isn't durable is dirty or being written, and so due.
-use Rattle.std.proofs.Common.{◌≡◌, ◌≢◌, ℕ, ◌+◌, ◌*◌, ◌/◌, ◌<◌, ◌≤◌, ◌^◌, max, ◌⊎◌, inl, inr, Option, None, Some, List, [], ◌∷◌, ◌++◌, length, length-set, replicate, refl, ap, sym, arith, ◌∙◌, subst, Contains, zero, suc, set, get_or}
+use Rattle.std.proofs.Common.{◌≡◌, ◌≢◌, ℕ, ◌+◌, ◌*◌, ◌/◌, ◌<◌, ◌≤◌, ◌^◌, max, ◌⊎◌, inl, inr, Option, None, Some, List, [], ◌∷◌, ◌++◌, length, length-set, replicate, refl, ap, sym, arith, ◌∙◌, subst, Contains, set, get_or}
 use Rattle.std.proofs.lemmas.Bool.{cases_eq, cases_lt}
-use Rattle.std.proofs.lemmas.List.{get_or-set_same, get_or-set_other, get_or-replicate, get_or_past, length-replicate}
+use Rattle.std.proofs.lemmas.List.{get_or-set_same, get_or-set_other, get_or-replicate, get_or_past, length-replicate, get_or_default}
 use Rattle.std.proofs.lemmas.List.Elements.{All-contains}
 use Rattle.std.proofs.lemmas.Option.{none-some, same_Some}
 use Rattle.blk_base.specs.Counters.{sectors_per_slab, sector_of_offset}
@@ -23,6 +23,7 @@ use Rattle.slab_writes.specs.Writes.{Writes, Raises, opening}
 use Rattle.slab_writes.specs.declared.forms.Need.TheVariants.{Full, Head}
 use Rattle.slab_writes.proofs.CallLaws.{filling_taken, more, newest, split}
 use Rattle.slab_writes.proofs.SectorLaws.{due_inside, own_sector, other_sector, same_length}
+use Rattle.slab_writes.proofs.DurableLaws.{none_taken}
 use Rattle.due_laws.specs.Still.{AreSpelled, NoneOut, NonePageOut}
 
 abbrev zero_point : Point
@@ -68,9 +69,6 @@ record IsCovering (g : Geometry) (calls : List Call) (log : Slab) (r : Reference
 least_within : (o : Option Point) (p : Point) → (least_of o p).0 ≤ p.0
 least_within None p = omega arith
 least_within (Some first) p = omega arith
-
-none_taken : {P : Type 0} (x : SlabEntry) → Contains [] x → P
-none_taken x there = absurd (omega (arith, there.1))
 
 module _ (g : Geometry) (sizes : IsGeometry g) where
   -- an update is taken
@@ -342,14 +340,8 @@ slab_still g slab commits calls w sizes size lead rising spelled out due = none_
         let none = due.reference (inr (some_filled x w.journal.filling filling, λ may. refused x filling may)) in
         uncovered (all_covered g calls w known out.references none x (filling_taken g slab commits calls w x lead filling))
 
--- within a list no other value is read
-at_any : {X : Type 0} (xs : List X) (k : ℕ) (d e : X) → k < length xs → get_or xs k d ≡ get_or xs k e
-at_any [] k d e inside = absurd (omega (arith, inside))
-at_any (x ∷ xs) zero d e inside = refl
-at_any (x ∷ xs) (suc k) d e inside = at_any xs k d e (omega (arith, inside))
-
 contains_at : (xs : List SlabEntry) (k : ℕ) (d : SlabEntry) → k < length xs → Contains xs (get_or xs k d)
-contains_at xs k d inside = (k, inside, at_any xs k (get_or xs k d) d inside)
+contains_at xs k d inside = (k, inside, get_or_default xs k (get_or xs k d) d inside)
 
 -- what stands in the slots of the slab's journal was taken
 abbrev no_entries : List SlabEntry

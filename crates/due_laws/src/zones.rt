@@ -17,7 +17,8 @@ pub fn no_slab_is_dirty_when_none_is_due()
         (slab : ℕ) →
         let g = opened.head.geometry in
         let commits = opened.commits.items in
-        IsOpeningWhole opened zone zones room first → IsWhole first → length commits ≡ g.slabs * sectors_per_slab g
+        IsOpeningWhole opened zone zones room first → IsWhole first →
+        length commits ≡ g.slabs * sectors_per_slab g
         → LeadTo first calls z → slab < g.slabs → slab % zones ≡ zone →
         slab / zones < length z.writes
         → AreAbove g (points_of g slab commits) (updates_in g slab calls) →

@@ -70,7 +70,8 @@ impl<F: FileExt + OpenFile + Drop> Disk for FileDisk<F> {
 
     ghost honest = { false };
 
-    ghost seen = { λ d. record { opening = []; size = d.blocks; log = []; faults = d.faults; unkept = 0 } };
+    ghost seen = { λ d.
+        record { opening = []; size = d.blocks; log = []; faults = d.faults; unkept = 0 } };
 
     ghost told = { λ device tells. absurd (cc tells) };
 

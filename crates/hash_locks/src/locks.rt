@@ -38,7 +38,8 @@ impl<V: HasBlock> Model for HashLocks<V> {
       spare_room : l.room ≤ vec_capacity l.spare;
       held_room : l.room ≤ vec_capacity l.held;
       waiting_room : l.room ≤ vec_capacity l.waiting;
-      order : AreInOrder V.bytes_of (record { room = l.room; held = l.held.items; waiting = l.waiting.items });
+      order : AreInOrder V.bytes_of
+          (record { room = l.room; held = l.held.items; waiting = l.waiting.items });
     } };
 }
 

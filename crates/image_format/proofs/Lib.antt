@@ -4,3 +4,4 @@ pub mod AfterLaws
 pub mod FormatLaws
 mod FormatRows
 mod MadeRows
+mod StopRows

@@ -20,20 +20,20 @@ use Rattle.image_model.specs.Empty.{IsEmpty, empty_root, empty_super}
 use Rattle.blk_base.specs.Sectors.{zero_block}
 use Rattle.image_format.proofs.AfterLaws.{made_is}
 use Rattle.image_format.proofs.FormatRows.{first_data}
-use Rattle.image_format.specs.Calls.{calls_below, clear_calls, format_calls, put, roots_below, slab_calls, super_calls, zeros_from}
+use Rattle.image_format.specs.Calls.{calls_below, clear_calls, closing_calls, format_calls, put, roots_below, slab_calls, super_calls, zeros_from}
 use Rattle.image_format.specs.Formats.{IsMade}
 use Rattle.image_format.specs.Runs.{Makes, OneFailed, WereMade, as_failed}
 
 -- a device that opened with these blocks, and to which nothing was done
-abbrev opened_with : Blocks → Seen
+abbrev pub opened_with : Blocks → Seen
 opened_with blocks = record { opening = blocks; size = length blocks; log = []; faults = 0; unkept = 0 }
 
 -- IsMade: of a device with other blocks before, once all calls were made
 module _ (old : Blocks) (whole : (b : ℕ) → b < length old → length (block_at old b) ≡ 4096) (room : 154 ≤ length old) where
-  abbrev made : Seen
+  abbrev pub made : Seen
   made = record (opened_with old) { log = format_calls small }
 
-  is_made : IsMade small old made
+  pub is_made : IsMade small old made
   is_made =
       let is = made_is old whole old [] (one_image-opening old whole) small small_is (omega arith) room (format_calls small) (sym (append-nil (format_calls small))) in
       record { image = is.0; stands = is.1; empty = is.2; unused = is_unused small is.0 is.2; data_kept = is.3 }
@@ -58,7 +58,7 @@ module _ (blocks : Blocks) (whole : (b : ℕ) → b < length blocks → length (
   }
 
   -- empty: it is one of another nonce
-  of_another_nonce : IsEmpty (record small { nonce = 2 }) blocks → ¬ IsMade small blocks (opened_with blocks)
+  pub of_another_nonce : IsEmpty (record small { nonce = 2 }) blocks → ¬ IsMade small blocks (opened_with blocks)
   of_another_nonce other is =
       let accepted : super_of_image blocks ≡ Ok (empty_super small) = subst (λ (image : Blocks). super_of_image image ≡ Ok (empty_super small)) (its_image small blocks is) is.empty.accepted in
       let same : empty_super small ≡ empty_super (record small { nonce = 2 }) = cc (accepted, other.accepted) in
@@ -87,8 +87,12 @@ last_of_slab = refl
 cleared_first : clear_calls ≡ Flush true ∷ put 0 zero_block ∷ []
 cleared_first = refl
 
-superblock_last : super_calls small ≡ Flush true ∷ put 0 (super_block (empty_super small)) ∷ []
+superblock_last : super_calls small 1 ≡ Flush true ∷ put 0 (super_block (empty_super small)) ∷ []
 superblock_last = refl
+
+-- It comes behind a flush, and before another one.
+closing_is : closing_calls small 9 ≡ Flush true ∷ put 0 (super_block (record { geometry = small; clean = true; start = 9 })) ∷ Flush true ∷ []
+closing_is = refl
 
 -- Runs of such calls. as_failed: the same call, but it failed
 abbrev at : Pbn

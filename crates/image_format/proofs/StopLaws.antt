@@ -54,7 +54,7 @@ first_byte : (block : List ℕ) → sector 0 block ≡ sector 0 zero_block → g
 first_byte block zeros =
     sym (get_or-take 512 block 0 1 (omega arith)) ∙ ap (λ (bytes : List ℕ). get_or bytes 0 1) (zeros ∙ zero_start)
 
-not_an_image : (image : Blocks) → 0 < length image → sector 0 (block_at image 0) ≡ sector 0 zero_block → super_of_image image ≡ Err NotAnImage
+pub not_an_image : (image : Blocks) → 0 < length image → sector 0 (block_at image 0) ≡ sector 0 zero_block → super_of_image image ≡ Err NotAnImage
 not_an_image image some zeros = first_block image some ∙ starts_with_zero (block_at image 0) (length image) (first_byte (block_at image 0) zeros)
 
 -- Calls that miss a block.
@@ -72,24 +72,24 @@ pub all_append : (P : Call → Type 0) (xs ys : List Call) → AllByRecursion P 
 all_append P [] ys one two = two
 all_append P (x ∷ xs) ys one two = (one.0, all_append P xs ys one.1 two)
 
-all_below : (P : Call → Type 0) (f : ℕ → List Call) (n : ℕ) → ((i : ℕ) → i < n → AllByRecursion P (f i)) → AllByRecursion P (calls_below f n)
+pub all_below : (P : Call → Type 0) (f : ℕ → List Call) (n : ℕ) → ((i : ℕ) → i < n → AllByRecursion P (f i)) → AllByRecursion P (calls_below f n)
 all_below P f zero each = tt
 all_below P f (suc n) each = all_append P (f n) (calls_below f n) (each n (omega arith)) (all_below P f n (λ i below. each i (omega (arith, below))))
 
-written_front : (xs ys : List Call) (b : ℕ) → IsWritten xs b → IsWritten (xs ++ ys) b
+pub written_front : (xs ys : List Call) (b : ℕ) → IsWritten xs b → IsWritten (xs ++ ys) b
 written_front [] ys b is = absurd is
 written_front (Write at bytes ok ∷ xs) ys b (inl same) = inl same
 written_front (Write at bytes ok ∷ xs) ys b (inr later) = inr (written_front xs ys b later)
 written_front (Read _ _ _ ∷ xs) ys b is = written_front xs ys b is
 written_front (Flush _ ∷ xs) ys b is = written_front xs ys b is
 
-written_back : (xs ys : List Call) (b : ℕ) → IsWritten ys b → IsWritten (xs ++ ys) b
+pub written_back : (xs ys : List Call) (b : ℕ) → IsWritten ys b → IsWritten (xs ++ ys) b
 written_back [] ys b is = is
 written_back (Write at bytes ok ∷ xs) ys b is = inr (written_back xs ys b is)
 written_back (Read _ _ _ ∷ xs) ys b is = written_back xs ys b is
 written_back (Flush _ ∷ xs) ys b is = written_back xs ys b is
 
-written_below : (f : ℕ → List Call) (n i b : ℕ) → i < n → IsWritten (f i) b → IsWritten (calls_below f n) b
+pub written_below : (f : ℕ → List Call) (n i b : ℕ) → i < n → IsWritten (f i) b → IsWritten (calls_below f n) b
 written_below f zero i b below is = absurd (omega (arith, below))
 written_below f (suc n) i b below is = elim (cases_lt i n) [
   | inl less ↦ written_back (f n) (calls_below f n) b (written_below f n i b less is)

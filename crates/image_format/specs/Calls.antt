@@ -7,7 +7,7 @@ use Rattle.blk_base.specs.declared.sizes.TheConstants.{TREES}
 use Rattle.disk_model.specs.declared.call.Call.{Call}
 use Rattle.disk_model.specs.declared.call.Call.TheVariants.{Write, Flush}
 use Rattle.image_layout.specs.Superblock.{super_block}
-use Rattle.image_model.specs.Empty.{empty_root, empty_super}
+use Rattle.image_model.specs.Empty.{empty_root}
 
 -- a write of a block that succeeds
 abbrev pub put : ℕ → List ℕ → Call
@@ -41,9 +41,13 @@ region_calls g = slabs_below g g.slabs ++ (zeros_from (block_of g (IndexBlock 0)
 abbrev pub clear_calls : List Call
 clear_calls = Flush true ∷ put 0 zero_block ∷ []
 
--- and is written once all others are on the device
-abbrev pub super_calls : Geometry → List Call
-super_calls g = Flush true ∷ put 0 (super_block (empty_super g)) ∷ []
+-- the superblock of a closed image with these sizes, on which a session begins there
+abbrev pub super_calls : Geometry → ℕ → List Call
+super_calls g start = Flush true ∷ put 0 (super_block (record { geometry = g; clean = true; start = start })) ∷ []
+
+-- it is written once all others are on the device
+abbrev pub closing_calls : Geometry → ℕ → List Call
+closing_calls g start = super_calls g start ++ (Flush true ∷ [])
 
 abbrev pub format_calls : Geometry → List Call
-format_calls g = super_calls g ++ (Flush true ∷ (region_calls g ++ clear_calls))
+format_calls g = closing_calls g 1 ++ (region_calls g ++ clear_calls)

@@ -1,17 +1,18 @@
+//! The calls of a device that make an image, and close one: each fails with the device.
 ghost use Rattle.std.specs.Prelude.{◌≡◌, ◌≤◌, ◌<◌, ◌+◌, ◌∷◌, [], true};
 ghost use Rattle.blk_base.specs.Regions.{Root, IsPlace, needed_blocks};
 ghost use Rattle.disk_model.specs.declared.call.Call.TheVariants.{Flush};
-ghost use Rattle.image_format.specs.Calls.{put, zeros_from, roots_below, slab_calls, slabs_below, region_calls, clear_calls, super_calls, format_calls};
+ghost use Rattle.image_format.specs.Calls.{put, zeros_from, roots_below, slab_calls, slabs_below, region_calls, clear_calls, super_calls, closing_calls, format_calls};
 ghost use Rattle.image_format.specs.Runs.{Makes};
 ghost use Rattle.image_model.specs.Empty.{empty_root};
 
-use blk_base::{Block, Layout, Mappings, Pbn, Super, TREES};
+use blk_base::{Block, Geometry, Layout, Mappings, Pbn, Super, TREES};
 use disk_model::{Disk, Failed};
 use image_layout::write_super;
 use page_codec::{MapPage, PageHead, encode};
 
-// Writes a block.
-fn put<D: Disk>(device: &mut D, at: Pbn, block: &Block) -> Result<(), Failed>
+/// Writes a block.
+pub fn put<D: Disk>(device: &mut D, at: Pbn, block: &Block) -> Result<(), Failed>
     requires { at.0 < (D.seen device.old).size }
     ensures { Makes D.tells (D.seen device.old) (D.seen device.new)
         (put at.0 block.now ∷ []) result }
@@ -69,8 +70,8 @@ fn put_roots<D: Disk>(device: &mut D, layout: &Layout) -> Result<(), Failed>
     Ok(())
 }
 
-// Writes zeros into the counters and the journal of a slab, which stand behind its data.
-fn put_slab<D: Disk>(device: &mut D, layout: &Layout, slab: u32) -> Result<(), Failed>
+/// Writes zeros into the counters and the journal of a slab, which stand behind its data.
+pub fn put_slab<D: Disk>(device: &mut D, layout: &Layout, slab: u32) -> Result<(), Failed>
     requires room { needed_blocks layout.now.geometry ≤ (D.seen device.old).size }
     requires there { slab < layout.now.geometry.slabs }
     ensures { Makes D.tells (D.seen device.old) (D.seen device.new)
@@ -115,21 +116,31 @@ fn clear<D: Disk>(device: &mut D) -> Result<(), Failed>
     flush(device)
 }
 
-// Writes the superblock of an image to which nothing was written.
-fn put_head<D: Disk>(device: &mut D, layout: &Layout) -> Result<(), Failed>
+// Writes the superblock of a closed image with these sizes, on which a session begins there, and makes it last.
+fn put_head<D: Disk>(device: &mut D, sizes: &Geometry, start: u64) -> Result<(), Failed>
     requires { 0 < (D.seen device.old).size }
     ensures { Makes D.tells (D.seen device.old) (D.seen device.new)
-        (super_calls layout.now.geometry) result }
+        (super_calls sizes.now start) result }
 {
     let head = Super {
-        geometry: layout.geometry,
+        geometry: *sizes,
         clean: true,
-        start: 1,
+        start,
     };
     let mut block = Block::zero();
     write_super(&head, &mut block);
     put(device, Pbn(0), &block)?;
     flush(device)
+}
+
+/// Makes the writes last, and then the superblock of a closed image with these sizes, on which a session begins there.
+pub fn close<D: Disk>(device: &mut D, sizes: &Geometry, start: u64) -> Result<(), Failed>
+    requires { 0 < (D.seen device.old).size }
+    ensures { Makes D.tells (D.seen device.old) (D.seen device.new)
+        (closing_calls sizes.now start) result }
+{
+    flush(device)?;
+    put_head(device, sizes, start)
 }
 
 // Makes the image: there is none before its last block is written, and all others are on the device by then.
@@ -140,6 +151,5 @@ pub(crate) fn make<D: Disk>(device: &mut D, layout: &Layout) -> Result<(), Faile
 {
     clear(device)?;
     put_regions(device, layout)?;
-    flush(device)?;
-    put_head(device, layout)
+    close(device, &layout.geometry, 1)
 }

@@ -13,7 +13,7 @@
 //! Not there: that a block and a page fit the stack.
 #![tactic(auto)]
 
-mod calls;
+pub mod calls;
 mod fault;
 mod formatter;
 

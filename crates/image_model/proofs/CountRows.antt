@@ -169,7 +169,7 @@ kept_only entry is =
     is.slot (let inside = is.inside.0 in omega (arith, inside)) is.sequence is.entries is.inside.0 is.valid is.listed
 
 -- What an entry updates: it adds one to the new block, at its point, and takes one from the old one, at the next point.
-abbrev remap : Mapping → Mapping → CommittedEntry
+abbrev pub remap : Mapping → Mapping → CommittedEntry
 remap old new = record { entry = Remap (record { 0 = 5 }) old new; point = record { 0 = 512 } }
 
 adds : Updates (remap (At (pbn 86)) (At (pbn 87))) (pbn 87) 512

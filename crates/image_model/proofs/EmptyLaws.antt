@@ -51,12 +51,12 @@ front_passes [] ys h = refl
 front_passes ((true, fault) ∷ xs) ys h = front_passes xs ys h
 front_passes ((false, fault) ∷ xs) ys h = absurd (cc h)
 
-back_passes : (xs ys : List (Bool × SuperFault)) → run_checks (xs ++ ys) ≡ Ok tt → run_checks ys ≡ Ok tt
+pub back_passes : (xs ys : List (Bool × SuperFault)) → run_checks (xs ++ ys) ≡ Ok tt → run_checks ys ≡ Ok tt
 back_passes [] ys h = h
 back_passes ((true, fault) ∷ xs) ys h = back_passes xs ys h
 back_passes ((false, fault) ∷ xs) ys h = absurd (cc h)
 
-answered : (r : Result (Unit {0}) SuperFault) (said head : Super) → answer_after r said ≡ Ok head → (r ≡ Ok tt) × (said ≡ head)
+pub answered : (r : Result (Unit {0}) SuperFault) (said head : Super) → answer_after r said ≡ Ok head → (r ≡ Ok tt) × (said ≡ head)
 answered (Ok tt) said head is = (refl, cc is)
 answered (Err fault) said head is = absurd (cc is)
 
@@ -74,12 +74,12 @@ sizes_of_image (block ∷ blocks) head is = accepted_sizes block (length (block 
 
 -- What zeros say, wherever they stand.
 
-zero_first : (n : ℕ) → number_at 1 0 (replicate n 0) ≡ 0
+pub zero_first : (n : ℕ) → number_at 1 0 (replicate n 0) ≡ 0
 unfolding number_at
 zero_first zero = refl
 zero_first (suc n) = refl
 
-zero_counter : (at : ℕ) → number_at 1 at (replicate 512 0) ≡ 0
+pub zero_counter : (at : ℕ) → number_at 1 at (replicate 512 0) ≡ 0
 zero_counter at =
     let place : at ≡ at + 0 = omega arith in
     ap (λ (k : ℕ). number_at 1 k (replicate 512 0)) place ∙ sym (number_at-drop 1 0 at (replicate 512 0))

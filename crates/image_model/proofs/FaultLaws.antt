@@ -28,12 +28,12 @@ same_head blocks head other is is' = cc (is, is')
 not_refused : (blocks : Blocks) (head : Super) (fault : SuperFault) → super_of_image blocks ≡ Ok head → super_of_image blocks ≡ Err fault → ⊥
 not_refused blocks head fault is refused = absurd (cc (is, refused))
 
-no_both : (o : Option Mapping) → IsSome o → IsNone o → ⊥
+pub no_both : (o : Option Mapping) → IsSome o → IsNone o → ⊥
 no_both (Some m) some none = absurd (cc none)
 no_both None some none = absurd (cc some)
 
 -- a page that can be read has no fault
-no_page_fault : (image : Image) (page : PageId) (at : Pbn) (fault : PageFault) → IsGoodPage image page at → HasFault image page at fault → ⊥
+pub no_page_fault : (image : Image) (page : PageId) (at : Pbn) (fault : PageFault) → IsGoodPage image page at → HasFault image page at fault → ⊥
 no_page_fault image page at fault good has = elim (good.slots has.slot has.inside) [
   | inr mapped ↦ no_slot_fault (head_of image page at) (block_at image.blocks at.0) has.slot mapped.0 fault mapped.1 has.of_slot
   | inl some ↦ elim has.own [

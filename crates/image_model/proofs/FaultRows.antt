@@ -80,11 +80,11 @@ fault_is_own has = elim has.own [
 fault_of_header : HasFault (with_root bad_slot []) root (pbn 9) Header → ⊥
 fault_of_header has = has.of_slot headed
 
-header_is : HasFault (with_root zero_block []) root (pbn 9) Header
+pub header_is : HasFault (with_root zero_block []) root (pbn 9) Header
 header_is = record { slot = 0; inside = omega arith; before = λ i below. absurd (omega (arith, below)); own = inl refl; of_slot = zeros_unheaded }
 
 -- The first page of the walk that has a fault: of an image of zeros that is the root of tree 0.
-abbrev nothing : Image
+abbrev pub nothing : Image
 nothing = record { geometry = small; blocks = []; window = [] }
 
 none_ahead : (other : PageId) (at : Pbn) → IsAhead other root → page_at nothing other ≡ Some at → ⊥

@@ -5,6 +5,8 @@ pub mod Example
 pub mod WindowRows
 pub mod MapRows
 pub mod ZeroLaws
+pub mod ReadExample
+pub mod JournalLaws
 pub mod CountRows
 pub mod SoundRows
 pub mod FaultRows

@@ -1,11 +1,13 @@
 -- Whole images of the default sizes: an empty one, which is sound, and for each clause of soundness one that it refuses;
 -- and faults that whole images have.
-use Rattle.std.proofs.Common.{ℕ, zero, suc, ◌≡◌, ◌⊎◌, ◌+◌, ◌-◌, ◌%◌, ◌<◌, ◌≤◌, ◌^◌, false, ◌==◌, if◌then◌else◌, List, [], ◌∷◌, length, get_or, Ok, Err, refl, sym, ◌∙◌, ap, subst, inl, inr, arith, ◌/◌, drop}
+use Rattle.std.proofs.Common.{ℕ, zero, suc, ◌≡◌, ◌⊎◌, ◌+◌, ◌-◌, ◌%◌, ◌<◌, ◌≤◌, ◌^◌, false, ◌==◌, if◌then◌else◌, List, [], ◌∷◌, length, get_or, replicate, Ok, Err, refl, sym, ◌∙◌, ap, subst, inl, inr, arith, ◌/◌, drop}
 use Rattle.std.proofs.Math.Nat.{mod-lt}
 use Rattle.std.proofs.lemmas.Bool.{cases_lt}
 use Rattle.std.proofs.lemmas.Bool.Decides.{eqb_tells}
-use Rattle.std.proofs.lemmas.List.{get_or-take}
+use Rattle.std.proofs.lemmas.List.{get_or-take, length-replicate}
+use Rattle.blk_base.proofs.SectorLaws.{zero_size}
 use Rattle.blk_base.specs.declared.journal_entry.CommittedEntry.{CommittedEntry}
+use Rattle.page_codec.proofs.SpellingLaws.{page_size}
 use Rattle.page_codec.specs.Grammar.{HasHead}
 use Rattle.std.proofs.lemmas.List.Elements.{All-cons, All-nil}
 use Rattle.image_model.proofs.CountLaws.{one_number, one_stored}
@@ -25,12 +27,13 @@ use Rattle.image_layout.specs.Superblock.{super_block, super_of}
 use Rattle.image_layout.specs.Values.{journal_of}
 use Rattle.image_layout.specs.declared.fault.SuperFault.TheVariants.{NotAnImage}
 use Rattle.image_layout.proofs.AgainLaws.{written_again}
+use Rattle.image_layout.proofs.SpellingLaws.{super_size}
 use Rattle.journal_codec.specs.Grammar.{IsSector}
 use Rattle.slab_codec.specs.Grammar.{HoldsBlock, HoldsEntry, IsSlabSector}
 use Rattle.slab_codec.specs.Spelling.{block_bytes}
 use Rattle.slab_codec.proofs.ReadLaws.{written}
 use Rattle.image_model.specs.Counts.{Stores, IsKept, commit_at, commit_of, count_from, counter_of, HasMappings, block_of_data, reference_sector_at}
-use Rattle.image_model.specs.Empty.{IsEmpty, IsMade, empty_root, empty_super, made_block}
+use Rattle.image_model.specs.Empty.{IsEmpty, IsMade, empty_root, empty_super, made_block, root_head}
 use Rattle.image_model.specs.Faults.{IsImageFault}
 use Rattle.image_model.specs.Maps.{ArePagesGood, head_of, mapping_in}
 use Rattle.image_model.specs.Sound.{AreStored, IsClosed, IsOfItsTime, IsSound, image_of, AreTrue, AreUnshared, IsDataPlace, Opens}
@@ -72,7 +75,7 @@ unfolding listed
 size_listed f from zero = refl
 size_listed f from (suc n) = let rest = size_listed f (suc from) n in omega (arith, rest)
 
-at_listed : (f : ℕ → List ℕ) (from n k : ℕ) → k < n → block_at (listed f from n) k ≡ f (from + k)
+pub at_listed : (f : ℕ → List ℕ) (from n k : ℕ) → k < n → block_at (listed f from n) k ≡ f (from + k)
 unfolding listed
 at_listed f from zero k below = absurd (omega (arith, below))
 at_listed f from (suc n) zero below = ap f (omega arith)
@@ -127,6 +130,25 @@ made_empty (SlabJournalSlot slab s) is made =
 
 pub empty_is : IsEmpty small empty_image
 empty_is = record { accepted = heads (empty_super small) (listed behind_super 0 153) refl (omega arith) (omega arith) (size_listed behind_super 0 153); made = made_empty }
+
+-- It has 154 blocks, and each is whole.
+pub empty_size : length empty_image ≡ 154
+empty_size = ap suc (size_listed behind_super 0 153)
+
+either_whole : {A B : Type 0} (either : A ⊎ B) (x y : List ℕ) → length x ≡ 4096 → length y ≡ 4096 → length (pick either x y) ≡ 4096
+unfolding pick
+either_whole (inl a) x y one other = one
+either_whole (inr b) x y one other = other
+
+whole_behind : (n : ℕ) → length (behind_super n) ≡ 4096
+unfolding behind_super
+whole_behind n =
+    either_whole (cases_lt n 8) zero_block (pick (cases_lt n 68) (empty_root small (n - 8)) zero_block) zero_size
+    (either_whole (cases_lt n 68) (empty_root small (n - 8)) zero_block (page_size (root_head small (n - 8)) (replicate 812 Unmapped) (length-replicate 812 Unmapped)) zero_size)
+
+pub empty_whole : (b : ℕ) → b < 154 → length (block_at empty_image b) ≡ 4096
+empty_whole zero below = super_size (empty_super small)
+empty_whole (suc n) below = ap length (at_behind n (omega (arith, below))) ∙ whole_behind n
 
 -- It is sound.
 sound_is : IsSound empty_image

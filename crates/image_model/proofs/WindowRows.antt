@@ -20,6 +20,7 @@ use Rattle.image_model.specs.Windows.{in_slot, IsThere, IsLast, IsFirst, IsOfIma
 use Rattle.image_model.proofs.Example.{small, pbn, maps, one, block, holds, has_sector, only_sector, zeros}
 use Rattle.image_model.proofs.ZeroLaws.{of_eight}
 use Rattle.image_model.proofs.WindowLaws.{one_window, one_last, one_fault, not_both}
+use Rattle.image_model.proofs.ReadExample.{zero_journal, none_there}
 
 -- A journal whose first session began with sequence 1: blocks 1 to 3, of which the last names the head 2.
 abbrev journal : List (List ℕ)
@@ -69,17 +70,8 @@ last_is_greatest : IsLast small 1 journal 2 → ⊥
 last_is_greatest is = is.none 3 2 (omega arith) (omega arith) (omega arith) there_3
 
 -- there: a journal without blocks has none, and the last sequence is the one before the first
-abbrev empty : List (List ℕ)
-empty = replicate 8 zero_block
-
-none_in_empty : (s h : ℕ) → IsThere small empty s h → ⊥
-none_in_empty s h there =
-    of_eight (λ k. (s h : ℕ) (entries : List Entry) → IsSector 1 0 (sector 0 (get_or empty k zero_block)) s h entries → ⊥)
-    (zeros 1) (zeros 1) (zeros 1) (zeros 1) (zeros 1) (zeros 1) (zeros 1) (zeros 1)
-    (s % 8) (mod-lt s (omega arith)) s h there.0 there.1
-
-last_of_none : IsLast small 7 empty 6
-last_of_none = record { there = inl refl; none = λ s h from later below there. none_in_empty s h there }
+last_of_none : IsLast small 7 zero_journal 6
+last_of_none = record { there = inl refl; none = λ s h from later below there. none_there s h there }
 
 -- none: a block of another slot than its own isn't there, and one that is 2^32 past the first sequence isn't in reach
 abbrev misplaced : List (List ℕ)
@@ -128,15 +120,15 @@ first_is_head (inl none) = let behind = none.0 in omega (arith, behind)
 first_is_head (inr some) =
     let same = (only_sector 3 2 3 1 some.1.0 (omega arith) (omega arith) (omega arith) some.1.1).1 in omega (arith, same)
 
-first_of_none : IsFirst small 7 empty 6 7
+first_of_none : IsFirst small 7 zero_journal 6 7
 first_of_none = inl (refl, refl)
 
-first_of_none_is : IsFirst small 7 empty 6 6 → ⊥
+first_of_none_is : IsFirst small 7 zero_journal 6 6 → ⊥
 first_of_none_is (inl none) = let same = none.1 in omega (arith, same)
 first_of_none_is (inr some) = let from = some.0 in omega (arith, from)
 
 -- An entry is of the image: its address, its blocks, its page.
-data_86 : IsDataBlock small 86
+pub data_86 : IsDataBlock small 86
 data_86 = record { slab = 0; offset = 1; inside = (omega arith, omega arith); stands = refl }
 
 no_data_84 : IsDataBlock small 84 → ⊥
@@ -285,7 +277,7 @@ window_newest_first is =
     let first : 1024 ≡ 1536 = ap (λ (window : List CommittedEntry). (get_or window 0 (at 0)).point.0) same in omega (arith, first)
 
 -- is_last: with the last sequence before the first it is empty
-window_of_none : IsWindow small 7 empty 6 []
+window_of_none : IsWindow small 7 zero_journal 6 []
 window_of_none = record { is_last = last_of_none; first = 7; is_first = first_of_none; blocks = []; count = refl; replayable = tt; entries = refl }
 
 -- There is none where a block is missing, and the first such block is named.

@@ -14,13 +14,10 @@ use Rattle.index_advice.specs.Books.{Book}
 use Rattle.journal_window.specs.States.{WindowState}
 use Rattle.replay_counts.specs.Recovered.{Holds}
 use Rattle.replay_map.specs.Reads.{Shows}
-use Rattle.uds_chapters.specs.Chapters.{Numbered}
 use Rattle.uds_index.specs.Loads.{IsLoadedBook, ReadEach}
+use Rattle.uds_index.proofs.LookRows.{chapter}
 use Rattle.image_status.specs.Statuses.{HasChapters, IsStatusRead, IsStatusWith}
 use Rattle.image_status.specs.declared.forms.ImageStatus.{ImageStatus}
-
-abbrev chapter : ℕ → Numbered
-chapter number = record { number = number; records = [] }
 
 -- Of what was read of an image:
 module _ (tells honest : Bool) (head : Super) (window : WindowState) (before middle now : Seen) where

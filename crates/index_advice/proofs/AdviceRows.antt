@@ -1,9 +1,10 @@
 -- For each clause on advice and answers, a case that it accepts, and one that breaks it alone.
-use Rattle.std.specs.Prelude.{ℕ, ◌≡◌, ◌≢◌, ◌+◌, ◌*◌, true, false, List, [], ◌∷◌, length, Option, None, Some, refl}
+use Rattle.std.specs.Prelude.{ℕ, ◌≡◌, ◌+◌, ◌*◌, true, false, List, [], ◌∷◌, length, Option, None, Some, refl}
 use Rattle.std.proofs.Common.{sym, ◌∙◌, ap, arith, inl, inr}
 use Rattle.blk_base.specs.declared.place.Pbn.{Pbn}
 use Rattle.uds_chapters.specs.declared.entry.Record.{Record}
 use Rattle.uds_chapters.specs.Pages.{IsPage}
+use Rattle.uds_chapters.proofs.PageRows.{unequal}
 use Rattle.index_advice.specs.declared.advice.Advice.TheVariants.{Looked, Learnt, Due, Finished}
 use Rattle.index_advice.specs.declared.look.Look.TheVariants.{Known, Nothing, Read}
 use Rattle.index_advice.specs.Books.{Book, DuePage, finished, block_of}
@@ -17,9 +18,6 @@ at block = record { 0 = block }
 abbrev block_in : Option Pbn → ℕ
 block_in None = 0
 block_in (Some place) = place.0
-
-unequal : (a b : ℕ) → a ≡ b → a ≢ b → ⊥
-unequal a b same apart = apart same
 
 -- a book with one chapter of four pages, which are to be written from the second on, and a record in the open chapter
 abbrev one : Record

@@ -9,8 +9,9 @@ use Rattle.std.proofs.lemmas.List.Kept.{AllPairs-filter, AllPairs-cons}
 use Rattle.uds_chapters.specs.declared.entry.Record.{Record}
 use Rattle.uds_chapters.specs.Names.{name_cmp, AreRising}
 use Rattle.uds_chapters.specs.Chapters.{Numbered, location_of, with_record}
-use Rattle.uds_chapters.proofs.NameLaws.{name_total, equal_names, below_apart, above_apart, turned, same_test, other_test, rising-head, rising-tail}
-use Rattle.uds_chapters.proofs.RecordLaws.{no_location, own_location, other_location, rising-with_record}
+use Rattle.uds_chapters.proofs.NameLaws.{name_total, equal_names, below_apart, above_apart, turned, rising-head, rising-tail}
+use Rattle.uds_chapters.proofs.RecordLaws.{no_location, own_location, other_location, rising-with_record, further as location-further, here as location-here}
+use Rattle.uds_chapters.proofs.PageRows.{none_rise}
 use Rattle.index_advice.specs.Books.{Book, DuePage, chapter_of, newest_record, number_after, has_number, is_same_place, chapters_elsewhere, pages_elsewhere, pages_of, closed, has_room, has_written, added, learnt, has_records, finished}
 use Rattle.index_advice.specs.Orders.{IsNewer, IsChapter, IsOfKept, IsInOrder}
 
@@ -67,9 +68,6 @@ newer_than_all (chapter ∷ chapters) records order = λ k d inside. by k d insi
     by zero d inside = omega arith
     by (suc k) d inside = let newer = order 0 (suc k) d (omega arith) inside in omega (arith, newer)
 
-none_rise : AreRising []
-none_rise = λ i j d before inside. absurd (omega arith)
-
 own_chapter : (number : ℕ) (records : List Record) (chapters : List Numbered) → IsSome (chapter_of number (record { number = number; records = records } ∷ chapters))
 own_chapter number records chapters = rw (eq-eqb number number refl) refl
 
@@ -102,13 +100,6 @@ closed_in_order book order =
           (pages_stay book.places number newest book.kept book.due order.due)
           (own_pages number (newest ∷ elsewhere) own);
     }
-
--- one step of looking a name up
-location-here : (name : List ℕ) (one : Record) (records : List Record) → one.name ≡ name → location_of name (one ∷ records) ≡ Some one.at
-location-here name one records same = rw (same_test one.name name same) refl
-
-location-further : (name : List ℕ) (one : Record) (records : List Record) → one.name ≢ name → location_of name (one ∷ records) ≡ location_of name records
-location-further name one records apart = rw (other_test one.name name apart) refl
 
 -- a name below the first has no record
 location_of_none : (new one : Record) (records : List Record) → name_cmp one.name new.name ≡ Greater → AreRising (one ∷ records) → location_of new.name (one ∷ records) ≡ None

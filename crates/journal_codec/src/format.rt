@@ -34,7 +34,8 @@ impl Format for JournalHead {
 
     ghost PER_SECTOR = { 24 };
 
-    ghost head_bytes = { λ head number count. head_bytes head.nonce head.sequence head.head number count };
+    ghost head_bytes = { λ head number count.
+        head_bytes head.nonce head.sequence head.head number count };
 
     ghost record_bytes = { entry_bytes };
 
@@ -85,7 +86,8 @@ impl Format for JournalHead {
         }
     }
 
-    ghost head_width = { λ head number count. length-head head.nonce head.sequence head.head number count };
+    ghost head_width = { λ head number count.
+        length-head head.nonce head.sequence head.head number count };
 
     ghost record_width = { length-entry };
 

@@ -44,7 +44,7 @@ abbrev pub by_leaf : (Pbn → Mapping) → Option Pbn → Mapping
 by_leaf f (Some at) = f at
 by_leaf f None = Unmapped
 
-abbrev by_put : Mapping → Option Mapping → Mapping
+abbrev pub by_put : Mapping → Option Mapping → Mapping
 by_put before (Some m) = m
 by_put before None = before
 

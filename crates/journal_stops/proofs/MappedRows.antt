@@ -28,7 +28,7 @@ use Rattle.journal_stops.specs.Mapped.{slot_after, linked_after, page_after, map
 use Rattle.journal_stops.specs.Shown.{HasInWindow}
 use Rattle.journal_stops.proofs.MapLaws.{pages_show}
 use Rattle.journal_stops.proofs.NewestLaws.{page_equal}
-use Rattle.journal_stops.proofs.OpenedLaws.{page_with_none, slot_of_page}
+use Rattle.journal_stops.proofs.OpenedLaws.{page_with_none, rooted_old_page, slot_of_page}
 
 abbrev new_leaf : CommittedEntry
 new_leaf = logged (NewPage (page 2 0 0) (pbn 89))
@@ -166,6 +166,14 @@ linked_still = refl
 pages_without_reaped : ArePagesShown (image []) (remap 5 Zero ∷ []) blocks [] → ⊥
 pages_without_reaped shown =
     let same : 86 ≡ 0 = ap number_of (sym as_it_was ∙ shown (page 0 0 0) (pbn 85) 5 linked_still (omega arith) refl) in omega (arith, same)
+
+-- What the window has, no page has to say.
+pages_with_window : ArePagesShown (image []) (remap 5 Zero ∷ []) blocks (remap 5 Zero ∷ [])
+pages_with_window p at slot linked small left =
+    let old : page_after (image []) [] p ≡ Some at = sym (rooted_old_page (image []) (remap 5 Zero ∷ []) [] p tt refl) ∙ linked in
+    let there : page_at (image []) p ≡ Some at = sym (page_with_none (image []) p) ∙ old in
+    let says : slot_after (image []) (remap 5 Zero ∷ []) p slot ≡ mapping_in (block_at blocks at.0) slot = rw (slot_after, left) (slot_of_page (image []) p at slot there) in
+    sym says
 
 -- Of a slot behind the last one of a page nothing is said; the last one counts.
 others_behind_the_last : (other : Blocks) → ((b slot : ℕ) → slot < PAGE_SLOTS → mapping_in (block_at other b) slot ≡ mapping_in (block_at blocks b) slot)

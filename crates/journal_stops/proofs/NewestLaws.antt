@@ -21,7 +21,7 @@ use Rattle.journal_stops.proofs.MapLaws.{both, or_assoc}
 eq_self : (n : ℕ) → (n == n) ≡ true
 eq_self n = elim (eqb_tells n n) [ inl same ↦ same.0 | inr other ↦ absurd (other.1 refl) ]
 
-eq_of : (m n : ℕ) → (m == n) ≡ true → m ≡ n
+pub eq_of : (m n : ℕ) → (m == n) ≡ true → m ≡ n
 eq_of m n is = elim (eqb_tells m n) [ inl same ↦ same.1 | inr other ↦ absurd (cc (is, other.0)) ]
 
 eq_is : (m n : ℕ) → m ≡ n → (m == n) ≡ true

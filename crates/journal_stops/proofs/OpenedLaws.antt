@@ -136,7 +136,7 @@ rooted_old_page opened newer older page rooted none = page_old opened newer olde
 
 -- Which pages show entries.
 
-no_first : (x y : Option Mapping) → or_else x y ≡ None → (x ≡ None) × (y ≡ None)
+pub no_first : (x y : Option Mapping) → or_else x y ≡ None → (x ≡ None) × (y ≡ None)
 no_first (Some m) y is = absurd (cc is)
 no_first None y is = (refl, is)
 
@@ -147,7 +147,7 @@ pages_keep opened entries blocks window behind shown page at slot linked small l
     shown page at slot linked small (no_first (put_last window page slot) (put_last behind page slot) (sym (put_append window behind page slot) ∙ left)).0
 
 -- a page that is linked below a root has a page above it
-above_linked : (opened : Image) (entries : List CommittedEntry) (page : PageId) (at : Pbn) → page.level + 1 < opened.geometry.height → page_after opened entries page ≡ Some at
+pub above_linked : (opened : Image) (entries : List CommittedEntry) (page : PageId) (at : Pbn) → page.level + 1 < opened.geometry.height → page_after opened entries page ≡ Some at
     → (up : Pbn) × (page_after opened entries (above page) ≡ Some up)
 above_linked opened entries page at below is =
     let found = in_range opened entries page at is in
@@ -161,7 +161,7 @@ above_linked opened entries page at below is =
     through links (Some up) linked is = (up, linked)
     through links None linked is = absurd (cc is)
 
-same_block : (x y : Pbn) → Some x ≡ Some y → x ≡ y
+pub same_block : (x y : Pbn) → Some x ≡ Some y → x ≡ y
 same_block x y is = cc is
 
 -- the pages that show older entries show newer ones too that the window has, where those that these make say nothing yet

@@ -1,5 +1,5 @@
 -- Sealed blocks: for each definition what it gives or accepts, and for each clause one that it refuses.
-use Rattle.std.proofs.Common.{ℕ, ◌≡◌, ◌^◌, List, [], ◌∷◌, length, replicate, All, refl, arith}
+use Rattle.std.proofs.Common.{ℕ, ◌≡◌, ◌+◌, ◌≤◌, ◌^◌, List, [], ◌∷◌, length, replicate, All, refl, arith}
 use Rattle.std.proofs.lemmas.List.Elements.{All-cons, All-nil, All-head}
 use Rattle.blk_base.specs.Regions.{IsDataBlock}
 use Rattle.blk_base.specs.declared.journal_entry.CommittedEntry.{CommittedEntry}
@@ -90,7 +90,16 @@ ring_reaped = record {
   reach = omega arith;
 }
 
--- reach: a session has no more sequences
+-- reach: so many sequences a session has, and no more
+at_the_last : (older : List Sealed) → length older + 1 ≡ 2 ^ 32 → head_of 1 older ≤ 2 ^ 32 → IsSealed small 1 older (names (2 ^ 32))
+at_the_last older many below = record {
+  holds = holds (next_of 1 older) (2 ^ 32) (omega arith) (omega (arith, many)) (omega (arith, many));
+  each = each_is;
+  rises = below;
+  ring = omega (arith, many);
+  reach = omega (arith, many);
+}
+
 out_of_reach : (older : List Sealed) (block : Sealed) → length older ≡ 2 ^ 32 → IsSealed small 1 older block → ⊥
 out_of_reach older block many is = let reach = is.reach in omega (arith, many, reach)
 

@@ -1,67 +1,23 @@
 -- Reading the window of a device: for each clause a small case that it accepts, and one that breaks it alone and is refused.
 -- The device doesn't tell which calls were made, where nothing else is said.
-use Rattle.std.proofs.Common.{ℕ, zero, suc, ◌≡◌, ◌+◌, ◌%◌, Bool, true, false, Some, None, List, [], ◌∷◌, length, replicate, reverse, get_or, refl, ap, inl, arith}
-use Rattle.std.proofs.Math.Nat.{mod-lt}
-use Rattle.blk_base.proofs.SectorLaws.{zero_size}
-use Rattle.blk_base.specs.Sectors.{sector, zero_block}
+use Rattle.std.proofs.Common.{ℕ, ◌≡◌, ◌+◌, Bool, true, false, Some, None, [], ◌∷◌, length, reverse, refl, ap, inl, arith}
 use Rattle.blk_base.specs.declared.geometry.Super.{Super}
-use Rattle.blk_base.specs.declared.journal_entry.Entry.{Entry}
 use Rattle.disk_model.specs.Seen.{Seen}
-use Rattle.disk_model.specs.Since.{AreGiven, NextFailed, WereRead}
 use Rattle.image_layout.specs.declared.fault.Field.TheVariants.{Start}
 use Rattle.image_layout.specs.declared.fault.SuperFault.TheVariants.{BadField, NotAnImage}
 use Rattle.image_model.proofs.Example.{pbn, small, zeros}
 use Rattle.image_model.proofs.WindowLaws.{one_last}
-use Rattle.image_model.proofs.ZeroLaws.{of_eight}
-use Rattle.image_model.specs.Windows.{IsLast, IsThere}
+use Rattle.image_model.specs.Windows.{IsLast}
 use Rattle.image_model.specs.declared.fault.ImageFault.TheVariants.{Super as Superblock, Window, Counts, Device, Unclean, Memory}
-use Rattle.journal_codec.specs.Grammar.{IsSector}
+use Rattle.image_model.proofs.ReadExample.{seen, failed, next_failed, were_read, zeros_given, zero_journal, none_there}
 use Rattle.journal_window.specs.Newest.{IsUpTo}
 use Rattle.journal_window.specs.Reads.{Fails, IsRefusalRead, IsWindowRead, JournalFails}
 use Rattle.journal_window.specs.States.{WindowState}
 
-abbrev seen : Seen
-seen = record { opening = []; size = 154; log = []; faults = 3; unkept = 0 }
-
-abbrev failed : Seen
-failed = record seen { faults = 4 }
-
-zeros_given : (honest : Bool) (from n : ℕ) → AreGiven false honest from seen (replicate n zero_block)
-zeros_given honest from zero = tt
-zeros_given honest from (suc n) = (zero_size, (λ told. absurd (cc told)), zeros_given honest from n)
-
-were_read : (honest : Bool) (from : ℕ) (blocks : List (List ℕ)) → AreGiven false honest from seen blocks → WereRead false honest from seen seen blocks
-were_read honest from blocks given = record {
-  told = λ told. absurd (cc told);
-  stays = record { opening = refl; size = refl };
-  later = record { faults = omega arith; unkept = omega arith };
-  given = given;
-  logged = λ told. absurd (cc told);
-}
-
-next_failed : (honest : Bool) (from : ℕ) → NextFailed false honest from seen failed []
-next_failed honest from = record {
-  stays = record { opening = refl; size = refl };
-  later = record { faults = omega arith; unkept = omega arith };
-  given = tt;
-  rose = omega arith;
-  logged = λ told. absurd (cc told);
-}
-
--- A journal of eight slots with zeros.
-abbrev zero_journal : List (List ℕ)
-zero_journal = replicate 8 zero_block
-
-none_there : (s h : ℕ) → IsThere small zero_journal s h → ⊥
-none_there s h there =
-    of_eight (λ k. (s h : ℕ) (entries : List Entry) → IsSector 1 0 (sector 0 (get_or zero_journal k zero_block)) s h entries → ⊥)
-    (zeros 1) (zeros 1) (zeros 1) (zeros 1) (zeros 1) (zeros 1) (zeros 1) (zeros 1)
-    (s % 8) (mod-lt s (omega arith)) s h there.0 there.1
-
 abbrev head_from : ℕ → Super
 head_from start = record { geometry = small; clean = false; start = start }
 
-abbrev no_entries : ℕ → WindowState
+abbrev pub no_entries : ℕ → WindowState
 no_entries last = record { last = last; entries = [] }
 
 last_of_zeros : (start last : ℕ) → last + 1 ≡ start → IsLast small start zero_journal last

@@ -1,9 +1,8 @@
 -- For each clause of this crate's definitions a small case that it accepts, and one that breaks it alone and is refused. The
 -- journals have eight slots.
-use Rattle.std.proofs.Common.{ℕ, ◌≡◌, ◌+◌, ◌%◌, true, false, Option, None, Some, List, [], ◌∷◌, length, replicate, refl, sym, get_or, inl, inr, arith}
+use Rattle.std.proofs.Common.{ℕ, ◌≡◌, ◌+◌, ◌%◌, true, false, Option, None, Some, List, [], ◌∷◌, length, refl, sym, get_or, inl, inr, arith}
 use Rattle.std.proofs.Math.Nat.{mod-lt}
 use Rattle.std.proofs.lemmas.List.Elements.{All-cons, All-nil}
-use Rattle.blk_base.specs.Regions.{IsDataBlock}
 use Rattle.blk_base.specs.Sectors.{sector, zero_block}
 use Rattle.blk_base.specs.declared.geometry.Geometry.{Geometry}
 use Rattle.blk_base.specs.declared.geometry.Super.{Super}
@@ -18,6 +17,8 @@ use Rattle.image_model.specs.declared.fault.ImageFault.TheVariants.{Super as Sup
 use Rattle.image_model.proofs.Example.{small, maps, one, block, holds, has_sector, only_sector, zeros}
 use Rattle.image_model.proofs.WindowLaws.{one_last, one_window, one_fault}
 use Rattle.image_model.proofs.ZeroLaws.{of_eight}
+use Rattle.image_model.proofs.ReadExample.{zero_journal, none_there}
+use Rattle.image_model.proofs.WindowRows.{data_86}
 use Rattle.journal_codec.specs.Grammar.{IsSector}
 use Rattle.journal_codec.proofs.PrefixLaws.{written_prefix}
 use Rattle.journal_window.proofs.ReplayLaws.{no_prefix}
@@ -25,23 +26,13 @@ use Rattle.journal_window.specs.declared.newest.Newest.{Newest}
 use Rattle.journal_window.specs.Newest.{IsNewest, AreReplayed}
 use Rattle.journal_window.specs.Reads.{IsJournalRead, HasReadFailed, JournalFails, Fails}
 use Rattle.journal_window.specs.Replays.{CantReplay, IsBad, IsFirstBad, IsStopped}
-use Rattle.journal_window.specs.States.{WindowState}
 use Rattle.journal_window.specs.Windows.{IsWindowOf, IsUsedUp, IsRefused}
+use Rattle.journal_window.proofs.ReadRows.{no_entries}
 
--- A journal without blocks.
-abbrev empty : List (List ℕ)
-empty = replicate 8 zero_block
+last_of_empty : (start last : ℕ) → last + 1 ≡ start → IsLast small start zero_journal last
+last_of_empty start last behind = record { there = inl behind; none = λ s h from later below there. none_there s h there }
 
-none_in_empty : (s h : ℕ) → IsThere small empty s h → ⊥
-none_in_empty s h there =
-    of_eight (λ k. (s h : ℕ) (entries : List Entry) → IsSector 1 0 (sector 0 (get_or empty k zero_block)) s h entries → ⊥)
-    (zeros 1) (zeros 1) (zeros 1) (zeros 1) (zeros 1) (zeros 1) (zeros 1) (zeros 1)
-    (s % 8) (mod-lt s (omega arith)) s h there.0 there.1
-
-last_of_empty : (start last : ℕ) → last + 1 ≡ start → IsLast small start empty last
-last_of_empty start last behind = record { there = inl behind; none = λ s h from later below there. none_in_empty s h there }
-
-window_of_empty : (start last : ℕ) → last + 1 ≡ start → IsWindow small start empty last []
+window_of_empty : (start last : ℕ) → last + 1 ≡ start → IsWindow small start zero_journal last []
 window_of_empty start last behind = record {
   is_last = last_of_empty start last behind;
   first = start;
@@ -78,9 +69,6 @@ last_of_gap = record {
 bad_1 : IsBad small gap 2 1
 bad_1 entries is = no_prefix small gap 2 1 zero_block (omega arith) refl (zeros 1) entries is
 
-data_86 : IsDataBlock small 86
-data_86 = record { slab = 0; offset = 1; inside = (omega arith, omega arith); stands = refl }
-
 good_2 : IsReplayable small gap 2 2 one
 good_2 = record {
   whole = true;
@@ -109,44 +97,41 @@ head_from start = record { geometry = small; clean = false; start = start }
 abbrev final : ℕ
 final = 18014398509481983
 
-abbrev window_to : ℕ → WindowState
-window_to last = record { last = last; entries = [] }
-
-window_is : IsWindowOf (head_from 1) empty (window_to 0)
+window_is : IsWindowOf (head_from 1) zero_journal (no_entries 0)
 window_is = record { sequences = λ unclean. omega arith; is_window = window_of_empty 1 0 refl }
 
 -- sequences
-window_has_sequences : IsWindow small final empty 18014398509481982 [] × (IsWindowOf (head_from final) empty (window_to 18014398509481982) → ⊥)
+window_has_sequences : IsWindow small final zero_journal 18014398509481982 [] × (IsWindowOf (head_from final) zero_journal (no_entries 18014398509481982) → ⊥)
 window_has_sequences = (window_of_empty final 18014398509481982 refl, λ is. let below = is.sequences refl in omega (arith, below))
 
-window_of_closed : IsWindowOf (record { geometry = small; clean = true; start = final }) empty (window_to 18014398509481982)
+window_of_closed : IsWindowOf (record { geometry = small; clean = true; start = final }) zero_journal (no_entries 18014398509481982)
 window_of_closed = record { sequences = λ unclean. absurd (cc unclean); is_window = window_of_empty final 18014398509481982 refl }
 
 -- is_window
-window_is_window : IsWindowOf (head_from 1) empty (window_to 1) → ⊥
-window_is_window is = let same = (one_window small 1 empty 1 0 [] [] is.is_window (window_of_empty 1 0 refl)).0 in omega (arith, same)
+window_is_window : IsWindowOf (head_from 1) zero_journal (no_entries 1) → ⊥
+window_is_window is = let same = (one_window small 1 zero_journal 1 0 [] [] is.is_window (window_of_empty 1 0 refl)).0 in omega (arith, same)
 
 -- The sequences are used up.
-used_up : IsUsedUp (head_from final) empty
+used_up : IsUsedUp (head_from final) zero_journal
 used_up = record { unclean = refl; last = 18014398509481982; is_last = last_of_empty final 18014398509481982 refl; past = omega arith }
 
-used_up_unclean : IsUsedUp (record { geometry = small; clean = true; start = final }) empty → ⊥
+used_up_unclean : IsUsedUp (record { geometry = small; clean = true; start = final }) zero_journal → ⊥
 used_up_unclean used = let unclean = used.unclean in absurd (cc unclean)
 
 -- is_last, past: 0 is the last one, and 2^54 isn't
-used_up_past : IsUsedUp (head_from 1) empty → ⊥
+used_up_past : IsUsedUp (head_from 1) zero_journal → ⊥
 used_up_past used =
-    let same = one_last small 1 empty used.last 0 used.is_last (last_of_empty 1 0 refl) in
+    let same = one_last small 1 zero_journal used.last 0 used.is_last (last_of_empty 1 0 refl) in
     let past = used.past in omega (arith, same, past)
 
 -- The refusals.
-refused_used_up : IsRefused (head_from final) empty (Superblock (BadField Start))
+refused_used_up : IsRefused (head_from final) zero_journal (Superblock (BadField Start))
 refused_used_up = (refl, used_up)
 
-refused_other_field : IsRefused (head_from final) empty (Superblock (BadField Nonce)) → ⊥
+refused_other_field : IsRefused (head_from final) zero_journal (Superblock (BadField Nonce)) → ⊥
 refused_other_field is = let same = is.0 in absurd (cc same)
 
-refused_with_room : IsRefused (head_from 1) empty (Superblock (BadField Start)) → ⊥
+refused_with_room : IsRefused (head_from 1) zero_journal (Superblock (BadField Start)) → ⊥
 refused_with_room is = used_up_past is.1
 
 refused_faulty : IsRefused (head_from 1) gap (Window 1)
@@ -159,13 +144,13 @@ refused_faulty_first : IsRefused (head_from 1) gap (Window 2) → ⊥
 refused_faulty_first is = let same = one_fault small 1 gap 2 1 is.1 faulty_1 in omega (arith, same)
 
 -- the block isn't named where the sequences are used up
-refused_before_faulty : (sequence : ℕ) → IsRefused (head_from final) empty (Window sequence) → ⊥
+refused_before_faulty : (sequence : ℕ) → IsRefused (head_from final) zero_journal (Window sequence) → ⊥
 refused_before_faulty sequence is = is.0 used_up
 
-refused_memory : IsRefused (head_from 1) empty Memory
+refused_memory : IsRefused (head_from 1) zero_journal Memory
 refused_memory = tt
 
-refused_device : IsRefused (head_from 1) empty Device → ⊥
+refused_device : IsRefused (head_from 1) zero_journal Device → ⊥
 refused_device is = is
 
 -- The newest block.
@@ -227,10 +212,10 @@ stopped_inside is = let inside = is.inside in omega (arith, inside)
 stopped_bad : IsFirstBad small gap 2 2 2 → ⊥
 stopped_bad is = is.bad one good_2
 
-stopped_good : IsFirstBad small empty 2 1 2 → ⊥
+stopped_good : IsFirstBad small zero_journal 2 1 2 → ⊥
 stopped_good is =
     let good = is.good 1 (omega arith) (omega arith) in
-    no_prefix small empty 2 1 zero_block (omega arith) refl (zeros 1) good.0 good.1
+    no_prefix small zero_journal 2 1 zero_block (omega arith) refl (zeros 1) good.0 good.1
 
 cant_replay : CantReplay small gap 2 1 (Window 1)
 cant_replay = (refl, bad_1)
@@ -251,7 +236,7 @@ stopped_device is = is
 abbrev single : Geometry
 single = record small { journal = 1 }
 
-abbrev seen_with : ℕ → Seen
+abbrev pub seen_with : ℕ → Seen
 seen_with faults = record { opening = []; size = 154; log = []; faults = faults; unkept = 0 }
 
 journal_read : IsJournalRead false false (seen_with 0) (seen_with 0) single (zero_block ∷ [])

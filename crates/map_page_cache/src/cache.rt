@@ -39,10 +39,22 @@ impl Model for Cache {
 
     ghost Value = { CachedPages };
 
-    ghost view = { λ c. record { geometry = c.geometry; frames = c.room; pages = c.pages.items; marks = c.marks; turns = c.clean } };
+    ghost view = { λ c. record {
+      geometry = c.geometry;
+      frames = c.room;
+      pages = c.pages.items;
+      marks = c.marks;
+      turns = c.clean;
+    } };
 
     ghost invariant = { λ c. record {
-      form : IsCache (record { geometry = c.geometry; frames = c.room; pages = c.pages.items; marks = c.marks; turns = c.clean });
+      form : IsCache (record {
+        geometry = c.geometry;
+        frames = c.room;
+        pages = c.pages.items;
+        marks = c.marks;
+        turns = c.clean;
+      });
       room : c.room ≤ vec_capacity c.pages;
       index : Follows c.index c.room c.pages.items;
       clean : AreFlags (flags_of c.clean) c.room (length c.pages.items) c.marks;

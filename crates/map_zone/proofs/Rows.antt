@@ -23,13 +23,13 @@ use Rattle.page_codec.specs.declared.forms.MapPage.{MapPage}
 use Rattle.block_map_tree.specs.Opening.{IsOpening, forest_of}
 use Rattle.block_map_tree.specs.Pages.{IsLower, IsOnPath, IsTreeOf, page_at}
 use Rattle.block_map_tree.specs.Tree.{IsAt, IsThere, IsTree, Links, Tree, as_root, by_link, number_of}
-use Rattle.block_map_tree.specs.Tree as trees
 use Rattle.block_map_tree.specs.declared.forms.Forest.{Forest}
 use Rattle.map_page_cache.specs.CachedPages.{CachedPages, IsCache, IsPageOf}
 use Rattle.map_page_cache.specs.CachedPages as cached
 use Rattle.map_page_cache.specs.Turns.{Turns, no_turns, with_turn}
 use Rattle.map_zone.specs.declared.forms.Applied.TheVariants as applied
-use Rattle.map_zone.specs.Serving.{AddsPage, Applies, HasPath, Installs, IsOtherPage, IsOwn, IsRefused, IsTooMany, MayAddPage, MayApply, MayInstall, MayRemap, MissesPage, NeedsLeaf, Remaps, Shows}
+use Rattle.map_zone.specs.Serving.{AddsPage, Applies, HasPath, Installs, IsLooked, IsOtherPage, IsOwn, IsRefused, IsTooMany, MayAddPage, MayApply, MayInstall, MayRemap, MissesPage, NeedsLeaf, Remaps, Shows}
+use Rattle.map_zone.specs.declared.forms.Looked.TheVariants as looked
 use Rattle.map_zone.specs.declared.forms.NotInstalled.TheVariants as refused
 use Rattle.map_zone.specs.ZoneMap.{head_at, IsLeafAt, IsOpened, IsZoneMap, ZoneMap, leaf_of}
 
@@ -321,7 +321,7 @@ misses_not_the_highest is = never (is.above 1 (omega arith) (omega arith)).at (i
 may_remap : MayRemap unread 1 Zero
 may_remap = record { inside = omega arith; linked = record { at = b 90; stands = stands }; held = refl }
 
-may_not_past_the_last : MayRemap unread 1000 Zero → ⊥
+pub may_not_past_the_last : MayRemap unread 1000 Zero → ⊥
 may_not_past_the_last is = omega (arith, is.inside)
 
 may_not_without_a_leaf : MayRemap bare 1 Zero → ⊥
@@ -361,10 +361,10 @@ may_not_add_it_in_the_index is = omega (arith, is.block.stands)
 
 -- MayInstall
 
-may_install : MayInstall unread leaf
+pub may_install : MayInstall unread leaf
 may_install = record { level = refl; linked = record { at = b 90; stands = stands }; absent = λ k d inside. absurd (omega (arith, inside)) }
 
-may_not_install_it_again : MayInstall m leaf → ⊥
+pub may_not_install_it_again : MayInstall m leaf → ⊥
 may_not_install_it_again is = is.absent 0 content (omega arith) refl
 
 may_not_install_one_that_is_not_linked : MayInstall bare leaf → ⊥
@@ -375,7 +375,7 @@ may_not_install_a_root is = omega (arith, is.level)
 
 -- Remaps, AddsPage: what the cache or the tree makes of it, ..
 
-abbrev zeroed : CachedPages
+abbrev pub zeroed : CachedPages
 zeroed = record full { pages = with_second Zero ∷ []; marks = changed 5; turns = with_turn 0 false (no_turns 1) }
 
 sets : cached.Sets full zeroed leaf 1 Zero (p 5)
@@ -387,7 +387,7 @@ sets = record {
   after = refl;
 }
 
-remaps : Remaps m (record m { cache = zeroed }) 1 Zero (p 5)
+pub remaps : Remaps m (record m { cache = zeroed }) 1 Zero (p 5)
 remaps = record { sets = sets; after = refl }
 
 remaps_nothing : Remaps m m 1 Zero (p 5) → ⊥
@@ -435,6 +435,32 @@ has_path (suc (suc level)) low' = absurd (omega (arith, low'))
 has_no_path : HasPath bare 1 → ⊥
 has_no_path has = is_missing (has 0 (omega arith))
 
+-- IsLooked: what the slot says, where the leaf is in memory; or which leaf is needed; or which page isn't linked
+
+looked_up : IsLooked m 1 (looked.Is (At (b 100)))
+looked_up = (has_path, shows)
+
+looked_for_a_leaf : IsLooked unread 1 (looked.NeedLeaf leaf (b 90))
+looked_for_a_leaf = (has_path, needs)
+
+looked_for_a_page : IsLooked bare 1 (looked.NoPage 0)
+looked_for_a_page = misses
+
+looked_up_without_a_path : (mapping : Mapping) → IsLooked bare 1 (looked.Is mapping) → ⊥
+looked_up_without_a_path mapping is = has_no_path is.0
+
+looked_up_otherwise : IsLooked m 1 (looked.Is Zero) → ⊥
+looked_up_otherwise is = shows_another is.1
+
+looked_for_a_leaf_without_a_path : IsLooked bare 1 (looked.NeedLeaf leaf (b 90)) → ⊥
+looked_for_a_leaf_without_a_path is = has_no_path is.0
+
+looked_for_a_leaf_in_memory : IsLooked m 1 (looked.NeedLeaf leaf (b 90)) → ⊥
+looked_for_a_leaf_in_memory is = needs_one_in_memory is.1
+
+looked_for_a_linked_page : IsLooked unread 1 (looked.NoPage 0) → ⊥
+looked_for_a_linked_page is = misses_one_that_is_linked is
+
 -- Installs, IsOtherPage, IsTooMany: what is read as the leaf at its block. That bytes are no page is a premise.
 
 -- the leaf is in the frame that was empty
@@ -450,7 +476,7 @@ bytes = page_bytes content.head content.mappings
 pub reads : IsPage content.head bytes content.mappings
 reads = record { spelled = refl; held = held 0 Unmapped (At (b 100)) tt (held_at 15 (omega arith)) }
 
-installs : Installs unread (record m { cache = filled }) leaf bytes
+pub installs : Installs unread (record m { cache = filled }) leaf bytes
 installs = record { at = b 90; mappings = content.mappings; stands = stands; read = reads; fills = inl fills; after = refl }
 
 installs_and_forgets_the_link : Installs unread (record m { tree = unlinked }) leaf bytes → ⊥

@@ -24,12 +24,10 @@ use Rattle.block_map_tree.specs.Tree as trees
 use Rattle.map_page_cache.specs.CachedPages.{CachedPages}
 use Rattle.map_page_cache.specs.CachedPages as cached
 use Rattle.map_page_cache.specs.Turns.{no_turns}
-use Rattle.map_zone.specs.Calls.{Apply, AreReadBack, Call, HandOut, HasLink, HasNoLeaf, Install, IsStored, LeadTo, SayOf, Write, changed_by, events_of, mapped}
-use Rattle.map_zone.specs.declared.forms.Applied.TheVariants as applied
-use Rattle.map_zone.specs.declared.forms.NotInstalled.TheVariants as refused
+use Rattle.map_zone.specs.Calls.{Apply, AreReadBack, Call, HandOut, HasLink, HasNoLeaf, Install, IsStored, LeadTo, Leads, SayOf, Write, changed_by, events_of, mapped}
 use Rattle.map_zone.specs.Writing.{IsOut, Settles, SettlesLeaf, SettlesNode, Takes, TakesLeaf, TakesNode, IsClean, IsLeafFirst, IsLow, IsNodeFirst, IsSpelled, NoneDue, comes_first, lesser_point}
 use Rattle.map_zone.specs.ZoneMap.{ZoneMap}
-use Rattle.map_zone.proofs.Rows.{p, b, lba, g, forest, root, leaf, own, below, others, held, held_at, linked, unlinked, is_tree, stands, content, full, empty, is_cache, m, unread, clean_at, changed, there, number, whole, filled, fills, bytes, reads}
+use Rattle.map_zone.proofs.Rows.{installs, may_install, may_not_install_it_again, may_not_past_the_last, remaps, zeroed, p, b, lba, g, forest, root, leaf, own, below, others, held, held_at, linked, unlinked, is_tree, stands, content, full, empty, is_cache, m, unread, clean_at, changed, there, whole, filled, fills, bytes, reads}
 
 -- comes_first, lesser_point
 
@@ -365,6 +363,26 @@ root_is_out = inr root_is_there
 none_is_out : IsOut m leaf → ⊥
 none_is_out (inl is) = none-some is.marks.first (sym (ap (λ (marks : Marks). marks.writing) (clean_at is.frame)) ∙ is.marks.is)
 none_is_out (inr is) = omega (arith, is.inner.level)
+
+-- Leads: an entry is applied, a leaf is installed, a page is handed out; and none that may not be
+leads_by_an_entry : Leads m (Apply (Remap (lba 1) Unmapped Zero) (p 5)) (record m { cache = zeroed })
+leads_by_an_entry = (record { inside = omega arith; linked = record { at = b 90; stands = stands }; held = refl }, remaps)
+
+leads_by_a_leaf : Leads unread (Install leaf bytes) (record m { cache = filled })
+leads_by_a_leaf = (may_install, installs)
+
+leads_by_a_page : Leads both (HandOut root (b 9) (page_bytes root_page.head root_page.mappings)) (record both { tree = record linked { marks = handed 5 } })
+leads_by_a_page = (p 9, inr takes_node)
+
+leads_past_the_last : (new : ZoneMap) → Leads unread (Apply (Remap (lba 1000) Unmapped Zero) (p 5)) new → ⊥
+leads_past_the_last new leads = may_not_past_the_last leads.0
+
+leads_to_it_again : (new : ZoneMap) → Leads m (Install leaf bytes) new → ⊥
+leads_to_it_again new leads = may_not_install_it_again leads.0
+
+leads_by_a_clean_page : (new : ZoneMap) (given : List ℕ) → Leads m (HandOut leaf (b 90) given) new → ⊥
+leads_by_a_clean_page new given (point, inl takes) = takes_a_clean_leaf new point given takes
+leads_by_a_clean_page new given (point, inr takes) = omega (arith, takes.expires.inner.level)
 
 no_call : LeadTo m [] m
 no_call = refl

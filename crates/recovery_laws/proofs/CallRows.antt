@@ -14,7 +14,6 @@ use Rattle.image_layout.specs.Superblock.{super_block}
 use Rattle.image_model.proofs.CountRows.{kept_is, updated}
 use Rattle.image_model.proofs.Example.{small, pbn}
 use Rattle.image_model.proofs.MapRows.{image as mapped, page, remap}
-use Rattle.image_model.specs.Counts.{commit_at}
 use Rattle.image_model.specs.Maps.{Image, page_at}
 use Rattle.image_model.specs.Sound.{IsSound}
 use Rattle.recovery_laws.specs.Calls.{ArePuts, IsCountersPut, IsPut, recovery_calls}
@@ -24,6 +23,7 @@ use Rattle.recovery_laws.proofs.KeptRows.{counted_as}
 use Rattle.recovery_laws.proofs.OldLaws.{no_page_there}
 use Rattle.recovery_laws.proofs.SoundLaws.{known}
 use Rattle.recovery_laws.proofs.WrittenRows.{other_counter}
+use Rattle.replay_counts.proofs.ReadRows.{no_commit_there}
 
 -- The calls of an image without a change: superblock and flushes alone, and the superblock behind the first flush.
 calls_are : (image : Image) → recovery_calls image 7 []
@@ -115,10 +115,6 @@ unfolding number_at
 page_left_out are = are.pages (page 0 0 0) (pbn 85) 5 Zero refl (omega arith) refl
 
 -- counters: block 86 has an update above its commit point, and its counters aren't written
-no_commit_there : commit_at small updated.blocks 0 0 ≡ 0
-unfolding zero_block number_at
-no_commit_there = refl
-
 counters_left_out : ArePuts updated [] → ⊥
 counters_left_out are = let none = no_commit_there in are.counters 0 0 1536 (omega arith) (omega arith) (omega (arith, none)) (1, omega arith, refl, inl kept_is)
 

@@ -97,7 +97,7 @@ rest_kept image slab n is below offset behind sector_is = inr refl
 pub kept_by_itself : (blocks : Blocks) (sound : IsSound blocks) → AreKept (image_in blocks sound) blocks
 kept_by_itself blocks sound = record { sound = sound; same = same_as_itself (image_in blocks sound); others = others_kept (image_in blocks sound); rest = rest_kept (image_in blocks sound) }
 
-kept_by_nothing : (image : Image) → AreKept image [] → ⊥
+pub kept_by_nothing : (image : Image) → AreKept image [] → ⊥
 kept_by_nothing image kept = let accepted = kept.sound.opens.accepted in absurd (cc accepted)
 
 kept_by_another : (blocks : Blocks) (head : Super) (image : Image) → super_of_image blocks ≡ Ok head → image.geometry.logical + 1 ≡ head.geometry.logical → AreKept image blocks → ⊥

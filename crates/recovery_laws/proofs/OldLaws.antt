@@ -31,7 +31,7 @@ says_put image page at slot mapping put = rw (says, put) refl
 pub says_own : (image : Image) (page : PageId) (at : Pbn) (slot : ℕ) → put_last image.window page slot ≡ None → says image page at slot ≡ mapping_in (block_at image.blocks at.0) slot
 says_own image page at slot none = rw (says, none) refl
 
-no_some : (o : Option Mapping) → o ≡ None → IsSome o → ⊥
+pub no_some : (o : Option Mapping) → o ≡ None → IsSome o → ⊥
 no_some (Some m) none some = absurd (cc none)
 no_some None none some = absurd (cc some)
 
@@ -58,7 +58,7 @@ read_off : (o : Option Pbn) (f : Pbn → Mapping) (block : Pbn) → ◌≡◌ {A
 read_off (Some a) f block is = (a, refl, is)
 read_off None f block is = absurd (cc is)
 
-chosen : (b : Bool) (x at : Pbn) → (if b then Some x else None) ≡ Some at → x ≡ at
+pub chosen : (b : Bool) (x at : Pbn) → (if b then Some x else None) ≡ Some at → x ≡ at
 chosen true x at is = cc is
 chosen false x at is = absurd (cc is)
 

@@ -1,8 +1,7 @@
 -- What stays where the pages and the counters of an image are written.
-use Rattle.std.proofs.Common.{ℕ, ◌≡◌, ◌+◌, ◌-◌, ◌<◌, ◌≤◌, min, List, length, drop, All, refl, sym, ◌∙◌, ap, subst, arith, length-drop, length-take}
-use Rattle.std.proofs.lemmas.List.{get_or-take, get_or-drop, ext_get_or}
+use Rattle.std.proofs.Common.{ℕ, ◌≡◌, ◌+◌, ◌<◌, ◌≤◌, List, length, All, refl, sym, ◌∙◌, subst, arith}
 use Rattle.blk_base.specs.Regions.{Place, Superblock, JournalSlot, Root, IndexBlock, DataBlock, ReferenceBlock, SlabJournalSlot, IsPlace, block_of, needed_blocks}
-use Rattle.blk_base.specs.Sectors.{sector, zero_block}
+use Rattle.blk_base.specs.Sectors.{sector}
 use Rattle.blk_base.proofs.RegionLaws.{apart, data_block_high, inside}
 use Rattle.blk_base.specs.declared.geometry.Geometry.{Geometry}
 use Rattle.blk_base.specs.declared.place.Mapping.{Mapping}
@@ -14,13 +13,14 @@ use Rattle.image_model.proofs.LookedLaws.{looked_high, looked_place}
 use Rattle.image_model.specs.Counts.{IsKept}
 use Rattle.image_model.specs.Maps.{Image, ArePagesGood, mapping_of, value_with}
 use Rattle.image_model.specs.Sound.{AreUnshared}
+use Rattle.image_model.proofs.JournalLaws.{journals_alike}
 use Rattle.slab_codec.specs.Grammar.{IsSlabSector}
 use Rattle.slab_codec.specs.declared.forms.SlabEntry.{SlabEntry}
 use Rattle.recovery_laws.specs.Written.{AreOthersKept, IsCountersBlock}
 use Rattle.recovery_laws.proofs.OldLaws.{mapped_is_data, mapped_is_no_page, no_page_there}
 use Rattle.recovery_laws.proofs.WindowFacts.{IsKnown}
 
-value_alike : (blocks blocks' : Blocks) (mapping : Mapping) → ((block : Pbn) → mapping ≡ At block → block_at blocks' block.0 ≡ block_at blocks block.0) → value_with blocks' mapping ≡ value_with blocks mapping
+pub value_alike : (blocks blocks' : Blocks) (mapping : Mapping) → ((block : Pbn) → mapping ≡ At block → block_at blocks' block.0 ≡ block_at blocks block.0) → value_with blocks' mapping ≡ value_with blocks mapping
 value_alike blocks blocks' Unmapped same = refl
 value_alike blocks blocks' Zero same = refl
 value_alike blocks blocks' (At block) same = same block refl
@@ -50,17 +50,7 @@ module _ (image : Image) (blocks' : Blocks) (good : ArePagesGood image) (last : 
       others (1 + slot) (omega arith) (omega (arith, below, room)) (looked_place g (JournalSlot slot) is tt) (no_page_there image good last known (JournalSlot slot) is tt) (no_counters_there (JournalSlot slot) is tt)
 
   pub same_journal : journal_of g blocks' ≡ journal_of g image.blocks
-  same_journal =
-      let long = length-take g.journal (drop 1 blocks') in
-      let long_too = length-take g.journal (drop 1 image.blocks) in
-      let front = length-drop 1 blocks' in
-      let front_too = length-drop 1 image.blocks in
-      ext_get_or zero_block (journal_of g blocks') (journal_of g image.blocks)
-      (long ∙ ap (min g.journal) (front ∙ ap (λ (n : ℕ). n - 1) size ∙ sym front_too) ∙ sym long_too)
-      (λ i below.
-      let slot : i < g.journal = omega (arith, below, long) in
-      get_or-take g.journal (drop 1 blocks') i zero_block slot ∙ get_or-drop 1 blocks' i zero_block
-      ∙ slot_kept i slot ∙ sym (get_or-take g.journal (drop 1 image.blocks) i zero_block slot ∙ get_or-drop 1 image.blocks i zero_block))
+  same_journal = journals_alike g image.blocks blocks' size slot_kept
 
   slab_slot_kept : (slab slot : ℕ) → slab < g.slabs → slot < g.slab_journal → block_at blocks' (block_of g (SlabJournalSlot slab slot)) ≡ block_at image.blocks (block_of g (SlabJournalSlot slab slot))
   slab_slot_kept slab slot is below_slots =

@@ -1,5 +1,5 @@
 -- What a superblock says stands in its first sector.
-use Rattle.std.proofs.Common.{ℕ, ◌≡◌, ◌+◌, ◌<◌, ◌≤◌, Bool, true, false, List, [], ◌∷◌, ◌++◌, length, take, drop, Result, Ok, Err, refl, sym, ◌∙◌, ap, subst, inl, inr, arith, length-drop, length-take-le}
+use Rattle.std.proofs.Common.{ℕ, ◌≡◌, ◌+◌, ◌<◌, ◌≤◌, List, [], ◌∷◌, ◌++◌, length, take, drop, Ok, refl, sym, ◌∙◌, ap, subst, inl, inr, arith, length-drop, length-take-le}
 use Rattle.std.proofs.lemmas.Bool.{cases_lt}
 use Rattle.std.proofs.lemmas.List.{drop-append-le, take-append-le, take_all, take-append-drop}
 use Rattle.blk_base.specs.Regions.{needed_blocks}
@@ -10,20 +10,11 @@ use Rattle.byte_fields.specs.Fields.{number_at}
 use Rattle.byte_fields.proofs.FieldLaws.{number_at-append}
 use Rattle.disk_model.specs.Log.{Blocks, block_at}
 use Rattle.image_layout.specs.Opened.{super_of_image}
-use Rattle.image_layout.specs.Superblock.{super_of, answer_after, run_checks, super_checks, identity_checks, size_checks, state_checks, room_checks, geometry_in, head_in}
-use Rattle.image_layout.specs.declared.fault.SuperFault.{SuperFault}
+use Rattle.image_layout.specs.Superblock.{super_of, run_checks, super_checks, identity_checks, size_checks, state_checks, room_checks, geometry_in, head_in}
 use Rattle.image_layout.proofs.CheckLaws.{room_right}
+use Rattle.image_model.proofs.EmptyLaws.{answered, back_passes}
 
 -- An accepted superblock has room.
-
-back_passes : (xs ys : List (Bool × SuperFault)) → run_checks (xs ++ ys) ≡ Ok tt → run_checks ys ≡ Ok tt
-back_passes [] ys h = h
-back_passes ((true, fault) ∷ xs) ys h = back_passes xs ys h
-back_passes ((false, fault) ∷ xs) ys h = absurd (cc h)
-
-answered : (r : Result (Unit {0}) SuperFault) (said head : Super) → answer_after r said ≡ Ok head → (r ≡ Ok tt) × (said ≡ head)
-answered (Ok tt) said head is = (refl, cc is)
-answered (Err fault) said head is = absurd (cc is)
 
 accepted_room : (block : List ℕ) (size : ℕ) (head : Super) → super_of block size ≡ Ok head → needed_blocks head.geometry ≤ size
 unfolding super_of

@@ -23,6 +23,7 @@ use Rattle.image_model.specs.Counts.{Stores, commit_at, reference_sector_at}
 use Rattle.image_model.specs.Maps.{Image, IsGoodPage, head_of, page_at, put_last}
 use Rattle.image_model.specs.Sound.{IsDataPlace, IsSound}
 use Rattle.replay_counts.specs.Recovered.{IsInSector}
+use Rattle.replay_counts.proofs.ReadRows.{no_commit_there}
 use Rattle.recovery_laws.specs.Kept.{AreKept, IsRecovered, image_in}
 use Rattle.recovery_laws.specs.Written.{AreFull, AreOthersKept, AreRestKept, AreUnderway, IsCountersBlock, IsFullPage, IsFullSector, IsOldSector, IsPageBlock, IsPartPage, IsRestKept}
 use Rattle.recovery_laws.proofs.KeptRows.{counted_as, others_kept, stores_n}
@@ -62,9 +63,6 @@ part_slot_lost part =
     absurd (cc is)
 
 -- Sectors of counters. Slab journal and window have an update of block 86 at 1536.
-no_commit_there : commit_at small updated.blocks 0 0 ≡ 0
-unfolding zero_block number_at
-no_commit_there = refl
 
 -- commit: it stays below that update
 commit_not_raised : IsFullSector updated 0 0 (replicate 512 0) → ⊥

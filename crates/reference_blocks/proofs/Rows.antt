@@ -18,7 +18,7 @@ sizes = record { logical = 1000; slabs = 1; slab_blocks = 1000; journal = 8; ind
 abbrev p : ℕ → Point
 p n = record { 0 = n }
 
-abbrev entry : ℕ → ℕ → SlabEntry
+abbrev pub entry : ℕ → ℕ → SlabEntry
 entry point offset = record { point = p point; offset = offset }
 
 abbrev some : References

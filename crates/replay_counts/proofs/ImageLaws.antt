@@ -1,9 +1,8 @@
 -- What the slabs that were read say is what each image says that has their blocks.
-use Rattle.std.proofs.Common.{ℕ, ◌≡◌, ◌+◌, ◌*◌, ◌/◌, ◌%◌, ◌<◌, ◌≤◌, ◌↔◌, Bool, List, length, get_or, reverse, Contains, Result, Ok, Err, refl, sym, ◌∙◌, ap, ap₂, subst, inl, inr, arith}
+use Rattle.std.proofs.Common.{ℕ, ◌≡◌, ◌+◌, ◌*◌, ◌/◌, ◌%◌, ◌<◌, ◌↔◌, Bool, List, length, get_or, reverse, Contains, Result, Ok, Err, refl, sym, ◌∙◌, ap, ap₂, subst, inl, inr, arith}
 use Rattle.std.specs.List.Sorted.{IsPermutation}
 use Rattle.std.proofs.lemmas.Bool.{cases_lt}
 use Rattle.std.proofs.lemmas.List.Sorted.{Contains-permutation, IsPermutation-reverse, IsPermutation-sym}
-use Rattle.std.proofs.lemmas.Nat.{mul-le}
 use Rattle.blk_base.specs.Counters.{counters_per_sector, limit_of, sectors_per_slab, sector_of_offset}
 use Rattle.blk_base.specs.Regions.{DataBlock, ReferenceBlock, SlabJournalSlot, block_of, references_of}
 use Rattle.blk_base.specs.Sectors.{sector, zero_block}
@@ -19,6 +18,8 @@ use Rattle.count_updates.specs.Applied.{IsGreatest, IsOfSector}
 use Rattle.count_updates.specs.Counted.{commit_in, IsCountedAt, Leaves}
 use Rattle.count_updates.specs.Listed.{Lists}
 use Rattle.count_updates.specs.Numbers.{block_number}
+use Rattle.count_updates.proofs.NumberLaws.{row_ends}
+use Rattle.count_updates.specs.FoundLists.{found_lists}
 use Rattle.disk_model.specs.Log.{Blocks, block_at}
 use Rattle.image_model.specs.Counts.{IsKept, IsUpdate, Stores, Updates, block_of_data, commit_at, count_from, counter_of}
 use Rattle.image_model.specs.Faults.{IsCountFault}
@@ -38,9 +39,6 @@ abbrev block : ℕ → Pbn
 block n = record { 0 = n }
 
 -- Places.
-
-row_ends : (slab slabs width : ℕ) → slab < slabs → slab * width + width ≤ slabs * width
-row_ends slab slabs width less = let most = mul-le (slab + 1) width slabs width (omega (arith, less)) (omega arith) in omega (arith, most)
 
 same_row : (slab n other m width : ℕ) → n < width → m < width → slab * width + n ≡ other * width + m → slab ≡ other
 same_row slab n other m width low low' same = elim (cases_lt slab other) [
@@ -84,7 +82,7 @@ greatest_as commit other Is Too applied same from is to back greatest = record {
 -- Updates in another order.
 
 pub found_again : (g : Geometry) (reads : List Blocks) (first : List Update) (counters : List ℕ) (commits : List Point) (updates updates' : List Update)
-    → IsPermutation updates updates' → IsFound g reads first counters commits updates → IsFound g reads first counters commits updates'
+    → IsPermutation updates updates' → IsFound g reads first (found_lists counters commits updates) → IsFound g reads first (found_lists counters commits updates')
 found_again g reads first counters commits updates updates' same found = record {
   counters_size = found.counters_size;
   counters_are = found.counters_are;
@@ -99,7 +97,7 @@ found_again g reads first counters commits updates updates' same found = record 
 module _ (g : Geometry) (blocks : Blocks) (window : List CommittedEntry) (reads : List Blocks) (first : List Update) (counters : List ℕ) (commits : List Point) (updates : List Update)
     (all : length reads ≡ g.slabs) (holds : Holds g blocks reads)
     (listed : (at point : ℕ) → Lists first at point ↔ ((committed : CommittedEntry) × Contains window committed × Updates committed (record { 0 = at }) point))
-    (found : IsFound g reads first counters commits updates) where
+    (found : IsFound g reads first (found_lists counters commits updates)) where
   abbrev image : Image
   image = image_with g blocks (reverse window)
 
@@ -186,7 +184,7 @@ module _ (g : Geometry) (blocks : Blocks) (window : List CommittedEntry) (reads 
         inl (kept_here place point slab entry inside below of (keeps_back slab entry below keeps))
   ]
 
-  stores : (place : DataPlace) (result : Result ℕ ℕ) → IsDataPlace g place → IsCountedAt g counters commits updates place result → Stores image place result
+  stores : (place : DataPlace) (result : Result ℕ ℕ) → IsDataPlace g place → IsCountedAt g (found_lists counters commits updates) place result → Stores image place result
   stores place result inside is =
       let commit = commit_same place.slab (sector_of_offset g place.offset) inside.0 (sector_below g place.offset inside.1) in
       record {
@@ -216,7 +214,7 @@ module _ (g : Geometry) (blocks : Blocks) (window : List CommittedEntry) (reads 
     update_to (record { slab = slab; offset = offset }) point (below, within) is,
   )
 
-  pub has_counts : (counts : List ℕ) (sectors : List SectorPoints) → IsCountedFrom g counters commits updates counts sectors → HasCounts image counts sectors
+  pub has_counts : (counts : List ℕ) (sectors : List SectorPoints) → IsCountedFrom g (found_lists counters commits updates) counts sectors → HasCounts image counts sectors
   has_counts counts sectors from = record {
     blocks = from.counted.size;
     stored = λ place inside. stores place _ inside (from.counted.each place inside);
@@ -235,7 +233,7 @@ module _ (g : Geometry) (blocks : Blocks) (window : List CommittedEntry) (reads 
         };
   }
 
-  pub has_fault : (at : Pbn) (point : ℕ) → Leaves g counters commits updates at.0 point → IsCountFault image at point
+  pub has_fault : (at : Pbn) (point : ℕ) → Leaves g (found_lists counters commits updates) at.0 point → IsCountFault image at point
   has_fault at point leaves = record {
     place = leaves.place;
     inside = leaves.inside;
@@ -247,18 +245,18 @@ module _ (g : Geometry) (blocks : Blocks) (window : List CommittedEntry) (reads 
 -- What was counted once all slabs were read.
 module _ (tells honest : Bool) (g h : Geometry) (same : g ≡ h) (window : List CommittedEntry) (before now : Seen) (first : List Update) (counters : List ℕ) (commits : List Point) (updates updates' : List Update)
     (listed : (at point : ℕ) → Lists first at point ↔ ((committed : CommittedEntry) × Contains window committed × Updates committed (record { 0 = at }) point))
-    (reads : List Blocks) (count : length reads ≡ g.slabs) (read : SlabsRead tells honest g before now reads) (found : IsFound g reads first counters commits updates)
+    (reads : List Blocks) (count : length reads ≡ g.slabs) (read : SlabsRead tells honest g before now reads) (found : IsFound g reads first (found_lists counters commits updates))
     (permuted : IsPermutation updates updates') where
-  again : IsFound g reads first counters commits updates'
+  again : IsFound g reads first (found_lists counters commits updates')
   again = found_again g reads first counters commits updates updates' permuted found
 
-  pub counts_read : (counts : List ℕ) (sectors : List SectorPoints) → IsCountedFrom g counters commits updates' counts sectors
+  pub counts_read : (counts : List ℕ) (sectors : List SectorPoints) → IsCountedFrom g (found_lists counters commits updates') counts sectors
       → AreCountsRead tells honest h (reverse window) before now counts sectors
   counts_read counts sectors from =
       subst (λ (sizes : Geometry). AreCountsRead tells honest sizes (reverse window) before now counts sectors) same
       (reads, record { count = count; read = read }, λ blocks holds. has_counts g blocks window reads first counters commits updates' count holds listed again counts sectors from)
 
-  pub fault_read : (at : Pbn) (point : Point) → Leaves g counters commits updates' at.0 point.0 → CountsFail tells honest h (reverse window) before now (Counter at point)
+  pub fault_read : (at : Pbn) (point : Point) → Leaves g (found_lists counters commits updates') at.0 point.0 → CountsFail tells honest h (reverse window) before now (Counter at point)
   fault_read at point leaves =
       subst (λ (sizes : Geometry). CountsFail tells honest sizes (reverse window) before now (Counter at point)) same
       (reads, record { count = count; read = read }, λ blocks holds. has_fault g blocks window reads first counters commits updates' count holds listed again at point.0 leaves)

@@ -6,11 +6,10 @@ use Rattle.std.proofs.lemmas.Nat.{div-add-mod', div_below, mod_below}
 use Rattle.blk_base.specs.Counters.{limit_of}
 use Rattle.blk_base.specs.Limits.{IsGeometry}
 use Rattle.blk_base.specs.declared.geometry.Geometry.{Geometry}
-use Rattle.blk_base.specs.declared.journal_entry.Update.{Update}
 use Rattle.blk_base.specs.declared.layout.DataPlace.{DataPlace}
-use Rattle.blk_base.specs.declared.point.Point.{Point}
 use Rattle.count_updates.specs.Counted.{AreCounted}
 use Rattle.count_updates.specs.Numbers.{all_blocks}
+use Rattle.count_updates.specs.FoundLists.{FoundLists}
 use Rattle.image_model.specs.Counts.{count_after, count_from}
 
 -- one update more
@@ -37,9 +36,9 @@ from_within limit commit counter points last is = first (nat_le counter limit) i
     first true is less = after_within limit counter points last (less refl) is
     first false is less = absurd (cc is)
 
-pub counted_within : (g : Geometry) (counters : List ℕ) (commits : List Point) (updates : List Update) (counts : List ℕ) → IsGeometry g
-    → AreCounted g counters commits updates counts → All (λ count. count ≤ limit_of g) counts
-counted_within g counters commits updates counts sizes are i d inside =
+pub counted_within : (g : Geometry) (found : FoundLists) (counts : List ℕ) → IsGeometry g
+    → AreCounted g found counts → All (λ count. count ≤ limit_of g) counts
+counted_within g found counts sizes are i d inside =
     let some = sizes.slab_blocks.0 in
     let size = are.size in
     let n = i / g.slab_blocks in

@@ -1,30 +1,25 @@
 -- The counts of an image, and what is read for them: for each clause that `Rows` hasn't, a small case that it accepts, and one
 -- that breaks it alone and is refused.
-use Rattle.std.proofs.Common.{ℕ, zero, suc, ◌≡◌, ◌%◌, Bool, true, false, List, [], ◌∷◌, length, replicate, get_or, Ok, refl, ap, subst, inl, inr, arith}
-use Rattle.std.proofs.Math.Nat.{mod-lt}
-use Rattle.blk_base.proofs.SectorLaws.{zero_size}
-use Rattle.blk_base.specs.Sectors.{sector, zero_block}
+use Rattle.std.proofs.Common.{ℕ, ◌≡◌, Bool, true, false, List, [], ◌∷◌, length, Ok, refl, ap, subst, inl, inr, arith}
+use Rattle.blk_base.specs.Sectors.{zero_block}
 use Rattle.blk_base.specs.declared.geometry.Geometry.{Geometry}
 use Rattle.blk_base.specs.declared.geometry.Super.{Super as Superblock}
 use Rattle.blk_base.specs.declared.journal_entry.CommittedEntry.{CommittedEntry}
-use Rattle.blk_base.specs.declared.journal_entry.Entry.{Entry}
 use Rattle.blk_base.specs.declared.point.Point.{Point}
 use Rattle.byte_fields.specs.Fields.{number_at}
 use Rattle.count_updates.proofs.AppliedLaws.{none_yet}
+use Rattle.count_updates.specs.FoundLists.{found_lists}
 use Rattle.disk_model.specs.declared.call.Call.TheVariants.{Flush}
 use Rattle.disk_model.specs.Log.{Blocks}
 use Rattle.disk_model.specs.Seen.{Seen}
-use Rattle.disk_model.specs.Since.{AreGiven, NextFailed}
 use Rattle.image_layout.specs.declared.fault.SuperFault.TheVariants.{NotAnImage}
 use Rattle.image_model.proofs.CountLaws.{one_stored}
 use Rattle.image_model.proofs.CountRows.{kept_is, updated}
-use Rattle.image_model.proofs.Example.{pbn, small, zeros}
-use Rattle.image_model.proofs.ZeroLaws.{of_eight}
+use Rattle.image_model.proofs.Example.{pbn, small}
 use Rattle.image_model.specs.Counts.{Stores, commit_at}
 use Rattle.image_model.specs.Maps.{Image, image_with}
-use Rattle.image_model.specs.Windows.{IsThere}
 use Rattle.image_model.specs.declared.fault.ImageFault.TheVariants.{Super, Window, Counter, Counts, Device, Unclean, Memory}
-use Rattle.journal_codec.specs.Grammar.{IsSector}
+use Rattle.image_model.proofs.ReadExample.{seen, failed, next_failed, zeros_given, zero_journal, none_there}
 use Rattle.journal_window.specs.Reads.{IsWindowRead}
 use Rattle.journal_window.specs.States.{WindowState}
 use Rattle.replay_counts.specs.Recovered.{AreCountsOf, AreCountsRead, ArePointsOf, AreSlabsRead, CountingFails, CountsFail, HasCounts, IsCountedFrom, IsInSector}
@@ -61,7 +56,7 @@ other_count rest sectors stores has =
     let same = one_stored updated (record { slab = 0; offset = 1 }) (Ok 2) (Ok 3) stores three in absurd (cc same)
 
 -- points: the update at 1536 was applied to its sector
-no_commit_there : commit_at small updated.blocks 0 0 ≡ 0
+pub no_commit_there : commit_at small updated.blocks 0 0 ≡ 0
 unfolding zero_block number_at
 no_commit_there = refl
 
@@ -72,12 +67,6 @@ not_applied counts has =
     let most = points.applied.most 1536 (omega (arith, none)) (1, omega arith, refl, inl kept_is) in omega (arith, most)
 
 -- What is read: by a device that doesn't tell which calls were made.
-abbrev seen : Seen
-seen = record { opening = []; size = 154; log = []; faults = 3; unkept = 0 }
-
-abbrev failed : Seen
-failed = record seen { faults = 4 }
-
 no_slab_read : (tells honest : Bool) → AreSlabsRead tells honest slabless seen seen []
 no_slab_read tells honest = record { count = refl; read = refl }
 
@@ -102,15 +91,6 @@ no_counter tells honest window before now (reads, are, fault) =
     let inside = (fault [] (λ slab i below within. absurd (omega (arith, below)))).inside.0 in omega (arith, inside)
 
 -- Device: a read failed
-next_failed : (honest : Bool) (from : ℕ) → NextFailed false honest from seen failed []
-next_failed honest from = record {
-  stays = record { opening = refl; size = refl };
-  later = record { faults = omega arith; unkept = omega arith };
-  given = tt;
-  rose = omega arith;
-  logged = λ told. absurd (cc told);
-}
-
 fails_device : (honest : Bool) (window : List CommittedEntry) → CountsFail false honest small window seen failed Device
 fails_device honest window = ([], omega arith, seen, refl, ([], omega arith, next_failed honest 149))
 
@@ -129,7 +109,7 @@ module _ (tells honest : Bool) (g : Geometry) (window : List CommittedEntry) (be
   fails_otherwise = ((λ none. none), (λ none. none), (λ none. none), (λ none. none))
 
 -- Counted from lists: of no blocks and no sectors nothing.
-counted_from_none : IsCountedFrom slabless [] [] [] [] []
+counted_from_none : IsCountedFrom slabless (found_lists [] [] []) [] []
 counted_from_none = record {
   counted = record { size = refl; each = λ place inside. absurd (let slab = inside.0 in omega (arith, slab)) };
   applied = [];
@@ -138,29 +118,16 @@ counted_from_none = record {
 }
 
 -- counted, are_applied, paired
-a_count_from_none : IsCountedFrom slabless [] [] [] (5 ∷ []) [] → ⊥
+a_count_from_none : IsCountedFrom slabless (found_lists [] [] []) (5 ∷ []) [] → ⊥
 a_count_from_none is = let size = is.counted.size in omega (arith, size)
 
-another_applied : (is : IsCountedFrom slabless [] [] [] [] []) → is.applied ≡ record { 0 = 5 } ∷ [] → ⊥
+another_applied : (is : IsCountedFrom slabless (found_lists [] [] []) [] []) → is.applied ≡ record { 0 = 5 } ∷ [] → ⊥
 another_applied is one = let size = is.are_applied.size in let more = ap (λ (ps : List Point). length ps) one in omega (arith, size, more)
 
-a_sector_from_none : IsCountedFrom slabless [] [] [] [] (pair 0 0 ∷ []) → ⊥
+a_sector_from_none : IsCountedFrom slabless (found_lists [] [] []) [] (pair 0 0 ∷ []) → ⊥
 a_sector_from_none is = let size = is.paired.size in omega (arith, size)
 
 -- With the window before them: a journal of eight slots with zeros has no entries.
-zeros_given : (honest : Bool) (from n : ℕ) → AreGiven false honest from seen (replicate n zero_block)
-zeros_given honest from zero = tt
-zeros_given honest from (suc n) = (zero_size, (λ told. absurd (cc told)), zeros_given honest from n)
-
-abbrev zero_journal : List (List ℕ)
-zero_journal = replicate 8 zero_block
-
-none_there : (s h : ℕ) → IsThere slabless zero_journal s h → ⊥
-none_there s h there =
-    of_eight (λ k. (s h : ℕ) (entries : List Entry) → IsSector 1 0 (sector 0 (get_or zero_journal k zero_block)) s h entries → ⊥)
-    (zeros 1) (zeros 1) (zeros 1) (zeros 1) (zeros 1) (zeros 1) (zeros 1) (zeros 1)
-    (s % 8) (mod-lt s (omega arith)) s h there.0 there.1
-
 abbrev head : Superblock
 head = record { geometry = slabless; clean = false; start = 1 }
 

@@ -2,13 +2,12 @@
 use Rattle.std.proofs.Common.{ℕ, ◌≡◌, ◌<◌, List, [], ◌∷◌, length, refl, ap, inl, arith}
 use Rattle.blk_base.specs.Sectors.{zero_block}
 use Rattle.blk_base.specs.declared.point.Point.{Point}
-use Rattle.byte_fields.specs.Fields.{number_at}
-use Rattle.image_model.specs.Counts.{commit_at}
 use Rattle.image_model.proofs.CountRows.{kept_is, updated}
 use Rattle.image_model.proofs.Example.{small}
 use Rattle.image_model.specs.Maps.{image_with}
 use Rattle.replay_counts.specs.Recovered.{ArePaired, ArePointsOf, HasCounts, Holds, IsInSector}
 use Rattle.replay_counts.specs.declared.forms.SectorPoints.{SectorPoints}
+use Rattle.replay_counts.proofs.ReadRows.{no_commit_there}
 
 abbrev point : ℕ → Point
 point n = record { 0 = n }
@@ -50,10 +49,6 @@ in_sector = (1, omega arith, refl, inl kept_is)
 
 in_another : IsInSector updated 0 1 1536 → ⊥
 in_another is = let below = is.1 in let number = is.2 in omega (arith, below, number)
-
-no_commit_there : commit_at small updated.blocks 0 0 ≡ 0
-unfolding zero_block number_at
-no_commit_there = refl
 
 -- Not the points of a sector: another commit point, or an update that was applied and isn't counted among them.
 another_commit : ArePointsOf updated 0 0 (pair 512 1536) → ⊥

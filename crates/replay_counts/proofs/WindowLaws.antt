@@ -1,5 +1,5 @@
 -- The points of a window are those of the halves that add.
-use Rattle.std.proofs.Common.{ℕ, suc, ◌≡◌, ◌+◌, ◌*◌, ◌%◌, List, [], ◌∷◌, length, reverse, All, Result, Ok, Err, IfErr, IsErrAnd, sym, subst, arith}
+use Rattle.std.proofs.Common.{ℕ, suc, ◌≡◌, ◌+◌, ◌*◌, ◌%◌, List, [], ◌∷◌, length, reverse, All, sym, subst, arith}
 use Rattle.std.proofs.lemmas.List.Elements.{All-nil, All-cons, All-append}
 use Rattle.std.proofs.lemmas.List.Sorted.{All-permutation, IsPermutation-reverse, IsPermutation-sym}
 use Rattle.blk_base.specs.declared.geometry.Super.{Super}
@@ -7,7 +7,6 @@ use Rattle.blk_base.specs.declared.journal_entry.CommittedEntry.{CommittedEntry}
 use Rattle.blk_base.specs.declared.journal_entry.Entry.{Entry}
 use Rattle.disk_model.specs.Log.{Blocks}
 use Rattle.image_model.specs.Windows.{entries_from, with_points}
-use Rattle.image_model.specs.declared.fault.ImageFault.{ImageFault}
 use Rattle.journal_window.specs.States.{WindowState}
 use Rattle.journal_window.specs.Windows.{IsWindowOf}
 
@@ -34,8 +33,3 @@ window_adds head journal window entries is same =
     All-permutation Adds (reverse entries) entries (IsPermutation-sym entries (reverse entries) (IsPermutation-reverse entries))
     (subst (λ (es : List CommittedEntry). All Adds es) same
     (subst (λ (es : List CommittedEntry). All Adds es) (sym is.is_window.entries) (of_blocks is.is_window.first is.is_window.blocks)))
-
--- what holds of an error holds of it where it is passed on
-pub passed_on : {T : Type 0} (result : Result T ImageFault) (Is : ImageFault → Type 0) (why : ImageFault) → IsErrAnd result (λ e. e ≡ why) → Is why → IfErr result Is
-passed_on (Ok x) Is why is has = tt
-passed_on (Err e) Is why is has = rw is has

@@ -5,11 +5,11 @@ use Rattle.blk_base.specs.declared.geometry.Geometry.{Geometry}
 use Rattle.blk_base.specs.declared.geometry.Super.{Super as Superblock}
 use Rattle.blk_base.specs.declared.journal_entry.CommittedEntry.{CommittedEntry}
 use Rattle.blk_base.specs.declared.layout.DataPlace.{DataPlace}
-use Rattle.blk_base.specs.declared.journal_entry.Update.{Update}
 use Rattle.blk_base.specs.declared.point.Point.{Point}
 use Rattle.count_updates.specs.Applied.{IsGreatest, AreApplied}
 use Rattle.count_updates.specs.Counted.{AreCounted, commit_in}
 use Rattle.count_updates.specs.Numbers.{all_blocks, all_sectors, block_number}
+use Rattle.count_updates.specs.FoundLists.{FoundLists}
 use Rattle.disk_model.specs.Log.{Blocks, block_at}
 use Rattle.disk_model.specs.Seen.{Seen}
 use Rattle.image_model.specs.Counts.{IsUpdate, Stores, commit_at}
@@ -82,11 +82,11 @@ pub record ArePaired (commits applied : List Point) (sectors : List SectorPoints
   pub each : (n : ℕ) → n < length commits → ((get_or sectors n no_points).commit.0 ≡ commit_in commits n) × ((get_or sectors n no_points).applied.0 ≡ commit_in applied n)
 
 -- what was counted from these lists
-pub record IsCountedFrom (g : Geometry) (counters : List ℕ) (commits : List Point) (updates : List Update) (counts : List ℕ) (sectors : List SectorPoints) : Type 0 where
-  pub counted : AreCounted g counters commits updates counts
+pub record IsCountedFrom (g : Geometry) (found : FoundLists) (counts : List ℕ) (sectors : List SectorPoints) : Type 0 where
+  pub counted : AreCounted g found counts
   pub applied : List Point
-  pub are_applied : AreApplied g updates commits applied
-  pub paired : ArePaired commits applied sectors
+  pub are_applied : AreApplied g found.updates found.commits applied
+  pub paired : ArePaired found.commits applied sectors
 
 -- The window was read, and then the slabs, and each image that has what was read has these counts.
 abbrev pub AreCountsOf : Bool → Bool → Superblock → Seen → Seen → List ℕ → List SectorPoints → Type 0

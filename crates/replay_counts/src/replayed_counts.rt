@@ -5,6 +5,7 @@ ghost use Rattle.blk_base.specs.Regions.{needed_blocks};
 ghost use Rattle.count_updates.specs.Counted.{IsCountRefusal};
 ghost use Rattle.count_updates.specs.Listed.{AreInOrder};
 ghost use Rattle.count_updates.specs.Numbers.{all_blocks, all_sectors};
+ghost use Rattle.count_updates.specs.FoundLists.{lists_of};
 ghost use Rattle.disk_model.specs.Since.{IsUntouched};
 ghost use Rattle.replay_counts.specs.Recovered.{AreCountsRead, CountsFail, ArePaired, IsCountedFrom};
 
@@ -69,12 +70,10 @@ fn counted(alloc: Global, layout: &Layout, found: &Found) -> Result<RecoveredCou
     requires commits { length found.now.commits.items ≡ all_sectors layout.now.geometry }
     requires order { AreInOrder found.now.updates.items }
     ensures counts { IfOk result (λ counts.
-        IsCountedFrom layout.now.geometry found.now.counters.items found.now.commits.items
-        found.now.updates.items
+        IsCountedFrom layout.now.geometry (lists_of found.now)
         counts.counts.items counts.sectors.items) }
     ensures refused { IfErr result
-        (IsCountRefusal layout.now.geometry found.now.counters.items found.now.commits.items
-        found.now.updates.items) }
+        (IsCountRefusal layout.now.geometry (lists_of found.now)) }
 {
     let counts = counts_of(alloc, layout, found)?;
     let Ok(applied) = applied_points(alloc, layout, found) else {

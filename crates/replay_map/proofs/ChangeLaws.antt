@@ -28,16 +28,16 @@ slot_cmp a b = ordering_then (page_order a.page b.page) (nat_cmp a.slot b.slot)
 pub order_is : (a b : SlotId) → (slot_ord.ghosts).cmp a b ≡ slot_cmp a b
 order_is a b = refl
 
-apart_of : (x y z : Bool) → (x && (y && z)) ≡ ((x && y) && z)
+pub apart_of : (x y z : Bool) → (x && (y && z)) ≡ ((x && y) && z)
 apart_of true y z = refl
 apart_of false y z = refl
 
-both : (x y : Ordering) → is_eq (ordering_then x y) ≡ (is_eq x && is_eq y)
+pub both : (x y : Ordering) → is_eq (ordering_then x y) ≡ (is_eq x && is_eq y)
 both Less y = refl
 both Equal y = refl
 both Greater y = refl
 
-tie : (x y : ℕ) → is_eq (nat_cmp x y) ≡ (x == y)
+pub tie : (x y : ℕ) → is_eq (nat_cmp x y) ≡ (x == y)
 tie x y = sym (unsigned_ties x y)
 
 flipped : (x y : ℕ) → is_eq (nat_cmp x y) ≡ (y == x)

@@ -1,6 +1,5 @@
 -- What a page's slots say in an image.
 use Rattle.std.specs.Prelude.{ℕ, ◌≡◌, ◌+◌, ◌<◌, ◌^◌, List, Option, Some, None, IsSome, IsNone, slice_index_or, slice_set, length, Result, Ok, Err, IfErr, OnOk}
-use Rattle.std.specs.Result.{IsErrAnd}
 use Rattle.std.proofs.Common.{refl, sym, ◌∙◌, ap, subst, inl, inr, arith}
 use Rattle.std.proofs.lemmas.Bool.{cases_lt}
 use Rattle.std.proofs.lemmas.List.{get_or-set_same, get_or-set_other}
@@ -118,11 +117,6 @@ module _ (image : Image) (head : PageHead) (block : List ℕ) (changes : List (S
         own = inr (subst (λ (o : Option Mapping). IsNone o) (sym (sym (stands.newest head.page slot low) ∙ own.0)) refl);
         of_slot = in_image (λ h b. IsSlotFault h b slot fault) own.1;
       }
-
--- what holds of an error holds of it where it is passed on
-pub passed_on : {T E : Type 0} (result : Result T E) (P : E → Type 0) (why : E) → IsErrAnd result (λ e. e ≡ why) → P why → IfErr result P
-passed_on (Ok x) P why is holds = tt
-passed_on (Err e) P why is holds = rw is holds
 
 -- what follows for a success, or for an error, follows for the result
 pub where_ok : {T E P Q : Type 0} (result : Result T E) → OnOk result P → (P → Q) → OnOk result Q

@@ -26,11 +26,11 @@ pub failed_untouched : (tells honest : Bool) (g : Geometry) (before now : Seen) 
 failed_untouched tells honest g before now failed =
     untouched_on tells before failed.1 now (blocks_untouched tells honest g before failed.1 failed.0 failed.3) (next_only_read tells honest failed.2.0 failed.1 now [] failed.4)
 
-newer_shown : (blocks : Blocks) (newer older : List Reading) → Shows blocks (newer ++ older) → Shows blocks newer
+pub newer_shown : (blocks : Blocks) (newer older : List Reading) → Shows blocks (newer ++ older) → Shows blocks newer
 newer_shown blocks [] older shows = tt
 newer_shown blocks (reading ∷ newer) older shows = (shows.0, newer_shown blocks newer older shows.1)
 
-older_shown : (blocks : Blocks) (newer older : List Reading) → Shows blocks (newer ++ older) → Shows blocks older
+pub older_shown : (blocks : Blocks) (newer older : List Reading) → Shows blocks (newer ++ older) → Shows blocks older
 older_shown blocks [] older shows = shows
 older_shown blocks (reading ∷ newer) older shows = older_shown blocks newer older shows.1
 

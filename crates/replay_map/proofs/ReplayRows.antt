@@ -23,12 +23,13 @@ use Rattle.image_model.specs.Maps.{ArePagesGood, Image, mapping_of, image_with}
 use Rattle.image_model.specs.Pages.{address_count}
 use Rattle.image_model.specs.Sound.{Opens, image_of}
 use Rattle.image_model.specs.declared.fault.ImageFault.TheVariants.{Page, Counter, SharedPage, Device, Memory}
-use Rattle.journal_window.specs.States.{WindowState}
+use Rattle.journal_window.proofs.Rows.{seen_with}
+use Rattle.journal_window.proofs.ReadRows.{no_entries}
 use Rattle.page_codec.specs.declared.fault.PageFault.TheVariants.{Header}
 use Rattle.plain_laws.specs.Sums.{bit}
 use Rattle.replay_map.proofs.ReadLaws.{blocks_untouched}
 use Rattle.replay_map.proofs.SumLaws.{mapped_sum, sum_has}
-use Rattle.replay_map.proofs.WalkRows.{read_fails, read_fails_rose, seen_with, shown_since}
+use Rattle.replay_map.proofs.WalkRows.{read_fails, read_fails_rose, shown_since}
 use Rattle.replay_map.proofs.WholeSumLaws.{count_is}
 use Rattle.replay_map.specs.Finding.{FindFails, IsMapFound, map_with}
 use Rattle.replay_map.specs.Replayed.{AreAllChanges, AreAllLinks, AreAllMapped, HasMap, HasMapOf, IsFound, IsMapFault, IsMapRead, IsReplayed, MapFails, ReplayFails, times}
@@ -154,20 +155,17 @@ found_window = ([], refl, λ blocks shows. refl)
 found_since : (Says : Image → Type 0) → IsFound false false small [] (seen_with 1) (seen_with 0) Says → ⊥
 found_since Says found = let later = (blocks_untouched false false small (seen_with 1) (seen_with 0) found.0 found.1).later.faults in omega (arith, later)
 
-abbrev window_to : ℕ → WindowState
-window_to last = record { last = last; entries = [] }
-
 map_read : (map : RecoveredMap) → map.last ≡ 5 → map.entries ≡ 0 → IsFound false false small [] (seen_with 0) (seen_with 0) (λ image. HasMap image map)
-    → IsMapRead false false small (window_to 5) (seen_with 0) (seen_with 0) map
+    → IsMapRead false false small (no_entries 5) (seen_with 0) (seen_with 0) map
 map_read map last entries found = record { last = last; entries = entries; found = found }
 
-map_read_last : (map : RecoveredMap) → map.last ≡ 6 → IsMapRead false false small (window_to 5) (seen_with 0) (seen_with 0) map → ⊥
+map_read_last : (map : RecoveredMap) → map.last ≡ 6 → IsMapRead false false small (no_entries 5) (seen_with 0) (seen_with 0) map → ⊥
 map_read_last map last read = let same = read.last in omega (arith, last, same)
 
-map_read_entries : (map : RecoveredMap) → map.entries ≡ 1 → IsMapRead false false small (window_to 5) (seen_with 0) (seen_with 0) map → ⊥
+map_read_entries : (map : RecoveredMap) → map.entries ≡ 1 → IsMapRead false false small (no_entries 5) (seen_with 0) (seen_with 0) map → ⊥
 map_read_entries map entries read = let same = read.entries in omega (arith, entries, same)
 
-map_read_found : (map : RecoveredMap) → IsMapRead false false small (window_to 5) (seen_with 1) (seen_with 0) map → ⊥
+map_read_found : (map : RecoveredMap) → IsMapRead false false small (no_entries 5) (seen_with 1) (seen_with 0) map → ⊥
 map_read_found map read = found_since (λ image. HasMap image map) read.found
 
 map_fails_by_device : MapFails false false small [] (seen_with 0) (seen_with 1) Device

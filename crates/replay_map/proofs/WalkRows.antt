@@ -1,6 +1,6 @@
 -- For each clause of the definitions of reads and walks a small case that it accepts, and one that breaks it alone and is
 -- refused. The images are those of the model's rows.
-use Rattle.std.proofs.Common.{ℕ, zero, suc, ◌≡◌, ◌⊎◌, ◌+◌, ◌*◌, ◌/◌, ◌^◌, Bool, true, false, List, [], ◌∷◌, Option, Some, None, Contains, length, slice_index_or, refl, sym, ◌∙◌, ap, subst, inl, inr, ◌≤◌, arith}
+use Rattle.std.proofs.Common.{ℕ, zero, suc, ◌≡◌, ◌⊎◌, ◌+◌, ◌*◌, ◌/◌, ◌^◌, Bool, true, false, List, [], ◌∷◌, Option, Some, None, Contains, length, refl, sym, ◌∙◌, ap, subst, inl, inr, ◌≤◌, arith}
 use Rattle.std.proofs.lemmas.Bool.{cases_lt}
 use Rattle.blk_base.specs.Sectors.{zero_block}
 use Rattle.blk_base.specs.declared.geometry.Geometry.{Geometry}
@@ -19,12 +19,10 @@ use Rattle.disk_model.specs.declared.call.Call.TheVariants.{Read}
 use Rattle.image_model.proofs.Example.{small, pbn}
 use Rattle.image_model.proofs.MapRows.{bad_head, image, logged, page, remap, root, with_root}
 use Rattle.image_model.specs.Counts.{leads_to, mapped_below}
-use Rattle.image_model.specs.Faults.{HasFault}
 use Rattle.image_model.specs.Maps.{Image, IsGoodPage, page_at, slot_in}
 use Rattle.image_model.specs.Pages.{IsAhead}
 use Rattle.image_model.specs.declared.fault.ImageFault.TheVariants.{Page, Counter, Device, Memory}
-use Rattle.page_codec.specs.Grammar.{HasHead}
-use Rattle.page_codec.specs.Spelling.{head_bytes}
+use Rattle.image_model.proofs.FaultRows.{header_is}
 use Rattle.page_codec.specs.declared.fault.PageFault.TheVariants.{Header}
 use Rattle.page_codec.specs.declared.forms.PageHead.{PageHead}
 use Rattle.plain_laws.specs.Sums.{bit}
@@ -44,11 +42,9 @@ use Rattle.replay_map.specs.declared.changes.SlotId.{SlotId}
 use Rattle.replay_map.specs.declared.found.Found.{Found}
 use Rattle.replay_map.specs.declared.found.SlotChange.{SlotChange}
 use Rattle.replay_map.specs.declared.links.Link.{Link}
+use Rattle.journal_window.proofs.Rows.{seen_with}
 
 -- Reads, of a device that doesn't tell.
-
-abbrev pub seen_with : ℕ → Seen
-seen_with faults = record { opening = []; size = 154; log = []; faults = faults; unkept = 0 }
 
 abbrev pub zeros_at : ℕ → Reading
 zeros_at n = record { at = pbn n; bytes = zero_block }
@@ -461,13 +457,6 @@ taken_inner old new one none taken =
 
 abbrev head : PageHead
 head = record { geometry = small; page = root; at = pbn 9 }
-
-zeros_unheaded : HasHead head zero_block → ⊥
-unfolding zero_block head_bytes
-zeros_unheaded headed = let first : 0 ≡ 86 = ap (λ (bytes : List ℕ). slice_index_or bytes 0 0) headed in omega (arith, first)
-
-header_is : HasFault (with_root zero_block []) root (pbn 9) Header
-header_is = record { slot = 0; inside = omega arith; before = λ i below. absurd (omega (arith, below)); own = inl refl; of_slot = zeros_unheaded }
 
 first_fault : IsFirstFault (with_root zero_block []) (λ page. page ≡ root) (pbn 9) Header
 first_fault = record {

@@ -65,7 +65,8 @@ impl Changes {
     /// What is put into the slots of a page, in the order of its slots. It is found in a time that grows with the logarithm of
     /// all slots.
     pub fn of_page(&self, page: PageId) -> Range<'_, SlotId, Mapping>
-        ensures each { (slot : ℕ) → slot < SLOTS → changed result page slot ≡ changed self.now page slot }
+        ensures each { (slot : ℕ) → slot < SLOTS →
+            changed result page slot ≡ changed self.now page slot }
         ensures listed { map as_found result ≡ changes_in self.now page SLOTS }
         ensures runs { ShowsInOrder (deref_pair {K = Slot} {X = Put}) }
     {

@@ -66,8 +66,9 @@ fn has_mark(marks: &[bool], at: Pbn) -> bool
 
 // The lesser of two blocks, of which there may be one.
 fn lesser(one: Option<Pbn>, other: Pbn) -> Pbn
-    ensures { (test : ℕ → Bool) (blocks : List Pbn) → IsLeastOf test blocks one → test other.0 ≡ true
-        → IsLeastOf test (blocks ++ other ∷ []) (Some result) }
+    ensures { (test : ℕ → Bool) (blocks : List Pbn) →
+        IsLeastOf test blocks one → test other.0 ≡ true →
+        IsLeastOf test (blocks ++ other ∷ []) (Some result) }
 {
     match one {
         None => other,

@@ -40,7 +40,8 @@ pub trait Format {
         ensures { (item : Self.Record) → is_spelled item → from.now ≡ record_bytes item →
             result ≡ item };
 
-    ghost head_width: { (head : Self) (number count : ℕ) → length (head_bytes head number count) ≡ 32 };
+    ghost head_width: { (head : Self) (number count : ℕ) →
+        length (head_bytes head number count) ≡ 32 };
 
     ghost record_width: { (item : Self.Record) → length (record_bytes item) ≡ WIDTH };
 

@@ -1,19 +1,9 @@
 -- While nothing was done but to the superblock, each image is sound, and says the same as the opened one.
-use Rattle.std.proofs.Common.{ℕ, ◌≡◌, ◌⊎◌, ◌+◌, ◌/◌, ◌%◌, ◌*◌, ◌<◌, ◌≤◌, ◌^◌, Bool, true, false, IsTrue, List, ◌∷◌, length, get_or, All, Some, Ok, refl, sym, ◌∙◌, ap, subst, inl, inr, arith}
+use Rattle.std.proofs.Common.{ℕ, ◌≡◌, ◌⊎◌, ◌+◌, ◌<◌, ◌≤◌, ◌^◌, Bool, true, false, IsTrue, List, ◌∷◌, length, Ok, refl, sym, ◌∙◌, ap, inl, inr, arith}
 use Rattle.std.specs.List.{AllByRecursion}
 use Rattle.std.proofs.lemmas.List.{take-take}
-use Rattle.blk_base.specs.Counters.{sector_of_offset}
-use Rattle.blk_base.specs.Regions.{Root, DataBlock, ReferenceBlock, block_of, needed_blocks, references_of}
-use Rattle.blk_base.specs.Sectors.{sector, zero_block}
-use Rattle.blk_base.proofs.RegionLaws.{data_block_high, inside}
-use Rattle.blk_base.specs.declared.geometry.Geometry.{Geometry}
+use Rattle.blk_base.specs.Sectors.{sector}
 use Rattle.blk_base.specs.declared.geometry.Super.{Super}
-use Rattle.blk_base.specs.declared.journal_entry.Entry.{Entry}
-use Rattle.blk_base.specs.declared.layout.DataPlace.{DataPlace}
-use Rattle.blk_base.specs.declared.place.PageId.{PageId}
-use Rattle.blk_base.specs.declared.place.Pbn.{Pbn}
-use Rattle.blk_base.specs.declared.sizes.TheConstants.{PAGE_SLOTS}
-use Rattle.byte_fields.specs.Fields.{number_at}
 use Rattle.disk_model.specs.declared.call.Call.{Call}
 use Rattle.disk_model.specs.declared.call.Call.TheVariants.{Write, Flush}
 use Rattle.disk_model.specs.Images.{IsImage}
@@ -23,20 +13,13 @@ use Rattle.image_layout.proofs.SpellingLaws.{super_size}
 use Rattle.image_layout.specs.Opened.{super_of_image}
 use Rattle.image_layout.specs.Superblock.{super_block, super_of}
 use Rattle.image_layout.proofs.AgainLaws.{written_again}
-use Rattle.image_layout.specs.Values.{journal_of}
-use Rattle.image_model.proofs.CountLaws.{one_stored}
 use Rattle.image_model.proofs.EmptyLaws.{sizes_of_image}
 use Rattle.image_model.proofs.LookedLaws.{looked_first, looked_in_place}
-use Rattle.image_model.specs.Counts.{IsUpdate, Stores, block_of_data, commit_of, reference_sector_at}
 use Rattle.image_model.specs.Looked.{HasOneImageButIndex, is_looked_at}
-use Rattle.image_model.specs.Sound.{IsClosed, IsDataPlace, IsOfItsTime, IsSound}
-use Rattle.image_model.specs.Windows.{IsWindow}
-use Rattle.journal_codec.specs.Grammar.{IsSector}
-use Rattle.page_codec.specs.Grammar.{HasHead, IsSlot}
+use Rattle.image_model.specs.Sound.{IsClosed}
 use Rattle.recovery_laws.proofs.AlikeLaws.{sound_as}
 use Rattle.recovery_laws.proofs.SoundLaws.{room}
 use Rattle.recovery_laws.proofs.SuperLaws.{first_of_image, first_sector_says}
-use Rattle.recovery_laws.proofs.WindowFacts.{IsKnown}
 use Rattle.session_stops.specs.Beginnings.{HeadStands, IsAsOpened, IsBeginning, IsHeadOf, IsToServe, head_in, opened_in}
 use Rattle.session_stops.specs.Pages.{PutsOnly}
 use Rattle.session_stops.proofs.SurelyLaws.{goes_on, missed}

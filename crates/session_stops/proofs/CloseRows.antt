@@ -1,14 +1,15 @@
 -- The end of the session of the rows: all of it is on the device, and it may be closed. For each clause there is a case that is
 -- refused.
-use Rattle.std.proofs.Common.{ℕ, ◌≡◌, ◌+◌, ◌<◌, ◌≤◌, Bool, true, false, List, [], ◌∷◌, length, Contains, sym, ◌∙◌, ap, subst, inl, inr, arith}
+use Rattle.std.proofs.Common.{ℕ, ◌≡◌, ◌+◌, ◌<◌, ◌≤◌, Bool, true, false, List, [], ◌∷◌, length, Contains, refl, sym, ◌∙◌, ap, subst, inl, inr, arith}
 use Rattle.blk_base.specs.Counters.{sector_of_offset}
 use Rattle.blk_base.specs.declared.geometry.Super.{Super}
 use Rattle.blk_base.specs.declared.layout.DataPlace.{DataPlace}
 use Rattle.byte_fields.specs.Fields.{number_at}
 use Rattle.disk_model.specs.declared.call.Call.{Call}
-use Rattle.disk_model.specs.declared.call.Call.TheVariants.{Flush}
+use Rattle.disk_model.specs.declared.call.Call.TheVariants.{Flush, Write}
 use Rattle.disk_model.specs.Images.{IsImage}
 use Rattle.disk_model.specs.Log.{Blocks, block_at}
+use Rattle.image_layout.specs.Superblock.{super_block}
 use Rattle.image_model.specs.Empty.{IsEmpty}
 use Rattle.image_model.specs.Maps.{mapping_of, value_of}
 use Rattle.image_model.specs.Sound.{IsDataPlace}
@@ -19,7 +20,7 @@ use Rattle.recovery_laws.specs.Kept.{image_in}
 use Rattle.recovery_laws.specs.Written.{AreFull}
 use Rattle.count_laws.specs.Counters.{SurelyCounters, points_at}
 use Rattle.session_stops.specs.Beginnings.{IsToServe, head_in, opened_in}
-use Rattle.session_stops.specs.Closings.{AreCounted, IsClosedImage, IsClosing, IsWrittenOut, closing_calls, closing_write, last_in}
+use Rattle.session_stops.specs.Closings.{AreCounted, IsClosedImage, IsClosing, IsWrittenOut, closed_head, closing_calls, closing_write, last_in}
 use Rattle.session_stops.specs.Pages.{PagesStand}
 use Rattle.session_stops.specs.Sessions.{StandsAtRest}
 use Rattle.session_stops.proofs.CallSteps.{rest_quiet}
@@ -68,6 +69,13 @@ module _ (blocks : Blocks) (empty : IsEmpty small blocks) (whole : (b : ℕ) →
 
   pub closed : (now : Blocks) → IsImage blocks (closing_calls blocks base_to list log) now → IsClosedImage blocks (Flush true ∷ log) blocks base_to list now
   closed now is = session_closed blocks log blocks base_to list flushed_out now is
+
+  -- the calls that close, and the superblock that they write: one sequence behind the last one is left out
+  calls_are : closing_calls blocks base_to list log ≡ Flush true ∷ Write (record { 0 = 0 }) (super_block (closed_head blocks base_to list)) true ∷ Flush true ∷ log
+  calls_are = refl
+
+  head_is : closed_head blocks base_to list ≡ record { geometry = base_to.sound.head.geometry; clean = true; start = first + 2 }
+  head_is = ap (λ (n : ℕ). record { geometry = base_to.sound.head.geometry; clean = true; start = n }) (let it : last_in blocks base_to list + 2 ≡ first + 2 = omega arith in it)
 
   last_is : last_in blocks base_to list ≡ first
   last_is = omega arith

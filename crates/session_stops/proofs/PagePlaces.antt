@@ -1,5 +1,5 @@
 -- Where the linked pages are: roots, and data blocks.
-use Rattle.std.proofs.Common.{ℕ, zero, suc, ◌≡◌, ◌⊎◌, ◌+◌, ◌-◌, ◌<◌, ◌≤◌, ◌==◌, Bool, true, false, if◌then◌else◌, List, [], ◌∷◌, ◌++◌, All, Option, Some, None, refl, sym, ◌∙◌, ap, subst, inl, inr, arith}
+use Rattle.std.proofs.Common.{ℕ, zero, suc, ◌≡◌, ◌⊎◌, ◌+◌, ◌-◌, ◌<◌, ◌≤◌, ◌==◌, List, [], ◌∷◌, ◌++◌, All, Option, Some, None, refl, sym, ◌∙◌, ap, subst, inl, inr, arith}
 use Rattle.std.proofs.lemmas.Bool.{cases_Bool, cases_lt}
 use Rattle.blk_base.specs.Regions.{Root, DataBlock, IsDataBlock, block_of, needed_blocks}
 use Rattle.blk_base.proofs.RegionLaws.{inside}
@@ -16,11 +16,11 @@ use Rattle.blk_base.specs.Pages.{above, slot_of}
 use Rattle.image_model.specs.Maps.{Image, ArePagesGood, linked_at, or_else, page_at, says, target_of, slot_in}
 use Rattle.image_model.specs.Pages.{is_page}
 use Rattle.plain_laws.proofs.OptionLaws.{option_cases}
-use Rattle.recovery_laws.proofs.OldLaws.{page_stands}
+use Rattle.recovery_laws.proofs.OldLaws.{page_stands, chosen}
 use Rattle.recovery_laws.proofs.SameMapLaws.{at_links}
 use Rattle.recovery_laws.proofs.WindowFacts.{IsKnown}
 use Rattle.journal_stops.specs.Mapped.{linked_after, newest_page, page_after, put_page, slot_after}
-use Rattle.journal_stops.proofs.GrowLaws.{by_link, in_range}
+use Rattle.journal_stops.proofs.GrowLaws.{by_link, in_range, by_put}
 use Rattle.journal_stops.proofs.NewestLaws.{newest_is_block, newest_page_same}
 use Rattle.session_stops.specs.Pages.{ArePagesOnIt}
 use Rattle.session_stops.proofs.NewPages.{AreMadeNew, MakesNew}
@@ -46,10 +46,6 @@ followed : (o : Option Pbn) (f : Pbn → Option Pbn) (at : Pbn) → by_link f o 
 followed (Some a) f at is = (a, refl, is)
 followed None f at is = absurd (cc is)
 
-chosen : (b : Bool) (x at : Pbn) → (if b then Some x else None) ≡ Some at → x ≡ at
-chosen true x at is = cc is
-chosen false x at is = absurd (cc is)
-
 -- a linked page is a root, at a root's block, or below one
 pub root_or_below : (opened : Image) (entries : List CommittedEntry) (page : PageId) (at : Pbn) → page_after opened entries page ≡ Some at
     → ((page.level + 1 ≡ opened.geometry.height) × (page.tree < TREES) × (block_of opened.geometry (Root page.tree) ≡ at.0)) ⊎ (page.level + 1 < opened.geometry.height)
@@ -63,10 +59,6 @@ root_or_below opened entries page at linked =
           let root = subst (λ (n : ℕ). linked_after opened entries n page ≡ Some at) none found.2 in
           inl (omega (arith, high, level), found.0, ap (λ (b : Pbn). b.0) (chosen (page.index == 0) (record { 0 = block_of opened.geometry (Root page.tree) }) at root))
     ]
-
-abbrev pub by_put : Mapping → Option Mapping → Mapping
-by_put before (Some m) = m
-by_put before None = before
 
 module _ (opened : Image) (good : ArePagesGood opened) (last : ℕ) (known : All (IsKnown opened.geometry last) opened.window) (entries : List CommittedEntry) (made : AreMadeNew opened [] entries) where
   abbrev g : Geometry

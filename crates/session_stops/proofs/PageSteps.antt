@@ -1,5 +1,5 @@
 -- What keeps the pages standing, and what grows with them.
-use Rattle.std.proofs.Common.{ℕ, suc, ◌≡◌, ◌⊎◌, ◌+◌, ◌-◌, ◌<◌, List, [], ◌∷◌, ◌++◌, length, replicate, Option, Some, None, refl, sym, ◌∙◌, ap, subst, inl, inr, arith, Bool, IsTrue}
+use Rattle.std.proofs.Common.{ℕ, ◌≡◌, ◌⊎◌, ◌+◌, ◌-◌, ◌<◌, List, [], ◌∷◌, ◌++◌, length, replicate, Option, Some, None, refl, sym, ◌∙◌, ap, subst, inl, inr, arith, Bool, IsTrue}
 use Rattle.std.specs.List.{AllByRecursion}
 use Rattle.std.proofs.lemmas.Bool.{cases_Bool}
 use Rattle.std.proofs.lemmas.List.{get_or-replicate}
@@ -13,13 +13,12 @@ use Rattle.blk_base.specs.declared.place.Mapping.TheVariants.{Unmapped, At}
 use Rattle.blk_base.specs.declared.place.PageId.{PageId}
 use Rattle.blk_base.specs.declared.place.Pbn.{Pbn}
 use Rattle.blk_base.specs.declared.sizes.TheConstants.{PAGE_SLOTS, TREES}
-use Rattle.blk_base.specs.Pages.{above, slot_of}
 use Rattle.disk_model.specs.declared.call.Call.{Call}
 use Rattle.disk_model.specs.declared.call.Call.TheVariants.{Read, Write, Flush}
 use Rattle.disk_model.specs.Log.{Blocks, Misses, block_at, contents}
 use Rattle.disk_model.proofs.ImageLaws.{all_weaker}
 use Rattle.disk_model.specs.OneImages.{HasOneImageIn}
-use Rattle.image_model.specs.Maps.{Image, ArePagesGood, head_of, or_else, page_at, put_last, target_of}
+use Rattle.image_model.specs.Maps.{Image, ArePagesGood, head_of, or_else, page_at, put_last}
 use Rattle.image_model.specs.Pages.{is_page}
 use Rattle.page_codec.proofs.ReadLaws.{slots}
 use Rattle.page_codec.specs.Grammar.{HasHead, IsPage, IsSlot}
@@ -27,11 +26,11 @@ use Rattle.page_codec.specs.declared.forms.PageHead.{PageHead}
 use Rattle.plain_laws.proofs.OptionLaws.{option_cases}
 use Rattle.recovery_laws.proofs.OldLaws.{own_slot}
 use Rattle.stop_laws.specs.Journals.{Surely}
-use Rattle.journal_stops.specs.Mapped.{AreRooted, linked_after, newest_page, page_after, put_page, slot_after}
-use Rattle.journal_stops.proofs.GrowLaws.{after_level, by_link, in_range, page_new, page_stays, slot_left}
+use Rattle.journal_stops.specs.Mapped.{AreRooted, newest_page, page_after, put_page, slot_after}
+use Rattle.journal_stops.proofs.GrowLaws.{page_new, page_stays, slot_left}
 use Rattle.journal_stops.proofs.MapLaws.{put_append}
 use Rattle.journal_stops.proofs.NewestLaws.{newest_is_block, page_equal}
-use Rattle.journal_stops.proofs.OpenedLaws.{page_with_none, rooted_old_page, slot_of_page, unlinked}
+use Rattle.journal_stops.proofs.OpenedLaws.{page_with_none, rooted_old_page, slot_of_page, unlinked, above_linked, no_first, same_block}
 use Rattle.session_stops.specs.Pages.{EmptyPageStands, NewPagesStand, PageStands, PagesStand, PutsOnly, SaysTheRest, SlotStands}
 use Rattle.session_stops.proofs.NewPages.{AreMadeNew, MakesNew}
 use Rattle.count_laws.specs.Turns.{IsPageAfter}
@@ -108,10 +107,6 @@ module _ (opening : Blocks) (log : List Call) (opened : Image) (entries window :
 
 -- The head.
 
-no_first : (x y : Option Mapping) → or_else x y ≡ None → (x ≡ None) × (y ≡ None)
-no_first (Some m) y is = absurd (cc is)
-no_first None y is = (refl, is)
-
 -- with more in the window less is asked of the pages
 pub less : (opening : Blocks) (log : List Call) (opened : Image) (entries window behind : List CommittedEntry)
     → PagesStand opening log opened entries window → PagesStand opening log opened entries (window ++ behind)
@@ -168,24 +163,6 @@ begins looked opening log opened one good on_it page at linked =
     }
 
 -- New pages.
-
--- a page that is linked below a root has a page above it
-above_linked : (opened : Image) (entries : List CommittedEntry) (page : PageId) (at : Pbn) → page.level + 1 < opened.geometry.height → page_after opened entries page ≡ Some at
-    → (up : Pbn) × (page_after opened entries (above page) ≡ Some up)
-above_linked opened entries page at below is =
-    let found = in_range opened entries page at is in
-    let links = opened.geometry.height - 1 - (page.level + 1) in
-    let level : page.level + suc links + 1 ≡ opened.geometry.height = omega (arith, below) in
-    let up = through links (linked_after opened entries links (above page)) refl (sym (after_level opened entries page (suc links) found.0 level) ∙ is) in
-    (up.0, after_level opened entries (above page) links found.0 (omega (arith, level)) ∙ up.1)
-  where
-    through : (links : ℕ) (o : Option Pbn) → linked_after opened entries links (above page) ≡ o
-        → by_link (λ up. target_of (slot_after opened entries (above page) (slot_of page))) o ≡ Some at → (up : Pbn) × (linked_after opened entries links (above page) ≡ Some up)
-    through links (Some up) linked is = (up, linked)
-    through links None linked is = absurd (cc is)
-
-same_block : (x y : Pbn) → Some x ≡ Some y → x ≡ y
-same_block x y is = cc is
 
 no_page_yet : (o : Option Pbn) → ((at : Pbn) → o ≡ Some at → ⊥) → o ≡ None
 no_page_yet (Some at) never = absurd (never at refl)

@@ -1,7 +1,8 @@
 -- A whole session on an empty image of the default sizes: its superblock is written, a leaf, a block of the journal that has
 -- the four entries of the example of counts, and once that is committed the leaf with what they say, its root, and a block of
 -- counters. Then the head may rise over all of them. For each clause of what stands there is a case that is refused.
-use Rattle.std.proofs.Common.{ℕ, ◌≡◌, ◌+◌, ◌-◌, ◌<◌, ◌≤◌, ◌^◌, true, false, List, [], ◌∷◌, length, take, Contains, All, Some, None, refl, sym, ◌∙◌, ap, ap₂, subst, inl, inr, arith}
+use Rattle.std.proofs.Common.{ℕ, zero, suc, ◌≡◌, ◌+◌, ◌-◌, ◌<◌, ◌≤◌, ◌^◌, true, false, List, [], ◌∷◌, length, replicate, take, Contains, All, Some, None, refl, sym, ◌∙◌, ap, ap₂, subst, inl, inr, arith}
+use Rattle.std.proofs.lemmas.List.{length-replicate, take-replicate}
 use Rattle.std.proofs.lemmas.List.Elements.{All-cons, All-nil}
 use Rattle.blk_base.specs.Counters.{sector_of_offset}
 use Rattle.blk_base.specs.Regions.{IsDataBlock, needed_blocks}
@@ -282,7 +283,43 @@ module _ (blocks : Blocks) (empty : IsEmpty small blocks) (whole : (b : ℕ) →
   no_super : IsBehind blocks [] blocks to [] start → ⊥
   no_super behind = not_yet blocks empty whole to behind.super
 
-  -- with more blocks than a session may have
+  -- As many blocks as a session may have stand, none of which has an entry; and not one more.
+  abbrev bare : Sealed
+  bare = record { head = start; entries = [] }
+
+  no_entries : (first n : ℕ) → entries_of first (replicate n bare) ≡ []
+  no_entries first zero = refl
+  no_entries first (suc n) = no_entries first n
+
+  none_full : (n : ℕ) → AreFew (replicate n bare)
+  none_full zero = tt
+  none_full (suc n) = (omega arith, none_full n)
+
+  as_many_as_may : (n : ℕ) → n + 2 ≡ 2 ^ 18 → IsBehind blocks (log_opened blocks empty whole) blocks to (replicate n bare) start
+  as_many_as_may n many =
+      let size = length-replicate n bare in
+      let behind = at_rest.behind in
+      let all : entries_of start [] ≡ entries_of start (replicate n bare) = sym (no_entries start n) in
+      let window : window_from start start [] ≡ window_from start start (replicate n bare) =
+      ap (entries_of start) (take_none (start + 0 - start))
+      ∙ sym (ap (λ (k : ℕ). entries_of start (take k (replicate n bare))) (let it : start + length (replicate n bare) - start ≡ n = omega (arith, size) in it)
+      ∙ ap (entries_of start) (take-replicate n n bare (omega arith)) ∙ no_entries start n) in
+      record {
+        size = refl;
+        super = behind.super;
+        reach = omega (arith, size, many);
+        few = none_full n;
+        turns = subst (AreInTurn (opened_in blocks to)) all tt;
+        pages = subst (λ (w : List CommittedEntry). PagesStand blocks (log_opened blocks empty whole) (opened_in blocks to) (entries_of start (replicate n bare)) w) window
+            (subst (λ (list : List CommittedEntry). PagesStand blocks (log_opened blocks empty whole) (opened_in blocks to) list (window_from start start [])) all behind.pages);
+        counts = subst (λ (w : List CommittedEntry). CountsStand blocks (log_opened blocks empty whole) (opened_in blocks to) (entries_of start (replicate n bare)) w) window
+            (subst (λ (list : List CommittedEntry). CountsStand blocks (log_opened blocks empty whole) (opened_in blocks to) list (window_from start start [])) all behind.counts);
+      }
+    where
+      take_none : (k : ℕ) → ◌≡◌ {A = List Sealed} (take k []) []
+      take_none zero = refl
+      take_none (suc k) = refl
+
   too_many : (log : List Call) (list : List Sealed) → length list + 1 ≡ 2 ^ 18 → IsBehind blocks log blocks to list start → ⊥
   too_many log list many behind = let reach = behind.reach in omega (arith, reach, many)
 

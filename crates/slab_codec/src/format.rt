@@ -32,7 +32,8 @@ impl Format for SlabHead {
 
     ghost PER_SECTOR = { 40 };
 
-    ghost head_bytes = { λ head number count. head_bytes head.nonce head.sequence head.slab number count };
+    ghost head_bytes = { λ head number count.
+        head_bytes head.nonce head.sequence head.slab number count };
 
     ghost record_bytes = { entry_bytes };
 
@@ -64,7 +65,8 @@ impl Format for SlabHead {
         }
     }
 
-    ghost head_width = { λ head number count. length-head head.nonce head.sequence head.slab number count };
+    ghost head_width = { λ head number count.
+        length-head head.nonce head.sequence head.slab number count };
 
     ghost record_width = { length-entry };
 

@@ -2,21 +2,17 @@
 use Rattle.std.specs.Prelude.{ℕ, ◌≡◌, ◌<◌, ◌≤◌, true, false, List, [], ◌∷◌, slice_index}
 use Rattle.std.proofs.Common.{ap, arith, inl, inr, refl, subst}
 use Rattle.std.proofs.lemmas.Bool.{cases_eq, false≢true}
-use Rattle.blk_base.specs.declared.geometry.Geometry.{Geometry}
 use Rattle.blk_base.specs.declared.place.Pbn.{Pbn}
 use Rattle.blk_base.specs.declared.point.Half.TheVariants.{Increment, Decrement}
+use Rattle.blk_base.proofs.Example.{small}
 use Rattle.slab_counts.specs.Counts.{Counts, IsOfSlab, IsFree, IsPage, IsClaimed, HasRoom, HasNoFree, ClaimsFree, Shares, IsRefused, Takes, IsStray, claimed, unclaimed, mapped, unmapped, with_page, used_of}
 use Rattle.slab_counts.specs.Calls.{Call, FreeClaimed, Shared, Extended, Dropped, Spent, PageSpent, Applied, Refused, makes, drops, spends, maps, unmaps, total}
 use Rattle.slab_counts.specs.declared.refusals.Refusal.TheVariants.{NotData, NotLive, Full}
 
--- an image of 64 data blocks, of which the first is block 85
-abbrev sizes : Geometry
-sizes = record { logical = 1000; slabs = 1; slab_blocks = 64; journal = 8; index = 16; slab_journal = 4; height = 2; nonce = 1 }
-
 -- of its blocks 85 is mapped, 86 claimed, 87 and 88 free, 89 mapped as often as can be, 90 almost, and 91 has a page
 abbrev some : Counts
 some = record {
-  geometry = sizes;
+  geometry = small;
   slab = 0;
   counters = 1 ∷ 0 ∷ 0 ∷ 0 ∷ 254 ∷ 250 ∷ 1 ∷ [];
   claims = 0 ∷ 1 ∷ 0 ∷ 0 ∷ 0 ∷ 4 ∷ 0 ∷ [];

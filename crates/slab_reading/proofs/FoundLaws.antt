@@ -5,7 +5,6 @@ use Rattle.std.proofs.Math.Seq.{get_or-append_right}
 use Rattle.std.proofs.lemmas.Bool.{cases_lt, eq-eqb}
 use Rattle.std.proofs.lemmas.Bool.Decides.{eqb_tells}
 use Rattle.std.proofs.lemmas.List.Elements.{Contains-append_left, Contains-append_right, Contains-append_cases}
-use Rattle.std.proofs.lemmas.Nat.{mul-le}
 use Rattle.blk_base.specs.Counters.{sectors_per_slab}
 use Rattle.blk_base.specs.declared.geometry.Geometry.{Geometry}
 use Rattle.blk_base.specs.declared.journal_entry.Update.{Update}
@@ -14,6 +13,9 @@ use Rattle.blk_base.specs.declared.point.Point.{Point}
 use Rattle.count_updates.specs.Counted.{commit_in}
 use Rattle.count_updates.specs.Listed.{Lists}
 use Rattle.count_updates.specs.Numbers.{block_number}
+use Rattle.count_updates.proofs.NumberLaws.{row_ends}
+use Rattle.count_updates.proofs.PointLaws.{made}
+use Rattle.count_updates.specs.FoundLists.{found_lists}
 use Rattle.disk_model.specs.Log.{Blocks}
 use Rattle.disk_model.specs.Seen.{Seen}
 use Rattle.slab_codec.specs.declared.forms.SlabEntry.{SlabEntry}
@@ -22,12 +24,6 @@ use Rattle.image_model.specs.declared.fault.ImageFault.{ImageFault}
 use Rattle.image_model.specs.declared.fault.ImageFault.TheVariants.{Super, Window, Page, Counter, SharedPage, Counts, Device, Unclean, Memory}
 use Rattle.slab_reading.specs.Reads.{read_of, SlabsRead, SlabFails, SlabFailed, SlabsFail}
 use Rattle.slab_reading.specs.Slabs.{point_in, counter_in, SlabKeeps, IsOf}
-
-abbrev made : ℕ → ℕ → Update
-made at point = record { at = record { 0 = at }; point = record { 0 = point } }
-
-row_ends : (slab slabs width : ℕ) → slab < slabs → slab * width + width ≤ slabs * width
-row_ends slab slabs width less = let most = mul-le (slab + 1) width slabs width (omega (arith, less)) (omega arith) in omega (arith, most)
 
 pub read_last : (read : Blocks) (older : List Blocks) (slab : ℕ) → slab ≡ length older → read_of (read ∷ older) slab ≡ read
 read_last read older slab same = rw (eq-eqb slab (length older) same) refl
@@ -38,7 +34,7 @@ read_before read older slab less = elim (eqb_tells slab (length older)) [
   | inr other ↦ rw other.0 refl
 ]
 
-pub found_none : (g : Geometry) (first : List Update) (counters : List ℕ) (commits : List Point) → counters ≡ [] → commits ≡ [] → IsFound g [] first counters commits first
+pub found_none : (g : Geometry) (first : List Update) (counters : List ℕ) (commits : List Point) → counters ≡ [] → commits ≡ [] → IsFound g [] first (found_lists counters commits first)
 found_none g first counters commits no_counters no_commits = record {
   counters_size = let none = ap length no_counters in omega (arith, none);
   counters_are = λ place below inside. absurd (omega (arith, below));
@@ -51,7 +47,7 @@ found_none g first counters commits no_counters no_commits = record {
 }
 
 module _ (g : Geometry) (reads : List Blocks) (read : Blocks) (first : List Update) (counters counters' : List ℕ) (commits commits' : List Point) (updates updates' : List Update)
-    (found : IsFound g reads first counters commits updates) (took : Took g (length reads) read counters counters' commits commits' updates updates') where
+    (found : IsFound g reads first (found_lists counters commits updates)) (took : Took g (length reads) read (found_lists counters commits updates) (found_lists counters' commits' updates')) where
   last_or_before : (slab : ℕ) → slab < suc (length reads) → (slab < length reads) ⊎ (slab ≡ length reads)
   last_or_before slab below = elim (cases_lt slab (length reads)) [ inl less ↦ inl less | inr most ↦ inr (omega (arith, below, most)) ]
 
@@ -123,7 +119,7 @@ module _ (g : Geometry) (reads : List Blocks) (read : Blocks) (first : List Upda
         ]
       ])
 
-  pub found_more : IsFound g (read ∷ reads) first counters' commits' updates'
+  pub found_more : IsFound g (read ∷ reads) first (found_lists counters' commits' updates')
   found_more = record {
     counters_size = let size = found.counters_size in let more = took.of_counters.size in omega (arith, ap length took.of_counters.is, length-append counters took.of_counters.more, size, more);
     counters_are = counter_more;

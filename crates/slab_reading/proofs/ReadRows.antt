@@ -1,7 +1,6 @@
 -- Reading slabs: for each clause a small case that it accepts, and one that breaks it alone and is refused. The device
 -- doesn't tell which calls were made, where nothing else is said.
-use Rattle.std.proofs.Common.{ℕ, zero, suc, ◌≡◌, Bool, true, false, List, [], ◌∷◌, ◌++◌, length, length-append, replicate, refl, ap, subst, arith}
-use Rattle.blk_base.proofs.SectorLaws.{zero_size}
+use Rattle.std.proofs.Common.{ℕ, ◌≡◌, Bool, true, false, List, [], ◌∷◌, ◌++◌, length, length-append, replicate, refl, ap, subst, arith}
 use Rattle.blk_base.specs.Sectors.{zero_block}
 use Rattle.blk_base.specs.declared.geometry.Geometry.{Geometry}
 use Rattle.blk_base.specs.declared.journal_entry.Update.{Update}
@@ -11,25 +10,16 @@ use Rattle.disk_model.specs.declared.call.Call.{Call}
 use Rattle.disk_model.specs.declared.call.Call.TheVariants.{Read}
 use Rattle.disk_model.specs.Log.{Blocks}
 use Rattle.disk_model.specs.Seen.{Seen}
-use Rattle.disk_model.specs.Since.{AreGiven, NextFailed}
 use Rattle.image_layout.specs.declared.fault.SuperFault.TheVariants.{NotAnImage}
 use Rattle.image_model.proofs.CountLaws.{none_in_nothing}
 use Rattle.image_model.proofs.Example.{pbn, small}
 use Rattle.image_model.specs.declared.fault.ImageFault.TheVariants.{Super, Window, Counter, Counts, Device, Unclean, Memory}
+use Rattle.image_model.proofs.ReadExample.{seen, failed, next_failed, zeros_given}
 use Rattle.slab_codec.specs.declared.forms.SlabEntry.{SlabEntry}
 use Rattle.slab_reading.specs.Found.{IsFound, Took}
 use Rattle.slab_reading.specs.Reads.{IsSlabRead, ReadFailed, SlabFailed, SlabFails, SlabsFail, SlabsRead}
 use Rattle.slab_reading.specs.Slabs.{IsOf, blocks_per_slab, counter_in, first_of_slab, reference_sector_in}
-
-abbrev pub seen : Seen
-seen = record { opening = []; size = 154; log = []; faults = 3; unkept = 0 }
-
-abbrev pub failed : Seen
-failed = record seen { faults = 4 }
-
-zeros_given : (honest : Bool) (from n : ℕ) → AreGiven false honest from seen (replicate n zero_block)
-zeros_given honest from zero = tt
-zeros_given honest from (suc n) = (zero_size, (λ told. absurd (cc told)), zeros_given honest from n)
+use Rattle.count_updates.specs.FoundLists.{found_lists}
 
 -- The five blocks of a slab are read.
 abbrev zero_slab : Blocks
@@ -71,16 +61,7 @@ read_elsewhere honest (block ∷ []) is = let at = ap first_at (is.reads.logged 
     first_at (Read at bytes ok ∷ older) = at.0
     first_at other = 0
 
--- A read failed: the count of faults rose, and the slab has one more block.
-next_failed : (honest : Bool) (from : ℕ) → NextFailed false honest from seen failed []
-next_failed honest from = record {
-  stays = record { opening = refl; size = refl };
-  later = record { faults = omega arith; unkept = omega arith };
-  given = tt;
-  rose = omega arith;
-  logged = λ told. absurd (cc told);
-}
-
+-- A read failed: the slab has one more block.
 slab_failed : (honest : Bool) → SlabFailed false honest small 0 seen failed
 slab_failed honest = ([], omega arith, next_failed honest 149)
 
@@ -186,7 +167,7 @@ is_at_1537 : IsOf small 0 entry 86 1537 → ⊥
 is_at_1537 is = let point = is.1 in omega (arith, point)
 
 -- All that a slab says: of a slab without blocks nothing.
-took_nothing : (updates : List Update) → Took blockless 0 [] [] [] [] [] updates (updates ++ [])
+took_nothing : (updates : List Update) → Took blockless 0 [] (found_lists [] [] updates) (found_lists [] [] (updates ++ []))
 took_nothing updates = record {
   of_counters = record { more = []; is = refl; size = refl; each = λ offset below. absurd (omega (arith, below)) };
   of_commits = record { more = []; is = refl; size = refl; each = λ n below. absurd (omega (arith, below)) };
@@ -198,27 +179,27 @@ took_nothing updates = record {
 }
 
 -- of_counters, of_commits, of_updates
-took_counter : (updates : List Update) → Took blockless 0 [] [] (1 ∷ []) [] [] updates updates → ⊥
+took_counter : (updates : List Update) → Took blockless 0 [] (found_lists [] [] updates) (found_lists (1 ∷ []) [] updates) → ⊥
 took_counter updates took =
     let more = ap (λ (ns : List ℕ). length ns) took.of_counters.is in
     let size = took.of_counters.size in omega (arith, more, size)
 
-took_commit : (updates : List Update) → Took blockless 0 [] [] [] [] (record { 0 = 5 } ∷ []) updates updates → ⊥
+took_commit : (updates : List Update) → Took blockless 0 [] (found_lists [] [] updates) (found_lists [] (record { 0 = 5 } ∷ []) updates) → ⊥
 took_commit updates took =
     let more = ap (λ (ps : List Point). length ps) took.of_commits.is in
     let size = took.of_commits.size in omega (arith, more, size)
 
-took_update : (updates : List Update) → Took blockless 0 [] [] [] [] [] updates [] → length updates ≡ 1 → ⊥
+took_update : (updates : List Update) → Took blockless 0 [] (found_lists [] [] updates) (found_lists [] [] []) → length updates ≡ 1 → ⊥
 took_update updates took one =
     let less = ap (λ (us : List Update). length us) took.of_updates.is in
     omega (arith, less, one, length-append updates took.of_updates.more)
 
 -- What all slabs say: of one that was read the counter is its own, and so is the commit point.
-other_counter : (counters : List ℕ) (commits : List Point) (updates : List Update) → IsFound small (counted ∷ []) [] (4 ∷ counters) commits updates → ⊥
+other_counter : (counters : List ℕ) (commits : List Point) (updates : List Update) → IsFound small (counted ∷ []) [] (found_lists (4 ∷ counters) commits updates) → ⊥
 unfolding number_at
 other_counter counters commits updates found =
     let same : 4 ≡ 5 = found.counters_are (record { slab = 0; offset = 0 }) (omega arith) (omega arith) in omega (arith, same)
 
-other_point : (counters : List ℕ) (commits : List Point) (updates : List Update) → IsFound small (counted ∷ []) [] counters (record { 0 = 4 } ∷ commits) updates → ⊥
+other_point : (counters : List ℕ) (commits : List Point) (updates : List Update) → IsFound small (counted ∷ []) [] (found_lists counters (record { 0 = 4 } ∷ commits) updates) → ⊥
 unfolding number_at
 other_point counters commits updates found = let same : 4 ≡ 0 = found.commits_are 0 0 (omega arith) (omega arith) in omega (arith, same)

@@ -4,6 +4,8 @@ use Rattle.blk_base.specs.Sectors.{zero_block}
 use Rattle.blk_base.specs.declared.journal_entry.Update.{Update}
 use Rattle.blk_base.specs.declared.point.Point.{Point}
 use Rattle.count_updates.specs.Listed.{Lists}
+use Rattle.count_updates.proofs.PointLaws.{made as one}
+use Rattle.count_updates.specs.FoundLists.{found_lists}
 use Rattle.disk_model.specs.Log.{Blocks, block_at}
 use Rattle.disk_model.specs.Seen.{Seen}
 use Rattle.disk_model.specs.declared.call.Call.TheVariants.{Flush}
@@ -83,9 +85,6 @@ first_slot_keeps_none keeps =
     zeros_keep_none (subst (λ (slot : ℕ). BlockKeeps small 0 (get_or read (1 + slot) zero_block) 8 kept) first keeps.2)
 
 -- Lists that grow.
-abbrev one : ℕ → ℕ → Update
-one at point = record { at = record { 0 = at }; point = record { 0 = point } }
-
 grew_by_none : Grew small 0 (λ entry. ⊥) (one 85 512 ∷ []) (one 85 512 ∷ [])
 grew_by_none = record { more = []; is = refl; each = λ at point. ((λ has. absurd (none_in_nothing (one at point) has)), (λ is. absurd is.2)) }
 
@@ -108,14 +107,14 @@ another_point adds =
     omega (arith, zero, five)
 
 -- Nothing is found where nothing was read, but the updates that were there.
-found_first : IsFound small [] (one 85 512 ∷ []) [] [] (one 85 512 ∷ [])
+found_first : IsFound small [] (one 85 512 ∷ []) (found_lists [] [] (one 85 512 ∷ []))
 found_first = found_none small (one 85 512 ∷ []) [] [] refl refl
 
-first_left_out : IsFound small [] (one 85 512 ∷ []) [] [] [] → ⊥
+first_left_out : IsFound small [] (one 85 512 ∷ []) (found_lists [] [] []) → ⊥
 first_left_out found = none_in_nothing (one 85 512) ((found.updates_are 85 512).1 (inl (0, omega arith, refl)))
 
-counter_of_none : IsFound small [] [] (3 ∷ []) [] [] → ⊥
+counter_of_none : IsFound small [] [] (found_lists (3 ∷ []) [] []) → ⊥
 counter_of_none found = let size = found.counters_size in omega (arith, size)
 
-point_of_none : IsFound small [] [] [] (record { 0 = 5 } ∷ []) [] → ⊥
+point_of_none : IsFound small [] [] (found_lists [] (record { 0 = 5 } ∷ []) []) → ⊥
 point_of_none found = let size = found.commits_size in omega (arith, size)

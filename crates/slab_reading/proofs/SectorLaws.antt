@@ -1,22 +1,14 @@
 -- What a sector of reference counters says, byte by byte.
-use Rattle.std.proofs.Common.{ℕ, ◌≡◌, ◌+◌, ◌-◌, ◌/◌, ◌%◌, ◌<◌, ◌^◌, List, [], ◌∷◌, length, get_or, drop, refl, sym, ◌∙◌, ap, ap₂, arith}
+use Rattle.std.proofs.Common.{ℕ, ◌≡◌, ◌+◌, ◌-◌, ◌/◌, ◌%◌, ◌<◌, ◌^◌, List, [], length, get_or, refl, sym, ◌∙◌, ap, ap₂, arith}
 use Rattle.std.proofs.Math.Seq.{get_or-append_right}
-use Rattle.std.proofs.lemmas.List.{get_or-drop, get_or_default}
+use Rattle.std.proofs.lemmas.List.{get_or_default}
 use Rattle.blk_base.specs.Sectors.{sector, zero_block}
-use Rattle.byteorder.specs.Endian.{little_number}
 use Rattle.byte_fields.specs.Fields.{le, number_at}
 use Rattle.byte_fields.proofs.FieldLaws.{length-le, number_behind}
+use Rattle.byte_fields.proofs.ByteLaws.{byte_at}
 use Rattle.disk_model.specs.Log.{Blocks}
 use Rattle.slab_codec.specs.Reference.{reference_sector_bytes}
 use Rattle.slab_codec.specs.declared.forms.ReferenceSector.{ReferenceSector}
-
-first_byte : (bytes : List ℕ) → little_number 1 bytes ≡ get_or bytes 0 0
-first_byte [] = refl
-first_byte (x ∷ rest) = omega arith
-
-byte_at : (at : ℕ) (bytes : List ℕ) → number_at 1 at bytes ≡ get_or bytes at 0
-unfolding number_at
-byte_at at bytes = first_byte (drop at bytes) ∙ get_or-drop at bytes 0 0 ∙ ap (λ (n : ℕ). get_or bytes n 0) (omega arith)
 
 pub commit_said : (bytes : List ℕ) (s : ReferenceSector) → s.commit.0 < 2 ^ 64 → bytes ≡ reference_sector_bytes s → number_at 8 0 bytes ≡ s.commit.0
 unfolding reference_sector_bytes

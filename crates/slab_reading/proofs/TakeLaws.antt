@@ -23,9 +23,7 @@ use Rattle.image_model.proofs.CountLaws.{is_first_or_behind, is_first, none_in_n
 use Rattle.slab_reading.specs.Found.{AddsCounters, AddsPoints}
 use Rattle.slab_reading.specs.Slabs.{blocks_per_slab, point_in, SectorKeeps, BlockKeeps, SlabKeeps, Grew}
 use Rattle.slab_reading.proofs.SectorLaws.{commit_said, counter_said, sector_here}
-
-abbrev made : ℕ → ℕ → Update
-made at point = record { at = record { 0 = at }; point = record { 0 = point } }
+use Rattle.count_updates.proofs.PointLaws.{made}
 
 -- Updates.
 

@@ -1,5 +1,6 @@
 ghost use Rattle.std.specs.Prelude.{◌≡◌, ◌+◌, ◌<◌, OnOk, length, Contains, All};
 ghost use Rattle.blk_base.specs.Counters.{sectors_per_slab};
+ghost use Rattle.count_updates.specs.FoundLists.{lists_of};
 ghost use Rattle.slab_codec.specs.Grammar.{HoldsEntry};
 ghost use Rattle.slab_reading.specs.Found.{AddsCounters, AddsPoints, Took};
 ghost use Rattle.slab_reading.specs.Slabs.{blocks_per_slab, SectorKeeps, BlockKeeps, SlabKeeps, Grew};
@@ -19,9 +20,7 @@ pub(crate) fn take_slab(
     requires inside { slab < layout.now.geometry.slabs }
     requires all { length read.now ≡ blocks_per_slab layout.now.geometry }
     ensures { OnOk result
-        (Took layout.now.geometry slab read.now found.old.counters.items found.new.counters.items
-        found.old.commits.items found.new.commits.items found.old.updates.items
-        found.new.updates.items) }
+        (Took layout.now.geometry slab read.now (lists_of found.old) (lists_of found.new)) }
 {
     push_counters(layout, read, &mut found.counters)?;
     push_points(layout, read, &mut found.commits)?;

@@ -1,5 +1,6 @@
 ghost use Rattle.std.specs.Prelude.{◌≡◌, ◌≤◌, ◌<◌, List, [], length, OnOk, IfErr};
 ghost use Rattle.blk_base.specs.Regions.{needed_blocks};
+ghost use Rattle.count_updates.specs.FoundLists.{lists_of};
 ghost use Rattle.disk_model.specs.Log.{Blocks};
 ghost use Rattle.disk_model.specs.Since.{IsUntouched};
 ghost use Rattle.slab_reading.specs.Found.{IsFound, Took};
@@ -32,8 +33,7 @@ pub fn read_slabs<D: Disk>(
     ensures found { OnOk result ((reads : List Blocks) × (length reads ≡ layout.now.geometry.slabs)
         × SlabsRead D.tells D.honest layout.now.geometry (D.seen device.old)
         (D.seen device.new) reads
-        × IsFound layout.now.geometry reads found.old.updates.items found.new.counters.items
-        found.new.commits.items found.new.updates.items) }
+        × IsFound layout.now.geometry reads found.old.updates.items (lists_of found.new)) }
     ensures fault { IfErr result
         (SlabsFail D.tells D.honest layout.now.geometry (D.seen device.old) (D.seen device.new)) }
     ensures untouched { IsUntouched D.tells (D.seen device.old) (D.seen device.new) }
@@ -58,9 +58,7 @@ fn add_slab<D: Disk>(
         ((read : Blocks)
         × IsSlabRead D.tells D.honest layout.now.geometry slab (D.seen device.old)
         (D.seen device.new) read
-        × Took layout.now.geometry slab read found.old.counters.items found.new.counters.items
-        found.old.commits.items found.new.commits.items found.old.updates.items
-        found.new.updates.items) }
+        × Took layout.now.geometry slab read (lists_of found.old) (lists_of found.new)) }
     ensures fault { IfErr result
         (SlabFails D.tells D.honest layout.now.geometry slab (D.seen device.old)
         (D.seen device.new)) }

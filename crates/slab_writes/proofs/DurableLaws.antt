@@ -274,7 +274,7 @@ opened_at k n = elim (cases_lt n k) [
   | inr past ↦ ap (λ (p : Point). p.0) (get_or_past (replicate k zero_point) n zero_point (omega (arith, past, length-replicate k zero_point)))
 ]
 
-none_taken : {P : Type 0} (x : SlabEntry) → Contains [] x → P
+pub none_taken : {P : Type 0} (x : SlabEntry) → Contains [] x → P
 none_taken x there = absurd (omega (arith, there.1))
 
 known_opening : (g : Geometry) (slab : ℕ) (points : List Point) → length points ≡ sectors_per_slab g → IsKnown g points [] (record { journal = journals.opening g slab; blocks = opening_blocks g points })

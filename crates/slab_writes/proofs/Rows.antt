@@ -8,6 +8,7 @@ use Rattle.blk_base.specs.declared.geometry.Geometry.{Geometry}
 use Rattle.blk_base.specs.declared.point.Point.{Point}
 use Rattle.dirty_pages.specs.Marks.{clean, marks_at}
 use Rattle.reference_blocks.specs.References.{References, HandsOutBlock}
+use Rattle.reference_blocks.proofs.Rows.{entry}
 use Rattle.slab_codec.specs.Spelling.{block_bytes}
 use Rattle.slab_codec.specs.declared.forms.SlabEntry.{SlabEntry}
 use Rattle.slab_codec.specs.declared.forms.SlabJournalBlock.{SlabJournalBlock}
@@ -25,9 +26,6 @@ sizes = record { logical = 1000; slabs = 1; slab_blocks = 16; journal = 8; index
 
 abbrev p : ℕ → Point
 p n = record { 0 = n }
-
-abbrev entry : ℕ → ℕ → SlabEntry
-entry point offset = record { point = p point; offset = offset }
 
 -- the image has commit point 7; nothing is to be written
 abbrev first : Writes

@@ -12,9 +12,7 @@ use Rattle.uds_chapters.specs.Chapters.{location_of, with_record, Adds, records_
 use Rattle.uds_chapters.specs.Finds.{IsUnder, IsOver, Says, location_in}
 use Rattle.uds_chapters.specs.Places.{IsPlaceOf, IsGapFor}
 use Rattle.uds_chapters.proofs.RecordLaws.{any_at}
-
-unequal : (a b : ℕ) → a ≡ b → a ≢ b → ⊥
-unequal a b same apart = apart same
+use Rattle.uds_chapters.proofs.PageRows.{unequal}
 
 -- a block, and a record of a name of one byte
 abbrev at : ℕ → Pbn

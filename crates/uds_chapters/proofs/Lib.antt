@@ -3,4 +3,4 @@ pub mod RecordLaws
 pub mod PageLaws
 pub mod FindLaws
 mod ChapterRows
-mod PageRows
+pub mod PageRows

@@ -10,7 +10,7 @@ use Rattle.uds_chapters.specs.Pages.{record_bytes, head_bytes, page_bytes, Holds
 use Rattle.uds_chapters.specs.Finds.{Finds}
 use Rattle.uds_chapters.proofs.PageLaws.{count_of, page_read}
 
-unequal : (a b : ℕ) → a ≡ b → a ≢ b → ⊥
+pub unequal : (a b : ℕ) → a ≡ b → a ≢ b → ⊥
 unequal a b same apart = apart same
 
 -- a record with a name of 16 bytes, at block 258
@@ -46,7 +46,7 @@ name_too_short : ¬ HoldsRecord (record some { name = 1 ∷ [] })
 name_too_short = λ held. let size : 1 ≡ 16 = held.0 in omega arith
 
 -- a page without records
-none_rise : AreRising []
+pub none_rise : AreRising []
 none_rise = λ i j d before inside. absurd (omega arith)
 
 empty : IsPage 513 5 3 (page_bytes 513 5 3 []) []

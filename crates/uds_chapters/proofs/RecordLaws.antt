@@ -15,10 +15,10 @@ use Rattle.uds_chapters.specs.Places.{IsPlaceOf, IsGapFor}
 use Rattle.uds_chapters.proofs.NameLaws.{name_total, equal_names, own_name, below_apart, above_apart, turned, same_test, other_test, rising-head, rising-tail}
 
 -- one step of looking a name up
-here : (name : List ℕ) (one : Record) (records : List Record) → one.name ≡ name → location_of name (one ∷ records) ≡ Some one.at
+pub here : (name : List ℕ) (one : Record) (records : List Record) → one.name ≡ name → location_of name (one ∷ records) ≡ Some one.at
 here name one records same = rw (same_test one.name name same) refl
 
-further : (name : List ℕ) (one : Record) (records : List Record) → one.name ≢ name → location_of name (one ∷ records) ≡ location_of name records
+pub further : (name : List ℕ) (one : Record) (records : List Record) → one.name ≢ name → location_of name (one ∷ records) ≡ location_of name records
 further name one records apart = rw (other_test one.name name apart) refl
 
 -- names that are all others say nothing of it

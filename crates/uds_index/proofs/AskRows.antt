@@ -1,14 +1,11 @@
 -- For each clause on the page that a look asks for, a case that it accepts, and one that breaks it alone.
 use Rattle.std.specs.Prelude.{ℕ, ◌≡◌, ◌+◌, ◌*◌, ◌%◌, ◌/◌, min, List, [], ◌∷◌, Contains, slice_index_or, refl}
 use Rattle.std.proofs.Common.{◌∙◌, ap, subst, arith, inl, inr}
-use Rattle.uds_chapters.specs.Chapters.{Numbered}
 use Rattle.uds_index.specs.Looks.{AsksInOrder, IsFirstToAsk, IsNamePage, IsNew, NeedsNone, NoneToAsk}
 use Rattle.uds_index.specs.declared.index_search.Region.{Region}
+use Rattle.uds_index.proofs.LookRows.{chapter}
 use Rattle.blk_base.specs.declared.place.Pbn.{Pbn}
 use Rattle.index_advice.specs.declared.look.Look.TheVariants.{Known, Nothing, Read}
-
-abbrev chapter : ℕ → Numbered
-chapter number = record { number = number; records = [] }
 
 abbrev name : List ℕ
 name = 7 ∷ 0 ∷ 0 ∷ 0 ∷ []

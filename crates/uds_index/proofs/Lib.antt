@@ -2,7 +2,7 @@ mod RoomLaws
 mod BookLaws
 mod SearchLaws
 mod CacheLaws
-mod LookRows
+pub mod LookRows
 mod TagRows
 mod ListLaws
 mod PlaceLaws

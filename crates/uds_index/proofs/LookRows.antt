@@ -10,7 +10,7 @@ use Rattle.uds_index.specs.Places.{IsKept}
 use Rattle.uds_index.specs.Rooms.{count_at, FewAtPlaces, place_of_chapter}
 use Rattle.uds_index.specs.Looks.{Index, IsPageAt, IsNew, AsksFew, Answers, IsGiven, IsCached, Caches, at_rest}
 
-abbrev chapter : ℕ → Numbered
+abbrev pub chapter : ℕ → Numbered
 chapter number = record { number = number; records = [] }
 
 -- chapters 1 and 5 stand at one of four places, 2 at another

@@ -34,10 +34,22 @@ impl Model for Uds {
 
     ghost Value = { Index };
 
-    ghost view = { λ u. record { book = u.volume; cached = keys_of u.cache.entries; asked = u.asked; given = u.given.items; unread = u.unread } };
+    ghost view = { λ u. record {
+      book = u.volume;
+      cached = keys_of u.cache.entries;
+      asked = u.asked;
+      given = u.given.items;
+      unread = u.unread;
+    } };
 
     ghost invariant = { λ u. record {
-      few : AsksFew (record { book = u.volume; cached = keys_of u.cache.entries; asked = u.asked; given = u.given.items; unread = u.unread });
+      few : AsksFew (record {
+        book = u.volume;
+        cached = keys_of u.cache.entries;
+        asked = u.asked;
+        given = u.given.items;
+        unread = u.unread;
+      });
       listed : IsListed u.volume u.tags;
     } };
 }

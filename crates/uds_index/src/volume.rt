@@ -42,10 +42,24 @@ impl Model for Volume {
 
     ghost Value = { Book };
 
-    ghost view = { λ v. record { nonce = v.nonce; first = v.first; places = v.places; kept = v.kept.items; unclosed = v.unclosed; due = v.due.items } };
+    ghost view = { λ v. record {
+      nonce = v.nonce;
+      first = v.first;
+      places = v.places;
+      kept = v.kept.items;
+      unclosed = v.unclosed;
+      due = v.due.items;
+    } };
 
     ghost invariant = { λ v. record {
-      kept : IsKept (record { nonce = v.nonce; first = v.first; places = v.places; kept = v.kept.items; unclosed = v.unclosed; due = v.due.items });
+      kept : IsKept (record {
+        nonce = v.nonce;
+        first = v.first;
+        places = v.places;
+        kept = v.kept.items;
+        unclosed = v.unclosed;
+        due = v.due.items;
+      });
       room : 4 * v.places ≤ vec_capacity v.kept;
       room_for_pages : 4 * v.places ≤ vec_capacity v.due;
     } };

@@ -1,5 +1,5 @@
 -- Right after stops: a small device whose stops show what is right, and for each part of the definition one that doesn't.
-use Rattle.std.proofs.Common.{ℕ, ◌≡◌, ◌⊎◌, ◌+◌, ◌<◌, ◌≤◌, ◌++◌, true, zero, suc, List, [], ◌∷◌, length, refl, subst, inl, inr, arith, if◌then◌else◌, ◌==◌}
+use Rattle.std.proofs.Common.{None, ℕ, ◌≡◌, ◌⊎◌, ◌+◌, ◌<◌, ◌≤◌, ◌++◌, true, zero, suc, List, [], ◌∷◌, length, refl, subst, inl, inr, arith, if◌then◌else◌, ◌==◌}
 use Rattle.std.specs.List.{AllByRecursion}
 use Rattle.blk_base.specs.Sectors.{sector}
 use Rattle.disk_model.specs.declared.call.Call.{Call}
@@ -27,7 +27,7 @@ abbrev HasValues : Blocks → (ℕ → List ℕ) → Type 0
 HasValues image values = (values 0 ≡ block 10) × (sector 0 (block_at image 0) ≡ sector 0 (values 1))
 
 abbrev report : List FlushMark → Mark → RunReport
-report marks last = record { requests = script; desk = first_lines; marks = marks; places = first_places; histories = entry 1 (of_a 0) last ∷ [] }
+report marks last = record { requests = script; desk = first_lines; marks = marks; places = first_places; histories = entry 1 (of_a 0) last ∷ []; damage = None }
 
 -- after stops in these calls, with these ones before the run
 abbrev IsRight : List Call → List FlushMark → Mark → List Call → Type 0

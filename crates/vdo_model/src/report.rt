@@ -1,5 +1,6 @@
 use crate::{ReportList, Requests};
-use blk_base::{Answer, Lba, Writer};
+use blk_base::{Answer, Lba, Pbn, Writer};
+use page_codec::PageFault;
 
 /// A line of the desk log: a request is begun, or answered.
 #[derive(Drop)]
@@ -43,6 +44,13 @@ pub struct FlushMark {
     pub calls: u64,
 }
 
+/// What was found wrong on the device in a session that was opened without a fault.
+#[derive(Clone, Copy, Debug, PartialEq, Eq)]
+pub enum Damage {
+    /// The page of the block map at this block doesn't decode.
+    Page { at: Pbn, fault: PageFault },
+}
+
 /// What a run did: the requests of its script, and what became of them. Where no session was begun, all lists are empty.
 #[derive(Drop)]
 pub struct RunReport {
@@ -55,4 +63,6 @@ pub struct RunReport {
     pub places: ReportList<Placed>,
     /// The writes and discards that have a place. Those of one address are its history, in the order of their places.
     pub histories: ReportList<HistoryEntry>,
+    /// The first damage that was found in the session, which stopped it.
+    pub damage: Option<Damage>,
 }

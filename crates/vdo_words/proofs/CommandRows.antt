@@ -3,7 +3,7 @@ use Rattle.std.specs.Prelude.{◌≡◌, [], ◌∷◌, codes, Some, None, Ok, E
 use Rattle.vdo_words.specs.Commands.{command_of, read}
 use Rattle.vdo_words.specs.declared.commands.CoreOptions.{CoreOptions}
 use Rattle.vdo_words.specs.declared.commands.Drive.TheVariants as drive
-use Rattle.vdo_words.specs.declared.commands.Command.TheVariants.{Format, Run, Recover, ForceRebuild, Audit, Status, Crash, Workload}
+use Rattle.vdo_words.specs.declared.commands.Command.TheVariants.{Format, Run, Recover, ForceRebuild, Grow, Audit, Status, Crash, Workload}
 
 abbrev core : CoreOptions
 core = record { depth = 1; logical_zones = 1; physical_zones = 1; hash_zones = 1; cache = 16 }
@@ -69,6 +69,19 @@ force-rebuild-alone = refl
 
 force-rebuild-more : command_of (codes "force-rebuild" ∷ codes "--slabs=1" ∷ []) ≡ None
 force-rebuild-more = refl
+
+-- `grow`
+grow-required : command_of (codes "grow" ∷ codes "--slabs=2" ∷ codes "--logical" ∷ codes "2000" ∷ []) ≡ Some (Grow (record { logical = 2000; slabs = 2 }))
+grow-required = refl
+
+grow-no-slabs : command_of (codes "grow" ∷ codes "--logical=2000" ∷ []) ≡ None
+grow-no-slabs = refl
+
+grow-no-logical : command_of (codes "grow" ∷ codes "--slabs=2" ∷ []) ≡ None
+grow-no-logical = refl
+
+grow-foreign : command_of (codes "grow" ∷ codes "--slabs=2" ∷ codes "--logical=2000" ∷ codes "--height=3" ∷ []) ≡ None
+grow-foreign = refl
 
 audit-alone : command_of (codes "audit" ∷ []) ≡ Some Audit
 audit-alone = refl

@@ -9,7 +9,7 @@ use Rattle.vdo_words.specs.Options.{greatest, least, is_decimal, number_in, numb
 use Rattle.vdo_words.specs.Commands.{command_named, core_of, read}
 use Rattle.vdo_words.specs.Ranges.{IsWithin, IsCoreWithin, IsCommandWithin}
 use Rattle.vdo_words.specs.declared.commands.Command.{Command}
-use Rattle.vdo_words.specs.declared.commands.Command.TheVariants.{Format, Run, Recover, ForceRebuild, Audit, Status, Crash, Workload}
+use Rattle.vdo_words.specs.declared.commands.Command.TheVariants.{Format, Run, Recover, ForceRebuild, Grow, Audit, Status, Crash, Workload}
 use Rattle.vdo_words.specs.declared.commands.Usage.{Usage}
 use Rattle.vdo_words.specs.declared.option_names.OptionName.{OptionName}
 use Rattle.vdo_words.specs.declared.option_names.OptionName.TheVariants.{Depth, LogicalZones, PhysicalZones, HashZones, Cache, Requests, Streams}
@@ -65,6 +65,7 @@ named-within name options =
     (one_of (bytes_eq name (codes "run")) _ _ (of_options _ Run _ (core-within options))
     (one_of (bytes_eq name (codes "recover")) _ _ (of_bare _ Recover tt)
     (one_of (bytes_eq name (codes "force-rebuild")) _ _ (of_bare _ ForceRebuild tt)
+    (one_of (bytes_eq name (codes "grow")) _ _ (of_options _ Grow _ tt)
     (one_of (bytes_eq name (codes "audit")) _ _ (of_bare _ Audit tt)
     (one_of (bytes_eq name (codes "status")) _ _ (of_bare _ Status tt)
     (one_of (bytes_eq name (codes "crash")) _ _ (of_options _ Crash _ (core-within options))
@@ -73,7 +74,7 @@ named-within name options =
       number_or-within Requests 1000 options (omega arith, omega arith),
       number_or-within Streams 4 options (omega arith, omega arith),
     ))
-    tt)))))))
+    tt))))))))
 
 answered : (command : Option Command) → IfSome command IsCommandWithin → IfOk {E = Usage} (ok_or command (record {})) IsCommandWithin
 answered None within = search rules

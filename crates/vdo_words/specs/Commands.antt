@@ -6,6 +6,7 @@ use Rattle.vdo_words.specs.Options.{are_right, is_given, number_or}
 use Rattle.vdo_words.specs.declared.option_names.OptionName.{OptionName}
 use Rattle.vdo_words.specs.declared.option_names.OptionName.TheVariants.{Logical, Slabs, SlabBlocks, Journal, Index, SlabJournal, Height, Nonce, Schedule, Threads, Depth, LogicalZones, PhysicalZones, HashZones, Cache, After, Image, Seed, Requests, Streams}
 use Rattle.vdo_words.specs.declared.commands.FormatOptions.{FormatOptions}
+use Rattle.vdo_words.specs.declared.commands.GrowOptions.{GrowOptions}
 use Rattle.vdo_words.specs.declared.commands.CoreOptions.{CoreOptions}
 use Rattle.vdo_words.specs.declared.commands.RunOptions.{RunOptions}
 use Rattle.vdo_words.specs.declared.commands.CrashOptions.{CrashOptions}
@@ -13,7 +14,7 @@ use Rattle.vdo_words.specs.declared.commands.WorkloadOptions.{WorkloadOptions}
 use Rattle.vdo_words.specs.declared.commands.Drive.{Drive}
 use Rattle.vdo_words.specs.declared.commands.Drive.TheVariants as drive
 use Rattle.vdo_words.specs.declared.commands.Command.{Command}
-use Rattle.vdo_words.specs.declared.commands.Command.TheVariants.{Format, Run, Recover, ForceRebuild, Audit, Status, Crash, Workload}
+use Rattle.vdo_words.specs.declared.commands.Command.TheVariants.{Format, Run, Recover, ForceRebuild, Grow, Audit, Status, Crash, Workload}
 use Rattle.vdo_words.specs.declared.commands.Usage.{Usage}
 
 -- the options of a core
@@ -43,6 +44,13 @@ format_of options = if are_right format_names options then Some (record {
   height = number_or 2 Height options;
   nonce = number_or 1 Nonce options;
 }) else None
+
+-- `--logical` and `--slabs` are required
+abbrev pub grow_of : List Given → Option GrowOptions
+grow_of options =
+    if are_right (Logical ∷ Slabs ∷ []) options && is_given Logical options && is_given Slabs options
+    then Some (record { logical = number_or 1000 Logical options; slabs = number_or 1 Slabs options })
+    else None
 
 -- threads, or the schedule of a number
 abbrev pub drive_of : List Given → Drive
@@ -87,6 +95,7 @@ command_named name options =
     else if bytes_eq name (codes "run") then option_map Run (run_of options)
     else if bytes_eq name (codes "recover") then bare_command Recover options
     else if bytes_eq name (codes "force-rebuild") then bare_command ForceRebuild options
+    else if bytes_eq name (codes "grow") then option_map Grow (grow_of options)
     else if bytes_eq name (codes "audit") then bare_command Audit options
     else if bytes_eq name (codes "status") then bare_command Status options
     else if bytes_eq name (codes "crash") then option_map Crash (crash_of options)

@@ -3,10 +3,11 @@ ghost use Rattle.vdo_words.specs.Given.{given};
 ghost use Rattle.vdo_words.specs.Options.{number_or};
 ghost use Rattle.vdo_words.specs.Ranges.{IsCommandWithin};
 ghost use Rattle.vdo_words.specs.declared.option_names.OptionName.TheVariants.{Schedule};
-ghost use Rattle.vdo_words.specs.Commands.{bare_command, command_named, core_of, crash_of, format_of, read, run_of, workload_of, drive_of};
+ghost use Rattle.vdo_words.specs.Commands.{bare_command, command_named, core_of, crash_of, format_of, grow_of, read, run_of, workload_of, drive_of};
 
 use crate::commands::{
-    Command, CoreOptions, CrashOptions, Drive, FormatOptions, RunOptions, Usage, WorkloadOptions,
+    Command, CoreOptions, CrashOptions, Drive, FormatOptions, GrowOptions, RunOptions, Usage,
+    WorkloadOptions,
 };
 use crate::line::Line;
 use crate::option_names::OptionName;
@@ -24,6 +25,8 @@ const FORMAT: [OptionName; 8] = [
     OptionName::Height,
     OptionName::Nonce,
 ];
+
+const GROW: [OptionName; 2] = [OptionName::Logical, OptionName::Slabs];
 
 const RUN: [OptionName; 7] = [
     OptionName::Schedule,
@@ -74,6 +77,22 @@ fn format(alloc: Global, words: &[String]) -> Option<FormatOptions>
         slab_journal: number(OptionName::SlabJournal, 4, &line),
         height: number(OptionName::Height, 2, &line),
         nonce: wide(OptionName::Nonce, 1, &line),
+    })
+}
+
+fn grow(alloc: Global, words: &[String]) -> Option<GrowOptions>
+    ensures { result ≡ grow_of (given (map string_bytes words.now)) }
+{
+    if !are_right(&GROW, words)
+        || !is_given(OptionName::Logical, words)
+        || !is_given(OptionName::Slabs, words)
+    {
+        return None;
+    }
+    let line = Line::new(alloc, &GROW, words);
+    Some(GrowOptions {
+        logical: number(OptionName::Logical, 1000, &line),
+        slabs: number(OptionName::Slabs, 1, &line),
     })
 }
 
@@ -164,6 +183,7 @@ fn named(alloc: Global, name: &str, words: &[String]) -> Option<Command>
         "run" => Some(Command::Run(run(alloc, words)?)),
         "recover" => bare(Command::Recover, words),
         "force-rebuild" => bare(Command::ForceRebuild, words),
+        "grow" => Some(Command::Grow(grow(alloc, words)?)),
         "audit" => bare(Command::Audit, words),
         "status" => bare(Command::Status, words),
         "crash" => Some(Command::Crash(crash(alloc, words)?)),
@@ -183,7 +203,7 @@ fn bare(command: Command, words: &[String]) -> Option<Command>
 ///
 /// They are refused where there is no word, where the first is no command's name, where an option isn't the command's,
 /// stands twice, or has no value or one that isn't 1 to 20 decimal digits within its range, where `--threads` has a value
-/// or stands beside `--schedule`, and where `crash` lacks `--after` or `--image`. Want of memory changes no answer.
+/// or stands beside `--schedule`, where `crash` lacks `--after` or `--image`, and where `grow` lacks `--logical` or `--slabs`. Want of memory changes no answer.
 pub fn read_command(alloc: Global, words: &[String]) -> Result<Command, Usage>
     ensures exact { result ≡ read (map string_bytes words.now) }
     ensures within { IfOk result IsCommandWithin }

@@ -11,6 +11,8 @@ pub enum Command {
     Recover,
     /// Set the counts from the block map, and close the image.
     ForceRebuild,
+    /// Give the image more addresses and more slabs.
+    Grow(GrowOptions),
     /// Compare the counts with the mappings.
     Audit,
     /// Print the mode and the counts.
@@ -37,6 +39,15 @@ pub struct FormatOptions {
     /// Levels of a tree of the block map.
     pub height: u32,
     pub nonce: u64,
+}
+
+/// How large an image is to be. Any numbers: the image and the layout judge them.
+#[derive(Clone, Copy, Debug, PartialEq, Eq)]
+pub struct GrowOptions {
+    /// How many addresses.
+    pub logical: u32,
+    /// How many slabs.
+    pub slabs: u32,
 }
 
 /// How a core is set up.

@@ -6,7 +6,7 @@
 //! Only tested: a table of command lines.
 //!
 //! Not there: a program that serves more of these commands than `run` with a schedule alone, `format`, `recover`,
-//! `audit` and `status`.
+//! `force-rebuild`, `grow`, `audit` and `status`.
 #![tactic(auto)]
 
 mod clap_matches;
@@ -20,5 +20,6 @@ mod rules;
 
 pub use command_reader::read_command;
 pub use commands::{
-    Command, CoreOptions, CrashOptions, Drive, FormatOptions, RunOptions, Usage, WorkloadOptions,
+    Command, CoreOptions, CrashOptions, Drive, FormatOptions, GrowOptions, RunOptions, Usage,
+    WorkloadOptions,
 };

@@ -5,8 +5,9 @@ use Rattle.watermark_laws.specs.Parts.{Logged, Told, Has, points_for, points_of,
 use Rattle.watermark_laws.specs.Trace.{Happening, Seals, Hands, Sets, Tells, Hears, Trace, sequence, unhanded, behind_first, IsHanded, IsSet, IsDurable, told, heard, waiting}
 use Rattle.watermark_laws.specs.Marks.{Setup, first_point, front, mark, least_mark, head_of}
 use Rattle.watermark_laws.specs.RightTraces.{IsBelow, TellMayFollow, RightTrace}
-use Rattle.watermark_laws.proofs.ListLaws.{has_split, without_within, least_has, least_bound, least_reaches, lesser_bound, lesser_reaches, climbs_has, rising_append}
+use Rattle.watermark_laws.proofs.ListLaws.{has_split, without_within, least_bound, least_reaches, lesser_reaches, climbs_has, rising_append}
 use Rattle.watermark_laws.proofs.HeardLaws.{set_grows, stand_durable, all_stand, handed_grows, handed_waits, unhanded_rise, first_above}
+use Rattle.handed_parts.proofs.PartLaws.{least_has, lesser_within}
 
 pub if_some : (P Q : ℕ → Type 0) (o : Option ℕ) → ((q : ℕ) → P q → Q q) → IfSome o P → IfSome o Q
 if_some P Q None f h = tt
@@ -100,7 +101,7 @@ low_part s z t = least_of (waiting z t) (lesser (last_low (heard z t)) (front s 
 low_is_bounded : (s : Setup) (z : ℕ) (t : Trace) → low_part s z t ≤ front s t
 low_is_bounded s z t =
     let bound = least_bound (waiting z t) (lesser (last_low (heard z t)) (front s t)) in
-    let low = lesser_bound (last_low (heard z t)) (front s t) in
+    let low = lesser_within (last_low (heard z t)) (front s t) in
     omega (arith, bound, low)
 
 low_reached : (s : Setup) (z : ℕ) (t : Trace) (q : ℕ) → RightTrace s t → IsSet t z q × (Has q (points_of (heard z t)) → Reaches (last_low (heard z t)) q)

@@ -8,3 +8,4 @@ pub mod KeepLaws
 pub mod Rows
 pub mod ReapLaws
 pub mod ClauseRows
+pub mod TraceRows

@@ -60,12 +60,6 @@ without_within (Some q) p (r ∷ ps) has = elim (eqb_tells r q) [
   | inr other ↦ within_step q p r ps (without_within (Some q) p ps) (rw other.0 at has)
 ]
 
--- the least of points and a bound
-pub least_has : (p : ℕ) (ps : List ℕ) (bound : ℕ) → Has p ps → least_of ps bound ≤ p
-least_has p [] bound has = absurd has
-least_has p (q ∷ ps) bound (inl same) = omega (arith, same)
-least_has p (q ∷ ps) bound (inr has) = omega (arith, least_has p ps bound has)
-
 pub least_bound : (ps : List ℕ) (bound : ℕ) → least_of ps bound ≤ bound
 least_bound [] bound = omega arith
 least_bound (q ∷ ps) bound = omega (arith, least_bound ps bound)
@@ -75,10 +69,6 @@ least_reaches n [] bound all bounded = bounded
 least_reaches n (q ∷ ps) bound all bounded =
     let first : n ≤ q = all q (inl refl) in
     omega (arith, first, least_reaches n ps bound (λ p has. all p (inr has)) bounded)
-
-pub lesser_bound : (o : Option ℕ) (p : ℕ) → lesser o p ≤ p
-lesser_bound None p = omega arith
-lesser_bound (Some low) p = omega arith
 
 pub lesser_reaches : (n : ℕ) (o : Option ℕ) (p : ℕ) → IfSome o (λ low. n ≤ low) → n ≤ p → n ≤ lesser o p
 lesser_reaches n None p above bounded = bounded

@@ -4,13 +4,14 @@ use Rattle.watermark_laws.specs.Parts.{Logged, Has, points_for, points_of, round
 use Rattle.watermark_laws.specs.Trace.{Happening, Seals, Rises, Trace, sequence, unhanded, IsSealed, IsSet, IsDurable, heard, waiting, risen}
 use Rattle.watermark_laws.specs.Marks.{Setup, front, mark, least_mark, head_of}
 use Rattle.watermark_laws.specs.RightTraces.{IsBelow, IsHandled, RiseMayFollow, MayFollow, RightTrace}
-use Rattle.watermark_laws.proofs.ListLaws.{least_has, least_bound, lesser_bound, climbs_has, rising_has, rising_within}
+use Rattle.watermark_laws.proofs.ListLaws.{least_bound, climbs_has, rising_has, rising_within}
 use Rattle.watermark_laws.proofs.HeardLaws.{set_grows, durable_grows, stand_set, stand_durable, heard_stands, handed_waits, unhanded_rise, sealed_formed, sealed_is_out}
+use Rattle.handed_parts.proofs.PartLaws.{least_has, lesser_within}
 
 pub mark_front : (s : Setup) (z : ℕ) (t : Trace) → mark s z t ≤ front s t
 mark_front s z t =
     let bound = least_bound (waiting z t) (lesser (last_low (heard z t)) (front s t)) in
-    let low = lesser_bound (last_low (heard z t)) (front s t) in
+    let low = lesser_within (last_low (heard z t)) (front s t) in
     omega (arith, bound, low)
 
 pub mark_waiting : (s : Setup) (z : ℕ) (t : Trace) (p : ℕ) → Has p (waiting z t) → mark s z t ≤ rounded p

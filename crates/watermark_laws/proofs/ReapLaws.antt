@@ -1,7 +1,7 @@
 -- The head of the recovery journal, by the marks of a trace.
-use Rattle.std.proofs.Common.{◌≡◌, ℕ, zero, suc, ◌+◌, ◌-◌, ◌*◌, ◌/◌, ◌%◌, ◌<◌, ◌≤◌, max, ◌⊎◌, inl, inr, Option, None, List, [], ◌∷◌, ◌++◌, length, length-set, slice_index_or, All, refl, ap, sym, arith, ◌∙◌, subst, get_or}
+use Rattle.std.proofs.Common.{◌≡◌, ℕ, suc, ◌+◌, ◌-◌, ◌*◌, ◌/◌, ◌%◌, ◌<◌, ◌≤◌, max, ◌⊎◌, inl, inr, Option, None, List, [], ◌∷◌, ◌++◌, length, length-set, slice_index_or, All, refl, ap, sym, arith, ◌∙◌, subst}
 use Rattle.std.proofs.lemmas.Bool.Decides.{eqb_tells}
-use Rattle.std.proofs.lemmas.List.{get_or-set_same, get_or-set_other, get_or-replicate, length-replicate}
+use Rattle.std.proofs.lemmas.List.{get_or-set_same, get_or-set_other, get_or-replicate, length-replicate, get_or_default}
 use Rattle.blk_base.specs.Points.{raised}
 use Rattle.blk_base.specs.declared.geometry.Geometry.{Geometry}
 use Rattle.blk_base.specs.declared.journal_entry.CommittedEntry.{CommittedEntry}
@@ -34,12 +34,6 @@ point_front p (e ∷ es) fs (inr has) = inr (point_front p es fs has)
 point_back : (p : ℕ) (es fs : List CommittedEntry) → HasPoint p fs → HasPoint p (es ++ fs)
 point_back p [] fs has = has
 point_back p (e ∷ es) fs has = inr (point_back p es fs has)
-
--- within a list no other value is read
-any_default : {X : Type 0} (xs : List X) (k : ℕ) (d e : X) → k < length xs → get_or xs k d ≡ get_or xs k e
-any_default [] k d e inside = absurd (omega (arith, inside))
-any_default (x ∷ xs) zero d e inside = refl
-any_default (x ∷ xs) (suc k) d e inside = any_default xs k d e (omega (arith, inside))
 
 -- what each mark is above
 durable_below : (marks : List Point) (es : List CommittedEntry) (p z : ℕ) → All (λ entry. IsDurable marks entry.point) es → HasPoint p es → z < length marks
@@ -139,7 +133,7 @@ mark_raised s marks z point t k inside most before = elim (eqb_tells k z) [
   | inl same ↦
       let top : Point = record { 0 = max (slice_index_or marks z point).0 point.0 } in
       let here : mark_in (raised marks z point) z ≡ top.0 = ap (λ (p : Point). p.0) (get_or-set_same marks z top (record { 0 = 0 }) inside) in
-      let old : (slice_index_or marks z point).0 ≡ mark_in marks z = ap (λ (p : Point). p.0) (any_default marks z point (record { 0 = 0 }) inside) in
+      let old : (slice_index_or marks z point).0 ≡ mark_in marks z = ap (λ (p : Point). p.0) (get_or_default marks z point (record { 0 = 0 }) inside) in
       let was : mark_in marks z ≤ mark s z t = subst (λ (n : ℕ). mark_in marks n ≤ mark s n t) same.1 before in
       subst (λ (n : ℕ). mark_in (raised marks z point) n ≤ mark s n t) (sym same.1) (omega (arith, here, old, was, most))
   | inr other ↦
@@ -197,7 +191,7 @@ first_passed : (s : Setup) (t : Trace) (h n : ℕ) (marks : List Point) (es : Li
 first_passed s t h n marks [] filled passed all = filled
 first_passed s t h n marks (e ∷ es) filled passed all =
     let needs : IsNeeded marks e.point = all 0 e (omega arith) in
-    let here : mark_in marks needs.0 ≡ needs.1.0 = ap (λ (p : Point). p.0) (any_default marks needs.0 (record { 0 = 0 }) needs.1 needs.2 ∙ needs.3) in
+    let here : mark_in marks needs.0 ≡ needs.1.0 = ap (λ (p : Point). p.0) (get_or_default marks needs.0 (record { 0 = 0 }) needs.1 needs.2 ∙ needs.3) in
     omega (arith, passed needs.0 needs.2, here, needs.4)
 
 pub slot_when_still : (s : Setup) (log : Log) (t : Trace) → RightTrace s t → IsStill s t → IsKept log → log.earlier ≡ None → Reaps s log t

@@ -1,10 +1,11 @@
 use Rattle.std.proofs.Common.{List, sym, subst}
 use Rattle.blk_base.specs.declared.journal_entry.CommittedEntry.{CommittedEntry}
 use Rattle.disk_model.proofs.SinceLaws.{untouched_on}
-use Rattle.replay_counts.proofs.WindowLaws.{passed_on, window_adds}
+use Rattle.replay_counts.proofs.WindowLaws.{window_adds}
 use Rattle.replay_counts.specs.Recovered.{AreCountsRead, CountsFail}
 use Rattle.audit.proofs.AuditLaws.{contents_read, counts_fail}
 use Rattle.audit.specs.Audits.{AuditWithFails}
+use Rattle.slab_reading.proofs.FoundLaws.{passed_on}
 use Rattle.audit.proofs.contents.read_contents.Goals as goal
 
 pub returns-in-Err-clause-fault : goal.returns-in-Err-clause-fault

@@ -5,6 +5,7 @@ use Rattle.count_updates.proofs.SettledLaws.{in_row, row_is, slab_settled}
 use Rattle.count_updates.specs.Counted.{AreCountedUpTo}
 use Rattle.count_updates.proofs.PartLaws.{in_order_part, part_counted, part_passed}
 use Rattle.count_updates.proofs.block_counts.count_slab.Goals as goal
+use Rattle.count_updates.specs.FoundLists.{lists_of}
 
 pub count_of-requires-clause-order : goal.count_of-requires-clause-order
 count_of-requires-clause-order c = in_order_part _ _ c.as_slice-all.result.now (rw c.as_slice-all.ensures.value c.requires.order)
@@ -13,7 +14,7 @@ pub returns-in-Err-clause-refused : goal.returns-in-Err-clause-refused
 returns-in-Err-clause-refused c =
     let ends = c.end_of_block-end.ensures in
     let were = c.loop-offset.invariant in
-    one_leaves _ _ _ _ c.args.slab c.loop-offset.offset _ _ _ (c.requires.inside, omega arith) c.data_block-at.ensures.block were.counted
+    one_leaves _ _ c.args.slab c.loop-offset.offset _ _ _ (c.requires.inside, omega arith) c.data_block-at.ensures.block were.counted
     (part_counted _ _ c.as_slice-all.ensures.value _ _ _ _ c.data_block-at.ensures.block c.requires.order were.passed ends.within ends.ended _ _ _ _ c.in-Err.ensures.left)
 
 pub loop-offset-preserved : goal.loop-offset-preserved
@@ -23,7 +24,7 @@ loop-offset-preserved c =
     record {
       passed = part_passed _ _ c.as_slice-all.ensures.value _ _ _ _ c.data_block-at.ensures.block c.requires.order were.passed ends.within ends.ended _
           (next_block c.args.layout.now.geometry c.args.slab c.loop-offset.offset) ends.passed;
-      counted = rw c.in-Ok-push.ensures.items (one_counted _ _ _ _ c.args.slab c.loop-offset.offset _ _ were.counted
+      counted = rw c.in-Ok-push.ensures.items (one_counted _ _ c.args.slab c.loop-offset.offset _ _ were.counted
           (part_counted _ _ c.as_slice-all.ensures.value _ _ _ _ c.data_block-at.ensures.block c.requires.order were.passed ends.within ends.ended _ _ _ _ c.in-Ok.ensures.counted));
     }
 
@@ -62,8 +63,8 @@ returns-then-are_within-clause-counted c =
     let same = ap (λ (xs : List ℕ). slice_index xs (c.args.slab * g.slab_blocks + k)) value in
     omega (arith, fit, equal, there, same, most))
     c.args.counts.now.items c.requires.counted in
-    slab_counted g counters commits updates c.args.slab c.push_all.new.counts.items
-    (subst (λ (cs : List ℕ). AreCountedUpTo g counters commits updates c.args.slab g.slab_blocks cs)
+    slab_counted g (lists_of c.args.found.now) c.args.slab c.push_all.new.counts.items
+    (subst (λ (cs : List ℕ). AreCountedUpTo g (lists_of c.args.found.now) c.args.slab g.slab_blocks cs)
     (sym (c.in_ok-push_all.ensures.added
     ∙ ap (λ (xs : List ℕ). c.args.counts.now.items ++ xs)
     (row_is items start g.slab_blocks ∙ ap (λ (n : ℕ). take g.slab_blocks (drop n items)) here
@@ -76,6 +77,6 @@ returns-clause-counted c =
     let inside = c.loop-offset.auto.offset-end in
     let ended = c.loop-offset-test.false in
     let all : c.loop-offset.offset ≡ g.slab_blocks = omega (arith, inside, ended) in
-    slab_counted g c.args.found.now.counters.items c.args.found.now.commits.items c.args.found.now.updates.items c.args.slab c.loop-offset.counts.items
-    (subst (λ (n : ℕ). AreCountedUpTo g c.args.found.now.counters.items c.args.found.now.commits.items c.args.found.now.updates.items c.args.slab n c.loop-offset.counts.items) all
+    slab_counted g (lists_of c.args.found.now) c.args.slab c.loop-offset.counts.items
+    (subst (λ (n : ℕ). AreCountedUpTo g (lists_of c.args.found.now) c.args.slab n c.loop-offset.counts.items) all
     c.loop-offset.invariant.counted)

@@ -14,4 +14,4 @@ returns-in-Err-Counter-clause-fault g c =
     (rw c.in-Err-Counter.field-0-is at c.in-Err-Counter.ensures.refused)
 
 pub returns-in-Ok-counted-clause-limit : goal.returns-in-Ok-counted-clause-limit
-returns-in-Ok-counted-clause-limit g c = counted_within c.args.head.now.geometry _ _ _ _ c.requires.sizes (rw c.of-layout.ensures at c.in-Ok-counted.ensures.counts.counted)
+returns-in-Ok-counted-clause-limit g c = counted_within c.args.head.now.geometry _ _ c.requires.sizes (rw c.of-layout.ensures at c.in-Ok-counted.ensures.counts.counted)

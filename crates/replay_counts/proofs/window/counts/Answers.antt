@@ -2,7 +2,8 @@ use Rattle.std.proofs.Common.{sym, subst, inl, inr, List}
 use Rattle.blk_base.specs.declared.journal_entry.CommittedEntry.{CommittedEntry}
 use Rattle.disk_model.proofs.SinceLaws.{untouched_on}
 use Rattle.replay_counts.specs.Recovered.{AreCountsRead, CountsFail, CountingFails}
-use Rattle.replay_counts.proofs.WindowLaws.{window_adds, passed_on}
+use Rattle.replay_counts.proofs.WindowLaws.{window_adds}
+use Rattle.slab_reading.proofs.FoundLaws.{passed_on}
 use Rattle.replay_counts.proofs.window.counts.Goals as goal
 
 pub counts_with-requires-clause-halves : goal.counts_with-requires-clause-halves

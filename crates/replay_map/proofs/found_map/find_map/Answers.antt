@@ -4,10 +4,10 @@ use Rattle.blk_base.specs.declared.place.Pbn.{Pbn}
 use Rattle.replay_map.proofs.FindLaws.{walk_fails}
 use Rattle.replay_map.proofs.FormLaws.{whole_form}
 use Rattle.replay_map.proofs.FoundLaws.{map_found, share_found}
-use Rattle.replay_map.proofs.PageLaws.{passed_on}
 use Rattle.replay_map.specs.Finding.{FindFails}
 use Rattle.replay_map.specs.Shares.{IsLeastShared}
 use Rattle.replay_map.specs.declared.links.Link.{Link}
+use Rattle.journal_window.proofs.AnswerLaws.{passed_on}
 use Rattle.replay_map.proofs.found_map.find_map.Goals as goal
 
 pub returns-in_err-walk_trees-clause-fault : goal.returns-in_err-walk_trees-clause-fault

@@ -3,7 +3,8 @@ use Rattle.std.proofs.lemmas.List.{length-set}
 use Rattle.blk_base.specs.declared.place.Mapping.{Mapping}
 use Rattle.blk_base.specs.declared.sizes.TheConstants.{PAGE_SLOTS}
 use Rattle.replay_map.specs.Pages.{AreSaid, IsRefused}
-use Rattle.replay_map.proofs.PageLaws.{passed_on, said_more, refused_at}
+use Rattle.replay_map.proofs.PageLaws.{said_more, refused_at}
+use Rattle.journal_window.proofs.AnswerLaws.{passed_on}
 use Rattle.replay_map.proofs.pages.read_one_by_one.Goals as goal
 
 pub returns-in_err-mapping-clause-fault : goal.returns-in_err-mapping-clause-fault

@@ -6,7 +6,6 @@ use Rattle.image_model.specs.Maps.{Image, target_of}
 use Rattle.blk_base.specs.declared.place.PageId.{PageId}
 use Rattle.replay_map.proofs.FormLaws.{all_visited, below_in_tree, leaf_visited, slot_passed, slot_walked, target_at}
 use Rattle.replay_map.specs.Forms.{IsInTree}
-use Rattle.replay_map.proofs.PageLaws.{passed_on}
 use Rattle.replay_map.proofs.ReadLaws.{shown_by_none}
 use Rattle.replay_map.proofs.SlotLaws.{failed_slot, passed_slot, target_stands, walked_slot}
 use Rattle.replay_map.proofs.WholeWalkLaws.{all_walked, fails_behind, leaf_walked, top_fault}
@@ -14,6 +13,7 @@ use Rattle.replay_map.specs.Reads.{IsPageBlock}
 use Rattle.replay_map.specs.Walks.{IsLinked, IsUnder, IsUpTo, WalkFails, WalkedUpTo}
 use Rattle.replay_map.specs.declared.links.Link.{Link}
 use Rattle.replay_map.proofs.tree_walk.+walk.Goals.{in-None, in-Some+in_ok-walk-in-Some}
+use Rattle.journal_window.proofs.AnswerLaws.{passed_on}
 use Rattle.replay_map.proofs.tree_walk.+walk.Goals as goal
 
 pub loop-slot-init : goal.loop-slot-init

@@ -3,11 +3,11 @@ use Rattle.blk_base.specs.declared.sizes.TheConstants.{TREES}
 use Rattle.disk_model.proofs.SinceLaws.{untouched_on, untouched_yet}
 use Rattle.replay_map.proofs.FormLaws.{no_trees, root_in_tree, tree_formed}
 use Rattle.replay_map.specs.Forms.{AddsForm, IsRootPage}
-use Rattle.replay_map.proofs.PageLaws.{passed_on}
 use Rattle.replay_map.proofs.ReadLaws.{shown_by_none}
 use Rattle.replay_map.proofs.TreeLaws.{no_tree, one_tree_more, tree_fails}
 use Rattle.replay_map.specs.Reads.{IsShown}
 use Rattle.replay_map.specs.Walks.{IsInTrees, WalkFails, WalkedTrees}
+use Rattle.journal_window.proofs.AnswerLaws.{passed_on}
 use Rattle.replay_map.proofs.tree_walk.walk_trees.Goals as goal
 
 pub loop-tree-init : goal.loop-tree-init

@@ -3,6 +3,7 @@ use Rattle.disk_model.proofs.SinceLaws.{untouched_yet, untouched_on}
 use Rattle.slab_reading.specs.Found.{Took}
 use Rattle.slab_reading.specs.Reads.{IsSlabRead, SlabsFail}
 use Rattle.slab_reading.proofs.FoundLaws.{found_none, found_more, slabs_fail, passed_on}
+use Rattle.count_updates.specs.FoundLists.{lists_of}
 use Rattle.slab_reading.proofs.slabs.read_slabs.Goals as goal
 
 pub loop-slab-init : goal.loop-slab-init
@@ -27,8 +28,7 @@ loop-slab-preserved g c =
         subst (λ (slab : ℕ). IsSlabRead g.D.Disk.tells g.D.Disk.honest c.args.layout.now.geometry slab (g.D.Disk.seen c.loop-slab.device) (g.D.Disk.seen c.add_slab.new.device) taken.0) (sym was.count) taken.1,
       );
       found = found_more c.args.layout.now.geometry was.reads taken.0 _ _ _ _ _ _ _ was.found
-          (subst (λ (slab : ℕ). Took c.args.layout.now.geometry slab taken.0 c.loop-slab.found.counters.items c.add_slab.new.found.counters.items
-          c.loop-slab.found.commits.items c.add_slab.new.found.commits.items c.loop-slab.found.updates.items c.add_slab.new.found.updates.items) (sym was.count) taken.2);
+          (subst (λ (slab : ℕ). Took c.args.layout.now.geometry slab taken.0 (lists_of c.loop-slab.found) (lists_of c.add_slab.new.found)) (sym was.count) taken.2);
       untouched = untouched_on _ _ _ _ was.untouched c.add_slab.ensures.untouched;
     }
 

@@ -3,6 +3,7 @@ use Rattle.disk_model.specs.Log.{Blocks}
 use Rattle.disk_model.specs.Since.{IsUntouched}
 use Rattle.slab_reading.specs.Found.{IsFound}
 use Rattle.slab_reading.specs.Reads.{SlabsRead}
+use Rattle.count_updates.specs.FoundLists.{lists_of}
 use Rattle.slab_reading.proofs.slabs.read_slabs.Given as goal
 
 abbrev pub invariant-loop-slab : goal.invariant-loop-slab
@@ -12,6 +13,6 @@ invariant-loop-slab g l =
       reads : List Blocks;
       count : length reads ≡ l.slab;
       read : SlabsRead disk.tells disk.honest l.layout.geometry (disk.seen l.fn.device) (disk.seen l.device) reads;
-      found : IsFound l.layout.geometry reads l.initial.found.updates.items l.found.counters.items l.found.commits.items l.found.updates.items;
+      found : IsFound l.layout.geometry reads l.initial.found.updates.items (lists_of l.found);
       untouched : IsUntouched disk.tells (disk.seen l.fn.device) (disk.seen l.device);
     }

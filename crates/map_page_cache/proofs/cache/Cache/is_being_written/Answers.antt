@@ -1,4 +1,4 @@
-use Rattle.std.proofs.Common.{◌≡◌, Option, Some, None, sym, ◌∙◌, ap, subst, refl, arith, true}
+use Rattle.std.proofs.Common.{Option, sym, ◌∙◌, ap, subst, arith}
 use Rattle.std.specs.Prelude.{is_some}
 use Rattle.blk_base.specs.declared.point.Point.{Point}
 use Rattle.dirty_pages.specs.declared.marks.Marks.{Marks}
@@ -7,11 +7,8 @@ use Rattle.map_page_cache.specs.contracts.cache.Cache.{the_view}
 use Rattle.map_page_cache.proofs.FrameLaws.{absent_at}
 use Rattle.map_page_cache.proofs.CacheLaws.{no_slot_absent, in_at, being_written}
 use Rattle.map_page_cache.proofs.StepLaws.{writing_in}
+use Rattle.plain_laws.proofs.OptionLaws.{some_of}
 use Rattle.map_page_cache.proofs.cache.Cache.is_being_written.Goals as goal
-
-value_of : (o : Option Point) → is_some o ≡ true → (point : Point) × (o ≡ Some point)
-value_of None is = cc
-value_of (Some point) is = (point, refl)
 
 pub marks-requires : goal.marks-requires
 marks-requires c =
@@ -24,7 +21,7 @@ pub returns-in-Some : goal.returns-in-Some
 returns-in-Some c =
     let at = c.self.invariant.index.pages_at c.args.page c.in-Some.frame c.in-Some.ensures.some in (
       (λ writes.
-          let some = value_of c.marks.result.writing (sym c.is_some.ensures ∙ writes) in
+          let some = some_of c.marks.result.writing (sym c.is_some.ensures ∙ writes) in
           subst (λ (known : CachedPages). IsWriting known c.args.page) c.self.view_is
           (being_written (the_view c.self.inside) c.args.page c.in-Some.frame at
           (record { first = some.0; is = ap (λ (m : Marks). m.writing) (sym c.marks.ensures) ∙ some.1 }))),
