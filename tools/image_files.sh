@@ -134,6 +134,29 @@ rebuild() {
     esac
 }
 
+# grow FILE BLOCKS L S: what growing a copy of a file prints is what the plain program finds. An audit finds no block that
+# differs then; what is refused is left as it is.
+grow() {
+    cp "$1" grown
+    printed=$("$vdo" grown "$2" grow --logical "$3" --slabs "$4" </dev/null 2>errors)
+    found=$?
+    if [ -n "$python" ]; then
+        plain=$($python "$top/tools/whole_image.py" grow "$1" "$2" --logical "$3" --slabs "$4")
+        same "$found $printed" "$? $plain" "grow of $1 to $3 and $4"
+    fi
+    case "$found $printed" in
+        '0 grown '*)
+            try 0 "$printed" grown "$2" grow --logical "$3" --slabs "$4"
+            printed=$("$vdo" grown "$2" audit </dev/null 2>errors)
+            case "$printed" in
+                'audit clean, '*) well=$((well + 1)) ;;
+                *) say_wrong "audit of $1 grown: $printed" ;;
+            esac
+            ;;
+        *) alike "$1" grown "$1 was written" ;;
+    esac
+}
+
 # noise FILE FROM COUNT: blocks of a file are filled with ones.
 noise() {
     head -c "$((4096 * $3))" /dev/zero | tr '\000' '\377' | dd of="$1" bs=4096 seek="$2" conv=notrunc 2>errors || exit 1
@@ -172,6 +195,10 @@ alike image kept 'a closed image was written'
 mend again 223
 rebuild image 154
 rebuild again 223
+grow image 223 2000 2
+grow image 222 2000 2
+grow image 154 999 1
+grow again 400 5000 4
 
 # A byte is changed in each region: in the superblock, the recovery journal, a root and its last slot, the index, a data
 # block, the counter of the first block and that past its limit, and the slab's journal.
@@ -215,10 +242,12 @@ for place in 0 12 40 48 56 400 4096 32767 36864 36899 36900 69632 40959 282624 3
         agree changed 154
         mend changed 154
         rebuild changed 154
+        grow changed 223 2000 2
         put changed 48 000
         agree changed 154
         mend changed 154
         rebuild changed 154
+        grow changed 223 2000 2
     done
 done
 
@@ -268,6 +297,32 @@ cp stopped kept
 try 4 'bad image: page 85 header' stopped 154 recover
 alike stopped kept 'an image that was refused was written'
 
+# A large image with 100,000 entries in its journal, of which nothing is left of the counters and the slabs' journals: it is
+# rebuilt, and then it grows twice. Each address stays mapped to its block, and each block has what it had.
+if [ -n "$python" ]; then
+    large="$python $top/tools/large_image.py"
+    same "$($large make large)" '135233 blocks, 100000 entries in the journal' 'a large image'
+    same "$($large noise large)" 'noise in 3072 blocks' 'a large image with noise'
+    try 4 'bad image: counter 1089' large 135233 audit
+    try 4 'bad image: counter 1089' large 135233 recover
+    rebuild large 135233
+    try 0 'rebuilt, used 99999 of 131072' large 135233 force-rebuild
+    same "$($large check large)" '0 of 123 leaves and 0 of 99876 blocks differ' 'a large image that was rebuilt'
+    try 0 'grown 135233 blocks, 1024 slabs of 128, logical 2000000' large 135233 grow --logical 2000000 --slabs 1024
+    try 0 'grown 135233 blocks, 1024 slabs of 128, logical 39560640' large 135233 grow --logical 39560640 --slabs 1024
+    try 0 'audit clean, used 99999 of 131072' large 135233 audit
+    same "$($large check large)" '0 of 123 leaves and 0 of 99876 blocks differ' 'a large image that has grown'
+    rm large rebuilt
+fi
+
+# From one slab to 512, and to 1,024.
+try 0 'formatted 154 blocks, 1 slab of 64, logical 1000' slabs 154 format
+try 0 'grown 35413 blocks, 512 slabs of 64, logical 200000' slabs 70741 grow --logical 200000 --slabs 512
+try 0 'grown 70741 blocks, 1024 slabs of 64, logical 400000' slabs 70741 grow --logical 400000 --slabs 1024
+try 0 'audit clean, used 0 of 65536' slabs 70741 audit
+try 8 'layout: size slabs' slabs 4000000000 grow --logical 400000 --slabs 1025
+rm slabs
+
 # Files without an image; one that is a block short, past whose end stand zeros, and fewer blocks than its image has.
 : >bare
 try 4 'bad image: not an image' bare 154 audit
@@ -312,6 +367,7 @@ try 2 usage image 154 erase
 try 2 usage image 154 run
 try 2 usage image 154 recover --schedule 0
 try 2 usage image 154 force-rebuild --slabs 1
+try 2 usage image 154 grow --slabs 1
 try 2 usage image 154 crash
 try 2 usage image 154 audit now
 try 2 usage image 154 status --logical 1
@@ -323,6 +379,7 @@ try 3 'device fault' directory 154 audit
 try 3 'device fault' directory 154 status
 try 3 'device fault' directory 154 recover
 try 3 'device fault' directory 154 force-rebuild
+try 3 'device fault' directory 154 grow --logical 2000 --slabs 1
 try 3 'device fault' missing/image 154 format
 mkfifo pipe
 try 3 'device fault' pipe 154 format
@@ -357,6 +414,7 @@ else
     try 3 'device fault' readable 154 format
     try 3 'device fault' readable 154 recover
     try 3 'device fault' readable 154 force-rebuild
+    try 3 'device fault' readable 154 grow --logical 2000 --slabs 1
     vdo=$caller
     alike readable kept 'a file that may only be read was written'
 fi
@@ -368,6 +426,7 @@ if [ "$(id -u)" = 0 ] && mkdir sealed && mount -t tmpfs -o size=4m tmpfs sealed 
     try 0 'audit clean, used 0 of 64' sealed/image 154 audit
     try 3 'device fault' sealed/image 154 recover
     try 3 'device fault' sealed/image 154 force-rebuild
+    try 3 'device fault' sealed/image 154 grow --logical 2000 --slabs 1
     try 3 'device fault' sealed/absent 154 status
     umount sealed
 else
@@ -378,12 +437,14 @@ fi
 if command -v flock >errors; then
     cp image held
     cp held kept
-    for command in format recover force-rebuild audit status; do
-        printed=$(flock -x held "$vdo" held 154 "$command" 2>errors)
+    for command in format recover force-rebuild 'grow --logical 2000 --slabs 1' audit status; do
+        # shellcheck disable=SC2086
+        printed=$(flock -x held "$vdo" held 154 $command 2>errors)
         same "$? $printed" '3 device fault' "$command of a file that another changes"
     done
-    for command in format recover force-rebuild; do
-        printed=$(flock -s held "$vdo" held 154 "$command" 2>errors)
+    for command in format recover force-rebuild 'grow --logical 2000 --slabs 1'; do
+        # shellcheck disable=SC2086
+        printed=$(flock -s held "$vdo" held 154 $command 2>errors)
         same "$? $printed" '3 device fault' "$command of a file that another looks at"
     done
     printed=$(flock -s held "$vdo" held 154 audit 2>errors)

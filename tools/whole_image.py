@@ -1,11 +1,12 @@
 #!/usr/bin/env python3
-"""What `audit`, `status`, `recover` and `force-rebuild` print of an image, found in the plainest way; and the images of the
-tests of these commands. Nothing is written.
+"""What `audit`, `status`, `recover`, `force-rebuild` and `grow` print of an image, found in the plainest way; and the images
+of the tests of these commands. Nothing is written.
 
     python3 tools/whole_image.py audit FILE BLOCKS
     python3 tools/whole_image.py status FILE BLOCKS
     python3 tools/whole_image.py recover FILE BLOCKS
     python3 tools/whole_image.py force-rebuild FILE BLOCKS
+    python3 tools/whole_image.py grow FILE BLOCKS --logical L --slabs S
 """
 
 from __future__ import annotations
@@ -29,6 +30,7 @@ from vector import BLOCK_BYTES, SECTOR_BYTES, SECTORS, Literal, Vector
 FILE = "tool_tests/src/inspections.rt"
 RECOVERIES = "tool_tests/src/recoveries.rt"
 REBUILDS = "tool_tests/src/rebuilds.rt"
+GROWTHS = "tool_tests/src/growths.rt"
 
 GREATEST_COUNT = 254
 INCREMENT = 0
@@ -243,6 +245,7 @@ class BlockMap:
             self.changes[self.changed(entry)] = entry.new
         self.pages: set[int] = set()
         self.mapped: Counter[int] = Counter()
+        self.addresses: set[int] = set()
         for tree in range(TREES):
             self.walk(Page(tree, sizes.height - 1, 0), sizes.root(tree))
 
@@ -275,12 +278,12 @@ class BlockMap:
         for slot in range(SLOTS_PER_PAGE):
             start = len(front) + 5 * slot
             change = self.changes.get((page, slot))
-            if change is None:
-                block = self.mapping(page, at, slot, data[start : start + 5])
-            else:
-                block = block_of(change)
+            five = data[start : start + 5] if change is None else change
+            block = self.mapping(page, at, slot, five) if change is None else block_of(change)
             if block is not None:
                 found.append((slot, block))
+            if page.level == 0 and five != mapping.unmapped():
+                self.addresses.add((page.index * TREES + page.tree) * SLOTS_PER_PAGE + slot)
         if page.level == 0:
             self.mapped.update(block for _, block in found)
             return
@@ -312,6 +315,9 @@ def stored_counts(image: Image, sizes: Geometry, window: list[Entry]) -> dict[in
             updates.add((entry.point + INCREMENT, new))
         if old is not None:
             updates.add((entry.point + DECREMENT, old))
+    points: dict[int, list[int]] = {}
+    for one, changed in sorted(updates):
+        points.setdefault(changed, []).append(one)
     counts: dict[int, int] = {}
     for slab_number in range(sizes.slabs):
         for offset in range(sizes.slab_blocks):
@@ -319,7 +325,7 @@ def stored_counts(image: Image, sizes: Geometry, window: list[Entry]) -> dict[in
             block, place, counter = slab.counter_place(offset)
             data = image.sector(sizes.reference_block(slab_number, block), place)
             commit, count = number(data, 0, 8), data[8 + counter]
-            later = sorted(one for one, changed in updates if changed == at and one > commit)
+            later = [one for one in points.get(at, []) if one > commit]
             for change in [0] + [1 if one % 2 == INCREMENT else -1 for one in later]:
                 count += change
                 if not 0 <= count <= GREATEST_COUNT:
@@ -351,6 +357,12 @@ class Found:
     window: list[Entry]
     stored: dict[int, int]
     mapped: dict[int, int]
+    addresses: set[int]
+
+    def differs(self) -> list[tuple[int, int, int]]:
+        """The blocks that are counted otherwise than they are mapped, with both numbers."""
+        both = ((at, count, self.mapped[at]) for at, count in sorted(self.stored.items()))
+        return [one for one in both if one[1] != one[2]]
 
     def space(self) -> str:
         return f"used {sum(count > 0 for count in self.stored.values())} of {len(self.stored)}\n"
@@ -365,7 +377,7 @@ def look(image: Image) -> Found:
         if found.mapped[at]:
             raise BadImage(f"shared page {at}")
     mapped = {at: found.mapped[at] + (at in found.pages) for at in stored}
-    return Found(head, window, stored, mapped)
+    return Found(head, window, stored, mapped, found.addresses)
 
 
 def audit(image: Image) -> tuple[str, int]:
@@ -374,11 +386,7 @@ def audit(image: Image) -> tuple[str, int]:
         found = look(image)
     except BadImage as why:
         return f"bad image: {why}\n", 4
-    lines = [
-        f"block {at} stored {count} mapped {found.mapped[at]}\n"
-        for at, count in sorted(found.stored.items())
-        if count != found.mapped[at]
-    ]
+    lines = [f"block {at} stored {count} mapped {mapped}\n" for at, count, mapped in found.differs()]
     if lines:
         return "".join(lines) + f"audit differs {len(lines)}\n", 6
     return "audit clean, " + found.space(), 0
@@ -433,6 +441,43 @@ def force_rebuild(image: Image) -> tuple[str, int]:
     return f"rebuilt, used {sum(count > 0 for count in mapped.values())} of {len(mapped)}\n", 0
 
 
+def layout_fault(sizes: Geometry, blocks: int) -> str | None:
+    """Why such an image can't be had, of sizes that are within their limits but for addresses and slabs."""
+    if not 1 <= sizes.slabs <= 1024:
+        return "size slabs"
+    if sizes.logical > (LOGICAL_AT_HEIGHT_2 if sizes.height == 2 else 4_000_000_000):
+        return "logical too large"
+    if sizes.needed() > blocks:
+        return f"needs {sizes.needed()} blocks, has {blocks}"
+    return None
+
+
+def grow(image: Image, logical: int, slabs: int) -> tuple[str, int]:
+    """The text of `grow`, and its status."""
+    try:
+        head = image.head()
+        if not head.clean:
+            raise BadImage("unclean")
+        found = look(image)
+        for at, stored, mapped in found.differs():
+            raise BadImage(f"block {at} stored {stored} mapped {mapped}")
+    except BadImage as why:
+        return f"bad image: {why}\n", 4
+    sizes = head.sizes
+    for name, old, new in (("logical", sizes.logical, logical), ("slabs", sizes.slabs, slabs)):
+        if new < old:
+            return f"grow: smaller {name}\n", 8
+    grown = replace(sizes, logical=logical, slabs=slabs)
+    why_not = layout_fault(grown, image.count)
+    if why_not:
+        return f"layout: {why_not}\n", 8
+    mapped_already = [address for address in found.addresses if sizes.logical <= address < logical]
+    if mapped_already:
+        return f"grow: mapped {min(mapped_already)}\n", 4
+    word = "slab" if slabs == 1 else "slabs"
+    return f"grown {grown.needed()} blocks, {slabs} {word} of {sizes.slab_blocks}, logical {logical}\n", 0
+
+
 # The images of the tests: an empty one of the default sizes, with some bytes of it changed.
 
 Patch = tuple[int, int, bytes]
@@ -449,12 +494,12 @@ def empty() -> bytearray:
     return data
 
 
-def patched(patches: tuple[Patch, ...]) -> Image:
+def patched(patches: tuple[Patch, ...], blocks: int = DEFAULT.needed()) -> Image:
     data = empty()
     for at, place, content in patches:
         start = at * BLOCK_BYTES + place
         data[start : start + len(content)] = content
-    return Image(bytes(data), DEFAULT.needed())
+    return Image(bytes(data), blocks)
 
 
 def slot(at: int, place: int, five: bytes) -> Patch:
@@ -578,11 +623,69 @@ def shared(mappings: int) -> tuple[Patch, ...]:
     return (*cases()["WRITTEN"], *(slot(85, place, mapping.at(86)) for place in range(mappings)))
 
 
+Growth = tuple[tuple[Patch, ...], int, int, int]
+
+
+def logical_size(addresses: int) -> Patch:
+    return 0, 24, addresses.to_bytes(4, "little")
+
+
+def grown_cases() -> dict[str, Growth]:
+    """Images that grow: their bytes, the blocks of the device, and the addresses and slabs that they get."""
+    written = cases()["WRITTEN"]
+    return {
+        "FRESH": ((), 223, 2000, 2),
+        "WRITTEN": (written, 223, 2000, 2),
+        "AS_LARGE": (written, 154, 1000, 1),
+        "BEFORE_THE_MAPPED": ((*written, logical_size(4)), 154, 5, 1),
+    }
+
+
+def leaf(at: int, tree: int, index: int) -> Patch:
+    """How a leaf begins, without the zeros that end it."""
+    return at, 0, map_page.page(DEFAULT.nonce, at, tree, 0, index, []).rstrip(b"\0")
+
+
+def two_leaves() -> tuple[Patch, ...]:
+    """The second leaf of tree 0, and the first of tree 1, each with zeros at its first address."""
+    zeros = bytes([mapping.MAPPED, 0, 0, 0, 0])
+    first = (9, 36, mapping.unmapped() + mapping.at(85))
+    second = slot(10, 0, mapping.at(86))
+    counters = (149, 8, bytes([1, 1]))
+    return first, leaf(85, 0, 1), slot(85, 0, zeros), second, leaf(86, 1, 0), slot(86, 0, zeros), counters, logical_size(3)
+
+
+def ungrown_cases() -> tuple[Growth, ...]:
+    images = cases()
+    written = images["WRITTEN"]
+    zeros: Patch = slot(85, 3, bytes([mapping.MAPPED, 0, 0, 0, 0]))
+    return (
+        ((), 222, 2000, 2),
+        ((), 154, 999, 1),
+        ((), 154, 999, 0),
+        ((), 154, 1000, 0),
+        ((), 154, 39_560_641, 1),
+        ((), 154, 1000, 1025),
+        (images["NOT_AN_IMAGE"], 154, 2000, 1),
+        (((0, 48, b"\0"),), 154, 999, 0),
+        (images["COUNTED_TWICE"], 223, 2000, 2),
+        ((*written, logical_size(5)), 223, 6, 2),
+        ((*written, logical_size(3), zeros), 223, 2000, 2),
+        (two_leaves(), 154, 60_000, 1),
+    )
+
+
 def literals(patches: tuple[Patch, ...], *told: tuple[str, int]) -> tuple[Literal, ...]:
     flat: list[Literal] = [part for patch in patches for part in patch]
     for text, found in told:
         flat += [text.encode(), found]
     return tuple(flat)
+
+
+def growth_literals(image: Growth) -> tuple[Literal, ...]:
+    patches, blocks, logical, slabs = image
+    told = grow(patched(patches, blocks), logical, slabs)
+    return (*literals(patches), blocks, logical, slabs, *literals((), told))
 
 
 def vectors() -> Iterator[Vector]:
@@ -601,6 +704,10 @@ def vectors() -> Iterator[Vector]:
     for patches in unrebuilt_cases():
         line, _ = force_rebuild(patched(patches))
         yield Vector(REBUILDS, "REFUSED", (*literals(patches), line.encode()))
+    for item, image in grown_cases().items():
+        yield Vector(GROWTHS, item, growth_literals(image))
+    for image in ungrown_cases():
+        yield Vector(GROWTHS, "REFUSED", growth_literals(image))
     yield Vector(REBUILDS, "AS_OFTEN_AS_CAN_BE", literals((), force_rebuild(patched(shared(254)))))
     yield Vector(REBUILDS, "TOO_OFTEN", literals((), force_rebuild(patched(shared(255)))))
 
@@ -610,12 +717,17 @@ COMMANDS = {"audit": audit, "status": status, "recover": recover, "force-rebuild
 
 def main() -> int:
     parser = argparse.ArgumentParser(description=__doc__)
-    parser.add_argument("command", choices=tuple(COMMANDS))
+    parser.add_argument("command", choices=(*COMMANDS, "grow"))
     parser.add_argument("file", type=Path)
     parser.add_argument("blocks", type=int)
+    parser.add_argument("--logical", type=int, default=1000)
+    parser.add_argument("--slabs", type=int, default=1)
     arguments = parser.parse_args()
     image = Image(arguments.file.read_bytes()[: arguments.blocks * BLOCK_BYTES], arguments.blocks)
-    text, found = COMMANDS[arguments.command](image)
+    if arguments.command == "grow":
+        text, found = grow(image, arguments.logical, arguments.slabs)
+    else:
+        text, found = COMMANDS[arguments.command](image)
     sys.stdout.write(text)
     return found
 

@@ -5,14 +5,16 @@ use Rattle.audit.specs.declared.forms.Difference.{Difference}
 use Rattle.audit.specs.declared.forms.Report.{Report}
 use Rattle.blk_base.specs.declared.geometry.Geometry.{Geometry}
 use Rattle.image_status.specs.declared.forms.ImageStatus.{ImageStatus}
-use Rattle.force_rebuild.specs.declared.forms.Forced.{Forced}
+use Rattle.grow_image.specs.declared.fault.GrowFault.TheVariants.{Image as OfImage, Layout as OfLayout, Mapped, Smaller}
 use Rattle.rebuild.specs.declared.forms.Recovered.TheVariants.{Clean, Entries}
 use Rattle.command_text.specs.declared.parts.Space.{Space}
 use Rattle.command_text.specs.declared.parts.DamagedPlace.TheVariants.{Page, Count}
 use Rattle.command_text.specs.Parts.{recovered_text, recovery_text, space_pieces, space_text, damaged_text, damage_text}
 use Rattle.command_text.specs.Rebuilt.{rebuilt_text}
-use Rattle.command_text.specs.Formats.{slabs_text, formatted_text, layout_line}
-use Rattle.image_layout.specs.declared.fault.Field.TheVariants.{SlabBlocks}
+use Rattle.command_text.specs.Formats.{slabs_text, formatted_text, grown_text, layout_line}
+use Rattle.command_text.specs.Growths.{grow_fault_line}
+use Rattle.image_layout.specs.declared.fault.Field.TheVariants.{Logical, SlabBlocks, Slabs}
+use Rattle.image_model.specs.declared.fault.ImageFault.TheVariants.{Unclean}
 use Rattle.image_layout.specs.declared.fault.LayoutFault.TheVariants.{TooSmall, LogicalTooLarge, Size, TooLargeToCrash}
 use Rattle.command_text.specs.Audits.{difference_text, verdict_text, findings_text, report_text}
 use Rattle.command_text.specs.Statuses.{mode_text, sizes_text, status_text}
@@ -120,6 +122,27 @@ rebuilt_some = simp numerals refl
 
 pub rebuilt_none : rebuilt_text (record { used = 0; total = 64 }) ≡ codes "rebuilt, used 0 of 64\n"
 rebuilt_none = simp numerals refl
+
+pub grown_more : grown_text (record { blocks = 223; slabs = 2; slab_blocks = 64; logical = 2000 }) ≡ codes "grown 223 blocks, 2 slabs of 64, logical 2000\n"
+grown_more = simp numerals refl
+
+pub grown_one : grown_text (record { blocks = 154; slabs = 1; slab_blocks = 64; logical = 1000 }) ≡ codes "grown 154 blocks, 1 slab of 64, logical 1000\n"
+grown_one = simp numerals refl
+
+pub smaller_logical : grow_fault_line (Smaller Logical) ≡ codes "grow: smaller logical\n"
+smaller_logical = refl
+
+pub smaller_slabs : grow_fault_line (Smaller Slabs) ≡ codes "grow: smaller slabs\n"
+smaller_slabs = refl
+
+pub mapped_there : grow_fault_line (Mapped (record { 0 = 1000 })) ≡ codes "grow: mapped 1000\n"
+mapped_there = simp numerals refl
+
+pub grow_unclean : grow_fault_line (OfImage Unclean) ≡ codes "bad image: unclean\n"
+grow_unclean = refl
+
+pub grow_too_large : grow_fault_line (OfLayout LogicalTooLarge) ≡ codes "layout: logical too large\n"
+grow_too_large = refl
 
 pub mode_clean : mode_text true 30 ≡ codes "mode clean\nrecovery none\n"
 mode_clean = refl

@@ -43,13 +43,17 @@ pub piece_of_runs : piece_text (piece.Runs (record { ref_ptr = (0, 0); now = 97 
 piece_of_runs = simp (numerals, append_assoc, append-nil) refl
 
 abbrev pub quiet : RunNotes
-quiet = record { recovered = None; damage = None; space = fresh }
+quiet = record { recovered = None; damage = None; space = Some fresh }
 
 abbrev pub damaged : RunNotes
-damaged = record { recovered = Some 30; damage = Some (Count (record { 0 = 86 })); space = some_used }
+damaged = record { recovered = Some 30; damage = Some (Count (record { 0 = 86 })); space = Some some_used }
 
 pub ending_quiet : ending_text quiet ≡ codes "used 0 of 64\n"
 ending_quiet = simp numerals refl
+
+-- where the space isn't known, the damage alone
+pub ending_unknown : ending_text (record damaged { space = None }) ≡ codes "damage: count 86\n"
+ending_unknown = simp numerals refl
 
 pub ending_damaged : ending_text damaged ≡ codes "damage: count 86\nused 2 of 64\n"
 ending_damaged = simp numerals refl

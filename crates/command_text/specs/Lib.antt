@@ -4,6 +4,7 @@ pub mod Formats
 pub mod Faults
 pub mod Audits
 pub mod Rebuilt
+pub mod Growths
 pub mod Statuses
 pub mod Runs
 pub mod Tallies

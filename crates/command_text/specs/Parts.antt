@@ -26,6 +26,11 @@ space_pieces space = codes "used " ∷ decimal space.used ∷ codes " of " ∷ d
 abbrev pub space_text : Space → List ℕ
 space_text space = concat (space_pieces space)
 
+-- the same, where it is known
+abbrev pub known_text : Option Space → List ℕ
+known_text (Some space) = space_text space
+known_text None = []
+
 -- `damage: `, a word, and a block
 abbrev pub damaged_text : List ℕ → Pbn → List ℕ
 damaged_text place at = concat (codes "damage: " ∷ place ∷ decimal at.0 ∷ codes "\n" ∷ [])

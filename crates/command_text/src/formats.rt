@@ -7,7 +7,7 @@ use blk_base::Layout;
 use disk_model::{Failed, Sink};
 
 // Only slabs are counted in words: `recovered 1 entries` and `index 1 chapters` stand as they are.
-fn slabs_word(slabs: u32) -> &'static [u8]
+pub(crate) fn slabs_word(slabs: u32) -> &'static [u8]
     ensures { result.now ≡ slabs_text slabs }
 {
     if slabs == 1 {

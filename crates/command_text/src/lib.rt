@@ -3,13 +3,14 @@
 //! Only tested: a table of texts.
 //!
 //! Not there: a command that prints `run`, `crash`, `workload` or `sectors` by these texts: the program prints what
-//! `format`, `recover`, `force-rebuild`, `audit` and `status` do, and why there is no image.
+//! `format`, `recover`, `force-rebuild`, `grow`, `audit` and `status` do, and why there is no image.
 #![tactic(auto)]
 
 mod audits;
 mod crashes;
 mod faults;
 mod formats;
+mod grown;
 mod layouts;
 mod parts;
 mod pieces;
@@ -24,8 +25,9 @@ pub use audits::put_audit;
 pub use crashes::{AddressValue, Crash, CrashStop, put_crash, put_crash_stop};
 pub use faults::put_image_fault;
 pub use formats::put_formatted;
+pub use grown::{put_grow_fault, put_grown};
 pub use layouts::put_layout_fault;
-pub use parts::{DamagedPlace, Space, put_recovery};
+pub use parts::{DamagedPlace, Space, put_recovered, put_recovery};
 pub use pieces::{Line, Piece, put_lines};
 pub use rebuilt::put_rebuilt;
 pub use runs::{RunNotes, put_run};

@@ -1,5 +1,5 @@
 ghost use Rattle.disk_model.specs.Streams.{Puts};
-ghost use Rattle.command_text.specs.Parts.{recovery_text, recovered_text, space_text, damaged_text, damage_text};
+ghost use Rattle.command_text.specs.Parts.{recovery_text, recovered_text, space_text, known_text, damaged_text, damage_text};
 
 use crate::pieces::{Line, Piece, put_lines};
 use blk_base::Pbn;
@@ -40,8 +40,9 @@ impl Line for Recovered {
     }
 }
 
-/// Puts `recovered 30 entries`, and nothing where nothing was recovered.
-pub(crate) fn put_recovered<K: Sink>(entries: Option<u32>, out: &mut K) -> Result<(), Failed>
+/// Puts `recovered 30 entries`, and nothing where nothing was recovered. It fails where the sink fails; then a first part
+/// of the line was put.
+pub fn put_recovered<K: Sink>(entries: Option<u32>, out: &mut K) -> Result<(), Failed>
     ensures { Puts K.tells (recovered_text entries) (K.seen out.old) (K.seen out.new) result }
 {
     match entries {
@@ -71,6 +72,16 @@ pub(crate) fn put_space<K: Sink>(space: Space, out: &mut K) -> Result<(), Failed
         ],
         out,
     )
+}
+
+/// Puts `used 2 of 64`, and nothing where that isn't known.
+pub(crate) fn put_known<K: Sink>(space: Option<Space>, out: &mut K) -> Result<(), Failed>
+    ensures { Puts K.tells (known_text space) (K.seen out.old) (K.seen out.new) result }
+{
+    match space {
+        Some(known) => put_space(known, out),
+        None => Ok(()),
+    }
 }
 
 fn put_damaged<K: Sink>(place: &[u8], at: Pbn, out: &mut K) -> Result<(), Failed>

@@ -1,25 +1,21 @@
 -- What can be rebuilt isn't refused.
-use Rattle.std.proofs.Common.{◌≡◌, ◌⊎◌, ◌+◌, ◌<◌, ◌^◌, Bool, List, IsNone, IsSome, Option, Some, None, Ok, refl, sym, ◌∙◌, ap, ap₂, subst, inl, inr, arith}
+use Rattle.std.proofs.Common.{◌≡◌, ◌⊎◌, ◌+◌, ◌<◌, ◌^◌, Bool, List, Ok, refl, sym, ◌∙◌, ap, ap₂, subst, inl, inr, arith}
 use Rattle.blk_base.specs.declared.geometry.Super.{Super as Superblock}
 use Rattle.blk_base.specs.declared.journal_entry.CommittedEntry.{CommittedEntry}
-use Rattle.blk_base.specs.declared.place.Mapping.{Mapping}
-use Rattle.blk_base.specs.declared.place.PageId.{PageId}
 use Rattle.blk_base.specs.declared.place.Pbn.{Pbn}
-use Rattle.disk_model.specs.Log.{Blocks, block_at}
+use Rattle.disk_model.specs.Log.{Blocks}
 use Rattle.disk_model.specs.Seen.{Seen}
 use Rattle.image_layout.specs.Values.{journal_of}
 use Rattle.image_model.proofs.CountLaws.{one_number}
 use Rattle.image_model.proofs.WindowLaws.{not_both, one_last}
 use Rattle.image_model.specs.Counts.{HasMappings, block_of_data}
-use Rattle.image_model.specs.Faults.{HasFault, IsPageFault, IsShareFault}
-use Rattle.image_model.specs.Maps.{Image, IsGoodPage, head_of, put_last}
+use Rattle.image_model.specs.Faults.{IsPageFault, IsShareFault}
+use Rattle.image_model.specs.Maps.{Image}
 use Rattle.image_model.specs.Sound.{IsSound, image_of}
 use Rattle.image_model.specs.Windows.{IsFaulty, IsLast}
 use Rattle.image_model.specs.declared.fault.ImageFault.{ImageFault}
 use Rattle.image_model.specs.declared.fault.ImageFault.TheVariants.{Super, Window, Page, Counter, SharedPage, Counts, Device, Unclean, Memory}
-use Rattle.page_codec.proofs.ReadLaws.{no_slot_fault}
-use Rattle.page_codec.specs.Grammar.{IsSlotFault}
-use Rattle.page_codec.specs.declared.fault.PageFault.{PageFault}
+use Rattle.image_model.proofs.FaultLaws.{no_page_fault}
 use Rattle.rebuild.specs.Recoveries.{IsTold}
 use Rattle.recovery_laws.proofs.CountsKept.{stored_fits}
 use Rattle.force_rebuild.proofs.ForceLaws.{windows_alike}
@@ -27,20 +23,6 @@ use Rattle.force_rebuild.specs.Counted.{IsUncountable}
 use Rattle.force_rebuild.specs.Forcing.{HasRebuiltImage, HasWindow, IsForcing, IsRefusal, IsToRebuild, IsUsedUp}
 use Rattle.force_rebuild.specs.Rebuildable.{IsRebuildable, rebuildable_image}
 use Rattle.force_rebuild.specs.declared.forms.Forced.{Forced}
-
-no_both : (o : Option Mapping) → IsSome o → IsNone o → ⊥
-no_both (Some m) some none = absurd (cc none)
-no_both None some none = absurd (cc some)
-
--- a page that can be read has no fault
-no_page_fault : (image : Image) (page : PageId) (at : Pbn) (fault : PageFault) → IsGoodPage image page at → HasFault image page at fault → ⊥
-no_page_fault image page at fault good has = elim (good.slots has.slot has.inside) [
-  | inr mapped ↦ no_slot_fault (head_of image page at) (block_at image.blocks at.0) has.slot mapped.0 fault mapped.1 has.of_slot
-  | inl some ↦ elim has.own [
-    | inr none ↦ no_both (put_last image.window page has.slot) some none
-    | inl header ↦ subst (λ (f : PageFault). IsSlotFault (head_of image page at) (block_at image.blocks at.0) has.slot f) header has.of_slot good.headed
-  ]
-]
 
 module _ (blocks : Blocks) (is : IsRebuildable blocks) where
   abbrev here : Image

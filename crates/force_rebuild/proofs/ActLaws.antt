@@ -13,7 +13,7 @@ use Rattle.image_format.proofs.FormatLaws.{last_failed}
 use Rattle.image_format.specs.Calls.{put}
 use Rattle.image_format.specs.Runs.{as_failed, Makes}
 use Rattle.image_model.specs.Maps.{Image}
-use Rattle.rebuild.proofs.ActLaws.{failed_grows, grows_on, made_grows}
+use Rattle.rebuild.proofs.ActLaws.{failed_grows, grows_on, made_grows, one_of_one}
 use Rattle.rebuild.proofs.FailLaws.{failed_behind, failed_on, on_err, read_is_last}
 use Rattle.rebuild.specs.Acts.{Grows}
 use Rattle.force_rebuild.specs.Acts.{Acts, AreMade, IsStart, Stopped, Went, Writes, image_at}
@@ -110,11 +110,6 @@ still_failed tells honest before now N D D' fault (Ok _) is acts = absurd (cc is
 still_failed tells honest before now N D D' fault (Err _) is acts = record { stays = acts.stays; later = acts.later; grows = acts.grows; failed = acts.failed; writes = acts.writes }
 
 -- A block is read, and then written.
-
-one_of_one : (one : Call) (newer done : List Call) (call : Call) → one ∷ [] ≡ newer ++ (call ∷ done) → (call ≡ one) × (done ≡ [])
-one_of_one one [] done call is = (cc is, cc is)
-one_of_one one (other ∷ []) done call is = absurd (cc is)
-one_of_one one (other ∷ another ∷ newer) done call is = absurd (cc is)
 
 pub read_failed : (tells honest : Bool) (before now : Seen) (at : Pbn) (N : Image → Type 0) → NextFailed tells honest at.0 before now [] → Stopped tells honest before now N
 read_failed tells honest before now at N failed = λ first blocks start calls made has.

@@ -10,7 +10,7 @@ use Rattle.disk_model.specs.declared.call.Call.{Call}
 use Rattle.disk_model.specs.declared.call.Call.TheVariants.{Read, Write, Flush}
 use Rattle.disk_model.specs.Log.{Blocks, IsWritten, block_at, settled, Misses}
 use Rattle.disk_model.proofs.ImageLaws.{settled-misses}
-use Rattle.image_format.proofs.StopLaws.{all_append}
+use Rattle.image_format.proofs.StopLaws.{all_append, written_front, written_back}
 use Rattle.image_model.specs.Maps.{Image, page_at, put_last}
 use Rattle.plain_laws.proofs.OptionLaws.{option_cases}
 use Rattle.recovery_laws.specs.Calls.{IsPagePut}
@@ -20,7 +20,7 @@ use Rattle.recovery_laws.proofs.OldLaws.{no_page_there, own_slot}
 use Rattle.recovery_laws.proofs.PageIdLaws.{one_page}
 use Rattle.recovery_laws.proofs.PutLaws.{full_is_part}
 use Rattle.recovery_laws.proofs.WindowFacts.{IsKnown}
-use Rattle.force_rebuild.proofs.SlabLaws.{IsSlabCall, IsSlabPut, slabs_right, slabs_written, written_back, written_front}
+use Rattle.force_rebuild.proofs.SlabLaws.{IsSlabCall, IsSlabPut, slabs_right, slabs_written}
 use Rattle.force_rebuild.proofs.SoundLaws.{here, known, sizes}
 use Rattle.force_rebuild.specs.Calls.{ArePagePuts, IsPageCall, slabs_below}
 use Rattle.force_rebuild.specs.Kept.{IsSlabBlock, IsSlabPlace}

@@ -1,14 +1,13 @@
 -- The calls that write the slabs: each writes what is to stand at its place, and each place is written.
-use Rattle.std.proofs.Common.{ℕ, zero, suc, ◌≡◌, ◌+◌, ◌<◌, ◌≤◌, true, false, List, [], ◌∷◌, ◌++◌, length, refl, subst, inl, inr, arith}
+use Rattle.std.proofs.Common.{ℕ, ◌≡◌, ◌+◌, ◌<◌, ◌≤◌, true, false, List, [], ◌∷◌, length, refl, inl, arith}
 use Rattle.std.specs.List.{AllByRecursion}
-use Rattle.std.proofs.lemmas.Bool.{cases_lt}
 use Rattle.blk_base.specs.Regions.{Place, Superblock, JournalSlot, Root, IndexBlock, DataBlock, ReferenceBlock, SlabJournalSlot, IsPlace, block_of, references_of}
 use Rattle.blk_base.specs.Sectors.{zero_block}
 use Rattle.blk_base.specs.declared.geometry.Geometry.{Geometry}
 use Rattle.disk_model.specs.declared.call.Call.{Call}
 use Rattle.disk_model.specs.declared.call.Call.TheVariants.{Read, Write, Flush}
-use Rattle.image_format.specs.Calls.{calls_below, put, zeros_from}
-use Rattle.image_format.proofs.StopLaws.{all_append, zero_size}
+use Rattle.image_format.specs.Calls.{put, zeros_from}
+use Rattle.image_format.proofs.StopLaws.{all_append, zero_size, written_front, written_back, written_below, all_below}
 use Rattle.disk_model.specs.Log.{IsWritten}
 use Rattle.force_rebuild.proofs.CounterLaws.{length-counted}
 use Rattle.force_rebuild.specs.Calls.{counters_below, slab_calls, slabs_below}
@@ -16,33 +15,6 @@ use Rattle.force_rebuild.specs.Kept.{IsSlabPlace}
 use Rattle.force_rebuild.specs.Written.{counted_block, counters_of_slab, slab_block}
 
 -- Calls for each number below n.
-
-all_below : (P : Call → Type 0) (f : ℕ → List Call) (n : ℕ) → ((i : ℕ) → i < n → AllByRecursion P (f i)) → AllByRecursion P (calls_below f n)
-all_below P f zero each = tt
-all_below P f (suc n) each = all_append P (f n) (calls_below f n) (each n (omega arith)) (all_below P f n (λ i below. each i (omega (arith, below))))
-
--- what is written stays written
-pub written_front : (xs ys : List Call) (b : ℕ) → IsWritten xs b → IsWritten (xs ++ ys) b
-written_front [] ys b is = absurd is
-written_front (Write at bytes ok ∷ xs) ys b (inl same) = inl same
-written_front (Write at bytes ok ∷ xs) ys b (inr later) = inr (written_front xs ys b later)
-written_front (Read _ _ _ ∷ xs) ys b is = written_front xs ys b is
-written_front (Flush _ ∷ xs) ys b is = written_front xs ys b is
-
-pub written_back : (xs ys : List Call) (b : ℕ) → IsWritten ys b → IsWritten (xs ++ ys) b
-written_back [] ys b is = is
-written_back (Write at bytes ok ∷ xs) ys b is = inr (written_back xs ys b is)
-written_back (Read _ _ _ ∷ xs) ys b is = written_back xs ys b is
-written_back (Flush _ ∷ xs) ys b is = written_back xs ys b is
-
-written_below : (f : ℕ → List Call) (n i b : ℕ) → i < n → IsWritten (f i) b → IsWritten (calls_below f n) b
-written_below f zero i b below is = absurd (omega (arith, below))
-written_below f (suc n) i b below is = elim (cases_lt i n) [
-  | inl less ↦ written_back (f n) (calls_below f n) b (written_below f n i b less is)
-  | inr not_less ↦
-      let same : i ≡ n = omega (arith, below, not_less) in
-      written_front (f n) (calls_below f n) b (subst (λ (k : ℕ). IsWritten (f k) b) same is)
-]
 
 module _ (g : Geometry) (commit : ℕ) (counters : List ℕ) where
   -- a write of what is to stand at a place of a slab

@@ -1,22 +1,63 @@
 ghost use Rattle.std.specs.Prelude.{◌≡◌, ◌<◌, ◌≤◌, ◌^◌, All, IfErr, IfOk, OnOk, length};
 ghost use Rattle.blk_base.specs.Counters.{limit_of};
+ghost use Rattle.blk_base.specs.Limits.{IsGeometry};
+ghost use Rattle.blk_base.specs.Regions.{needed_blocks};
 ghost use Rattle.count_updates.specs.Numbers.{all_blocks};
+ghost use Rattle.disk_model.specs.Log.{Blocks};
+ghost use Rattle.disk_model.specs.Since.{IsUntouched};
+ghost use Rattle.journal_window.specs.Windows.{IsWindowOf};
+ghost use Rattle.replay_map.specs.Forms.{HasForm};
+ghost use Rattle.replay_map.specs.Replayed.{IsMapRead};
 ghost use Rattle.audit.specs.Tallies.{used_in};
 ghost use Rattle.force_rebuild.specs.Counted.{AreCounters, CountersFail, IsFaultOf, IsLimitFault};
+ghost use Rattle.force_rebuild.specs.Forcing.{CountingFails};
 
 use audit::tally;
-use blk_base::Layout;
+use blk_base::{Layout, Super};
+use disk_model::Disk;
 use image_model::ImageFault;
-use replay_map::RecoveredMap;
+use journal_window::JournalWindow;
+use replay_map::{RecoveredMap, replay_with};
 use std::alloc::{AllocError, Global};
+
+/// A block map, and how often it maps each data block.
+#[derive(Drop)]
+pub(crate) struct CountedMap {
+    pub(crate) map: RecoveredMap,
+    pub(crate) counters: Vec<u8>,
+}
+
+// The block map behind a window, and its counters: these are counted from the map, and no counters or journal of a slab is
+// read.
+pub(crate) fn count_map<D: Disk>(
+    alloc: Global,
+    head: &Super,
+    window: &JournalWindow,
+    device: &mut D,
+) -> Result<CountedMap, ImageFault>
+    requires sizes { IsGeometry head.now.geometry }
+    requires room { needed_blocks head.now.geometry ≤ (D.seen device.old).size }
+    requires window { (journal : Blocks) × IsWindowOf head.now journal window.now }
+    ensures counters { IfOk result (λ counted.
+        AreCounters head.now.geometry counted.map counted.counters.items) }
+    ensures map { IfOk result (λ counted.
+        IsMapRead D.tells D.honest head.now.geometry window.now (D.seen device.old)
+        (D.seen device.new) counted.map) }
+    ensures form { IfOk result (λ counted.
+        HasForm head.now.geometry counted.map.links.items counted.map.slots.items) }
+    ensures fault { IfErr result
+        (CountingFails D.tells D.honest head.now.geometry window.now.entries (D.seen device.old)
+        (D.seen device.new)) }
+    ensures untouched { IsUntouched D.tells (D.seen device.old) (D.seen device.new) }
+{
+    let map = replay_with(alloc, head, window, device)?;
+    let counters = counters_of(alloc, &Layout::of(&head.geometry), &map)?;
+    Ok(CountedMap { map, counters })
+}
 
 // How often each data block is mapped, slab after slab, as counters. Refuses the least one that is mapped more often than a
 // counter can say.
-pub(crate) fn counters_of(
-    alloc: Global,
-    layout: &Layout,
-    map: &RecoveredMap,
-) -> Result<Vec<u8>, ImageFault>
+fn counters_of(alloc: Global, layout: &Layout, map: &RecoveredMap) -> Result<Vec<u8>, ImageFault>
     ensures counters { IfOk result (λ counters.
         AreCounters layout.now.geometry map.now counters.items) }
     ensures refused { IfErr result (CountersFail layout.now.geometry map.now) }

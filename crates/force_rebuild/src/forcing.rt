@@ -9,16 +9,16 @@ ghost use Rattle.force_rebuild.specs.Forcing.{ForcesUnclosed, IsForcing, unclose
 ghost use Rattle.force_rebuild.specs.Outcomes.{HasContents, WritesAll};
 
 use crate::Forced;
-use crate::counting::{count_used, counters_of};
+use crate::counting::{count_map, count_used};
 use crate::pages::put_pages;
 use crate::slabs::put_slabs;
 use blk_base::{Layout, Super};
 use disk_model::{Disk, Failed};
+use image_format::calls::close;
 use image_model::ImageFault;
 use image_opening::read_head;
 use journal_window::read_window;
-use rebuild::calls::close;
-use replay_map::{Changes, RecoveredMap, replay_with};
+use replay_map::{Changes, RecoveredMap};
 use std::alloc::Global;
 
 /// Sets the counts of the image on a device from its block map, whatever its counters and its slabs' journals hold, and closes
@@ -82,14 +82,21 @@ fn force_unclosed<D: Disk>(
     let Ok(changes) = Changes::of(alloc, window.entries()) else {
         return Err(ImageFault::Memory);
     };
-    let map = replay_with(alloc, head, &window, device)?;
+    let counted = count_map(alloc, head, &window, device)?;
     let layout = Layout::of(&head.geometry);
-    let counters = counters_of(alloc, &layout, &map)?;
-    let Ok(()) = write_image(device, &layout, window.last(), &changes, &map, &counters) else {
+    let counters = &counted.counters;
+    let Ok(()) = write_image(
+        device,
+        &layout,
+        window.last(),
+        &changes,
+        &counted.map,
+        counters,
+    ) else {
         return Err(ImageFault::Device);
     };
     Ok(Forced {
-        used: count_used(&counters),
+        used: count_used(counters),
         total: layout.geometry.slabs * layout.geometry.slab_blocks,
     })
 }
@@ -128,5 +135,5 @@ fn write_counted<D: Disk>(
         (closing_calls layout.now.geometry last counters.now) result }
 {
     put_slabs(device, layout, last, counters)?;
-    close(device, &layout.geometry, last)
+    close(device, &layout.geometry, last + 2)
 }

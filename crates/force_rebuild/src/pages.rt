@@ -6,7 +6,7 @@ ghost use Rattle.force_rebuild.specs.Acts.{Acts};
 
 use blk_base::{Layout, TREES};
 use disk_model::{Disk, Failed, read_block};
-use rebuild::calls::put;
+use image_format::calls::put;
 use recovery_blocks::{has_changes, put_changes};
 use replay_map::{Changes, Link};
 

@@ -8,7 +8,7 @@ ghost use Rattle.force_rebuild.specs.Written.{commit_behind, counted_block, coun
 
 use blk_base::{Block, Half, Layout, Point, SECTOR_COUNTERS};
 use disk_model::{Disk, Failed};
-use rebuild::calls::put;
+use image_format::calls::put;
 use slab_codec::{ReferenceBlock, ReferenceSector, encode_reference, sector_counters};
 
 /// How many sectors a block has.

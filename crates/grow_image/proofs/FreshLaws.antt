@@ -1,6 +1,6 @@
 -- The addresses that an image doesn't have yet: the window puts nothing into their slots, so that the blocks of the leaves tell
 -- by themselves whether they are mapped.
-use Rattle.std.proofs.Common.{ℕ, ◌≡◌, ◌<◌, ◌≤◌, List, [], ◌∷◌, All, Option, Some, None, IsSome, refl, sym, ◌∙◌, ap, subst, inl, inr, arith}
+use Rattle.std.proofs.Common.{ℕ, ◌≡◌, ◌<◌, ◌≤◌, List, [], ◌∷◌, All, Option, Some, None, refl, sym, ◌∙◌, ap, subst, inl, inr, arith}
 use Rattle.std.proofs.Math.Nat.{mod-lt}
 use Rattle.std.proofs.lemmas.Bool.Decides.{eqb_tells}
 use Rattle.std.proofs.lemmas.List.Elements.{All-head, All-tail}
@@ -25,7 +25,7 @@ use Rattle.image_model.specs.Windows.{IsOfImage}
 use Rattle.page_codec.proofs.ReadLaws.{no_slot_fault}
 use Rattle.page_codec.specs.Grammar.{IsSlot, IsSlotFault}
 use Rattle.page_codec.specs.declared.fault.PageFault.{PageFault}
-use Rattle.recovery_laws.proofs.OldLaws.{says_own}
+use Rattle.recovery_laws.proofs.OldLaws.{says_own, no_some}
 use Rattle.recovery_laws.proofs.WindowFacts.{IsKnown}
 use Rattle.replay_map.proofs.FormLaws.{target_at}
 use Rattle.replay_map.proofs.LinkedLaws.{above_linked, below_at}
@@ -63,10 +63,6 @@ put_none g last [] address known behind = refl
 put_none g last (committed ∷ older) address known behind =
     rw (put_by_none g committed.entry address (All-head (IsKnown g last) committed older known).of_image behind)
     (put_none g last older address (All-tail (IsKnown g last) committed older known) behind)
-
-no_some : (o : Option Mapping) → o ≡ None → IsSome o → ⊥
-no_some (Some m) none some = absurd (cc none)
-no_some None none some = absurd (cc some)
 
 -- In an image.
 

@@ -1,10 +1,9 @@
 -- An image whose new slabs are empty, and whose old blocks are what they were, is sound with more addresses and slabs, and says as
 -- much; also where there are no more of them, so that only blocks behind the image are others.
-use Rattle.std.proofs.Common.{ℕ, zero, suc, ◌≡◌, ◌+◌, ◌-◌, ◌*◌, ◌/◌, ◌%◌, ◌<◌, ◌≤◌, min, Bool, true, false, IsTrue, List, [], length, take, drop, get_or, Contains, replicate, All, Some, Ok, refl, sym, ◌∙◌, ap, ap₂, subst, inl, inr, arith, length-drop, length-take}
+use Rattle.std.proofs.Common.{ℕ, zero, suc, ◌≡◌, ◌+◌, ◌-◌, ◌*◌, ◌/◌, ◌%◌, ◌<◌, ◌≤◌, Bool, true, false, IsTrue, List, [], length, take, get_or, Contains, All, Some, Ok, refl, sym, ◌∙◌, ap, ap₂, subst, inl, inr, arith}
 use Rattle.std.proofs.Math.Nat.{mod-lt}
 use Rattle.std.proofs.lemmas.Bool.{cases_lt}
 use Rattle.std.proofs.lemmas.Bool.Decides.{eqb_tells}
-use Rattle.std.proofs.lemmas.List.{drop-replicate, ext_get_or, get_or-drop, get_or-take}
 use Rattle.blk_base.specs.Counters.{counters_per_sector, limit_of, sector_of_offset}
 use Rattle.blk_base.specs.Regions.{JournalSlot, Root, DataBlock, ReferenceBlock, SlabJournalSlot, IsDataBlock, block_of, references_of}
 use Rattle.blk_base.specs.Sectors.{sector, zero_block}
@@ -19,7 +18,6 @@ use Rattle.blk_base.specs.declared.place.PageId.{PageId}
 use Rattle.blk_base.specs.declared.place.Pbn.{Pbn}
 use Rattle.blk_base.specs.declared.sizes.TheConstants.{PAGE_SLOTS}
 use Rattle.byte_fields.specs.Fields.{number_at}
-use Rattle.byte_fields.proofs.FieldLaws.{number_at-drop}
 use Rattle.disk_model.specs.Log.{Blocks, block_at}
 use Rattle.image_layout.specs.Opened.{super_of_image}
 use Rattle.image_layout.specs.Values.{journal_of}
@@ -32,6 +30,8 @@ use Rattle.image_model.specs.Maps.{Image, ArePagesGood, IsReadable, IsTreePage, 
 use Rattle.image_model.specs.Pages.{address_count}
 use Rattle.image_model.specs.Sound.{IsClosed, IsDataPlace, IsOfItsTime, IsSound}
 use Rattle.image_model.specs.Windows.{IsThere, IsWindow}
+use Rattle.image_model.proofs.EmptyLaws.{zero_counter}
+use Rattle.image_model.proofs.JournalLaws.{journals_alike}
 use Rattle.journal_codec.specs.Grammar.{IsSector}
 use Rattle.page_codec.specs.Grammar.{HasHead, HoldsMapping, IsSlot}
 use Rattle.page_codec.specs.Spelling.{head_bytes}
@@ -43,6 +43,7 @@ use Rattle.recovery_laws.proofs.SameMapLaws.{same_mapping, same_page}
 use Rattle.recovery_laws.proofs.SoundLaws.{known}
 use Rattle.recovery_laws.proofs.WindowFacts.{IsKnown}
 use Rattle.recovery_laws.specs.Kept.{image_in}
+use Rattle.recovery_laws.proofs.StillLaws.{value_alike}
 use Rattle.slab_codec.specs.Grammar.{IsSlabSector}
 use Rattle.slab_codec.specs.declared.forms.SlabEntry.{SlabEntry}
 use Rattle.grow_image.proofs.SizeLaws.{count_as, mapping_as, page_as}
@@ -50,17 +51,6 @@ use Rattle.grow_image.specs.Kept.{AreNewEmpty, AreOldKept, IsGrown, SayAsMuch}
 use Rattle.grow_image.specs.Sizes.{IsMore, grown_sizes, grown_super}
 
 -- Zeros.
-
-zero_first : (n : ℕ) → number_at 1 0 (replicate n 0) ≡ 0
-unfolding number_at
-zero_first zero = refl
-zero_first (suc n) = refl
-
-zero_counter : (at : ℕ) → number_at 1 at (replicate 512 0) ≡ 0
-zero_counter at =
-    let place : at ≡ at + 0 = omega arith in
-    ap (λ (k : ℕ). number_at 1 k (replicate 512 0)) place ∙ sym (number_at-drop 1 0 at (replicate 512 0))
-    ∙ ap (number_at 1 0) (drop-replicate at 512 0) ∙ zero_first (512 - at)
 
 -- A block to which no mapping leads has none.
 
@@ -73,12 +63,6 @@ none_below : (mappings : ℕ → Mapping) (block : Pbn) (n : ℕ) → ((address 
 unfolding mapped_below
 none_below mappings block zero none = refl
 none_below mappings block (suc n) none = ap₂ (λ (b : Bool) (k : ℕ). bit b + k) (none n) (none_below mappings block n none)
-
-value_alike : (blocks blocks' : Blocks) (mapping : Mapping) → ((block : Pbn) → mapping ≡ At block → block_at blocks' block.0 ≡ block_at blocks block.0)
-    → value_with blocks' mapping ≡ value_with blocks mapping
-value_alike blocks blocks' Unmapped same = refl
-value_alike blocks blocks' Zero same = refl
-value_alike blocks blocks' (At block) same = same block refl
 
 module _ (base now : Blocks) (sound : IsSound base) (clean : sound.head.clean ≡ true) (logical slabs : ℕ) (more : IsMore sound.head.geometry logical slabs)
     (size : length now ≡ length base) (kept : AreOldKept (image_in base sound) now) (empty : AreNewEmpty (image_in base sound) logical slabs now)
@@ -336,17 +320,7 @@ module _ (base now : Blocks) (sound : IsSound base) (clean : sound.head.clean �
       kept (1 + slot) (omega arith) (omega (arith, within)) (looked_place g (JournalSlot slot) is tt)
 
   journal_same : journal_of g now ≡ journal_of g base
-  journal_same =
-      let long = length-take g.journal (drop 1 now) in
-      let long_too = length-take g.journal (drop 1 base) in
-      let front = length-drop 1 now in
-      let front_too = length-drop 1 base in
-      ext_get_or zero_block (journal_of g now) (journal_of g base)
-      (long ∙ ap (min g.journal) (front ∙ ap (λ (n : ℕ). n - 1) size ∙ sym front_too) ∙ sym long_too)
-      (λ i below.
-      let slot : i < g.journal = omega (arith, below, long) in
-      get_or-take g.journal (drop 1 now) i zero_block slot ∙ get_or-drop 1 now i zero_block
-      ∙ journal_slot_same i slot ∙ sym (get_or-take g.journal (drop 1 base) i zero_block slot ∙ get_or-drop 1 base i zero_block))
+  journal_same = journals_alike g base now size journal_slot_same
 
   sectors_before : (slot number sequence head : ℕ) (entries : List Entry) → IsSector g.nonce number (sector number (get_or (journal_of g now) slot zero_block)) sequence head entries
       → IsSector g.nonce number (sector number (get_or (journal_of g base) slot zero_block)) sequence head entries

@@ -1,6 +1,6 @@
 -- The calls that write the new slabs: each writes zeros where a new slab's counters or journal stand, behind all that there was,
 -- and each of these places is written.
-use Rattle.std.proofs.Common.{ℕ, zero, suc, ◌≡◌, ◌+◌, ◌-◌, ◌<◌, ◌≤◌, true, false, List, [], ◌∷◌, ◌++◌, refl, sym, ◌∙◌, subst, inl, inr, arith}
+use Rattle.std.proofs.Common.{ℕ, ◌≡◌, ◌+◌, ◌-◌, ◌<◌, ◌≤◌, true, false, List, [], ◌∷◌, refl, sym, ◌∙◌, subst, inl, inr, arith}
 use Rattle.std.specs.List.{AllByRecursion}
 use Rattle.std.proofs.Math.Nat.{mul-le-mul_right}
 use Rattle.std.proofs.lemmas.Bool.{cases_lt}
@@ -12,36 +12,10 @@ use Rattle.disk_model.specs.declared.call.Call.TheVariants.{Read, Write, Flush}
 use Rattle.disk_model.specs.Log.{Blocks, IsWritten, Misses, block_at, settled}
 use Rattle.disk_model.proofs.ImageLaws.{settled-misses}
 use Rattle.image_format.specs.Calls.{calls_below, put, slab_calls, zeros_from}
-use Rattle.image_format.proofs.StopLaws.{all_append}
+use Rattle.image_format.proofs.StopLaws.{written_below, all_below}
 use Rattle.recovery_laws.proofs.ContentLaws.{AllTaken, Puts, missed, settled_are, written_or_not}
 use Rattle.grow_image.specs.Calls.{new_slabs}
 use Rattle.grow_image.specs.Sizes.{IsNewPlace, grown_sizes}
-
-all_below : (P : Call → Type 0) (f : ℕ → List Call) (n : ℕ) → ((i : ℕ) → i < n → AllByRecursion P (f i)) → AllByRecursion P (calls_below f n)
-all_below P f zero each = tt
-all_below P f (suc n) each = all_append P (f n) (calls_below f n) (each n (omega arith)) (all_below P f n (λ i below. each i (omega (arith, below))))
-
-written_front : (xs ys : List Call) (b : ℕ) → IsWritten xs b → IsWritten (xs ++ ys) b
-written_front [] ys b is = absurd is
-written_front (Write at bytes ok ∷ xs) ys b (inl same) = inl same
-written_front (Write at bytes ok ∷ xs) ys b (inr later) = inr (written_front xs ys b later)
-written_front (Read _ _ _ ∷ xs) ys b is = written_front xs ys b is
-written_front (Flush _ ∷ xs) ys b is = written_front xs ys b is
-
-written_back : (xs ys : List Call) (b : ℕ) → IsWritten ys b → IsWritten (xs ++ ys) b
-written_back [] ys b is = is
-written_back (Write at bytes ok ∷ xs) ys b is = inr (written_back xs ys b is)
-written_back (Read _ _ _ ∷ xs) ys b is = written_back xs ys b is
-written_back (Flush _ ∷ xs) ys b is = written_back xs ys b is
-
-written_below : (f : ℕ → List Call) (n i b : ℕ) → i < n → IsWritten (f i) b → IsWritten (calls_below f n) b
-written_below f zero i b below is = absurd (omega (arith, below))
-written_below f (suc n) i b below is = elim (cases_lt i n) [
-  | inl less ↦ written_back (f n) (calls_below f n) b (written_below f n i b less is)
-  | inr not_less ↦
-      let same : i ≡ n = omega (arith, below, not_less) in
-      written_front (f n) (calls_below f n) b (subst (λ (k : ℕ). IsWritten (f k) b) same is)
-]
 
 module _ (g : Geometry) (logical slabs : ℕ) where
   abbrev g' : Geometry

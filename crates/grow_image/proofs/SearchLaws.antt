@@ -19,10 +19,10 @@ use Rattle.image_model.specs.declared.fault.ImageFault.TheVariants.{Super, Windo
 use Rattle.page_codec.specs.Grammar.{IsSlot, IsSlotFault}
 use Rattle.page_codec.specs.declared.fault.PageFault.{PageFault}
 use Rattle.page_codec.specs.declared.forms.PageHead.{PageHead}
-use Rattle.replay_map.proofs.ReadLaws.{blocks_on}
+use Rattle.replay_map.proofs.ReadLaws.{blocks_on, newer_shown, older_shown}
 use Rattle.replay_map.proofs.ShareLaws.{grown}
 use Rattle.replay_map.proofs.TakenLaws.{only_one}
-use Rattle.replay_map.specs.Reads.{IsPageBlock, ReadFails, Reading, Shows}
+use Rattle.replay_map.specs.Reads.{IsPageBlock, ReadFails}
 use Rattle.replay_map.specs.declared.links.Link.{Link}
 use Rattle.grow_image.specs.Searches.{AreUnmappedBelow, IsMappedSlot, SearchFails}
 use Rattle.grow_image.specs.Searching.{HasUnreadable, IsBefore, IsFirstMapped, IsLeastMapped, IsMappedOf, IsShownBy, IsUnreadable, IsWithin, address_in, leaf_head}
@@ -140,14 +140,6 @@ module _ (g : Geometry) (range : AddressRange) (blocks : Blocks) where
       (more_leaves (take i leaves) (get_or leaves i d ∷ []) one other least is before first second)
 
 -- By the reads.
-
-newer_shown : (blocks : Blocks) (newer older : List Reading) → Shows blocks (newer ++ older) → Shows blocks newer
-newer_shown blocks [] older shows = tt
-newer_shown blocks (reading ∷ newer) older shows = (shows.0, newer_shown blocks newer older shows.1)
-
-older_shown : (blocks : Blocks) (newer older : List Reading) → Shows blocks (newer ++ older) → Shows blocks older
-older_shown blocks [] older shows = shows
-older_shown blocks (reading ∷ newer) older shows = older_shown blocks newer older shows.1
 
 module _ (tells honest : Bool) (g : Geometry) where
   pub shown_yet : (seen : Seen) (Says : Blocks → Type 0) → ((blocks : Blocks) → Says blocks) → IsShownBy tells honest g seen seen Says

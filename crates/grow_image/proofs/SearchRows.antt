@@ -1,11 +1,9 @@
 -- The sizes that an image can get, the search for mapped addresses, and what is promised of it: for each clause a case that it
 -- accepts, and one that it refuses.
-use Rattle.std.proofs.Common.{ℕ, ◌≡◌, true, List, [], ◌∷◌, Some, None, refl, subst, arith}
+use Rattle.std.proofs.Common.{ℕ, ◌≡◌, List, Some, None, refl, subst, arith}
 use Rattle.blk_base.specs.declared.place.Lba.{Lba}
 use Rattle.blk_base.specs.declared.place.Mapping.TheVariants.{Unmapped, Zero}
-use Rattle.disk_model.specs.declared.call.Call.TheVariants.{Flush}
-use Rattle.image_format.specs.Calls.{put}
-use Rattle.image_layout.specs.Superblock.{is_within, super_block}
+use Rattle.image_layout.specs.Superblock.{is_within}
 use Rattle.image_layout.specs.declared.fault.Field.TheVariants.{Height, Logical, Slabs}
 use Rattle.image_layout.specs.declared.fault.LayoutFault.TheVariants.{TooSmall}
 use Rattle.image_layout.proofs.PlanLaws.{planned_right}
@@ -16,7 +14,6 @@ use Rattle.image_model.specs.declared.fault.ImageFault.TheVariants.{Unclean}
 use Rattle.page_codec.proofs.ReadLaws.{one_mapping}
 use Rattle.page_codec.specs.Grammar.{IsSlot}
 use Rattle.page_codec.specs.declared.forms.PageHead.{PageHead}
-use Rattle.grow_image.specs.Calls.{closing_calls}
 use Rattle.grow_image.specs.Growing.{IsFirstNew, new_addresses}
 use Rattle.grow_image.specs.Searches.{IsMappedSlot}
 use Rattle.grow_image.specs.Searching.{IsBefore, IsFirstMapped, IsMappedOf, IsWithin, address_in}
@@ -91,10 +88,6 @@ plan_no_image fails = fails
 
 plan_no_mapping : (at : Lba) → PlanFails small 2000 2 222 (Mapped at) → ⊥
 plan_no_mapping at fails = fails
-
--- The superblock comes behind a flush, and before another one.
-closing : closing_calls small 9 ≡ Flush true ∷ put 0 (super_block (record { geometry = small; clean = true; start = 9 })) ∷ Flush true ∷ []
-closing = refl
 
 -- Addresses.
 

@@ -142,7 +142,7 @@ still_failed tells honest before now N D D' fault (Err _) is acts = record { sta
 
 -- A block is read, and then written.
 
-one_of_one : (one : Call) (newer done : List Call) (call : Call) → one ∷ [] ≡ newer ++ (call ∷ done) → (call ≡ one) × (done ≡ [])
+pub one_of_one : (one : Call) (newer done : List Call) (call : Call) → one ∷ [] ≡ newer ++ (call ∷ done) → (call ≡ one) × (done ≡ [])
 one_of_one one [] done call is = (cc is, cc is)
 one_of_one one (other ∷ []) done call is = absurd (cc is)
 one_of_one one (other ∷ another ∷ newer) done call is = absurd (cc is)

@@ -1,5 +1,5 @@
 -- What the parts of recovery have done together.
-use Rattle.std.proofs.Common.{ℕ, ◌≡◌, ◌+◌, ◌/◌, ◌≤◌, List, IsSome, Option, Some, refl, sym, ◌∙◌, ap, subst, inl, inr, arith}
+use Rattle.std.proofs.Common.{ℕ, ◌≡◌, ◌+◌, ◌/◌, ◌≤◌, List, Some, refl, sym, ◌∙◌, ap, subst, inl, inr, arith}
 use Rattle.std.proofs.lemmas.Bool.{cases_lt}
 use Rattle.blk_base.specs.Regions.{Root, block_of}
 use Rattle.blk_base.specs.declared.place.Mapping.{Mapping}
@@ -22,9 +22,7 @@ use Rattle.blk_base.specs.Pages.{root_page}
 use Rattle.replay_map.specs.declared.changes.SlotId.{SlotId}
 use Rattle.replay_map.specs.declared.links.Link.{Link}
 use Rattle.rebuild.specs.Done.{AreCountersDone, AreLinksDone, ArePagesDone, AreRootsDone, AreSlabsDone}
-
-some_of : {X : Type 0} (o : Option X) (x : X) → o ≡ Some x → IsSome o
-some_of o x is = rw is refl
+use Rattle.plain_laws.proofs.OptionLaws.{some_is}
 
 module _ (image : Image) (changes : List (SlotId × Mapping)) (links : List Link) (newest : AreNewest image.window changes) (all : AreAllLinks image links)
     (calls : List Call) (roots : AreRootsDone image.geometry changes TREES image calls) (done : AreLinksDone changes links image calls) (low : image.geometry.height ≤ 3) where
@@ -52,7 +50,7 @@ module _ (image : Image) (changes : List (SlotId × Mapping)) (links : List Link
       let range = page_in_range image page at there in
       let level = range.1 in
       let same = newest page slot (omega (arith, level, low)) in
-      page_done page at there (slot, small, some_of (changed changes page slot) mapping (same ∙ put))
+      page_done page at there (slot, small, some_is (changed changes page slot) mapping (same ∙ put))
 
 pub counters_done : (image : Image) (counts : List ℕ) (sectors : List SectorPoints) (calls : List Call) → HasCounts image counts sectors
     → AreSlabsDone image.geometry sectors image.geometry.slabs image calls → AreCountersDone image calls

@@ -14,7 +14,7 @@ use Rattle.disk_model.specs.Log.{Blocks}
 use Rattle.disk_model.specs.Seen.{Seen}
 use Rattle.disk_model.specs.Since.{IsUntouched}
 use Rattle.disk_model.proofs.SinceLaws.{untouched_on}
-use Rattle.image_layout.specs.Opened.{super_of_image}
+use Rattle.image_layout.specs.Opened.{IsHead, super_of_image}
 use Rattle.image_model.specs.Faults.{IsCountFault, IsOpened, IsShareFault}
 use Rattle.image_model.specs.Maps.{Image, ArePagesGood}
 use Rattle.image_model.specs.Sound.{AreStored, AreTrue, image_of}
@@ -203,6 +203,7 @@ module _ (tells honest : Bool) (before now : Seen) where
   not_read why told fails untouched = record {
     untouched = untouched;
     opened = tt;
+    head = tt;
     fits = tt;
     fails = inl fails;
     says = λ blocks is. refused_head tells honest before blocks is now why (told is.told) fails;
@@ -212,6 +213,7 @@ module _ (tells honest : Bool) (before now : Seen) where
   not_closed head read unclean untouched = record {
     untouched = untouched;
     opened = tt;
+    head = tt;
     fits = tt;
     fails = inr (inl (refl, (head, read, unclean)));
     says = λ blocks is. refused_unclean tells honest before blocks is now head read Unclean now refl unclean;
@@ -222,6 +224,7 @@ module _ (tells honest : Bool) (before now : Seen) where
   no_window middle head why read clean fails first second = record {
     untouched = untouched_on tells before middle now first second;
     opened = tt;
+    head = tt;
     fits = tt;
     fails = inr (inr (inl (head, middle, read, clean, fails)));
     says = λ blocks is. refused_window tells honest before blocks is middle head read clean now why fails;
@@ -239,15 +242,17 @@ module _ (tells honest : Bool) (before now : Seen) where
     not_right why fails = record {
       untouched = all_untouched;
       opened = tt;
+      head = tt;
       fits = tt;
       fails = inr (inr (inr (head, window, second, opened_to, clean, fails)));
       says = λ blocks is. refused_with tells honest before blocks is middle head read clean second window window_read now why fails;
     }
 
-    pub was_opened : (start : Opened) → IsOpenedWith tells honest head window second now start → Fits start → IsOpening tells honest before now (Ok start)
-    was_opened start both fits = record {
+    pub was_opened : (start : Opened) → IsOpenedWith tells honest head window second now start → start.head ≡ head → Fits start → IsOpening tells honest before now (Ok start)
+    was_opened start both same fits = record {
       untouched = all_untouched;
       opened = (head, window, second, opened_to, clean, both);
+      head = (read.block, subst (λ (h : Superblock). IsHead before.size read.block h) (sym same) read.is);
       fits = fits;
       fails = tt;
       says = λ blocks is. opens_right tells honest before blocks is middle head read clean second window window_read now start both;

@@ -24,13 +24,14 @@ use Rattle.image_model.specs.Empty.{IsEmpty, empty_super}
 use Rattle.image_model.specs.Maps.{Image, IsTreePage, mapping_of}
 use Rattle.image_model.specs.Sound.{IsDataPlace, IsSound}
 use Rattle.image_model.specs.declared.fault.ImageFault.TheVariants.{Super, Window, Counts, Device, Unclean, Memory}
+use Rattle.image_model.proofs.ReadExample.{next_failed, failed}
 use Rattle.journal_window.specs.States.{WindowState}
 use Rattle.replay_counts.specs.Recovered.{HasCounts, Holds}
 use Rattle.replay_map.specs.Reads.{Shows}
 use Rattle.replay_map.specs.Replayed.{HasMap}
 use Rattle.recovery_laws.specs.Kept.{image_in}
 use Rattle.session_opening.specs.Starts.{IsStart, AreLedTo}
-use Rattle.audit.proofs.ReadExample.{head_is_read, head_of, next_failed, no_entries, seen_failed, window_is_read}
+use Rattle.audit.proofs.ReadExample.{head_is_read, head_of, no_entries, window_is_read}
 use Rattle.blk_base.proofs.Example.{small_is}
 use Rattle.rebuild.proofs.RecoveryRows.{head_there, with_head}
 use Rattle.rebuild.proofs.Rows.{seen}
@@ -161,13 +162,13 @@ module _ (opened : Opened) where
       let same = ap (λ (h : Superblock). h.clean) (head_there false opened_to.middle head opened_to.head_read) in absurd (cc (same, clean))
 
 -- Refusals: block 0 wasn't read; or it says that the session wasn't closed; or there is no window; or as above.
-refused_head : (honest : Bool) → OpeningFails false honest seen seen_failed Device
+refused_head : (honest : Bool) → OpeningFails false honest seen failed Device
 refused_head honest = inl (next_failed honest 0)
 
 pub refused_unclean : (honest : Bool) → OpeningFails false honest seen seen Unclean
 refused_unclean honest = inr (inl (refl, (head_of false, head_is_read honest false, refl)))
 
-refused_window : (honest : Bool) → OpeningFails false honest seen seen_failed Device
+refused_window : (honest : Bool) → OpeningFails false honest seen failed Device
 refused_window honest = inr (inr (inl (head_of true, seen, head_is_read honest true, refl, ([], omega arith, next_failed honest 1))))
 
 refused_memory : (honest : Bool) → OpeningFails false honest seen seen Memory
@@ -223,6 +224,7 @@ unclean_opening : (honest : Bool) → IsOpening false honest seen seen (Err Uncl
 unclean_opening honest = record {
   untouched = untouched_yet false seen;
   opened = tt;
+  head = tt;
   fits = tt;
   fails = refused_unclean honest;
   says = λ blocks is. let told = is.told in absurd (cc told);
@@ -234,6 +236,10 @@ unclean_is_opened now opened is = unclean_and_opened opened now is.opened
 
 closed_is_refused : (now : Seen) → IsOpening true true (with_head true) now (Err Unclean) → ⊥
 closed_is_refused now is = closed_isnt_unclean now is.fails
+
+-- head
+opened_at_no_sequence : (honest : Bool) (opened : Opened) → opened.head.start ≡ 0 → IsOpening false honest seen seen (Ok opened) → ⊥
+opened_at_no_sequence honest opened none is = let start = is.head.1.start in omega (arith, none, start)
 
 -- fits
 opened_without_counters : (honest : Bool) (opened : Opened) → opened.head.geometry ≡ small → opened.counters.items ≡ [] → IsOpening false honest seen seen (Ok opened) → ⊥

@@ -25,15 +25,17 @@ use Rattle.image_model.specs.Sound.{IsSound, image_of}
 use Rattle.image_model.specs.Windows.{IsFaulty}
 use Rattle.image_model.specs.declared.fault.ImageFault.{ImageFault}
 use Rattle.image_model.specs.declared.fault.ImageFault.TheVariants.{Super, Window, Counts, Device, Unclean, Memory}
+use Rattle.image_model.proofs.ReadExample.{next_failed, failed}
+use Rattle.image_model.proofs.FaultRows.{nothing as blank}
 use Rattle.journal_window.specs.States.{WindowState}
 use Rattle.journal_window.specs.Windows.{IsWindowOf}
-use Rattle.recovery_laws.proofs.KeptRows.{kept_by_itself}
+use Rattle.recovery_laws.proofs.KeptRows.{kept_by_itself, kept_by_nothing}
 use Rattle.recovery_laws.specs.Calls.{ArePuts, recovery_calls}
 use Rattle.recovery_laws.specs.Kept.{AreKept, image_in, AreStopsKept}
 use Rattle.replay_counts.specs.Recovered.{Holds}
 use Rattle.replay_map.specs.Reads.{Shows}
 use Rattle.rebuild.proofs.ActLaws.{none_made}
-use Rattle.audit.proofs.ReadExample.{head_of, next_failed, no_entries, seen_failed, window_is_read, window_of_none, without_journal}
+use Rattle.audit.proofs.ReadExample.{head_of, no_entries, window_is_read, window_of_none, without_journal}
 use Rattle.rebuild.proofs.Rows.{call_failed, called_after, flushed, last_is_failed, last_is_not, none_flushed, seen}
 use Rattle.rebuild.proofs.ShownLaws.{both_logged, both_read, unclean_last}
 use Rattle.rebuild.specs.Acts.{IsStart}
@@ -80,7 +82,7 @@ entries_of_other_size honest head count has =
     let first = has.read.1.read.stays.size in
     let second = (both_read false honest head has.window has.middle has.behind HasNoFault has.right).stays.size in omega (arith, size, first, second)
 
-entries_with_fewer_faults : (honest : Bool) (head : Superblock) (count : ℕ) → HasEntries false honest head seen_failed seen count → ⊥
+entries_with_fewer_faults : (honest : Bool) (head : Superblock) (count : ℕ) → HasEntries false honest head failed seen count → ⊥
 entries_with_fewer_faults honest head count has =
     let less = has.later.faults in
     let first = has.read.1.read.later.faults in
@@ -92,7 +94,7 @@ entries_of_a_faulty_image : (tells honest : Bool) (head : Superblock) (before no
 entries_of_a_faulty_image tells honest head before now count blocks has faulty shows holds = faulty (has.right.3 blocks shows holds)
 
 -- Why an image isn't recovered. The journal isn't read; or it is, and the map or the counts aren't; or the last call failed.
-journal_failed : (honest : Bool) → UncleanFails false honest (head_of false) seen seen_failed Device
+journal_failed : (honest : Bool) → UncleanFails false honest (head_of false) seen failed Device
 journal_failed honest = inl ([], omega arith, next_failed honest 1)
 
 no_memory_behind : (honest : Bool) → UncleanFails false honest (head_of false) seen seen Memory
@@ -208,11 +210,8 @@ module _ (blocks : Blocks) (sound : IsSound blocks) (one : HasOneImage blocks []
   answered_early : (n : ℕ) → Ends {T = ℕ} {E = ImageFault} (image_in blocks sound) sound.last (opened blocks) (opened blocks) (Ok n) → ⊥
   answered_early n (puts, are, log) = let size = ap (λ (l : List Call). length l) log in omega (arith, size)
 
-nothing_kept : (image : Image) → AreKept image [] → ⊥
-nothing_kept image kept = let accepted = kept.sound.opens.accepted in absurd (cc accepted)
-
 none_kept : (image : Image) → IsKeptSince image seen seen → ⊥
-none_kept image since = nothing_kept image (since.2.kept [] since.0 [] refl (record { size = refl; whole = λ b below. absurd (omega (arith, below)); sectors = λ b below. absurd (omega (arith, below)) }))
+none_kept image since = kept_by_nothing image (since.2.kept [] since.0 [] refl (record { size = refl; whole = λ b below. absurd (omega (arith, below)); sectors = λ b below. absurd (omega (arith, below)) }))
 
 -- nor is a write of the index among the calls
 index_written : (image : Image) (bytes : List ℕ) (ok : Bool) → 0 < image.geometry.index
@@ -230,9 +229,6 @@ lost_end : (image : Image) (fault : ImageFault) → Ends {T = ℕ} {E = ImageFau
 lost_end image fault = log_lost image
 
 -- Writing all. An image of the default sizes that needs no other write: its superblock is written, with flushes around it.
-abbrev blank : Image
-blank = record { geometry = small; blocks = []; window = [] }
-
 abbrev Blank : Image → Type 0
 Blank image = ArePuts image [] × (image.geometry ≡ small)
 
@@ -266,7 +262,7 @@ none_is_written first blocks start writes =
 other_size : (honest : Bool) (last : ℕ) → WritesAll false honest seen (record seen { size = 3 }) any last (Ok tt) → ⊥
 other_size honest last writes = let size = writes.stays.size in omega (arith, size)
 
-fewer_faults : (honest : Bool) (last : ℕ) → WritesAll false honest seen_failed seen any last (Ok tt) → ⊥
+fewer_faults : (honest : Bool) (last : ℕ) → WritesAll false honest failed seen any last (Ok tt) → ⊥
 fewer_faults honest last writes = let less = writes.later.faults in omega (arith, less)
 
 log_is_lost : (honest : Bool) (last : ℕ) → WritesAll true honest flushed seen any last (Ok tt) → ⊥
@@ -300,7 +296,7 @@ unclean_recovered honest right = record {
   ends = λ first blocks start untouched accepted. let told = start.told in absurd (cc told);
 }
 
-unclean_refused : (honest : Bool) → RecoversUnclean false honest (head_of false) seen seen_failed (Err Device)
+unclean_refused : (honest : Bool) → RecoversUnclean false honest (head_of false) seen failed (Err Device)
 unclean_refused honest = record {
   stays = record { opening = refl; size = refl };
   later = record { faults = omega arith; unkept = omega arith };
@@ -316,7 +312,7 @@ module _ (honest : Bool) (head : Superblock) (n : ℕ) where
   unclean_of_other_size : RecoversUnclean false honest head seen (record seen { size = 3 }) (Ok n) → ⊥
   unclean_of_other_size is = let size = is.stays.size in omega (arith, size)
 
-  unclean_with_fewer_faults : RecoversUnclean false honest head seen_failed seen (Ok n) → ⊥
+  unclean_with_fewer_faults : RecoversUnclean false honest head failed seen (Ok n) → ⊥
   unclean_with_fewer_faults is = let less = is.later.faults in omega (arith, less)
 
   unclean_without_log : RecoversUnclean true honest head flushed seen (Ok n) → ⊥

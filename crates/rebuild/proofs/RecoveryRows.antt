@@ -19,7 +19,6 @@ use Rattle.disk_model.specs.Since.{reads_of}
 use Rattle.disk_model.proofs.LookedLaws.{one_in-all, one_in-unique}
 use Rattle.image_layout.specs.Opened.{super_of_image}
 use Rattle.image_layout.specs.Superblock.{super_block, super_of}
-use Rattle.image_layout.specs.declared.fault.SuperFault.TheVariants.{NotAnImage}
 use Rattle.image_model.proofs.EmptyLaws.{sizes_of_image, the_image, window_is}
 use Rattle.image_model.proofs.Example.{pbn}
 use Rattle.image_model.specs.Empty.{IsMade, made_block}
@@ -28,6 +27,8 @@ use Rattle.image_model.specs.Sound.{IsSound, Opens}
 use Rattle.image_model.specs.declared.fault.ImageFault.TheVariants.{Window, Counts, Device, Unclean, Memory}
 use Rattle.image_model.specs.Looked.{looked_in}
 use Rattle.image_model.proofs.LookedLaws.{looked_first}
+use Rattle.image_model.proofs.ReadExample.{next_failed, failed}
+use Rattle.image_model.proofs.WholeRows.{zero_super}
 use Rattle.image_opening.specs.Heads.{IsHeadRead}
 use Rattle.recovery_laws.proofs.OpenedExample.{opened_super, whole_run}
 use Rattle.recovery_laws.specs.Calls.{recovery_calls}
@@ -35,7 +36,7 @@ use Rattle.recovery_laws.specs.Kept.{IsRecovered, image_in}
 use Rattle.recovery_laws.proofs.AlikeLaws.{alike_super}
 use Rattle.rebuild.proofs.KeptLaws.{image_alike, opened_alike}
 use Rattle.rebuild.proofs.OutcomeRows.{kept_yet, never_unclean, none_of_zeros, opened}
-use Rattle.audit.proofs.ReadExample.{head_is_read, head_of, next_failed, no_entries, says_head, seen_failed}
+use Rattle.audit.proofs.ReadExample.{head_is_read, head_of, no_entries, says_head}
 use Rattle.image_layout.proofs.SpellingLaws.{super_size}
 use Rattle.blk_base.proofs.SectorLaws.{zero_size}
 use Rattle.rebuild.proofs.ShownLaws.{both_logged}
@@ -92,7 +93,7 @@ clean_isnt_unclean now count (head, middle, read, unclean, entries) =
     let same = ap (λ (h : Superblock). h.clean) (head_there true middle head read) in absurd (cc (same, unclean))
 
 -- Refusals, of any device: of the superblock, which wasn't read; or behind it.
-head_failed : (honest : Bool) → RecoverFails false honest seen seen_failed Device
+head_failed : (honest : Bool) → RecoverFails false honest seen failed Device
 head_failed honest = inl (next_failed honest 0)
 
 pub behind_head : (honest : Bool) → RecoverFails false honest seen seen Memory
@@ -217,7 +218,7 @@ clean_recovery honest = record {
   closed = λ blocks is. let told = is.told in absurd (cc told);
 }
 
-refused_recovery : (honest : Bool) → IsRecovery false honest seen seen_failed (Err Device)
+refused_recovery : (honest : Bool) → IsRecovery false honest seen failed (Err Device)
 refused_recovery honest = record {
   stays = record { opening = refl; size = refl };
   later = record { faults = omega arith; unkept = omega arith };
@@ -234,7 +235,7 @@ refused_recovery honest = record {
 other_size : (honest : Bool) → IsRecovery false honest seen (record seen { size = 3 }) (Ok Clean) → ⊥
 other_size honest is = let size = is.stays.size in omega (arith, size)
 
-fewer_faults : (honest : Bool) → IsRecovery false honest seen_failed seen (Ok Clean) → ⊥
+fewer_faults : (honest : Bool) → IsRecovery false honest failed seen (Ok Clean) → ⊥
 fewer_faults honest is = let less = is.later.faults in omega (arith, less)
 
 -- answers, fails
@@ -283,10 +284,6 @@ zeros_stand : (block : List ℕ) (more : Blocks) → ((b : ℕ) → b < length (
     → IsImage (block ∷ more) (Write (pbn 0) zero_block true ∷ []) (zero_block ∷ more)
 zeros_stand block more whole = record { size = refl; whole = zeros_whole block more whole; sectors = λ b below. zeros_mixed block more b }
 
-zeros_are_none : (size : ℕ) → super_of zero_block size ≡ Err NotAnImage
-unfolding super_of zero_block
-zeros_are_none size = refl
-
 written_over : (block : List ℕ) (more : Blocks) → IsSound (block ∷ more) → HasOneImage (block ∷ more) [] (block ∷ more)
     → IsRecovery true true (opened (block ∷ more)) (record (opened (block ∷ more)) { log = Write (pbn 0) zero_block true ∷ [] }) (Err Device) → ⊥
 written_over block more sound one is =
@@ -294,5 +291,5 @@ written_over block more sound one is =
     let stands = subst (λ (log : List Call). IsImage (block ∷ more) log (zero_block ∷ more)) since.1 (zeros_stand block more one.whole) in
     let kept = since.2.kept [] since.0 (zero_block ∷ more) refl stands in
     let accepted = kept.sound.opens.accepted in
-    let none = zeros_are_none (length (zero_block ∷ more)) in
+    let none = zero_super (length (zero_block ∷ more)) in
     absurd (cc (accepted, none))

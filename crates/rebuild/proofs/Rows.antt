@@ -1,6 +1,6 @@
 -- For each definition a small case that it accepts, and one that it refuses.
 use Rattle.std.proofs.Common.{ℕ, ◌≡◌, Bool, true, false, List, [], ◌∷◌, ◌++◌, Ok, Err, length, length-append, refl, ap, subst, inl, inr, arith}
-pub use Rattle.audit.proofs.ReadExample.{seen}
+pub use Rattle.image_model.proofs.ReadExample.{seen}
 use Rattle.audit.specs.Reports.{HasNoFault}
 use Rattle.blk_base.specs.declared.geometry.Super.{Super as Superblock}
 use Rattle.blk_base.specs.declared.journal_entry.CommittedEntry.{CommittedEntry}

@@ -14,7 +14,7 @@ use Rattle.disk_model.specs.Log.{Blocks}
 use Rattle.disk_model.specs.Seen.{Seen}
 use Rattle.disk_model.specs.Since.{IsUntouched}
 use Rattle.image_format.specs.Formats.{LastFailed}
-use Rattle.image_layout.specs.Opened.{super_of_image}
+use Rattle.image_layout.specs.Opened.{IsHead, super_of_image}
 use Rattle.image_model.specs.Faults.{IsCountsFault, IsImageFault}
 use Rattle.image_model.specs.Maps.{Image, ArePagesGood}
 use Rattle.image_model.specs.Sound.{AreStored, AreTrue, AreUnshared, Opens, image_of}
@@ -118,11 +118,16 @@ abbrev pub IsOpeningResult : Blocks → Seen → Seen → Result Opened ImageFau
 IsOpeningResult blocks before now (Ok opened) = OpensRight blocks opened
 IsOpeningResult blocks before now (Err why) = IsOpeningRefusal blocks before now why
 
+-- Of any device: these bytes of a block are its superblock, which is within its limits, and the device has room for its sizes.
+abbrev pub HasItsHead : ℕ → Opened → Type 0
+HasItsHead size opened = (block : List ℕ) × IsHead size block opened.head
+
 -- what opening an image promises of any device, and of an honest one
 pub record IsOpening (tells honest : Bool) (before now : Seen) (result : Result Opened ImageFault) : Type 0 where
   -- of any device
   pub untouched : IsUntouched tells before now
   pub opened : IfOk result (IsOpenedFrom tells honest before now)
+  pub head : IfOk result (HasItsHead before.size)
   pub fits : IfOk result Fits
   pub fails : IfErr result (OpeningFails tells honest before now)
   -- of an honest one, by its one image

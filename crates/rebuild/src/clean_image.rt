@@ -65,6 +65,7 @@ fn open_with<D: Disk>(
     ensures opened { IfOk result
         (IsOpenedWith D.tells D.honest head.now window.now (D.seen device.old)
         (D.seen device.new)) }
+    ensures head { IfOk result (λ opened. opened.head ≡ head.now) }
     ensures fits { IfOk result Fits }
     ensures fault { IfErr result
         (OpenWithFails D.tells D.honest head.now window.now (D.seen device.old)

@@ -4,9 +4,9 @@ ghost use Rattle.count_updates.specs.Numbers.{all_blocks, all_sectors};
 ghost use Rattle.rebuild.specs.Acts.{Acts};
 ghost use Rattle.rebuild.specs.Done.{AreSlabsDone, HasTheseCounts, IsBlockDone, IsSlabDone};
 
-use crate::calls::put;
 use blk_base::Layout;
 use disk_model::{Disk, Failed, read_block};
+use image_format::calls::put;
 use recovery_blocks::{has_updates, put_counts};
 use replay_counts::RecoveredCounts;
 

@@ -24,7 +24,6 @@
 //! which has rows.
 #![tactic(auto)]
 
-pub mod calls;
 mod clean_image;
 mod counters;
 mod forms;

@@ -4,9 +4,9 @@ ghost use Rattle.blk_base.specs.declared.sizes.TheConstants.{TREES};
 ghost use Rattle.rebuild.specs.Acts.{Acts};
 ghost use Rattle.rebuild.specs.Done.{AreLinksDone, ArePagesDone, AreRootsDone, HasLinks, HasPage, HasPages, HasRoots, IsPageDone};
 
-use crate::calls::put;
 use blk_base::{Layout, TREES};
 use disk_model::{Disk, Failed, read_block};
+use image_format::calls::put;
 use recovery_blocks::{has_changes, put_changes};
 use replay_map::{Changes, Link};
 

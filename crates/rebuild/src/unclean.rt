@@ -7,12 +7,12 @@ ghost use Rattle.rebuild.specs.Acts.{Acts};
 ghost use Rattle.rebuild.specs.Done.{AreBothDone, HasContents};
 ghost use Rattle.rebuild.specs.Outcomes.{RecoversUnclean, WritesAll};
 
-use crate::calls::close;
 use crate::counters::put_slabs;
 use crate::pages::put_pages;
 use audit::{Contents, read_contents};
 use blk_base::{Layout, Super};
 use disk_model::{Disk, Failed};
+use image_format::calls::close;
 use image_model::ImageFault;
 use journal_window::read_window;
 use replay_map::Changes;
@@ -63,7 +63,7 @@ fn write_contents<D: Disk>(
         contents.now.counts.counts.items contents.now.counts.sectors.items) last result }
 {
     write_blocks(device, layout, changes, contents)?;
-    close(device, &layout.geometry, last)
+    close(device, &layout.geometry, last + 2)
 }
 
 // Writes the pages and the counters.

@@ -2,7 +2,7 @@ ghost use Rattle.std.specs.Prelude.{IfOk};
 ghost use Rattle.disk_model.specs.Fuses.{HasNotCut};
 
 use crate::rows::Row;
-use blk_base::{Mappings, PageId, Super};
+use blk_base::{Block, Mappings, PageId, Super};
 use disk_model::MemDisk;
 use image_layout::write_super;
 use std::alloc::{AllocError, Global};
@@ -43,6 +43,11 @@ pub fn closed_device(alloc: Global, row: &Row) -> Result<MemDisk, AllocError>
 fn device_with(alloc: Global, row: &Row, clean: bool) -> Result<MemDisk, AllocError>
     ensures { IfOk result (λ device. HasNotCut device.fuse) }
 {
+    MemDisk::from_blocks(alloc, blocks_of(alloc, row, clean)?)
+}
+
+/// The blocks of this image. The last three are those of the slab's counters and of its journal.
+pub fn blocks_of(alloc: Global, row: &Row, clean: bool) -> Result<Vec<Block>, AllocError> {
     let behind = DATA.saturating_add(row.geometry.slab_blocks);
     let mut blocks = zeros(alloc, behind.saturating_add(3))?;
     let head = Super {
@@ -64,5 +69,5 @@ fn device_with(alloc: Global, row: &Row, clean: bool) -> Result<MemDisk, AllocEr
     );
     let updates = slab_block(1, 1, row.updates);
     put_block(&mut blocks, behind.saturating_add(2), &updates);
-    MemDisk::from_blocks(alloc, blocks)
+    Ok(blocks)
 }

@@ -1,10 +1,12 @@
 //! Tests of the audit and the recovery of whole images: on known images, stopped at each call of a recovery, and recovered
-//! again. And of the opening of images that were closed: what they are opened with, and what is answered where one of its
-//! calls fails.
+//! again; the same of a forced rebuild, with noise in the counters and the slab's journal. And of the opening of images
+//! that were closed: what they are opened with, and what is answered where one of its calls fails.
 #![tactic(auto)]
 
 #[cfg(test)]
 mod audits;
+#[cfg(test)]
+mod forced;
 #[cfg(test)]
 mod images;
 #[cfg(test)]

@@ -4,8 +4,6 @@ use Rattle.std.specs.BTreeMap.{get}
 use Rattle.std.specs.Cmp.{unsigned_ties}
 use Rattle.std.specs.Option.{is_some}
 use Rattle.std.specs.Ordering.{nat_cmp, ordering_then, is_eq}
-use Rattle.std.specs.declared.cmp.Ordering.{Ordering}
-use Rattle.std.specs.declared.cmp.Ordering.TheVariants.{Less, Equal, Greater}
 use Rattle.std.proofs.lemmas.Bool.{cases_lt}
 use Rattle.std.proofs.lemmas.Cmp.{nat_eq_equiv}
 use Rattle.std.proofs.lemmas.List.{take_more}
@@ -22,22 +20,14 @@ use Rattle.image_model.proofs.CountLaws.{is_first_or_behind, none_in_nothing}
 use Rattle.image_model.specs.Pages.{is_page}
 use Rattle.replay_map.proofs.OwnLaws.{page_tells}
 use Rattle.replay_map.specs.declared.links.Link.{Link}
+use Rattle.replay_map.proofs.ChangeLaws.{both, apart_of}
 use Rattle.session_opening.specs.declared.places.Places.{Places}
 use Rattle.session_opening.specs.Places.{AreInner, AreLeading, ArePlaces, LeadsTo, block_by}
 
 -- The order of pages.
 
-both : (x y : Ordering) → is_eq (ordering_then x y) ≡ (is_eq x && is_eq y)
-both Less y = refl
-both Equal y = refl
-both Greater y = refl
-
 flipped : (x y : ℕ) → is_eq (nat_cmp x y) ≡ (y == x)
 flipped x y = sym (unsigned_ties x y) ∙ nat_eq_equiv.symm x y
-
-apart_of : (x y z : Bool) → (x && (y && z)) ≡ ((x && y) && z)
-apart_of true y z = refl
-apart_of false y z = refl
 
 -- two pages are alike in it where they are one
 pub alike : (a b : PageId) → is_eq (page_order a b) ≡ is_page b a

@@ -2,7 +2,8 @@ use crate::splitting::read;
 use std::alloc::{AllocError, Global};
 use std::test::Fail;
 use vdo_words::{
-    Command, CoreOptions, CrashOptions, Drive, FormatOptions, RunOptions, WorkloadOptions,
+    Command, CoreOptions, CrashOptions, Drive, FormatOptions, GrowOptions, RunOptions,
+    WorkloadOptions,
 };
 
 const CORE: CoreOptions = CoreOptions {
@@ -178,6 +179,13 @@ fn other_commands(rt: HostRuntime) -> Result<(), Fail> {
     let rows = [
         ("recover", Command::Recover),
         ("force-rebuild", Command::ForceRebuild),
+        (
+            "grow --slabs 2 --logical=2000",
+            Command::Grow(GrowOptions {
+                logical: 2000,
+                slabs: 2,
+            }),
+        ),
         ("audit", Command::Audit),
         ("status", Command::Status),
         ("crash --after 0 --image 0", crash(0, CORE, 0, 0)),

@@ -1,12 +1,13 @@
 //! What the commands print that look at an image: `format`, `recover`, `force-rebuild`, `audit` and `status`.
 use audit::{Difference, Report};
-use blk_base::{Geometry, Layout, Pbn, Point};
+use blk_base::{Geometry, Layout, Lba, Pbn, Point};
 use command_text::{
-    put_audit, put_formatted, put_image_fault, put_layout_fault, put_rebuilt, put_recovery,
-    put_status,
+    put_audit, put_formatted, put_grow_fault, put_grown, put_image_fault, put_layout_fault,
+    put_rebuilt, put_recovery, put_status,
 };
 use disk_model::{Failed, MemSink};
 use force_rebuild::Forced;
+use grow_image::{GrowFault, Grown};
 use image_layout::{Field, LayoutFault, SuperFault};
 use image_model::ImageFault;
 use image_status::ImageStatus;
@@ -145,6 +146,26 @@ fn a_rebuild_is_told(rt: HostRuntime) -> Result<(), Fail> {
     let forced = Forced { used: 2, total: 64 };
     put_rebuilt(forced, &mut out)?;
     assert_eq!(rt; out.bytes(), b"rebuilt, used 2 of 64\n".as_slice());
+    Ok(())
+}
+
+#[test]
+fn a_growth_is_told(rt: HostRuntime) -> Result<(), Fail> {
+    let mut out = MemSink::new(rt.alloc(), 1000)?;
+    let grown = Grown {
+        blocks: 223,
+        slabs: 2,
+        slab_blocks: 64,
+        logical: 2000,
+    };
+    put_grown(grown, &mut out)?;
+    put_grow_fault(GrowFault::Smaller(Field::Logical), &mut out)?;
+    put_grow_fault(GrowFault::Mapped { at: Lba(1000) }, &mut out)?;
+    put_grow_fault(GrowFault::Image(ImageFault::Unclean), &mut out)?;
+    put_grow_fault(GrowFault::Layout(LayoutFault::LogicalTooLarge), &mut out)?;
+    let text =
+        b"grown 223 blocks, 2 slabs of 64, logical 2000\ngrow: smaller logical\ngrow: mapped 1000\nbad image: unclean\nlayout: logical too large\n";
+    assert_eq!(rt; out.bytes(), text.as_slice());
     Ok(())
 }
 

@@ -18,5 +18,6 @@ pub fn report_of(
         marks: ReportList::new(alloc),
         places,
         histories: ReportList::new(alloc),
+        damage: None,
     }
 }

@@ -94,12 +94,12 @@ fn runs_are_put(rt: HostRuntime) -> Result<(), Fail> {
     let notes = RunNotes {
         recovered: None,
         damage: None,
-        space: SPACE,
+        space: Some(SPACE),
     };
     let damaged = RunNotes {
         recovered: Some(30),
         damage: Some(DamagedPlace::Page(Pbn(85))),
-        space: SPACE,
+        space: Some(SPACE),
     };
     let found = [
         put_report(rt.alloc(), &notes, RUN)?,

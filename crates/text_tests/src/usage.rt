@@ -3,7 +3,7 @@ use std::alloc::{AllocError, Global};
 use std::test::Fail;
 use vdo_words::Usage;
 
-const REFUSED: [&str; 52] = [
+const REFUSED: [&str; 56] = [
     "",
     "help",
     "--help",
@@ -52,6 +52,10 @@ const REFUSED: [&str; 52] = [
     "recover --depth 1",
     "force-rebuild --slabs 1",
     "force",
+    "grow",
+    "grow --logical 2000",
+    "grow --slabs 2",
+    "grow --logical 2000 --slabs 2 --height 3",
     "crash --after 1",
     "crash --image 1 --depth 2",
     "workload --requests 65537",

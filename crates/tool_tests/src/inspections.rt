@@ -316,8 +316,21 @@ pub(crate) fn end_on<R: Threads + Wait + Sync>(
     room: usize,
     text: &[u8],
 ) -> Result<(Outcome, MemDisk), AllocError> {
-    let words = words_of(alloc, &[word])?;
-    let mut source = MemSource::new(Vec::new(alloc), None);
+    end_with(rt, alloc, &[word], b"", device, room, text)
+}
+
+// The same of several words, and with a script.
+pub(crate) fn end_with<R: Threads + Wait + Sync>(
+    rt: &R,
+    alloc: Global,
+    words: &[&str],
+    script: &[u8],
+    device: MemDisk,
+    room: usize,
+    text: &[u8],
+) -> Result<(Outcome, MemDisk), AllocError> {
+    let words = words_of(alloc, words)?;
+    let mut source = MemSource::new(script.to_vec(alloc)?, None);
     let mut sink = MemSink::new(alloc, room)?;
     let before = device.calls().len();
     let Ended { device, status, .. } = run(rt, &words, device, &mut source, &mut sink, &OpenGate);

@@ -4,6 +4,8 @@
 #[cfg(test)]
 mod formats;
 #[cfg(test)]
+mod growths;
+#[cfg(test)]
 mod inspections;
 #[cfg(test)]
 mod rebuilds;

@@ -367,8 +367,9 @@ fn other_stop<R: Threads + Wait + Sync>(
     Ok(other.map(|(word, found)| (passes, number, word, found)))
 }
 
-// The first stop that is told in another way, or leaves an image that isn't rebuilt: of the calls of which each but the
-// last 12 reads, every seventh, and then each.
+// The first stop that is told in another way, or leaves an image that isn't rebuilt: at each of the last 12 calls, from the
+// first page's read and write on. All calls before them only read, so that a stop there leaves the image as it was, whichever
+// read it is: every seventh shows that it is told.
 fn first_other_stop<R: Threads + Wait + Sync>(
     rt: &R,
     alloc: Global,

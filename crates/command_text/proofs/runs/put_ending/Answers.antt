@@ -6,4 +6,4 @@ pub returns-in_err-put_damage : goal.returns-in_err-put_damage
 returns-in_err-put_damage g c = put-failed _ (err_from_is_err_and c.from_residual.result c.from_residual.ensures.1).1 c.in_err-put_damage.ensures
 
 pub returns : goal.returns
-returns g c = put-last (put-first c.in_ok-put_damage.ensures) c.put_space.ensures
+returns g c = put-last (put-first c.in_ok-put_damage.ensures) c.put_known.ensures

@@ -1,6 +1,7 @@
 use Rattle.std.proofs.Common.{◌-◌, arith}
+use Rattle.image_format.specs.Calls.{closing_calls}
 use Rattle.image_format.proofs.RunLaws.{failed_before, is_failed, then_made}
-use Rattle.grow_image.specs.Calls.{closing_calls, new_slabs}
+use Rattle.grow_image.specs.Calls.{new_slabs}
 use Rattle.grow_image.proofs.calls.write_grown.Goals as goal
 
 pub returns-in_err-put_slabs : goal.returns-in_err-put_slabs

@@ -3,11 +3,11 @@ use Rattle.std.proofs.lemmas.List.{take_all}
 use Rattle.std.proofs.lemmas.List.Elements.{Contains-get_or}
 use Rattle.disk_model.proofs.SinceLaws.{untouched_on, untouched_yet}
 use Rattle.disk_model.specs.Log.{Blocks}
-use Rattle.replay_map.proofs.PageLaws.{passed_on}
 use Rattle.replay_map.specs.declared.links.Link.{Link}
 use Rattle.grow_image.proofs.SearchLaws.{leaf_more, no_leaves, search_fails, shown_on, shown_yet}
 use Rattle.grow_image.specs.Searches.{SearchFails}
 use Rattle.grow_image.specs.Searching.{IsLeastMapped, IsShownBy}
+use Rattle.journal_window.proofs.AnswerLaws.{passed_on}
 use Rattle.grow_image.proofs.search.least_mapped.Goals as goal
 
 pub loop-leaf-init : goal.loop-leaf-init

@@ -1,6 +1,6 @@
-use Rattle.replay_map.proofs.PageLaws.{passed_on}
 use Rattle.grow_image.proofs.SearchLaws.{unreadable_at}
 use Rattle.grow_image.specs.Searching.{IsUnreadable}
+use Rattle.journal_window.proofs.AnswerLaws.{passed_on}
 use Rattle.grow_image.proofs.search.mapped_at.Goals as goal
 
 pub returns-in_err-slot-clause-fault : goal.returns-in_err-slot-clause-fault

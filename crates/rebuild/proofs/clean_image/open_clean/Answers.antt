@@ -26,7 +26,7 @@ pub returns-in-Ok : goal.returns-in-Ok
 returns-in-Ok g c =
     was_opened _ _ _ _ (g.D.Disk.seen c.read_head.new.device) (g.D.Disk.seen c.read_window.new.device) c.in_ok-head.head c.in_ok-window.window c.in_ok-head.ensures.head
     c.in_ok-check_closed.ensures.closed c.in_ok-window.ensures.window c.read_head.ensures.untouched c.read_window.ensures.untouched c.open_with.ensures.untouched
-    c.in-Ok.opened c.in-Ok.ensures.opened c.in-Ok.ensures.fits
+    c.in-Ok.opened c.in-Ok.ensures.opened c.in-Ok.ensures.head c.in-Ok.ensures.fits
 
 pub returns : goal.returns
 returns g c =

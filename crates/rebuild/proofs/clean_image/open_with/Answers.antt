@@ -1,8 +1,8 @@
 use Rattle.std.proofs.Common.{◌∙◌, sym, subst}
 use Rattle.blk_base.specs.declared.geometry.Geometry.{Geometry}
-use Rattle.replay_counts.proofs.WindowLaws.{passed_on}
 use Rattle.rebuild.proofs.OpenLaws.{check_failed, fits_with, opened_right}
 use Rattle.rebuild.specs.Openings.{CheckFails, OpenWithFails}
+use Rattle.slab_reading.proofs.FoundLaws.{passed_on}
 use Rattle.rebuild.proofs.clean_image.open_with.Goals as goal
 
 pub returns-in_err-check_counts-clause-fault : goal.returns-in_err-check_counts-clause-fault
