@@ -1,2 +1,3 @@
 pub mod DeviceCalls
+pub mod LeafReads
 pub mod DeviceFacts

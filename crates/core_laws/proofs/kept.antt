@@ -3,7 +3,6 @@ pub mod Arrivals
 pub mod BlockNames
 pub mod Carried
 pub mod Counted
-pub mod NewImages
 pub mod FirstCore
 pub mod FirstState
 pub mod Frame
@@ -11,9 +10,11 @@ pub mod Keys
 pub mod KeysOnce
 pub mod LegalKept
 pub mod LegalMoves
+pub mod NewImages
 pub mod OneResult
 pub mod Rules
 pub mod Spared
+pub mod OpenedBlocks
 pub mod StandsOn
 pub mod StepActs
 pub mod Stopped

@@ -3,6 +3,7 @@ pub mod LockLaws
 pub mod LogicalActs
 pub mod LogicalFacts
 pub mod PageActs
+pub mod PagePaths
 pub mod PageFacts
 pub mod PageLists
 pub mod Releases

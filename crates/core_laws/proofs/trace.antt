@@ -2,6 +2,7 @@ pub mod AbortsOfTrace
 pub mod AnswersOfTrace
 pub mod CoveredEntries
 pub mod Cuts
+pub mod DamageOfTrace
 pub mod DeskOfTrace
 pub mod Growth
 pub mod HistoriesOfTrace
@@ -10,6 +11,7 @@ pub mod PassesOfTrace
 pub mod PlacesOfTrace
 pub mod ReportOfTrace
 pub mod ShownPages
+pub mod ShownMaps
 pub mod StopsOfTrace
 pub mod SuperblockOfTrace
 pub mod TurnsOfTrace

@@ -3,11 +3,10 @@
 ghost use Rattle.std.specs.Prelude.{◌≡◌, ◌≢◌, ◌<◌, ◌≤◌, ◌+◌, ◌⊎◌, ◌↔◌, ℕ, true, false, length, map, reverse, take, None, Some, IsSome, List, [], ◌∷◌, slice_get, slice_set, ◌++◌};
 ghost use Rattle.std.specs.List.{AllByRecursion};
 ghost use Rattle.blk_base.specs.declared.request.Answer.{Answer};
-ghost use Rattle.blk_base.specs.declared.request.Answer.TheVariants.{Range, Stopped};
+ghost use Rattle.blk_base.specs.declared.request.Answer.TheVariants.{Damaged, Range, Stopped};
 ghost use Rattle.blk_base.specs.declared.request.Request.{Request};
 ghost use Rattle.blk_base.specs.declared.request.Writer.{Writer};
 ghost use Rattle.disk_model.specs.declared.call.Call.{Call};
-ghost use Rattle.image_layout.specs.Values.{mapping_of};
 ghost use Rattle.vdo_model.specs.DeskLog.{IsDeskLog, AllAnswered, answer_of};
 ghost use Rattle.vdo_model.specs.FlushMarks.{AreFlushMarks};
 ghost use Rattle.vdo_model.specs.Places.{AreDrawn, IsAnsweredAtOnce, place_of};
@@ -22,7 +21,6 @@ ghost use Rattle.core_model.specs.declared.zones.DeviceZone.{DeviceZone};
 ghost use Rattle.core_model.specs.JournalData.{JournalZone};
 ghost use Rattle.core_model.specs.LogicalData.{LogicalZone};
 ghost use Rattle.blk_base.specs.Pages.{above};
-ghost use Rattle.blk_base.specs.declared.place.Mapping.TheVariants.{Unmapped};
 ghost use Rattle.image_model.specs.Pages.{leaf_of};
 ghost use Rattle.core_model.specs.PageLinks.{IsThere, page_in};
 ghost use Rattle.data_vio.specs.declared.logged.NewPage.{NewPage};
@@ -35,12 +33,12 @@ ghost use Rattle.data_vio.specs.declared.sizes.Sizes.{Sizes};
 ghost use Rattle.core_model.specs.Legal.{Legal};
 ghost use Rattle.core_model.specs.Reports.{ShowsValues, opening_values, progress_of, report_of};
 ghost use Rattle.core_model.specs.RightTraces.{AreElsewhere, IsHeldBack, IsWrite, StopsAtFailure};
-ghost use Rattle.core_model.specs.Sessions.{Session, IsFair, IsSession, OnBlock, said_by};
+ghost use Rattle.core_model.specs.Sessions.{Session, IsFair, IsSession, OnBlock, mapping_by, said_by};
 ghost use Rattle.core_model.specs.Start.{IsFirst};
 ghost use Rattle.core_model.specs.Steps.{Act, CallsDevice, Core, HasAct, Leads, MayBegin, MoveOf, StepOf, ZoneStep};
 ghost use Rattle.core_model.specs.Superblocks.{WritesNoOther, superblock_stage};
 ghost use Rattle.core_model.specs.declared.zones.SuperblockStage.TheVariants.{Durable};
-ghost use Rattle.core_model.specs.Trace.{Enters, Trace, aborted, calls, durable, entries_of, entry_of, is_ok, is_read, journaled, lines, marks, moments, places};
+ghost use Rattle.core_model.specs.Trace.{Enters, Trace, aborted, calls, damage_in, durable, entry_of, is_ok, is_read, journaled, lines, marks, moments, places};
 ghost use Rattle.core_model.specs.Views.{AreEmptyLanes, PostsBatch, ReceivesBatch, TakesBatch, View, core_of, zones_seen};
 ghost use Rattle.data_vio.specs.Vios.{Post};
 ghost use Rattle.data_vio.specs.Zones.{zone_number};
@@ -122,43 +120,42 @@ pub fn a_legal_core_stops_at_a_failure()
         AllByRecursion (IsHeldBack core.trace) (aborted core.trace) }
 {}
 
-/// An entry that is handed in to the journal says what it replaces: what its address is mapped to by the committed entries on
-/// top of the window; and it maps the address to what the request of the script asks: a write's to a block, or to zeros where
+/// An entry that is handed in to the journal says what it replaces, where the session is fair: what its address is mapped to by the
+/// committed entries on top of the opened image; and it maps the address to what the request of the script asks: a write's to a block, or to zeros where
 /// its bytes are zeros, a discard's to nothing.
 pub fn an_entry_says_what_it_replaces()
     ensures old { (s : Session) (core : Core) (newer older : Trace) (e : Remapping) → Legal s core →
         core.trace ≡ newer ++ Enters (Remaps e) ∷ older
-        → e.old ≡ mapping_of (entries_of s.window (durable older)) e.at.0 }
+        → IsFair s older → e.old ≡ mapping_by s (durable older) e.at.0 }
     ensures new { (s : Session) (core : Core) (newer older : Trace) (e : Remapping) → Legal s core →
         core.trace ≡ newer ++ Enters (Remaps e) ∷ older
         → IsWrite s older e }
 {}
 
-/// The entries that a legal core hands in come in turn: each maps an address whose leaf is linked by older entries, or that the
-/// window maps, to a block that no older entry named; or it links a page that no older one puts anywhere, below one that is
+/// The entries that a legal core hands in come in turn: each maps an address whose leaf is linked, by the opened image or by older
+/// entries, to a block that no older entry named; or it links a page that no older one puts anywhere, below one that is
 /// linked by these or is a root, at such a block.
 pub fn entries_come_in_turn()
     ensures leaf { (s : Session) (core : Core) (newer older : Trace) (e : Remapping) → Legal s core →
         core.trace ≡ newer ++ Enters (Remaps e) ∷ older
         →
-        IsThere s.sizes.geometry.height s.window (journaled older) (leaf_of e.at.0)
-        ⊎ (mapping_of s.window e.at.0 ≢ Unmapped) }
+        IsThere s.sizes.geometry.height s.links (journaled older) (leaf_of e.at.0) }
     ensures block { (s : Session) (core : Core) (newer older : Trace) (e : Remapping) → Legal s core →
         core.trace ≡ newer ++ Enters (Remaps e) ∷ older
         → OnBlock (λ x. AreElsewhere x.0 (journaled older)) e.new }
     ensures once { (s : Session) (core : Core) (newer older : Trace) (p : NewPage) → Legal s core →
         core.trace ≡ newer ++ Enters (Makes p) ∷ older
-        → page_in s.sizes.geometry.height s.window (journaled older) p.page ≡ None }
+        → page_in s.links (journaled older) p.page ≡ None }
     ensures above { (s : Session) (core : Core) (newer older : Trace) (p : NewPage) → Legal s core →
         core.trace ≡ newer ++ Enters (Makes p) ∷ older
-        → IsThere s.sizes.geometry.height s.window (journaled older) (above p.page) }
+        → IsThere s.sizes.geometry.height s.links (journaled older) (above p.page) }
     ensures page_block { (s : Session) (core : Core) (newer older : Trace) (p : NewPage) →
         Legal s core → core.trace ≡ newer ++ Enters (Makes p) ∷ older
         → AreElsewhere p.at.0 (journaled older) }
 {}
 
 /// In a legal core the log of the journal has handed out the entries that are committed, in the order in which they stand
-/// in its blocks. Its head is the first sequence of the window, as no zone lets go of an entry.
+/// in its blocks. Its head is the first sequence, as no zone lets go of an entry.
 pub fn the_log_hands_out_what_is_committed()
     ensures handed { (s : Session) (core : Core) (n : ℕ) (z : Zone) (j : JournalZone) →
         Legal s core → slice_get core.zones n ≡ Some z → z.keeps ≡ Journal j
@@ -174,6 +171,16 @@ pub fn a_legal_core_reads_right()
         →
         ReadsRight (opening_values s) s.script (lines core.trace) (report_of s core.trace).places
         (report_of s core.trace).histories }
+{}
+
+/// A request that a legal core answered as damaged found damage. Where the session is fair there is none: the image was opened
+/// without a fault, so each leaf that is read decodes.
+pub fn a_fair_session_finds_no_damage()
+    ensures found { (s : Session) (core : Core) (w : Writer) (r : Request) → Legal s core →
+        request_at s.script w ≡ Some r → answer_of (lines core.trace) w ≡ Some Damaged
+        → IsSome (damage_in core.trace) }
+    ensures none { (s : Session) (core : Core) → IsSession s → Legal s core → IsFair s core.trace →
+        damage_in core.trace ≡ None }
 {}
 
 /// Each flush that a legal core answered Ok has its mark, whatever the device does; and where the session is fair, a stop before

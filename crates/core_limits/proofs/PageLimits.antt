@@ -1,6 +1,6 @@
 -- How many entries of the journal there are: a request has one for its address, and makes one page of each level at most.
 use Rattle.std.proofs.Common.{ℕ, zero, suc, ◌≡◌, ◌+◌, ◌*◌, ◌<◌, ◌≤◌, ◌==◌, ◌⊎◌, ◌&&◌, true, false, Option, None, Some, IsNone, IsSome, List, [], ◌∷◌, length, length-append, if◌then◌else◌, refl, ap, sym, ◌∙◌, subst, inl, inr, arith}
-use Rattle.core_laws.proofs.Common.{AllByRecursion, Enters, IsSession, Logged, Makes, NewPage, PageMayFollow, Remaps, RightTrace, Session, Trace, Writer, cases_Bool, durable, entered, passed, eq-eqb, eqb_tells, every-map, none_is, option_cases, some_of, journaled, remappings, new_pages, request_at, same_Some, Entry, same_tells, same_writer, some_is}
+use Rattle.core_laws.proofs.Common.{AllByRecursion, Enters, IsSession, Logged, Pbn, Makes, NewPage, PageMayFollow, Remaps, RightTrace, Session, Trace, Writer, cases_Bool, durable, entered, passed, eq-eqb, eqb_tells, every-map, none_is, option_cases, some_of, journaled, remappings, new_pages, request_at, same_Some, same_tells, same_writer, some_is}
 use Rattle.blk_base.specs.declared.request.Request.{Request}
 use Rattle.blk_base.specs.declared.request.Request.TheVariants as request
 use Rattle.core_model.specs.Limits.{requests_in}
@@ -95,17 +95,17 @@ made_has P (p ∷ ps) w level q is all = elim (same_tells p.request w) [
 itself_is : (page : PageId) → is_page page page ≡ true
 itself_is page = rw (eq-eqb page.tree page.tree refl, eq-eqb page.level page.level refl, eq-eqb page.index page.index refl) refl
 
-put_there : (height : ℕ) (window : List Entry) (es : List Logged) (w : Writer) (level : ℕ) (q : NewPage) → page_made (new_pages es) w level ≡ Some q → IsSome (page_in height window es q.page)
-put_there height window [] w level q is = absurd cc
-put_there height window (Remaps e ∷ es) w level q is = put_there height window es w level q is
-put_there height window (Makes p ∷ es) w level q is = elim (cases_Bool (is_page p.page q.page)) [
+put_there : (links : PageId → Option Pbn) (es : List Logged) (w : Writer) (level : ℕ) (q : NewPage) → page_made (new_pages es) w level ≡ Some q → IsSome (page_in links es q.page)
+put_there links [] w level q is = absurd cc
+put_there links (Remaps e ∷ es) w level q is = put_there links es w level q is
+put_there links (Makes p ∷ es) w level q is = elim (cases_Bool (is_page p.page q.page)) [
   | inl here ↦ rw here refl
   | inr there ↦ elim (cases_Bool (same_writer p.request w && p.page.level == level)) [
     | inl mine ↦
         let p_is : p ≡ q = same_Some p q (rw mine at is) in
         let same : is_page p.page p.page ≡ false = subst (λ (x : NewPage). is_page p.page x.page ≡ false) (sym p_is) there in
         absurd (let itself = itself_is p.page in cc)
-    | inr other ↦ rw there (put_there height window es w level q (rw other at is))
+    | inr other ↦ rw there (put_there links es w level q (rw other at is))
   ]
 ]
 
@@ -126,8 +126,8 @@ is_first s t p may lacked = elim (option_cases (page_made (new_pages (journaled 
       let (r', asked', lack') = has.0 in
       let r_is : r' ≡ r = same_Some r' r (sym asked' ∙ ap (request_at s.script) has.1 ∙ asked) in
       let same : q.page ≡ p.page = same_page s.sizes.geometry.height r p.page q.page lack (subst (λ (x : Request). MayLack s.sizes.geometry.height x q.page) r_is lack') has.2 in
-      let there = put_there s.sizes.geometry.height s.window (journaled t) p.request p.page.level q some.1 in
-      let none : page_in s.sizes.geometry.height s.window (journaled t) q.page ≡ None = ap (page_in s.sizes.geometry.height s.window (journaled t)) same ∙ may.once in
+      let there = put_there s.links (journaled t) p.request p.page.level q some.1 in
+      let none : page_in s.links (journaled t) q.page ≡ None = ap (page_in s.links (journaled t)) same ∙ may.once in
       absurd (let is = some_of _ there in let both = sym is.1 ∙ none in cc)
 ]
 

@@ -6,7 +6,6 @@ use Rattle.std.proofs.lemmas.Bool.{eq-eqb, ne_eqb}
 use Rattle.std.proofs.lemmas.Bool.Decides.{eqb_tells}
 use Rattle.std.proofs.lemmas.List.{length-reverse, reverse-append}
 use Rattle.std.proofs.lemmas.Option.{same_Some}
-use Rattle.blk_base.specs.declared.journal_entry.Entry.{Entry}
 use Rattle.blk_base.specs.declared.place.Lba.{Lba}
 use Rattle.logical_locks.specs.Holders.{Holders, Takes, Waits, HasRoom, HoldsNext, Frees}
 use Rattle.logical_locks.specs.Holders as locks
@@ -170,7 +169,7 @@ free_retired at held vs retired free own = λ a among. elim (eqb_tells at.0 a) [
 ]
 
 -- The locks of a zone that has the rest.
-module _ (zone : ℕ) (notified : Bool) (retired : List Lba) (tree : Tree) (making : List PageId) (lacking : List Vio) (unlinkable : List PageId) (window : List Entry) (slots : List Remapping) where
+module _ (zone : ℕ) (notified : Bool) (retired : List Lba) (tree : Tree) (making : List PageId) (lacking : List Vio) (unlinkable : List PageId) (slots : List Remapping) where
   abbrev pub shown : List Placed → Holders Vio → LogicalZone
   shown places h = record {
     zone = zone;
@@ -184,7 +183,6 @@ module _ (zone : ℕ) (notified : Bool) (retired : List Lba) (tree : Tree) (maki
     making = making;
     lacking = lacking;
     unlinkable = unlinkable;
-    window = window;
     slots = slots;
   }
 

@@ -17,7 +17,8 @@ use Rattle.block_map_tree.specs.declared.forms.Found.TheVariants.{Leaf, Missing}
 use Rattle.block_map_tree.specs.declared.forms.Forest.{Forest}
 use Rattle.block_map_tree.specs.declared.forms.Path.{Path}
 use Rattle.image_model.specs.Pages.{is_page, page_above}
-use Rattle.core_model.specs.PageTrees.{HasPath, block_in, link_at, missing_at, missing_from}
+use Rattle.core_model.specs.PageLinks.{block_in}
+use Rattle.core_model.specs.PageTrees.{HasPath, leaf_at, link_at, missing_at, missing_from}
 
 -- two names of one page
 pub page_is : (p q : PageId) → is_page p q ≡ true → p ≡ q
@@ -157,3 +158,17 @@ missed_here known tree path a height missing same form is has leads found =
     let most = form.forest.sizes.height in
     let below = both.0 in
     (omega (arith, below, most), sym (subst (λ (t : Tree). missing_at t a ≡ Some (page_above missing a)) same both.1))
+
+-- and the leaf that it finds, or none
+pub leaf_known : (known tree : Tree) (path : Path) (a height : ℕ) (at : Pbn) → tree ≡ known → IsTree tree → height ≡ tree.forest.geometry.height → HasPath known a
+    → ((level : ℕ) → level < height → page_on path height level ≡ page_at level a) → IsFound tree path (Leaf at) → Some at ≡ leaf_at known a
+leaf_known known tree path a height at same form is has leads found =
+    let tall = form.forest.sizes.height in
+    let none : missing_at known a ≡ None = sym (leaf_here known tree path a height at same form is leads found) in
+    let stands : IsAt tree (page_above 0 a) at = subst (λ (p : PageId). IsAt tree p at) (leads_by tree path a height is leads 0 (omega (arith, tall))) found.0 in
+    rw none (sym (subst (λ (t : Tree). link_at t (page_above 0 a) ≡ Some at) same (linked_at tree (page_above 0 a) at (not_root tree a 0 (omega (arith, tall))) stands)))
+
+pub leaf_unknown : (known tree : Tree) (path : Path) (a height missing : ℕ) → tree ≡ known → IsTree tree → height ≡ tree.forest.geometry.height → HasPath known a
+    → ((level : ℕ) → level < height → page_on path height level ≡ page_at level a) → IsFound tree path (Missing missing) → None ≡ leaf_at known a
+leaf_unknown known tree path a height missing same form is has leads found =
+    rw (sym (missed_here known tree path a height missing same form is has leads found).1) refl

@@ -6,6 +6,7 @@ pub mod PhaseRows
 pub mod ZoneRows
 pub mod WorkedTraces
 mod FactRows
+mod LeafRows
 mod StillRows
 pub mod StreamRows
 pub mod ViewRows

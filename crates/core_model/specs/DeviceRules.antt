@@ -1,10 +1,16 @@
 -- What the device zone does: one call of the device. A failed read has any bytes.
-use Rattle.std.specs.Prelude.{ℕ, ◌+◌, ◌≡◌, ◌<◌, Bool, true, false, Option, None, Some, List, [], ◌∷◌, map, replicate, ◌⊎◌}
+use Rattle.std.specs.Prelude.{ℕ, ◌+◌, ◌≡◌, ◌<◌, Bool, true, false, Option, None, Some, List, [], ◌∷◌, map, replicate, slice_index_or, ◌⊎◌}
 use Rattle.blk_base.specs.Regions.{journal_slot_of, needed_blocks}
+use Rattle.blk_base.specs.declared.place.Mapping.{Mapping}
 use Rattle.blk_base.specs.declared.place.Mapping.TheVariants.{At, Unmapped}
 use Rattle.blk_base.specs.declared.place.PageId.{PageId}
 use Rattle.blk_base.specs.declared.sizes.TheConstants.{PAGE_SLOTS}
+use Rattle.page_codec.specs.Grammar.{IsPage, IsPageFault}
 use Rattle.page_codec.specs.Spelling.{page_bytes}
+use Rattle.page_codec.specs.declared.fault.PageFault.{PageFault}
+use Rattle.image_model.specs.Pages.{slot_of_address}
+use Rattle.vdo_model.specs.declared.report.Damage.{Damage}
+use Rattle.vdo_model.specs.declared.report.Damage.TheVariants.{Page}
 use Rattle.blk_base.specs.declared.place.Pbn.{Pbn}
 use Rattle.blk_base.specs.declared.place.ZoneId.{ZoneId}
 use Rattle.blk_base.specs.declared.place.ZoneId.TheVariants as id
@@ -27,8 +33,9 @@ use Rattle.core_model.specs.declared.zones.SuperblockStage.{SuperblockStage}
 use Rattle.core_model.specs.declared.zones.SuperblockStage.TheVariants.{AsOpened, Written, Durable}
 use Rattle.core_model.specs.Superblocks.{superblock_bytes}
 use Rattle.data_vio.specs.Phases.{AtDevice, row, stage_row}
-use Rattle.core_model.specs.Trace.{Trace, Calls, Fails, entry_of}
-use Rattle.data_vio.specs.Vios.{Post, turned, ended, logged, staged}
+use Rattle.core_model.specs.PageLinks.{leaf_head}
+use Rattle.core_model.specs.Trace.{Trace, Calls, Fails, Harms, entry_of, first_of}
+use Rattle.data_vio.specs.Vios.{Post, turned, ended, has_leaf, logged, staged}
 use Rattle.data_vio.specs.Zones.{notified}
 
 -- one more call succeeded
@@ -43,6 +50,15 @@ halted d = record d { stopped = true }
 abbrev pub stop_notices : List ZoneId → List Post
 stop_notices [] = []
 stop_notices (to ∷ others) = (to, item.StopNotice) ∷ stop_notices others
+
+-- one that was stopped before sends no more
+abbrev pub notices_after : Bool → Sizes → List Post
+notices_after true sizes = []
+notices_after false sizes = stop_notices (notified sizes)
+
+-- a leaf doesn't decode: that stops the session
+abbrev pub harmed : Damage → DeviceZone → DeviceZone
+harmed damage d = record d { stopped = true; damage = first_of d.damage damage }
 
 -- what is written for a write to its block: its data, or the page that it makes, which leads nowhere
 abbrev pub page_at : Sizes → PageId → Pbn → List ℕ
@@ -106,6 +122,19 @@ pub data DeviceServes (sizes : Sizes) (old : DeviceZone) (v : Vio) (new : Device
       → DeviceServes sizes old v new made posts
   load_fails : (x : Pbn) (bytes : List ℕ) (kept : Bool) → v.phase ≡ phase.Load → v.old ≡ At x → IsReady old → IsInside sizes x
       → new ≡ old → made ≡ Fails v.request (Read x bytes false) kept ∷ [] → posts ≡ (v.home, item.Request (ended phase.Abort reply.ReadFault v)) ∷ []
+      → DeviceServes sizes old v new made posts
+  -- the leaf of an address, which says what that is mapped to
+  loads_leaf : (x : Pbn) (bytes : List ℕ) (mappings : List Mapping) → v.phase ≡ phase.LoadLeaf → v.leaf ≡ Some x → IsReady old → IsInside sizes x → IsPage (leaf_head sizes.geometry v.at.0 x) bytes mappings
+      → new ≡ counted old → made ≡ Calls (Read x bytes true) ∷ []
+      → posts ≡ (v.home, item.Request (has_leaf (slice_index_or mappings (slot_of_address v.at.0) Unmapped) v)) ∷ []
+      → DeviceServes sizes old v new made posts
+  leaf_fails : (x : Pbn) (bytes : List ℕ) (kept : Bool) → v.phase ≡ phase.LoadLeaf → v.leaf ≡ Some x → IsReady old → IsInside sizes x
+      → new ≡ old → made ≡ Fails v.request (Read x bytes false) kept ∷ [] → posts ≡ (v.home, item.Request (ended phase.Abort reply.ReadFault v)) ∷ []
+      → DeviceServes sizes old v new made posts
+  -- or doesn't decode: the session is stopped, where it isn't yet
+  harms : (x : Pbn) (bytes : List ℕ) (fault : PageFault) → v.phase ≡ phase.LoadLeaf → v.leaf ≡ Some x → IsReady old → IsInside sizes x → IsPageFault (leaf_head sizes.geometry v.at.0 x) bytes fault
+      → new ≡ harmed (Page x fault) (counted old) → made ≡ Harms v.request x bytes fault ∷ []
+      → posts ≡ (v.home, item.Request (ended phase.Abort reply.Damaged v)) ∷ notices_after old.stopped sizes
       → DeviceServes sizes old v new made posts
   -- a flush request
   flushes : v.phase ≡ phase.Flush → old.stopped ≡ false → old.superblock ≡ Durable

@@ -1,7 +1,6 @@
 -- What a request carries, and what a zone keeps: facts on their own fields and on the trace.
 use Rattle.std.specs.Prelude.{ℕ, ◌+◌, ◌≡◌, ◌⊎◌, ◌<◌, ◌≤◌, Bool, true, false, Option, None, Some, IsNone, List, [], ◌∷◌, ◌++◌, length, drop, map, reverse, slice_get, Contains, if◌then◌else◌}
 use Rattle.std.specs.List.{AllByRecursion}
-use Rattle.blk_base.specs.declared.journal_entry.Entry.{Entry}
 use Rattle.blk_base.specs.declared.place.Lba.{Lba}
 use Rattle.blk_base.specs.declared.place.Mapping.{Mapping}
 use Rattle.blk_base.specs.declared.place.Mapping.TheVariants.{At}
@@ -12,8 +11,7 @@ use Rattle.blk_base.specs.declared.request.Answer.{Answer}
 use Rattle.blk_base.specs.declared.request.Answer.TheVariants as reply
 use Rattle.blk_base.specs.declared.request.Request.{Request}
 use Rattle.blk_base.specs.declared.request.Writer.{Writer}
-use Rattle.image_layout.specs.Values.{mapping_of}
-use Rattle.byte_fields.specs.Mappings.{HoldsMapping}
+use Rattle.blk_base.specs.Regions.{IsDataBlock}
 use Rattle.vdo_model.specs.DeskLog.{answer_of}
 use Rattle.vdo_model.specs.FlushMarks.{IsMark, successes}
 use Rattle.vdo_model.specs.Places.{drawn, place_of, zone_of}
@@ -46,21 +44,21 @@ use Rattle.core_model.specs.declared.zones.Zone.{Zone}
 use Rattle.core_model.specs.DeskRules.{is_marked, mark_of_vio}
 use Rattle.core_model.specs.DeviceRules.{IsInside, page_at}
 use Rattle.core_model.specs.JournalRules.{is_closed}
-use Rattle.core_model.specs.LogicalRules.{is_among, is_held, mapped_by}
+use Rattle.core_model.specs.LogicalRules.{is_among, is_held}
 use Rattle.data_vio.specs.Phases.{row, number_at, stage_row}
 use Rattle.data_vio.specs.Zones.{zone_number, zone_count, notified_zones}
-use Rattle.core_model.specs.RightTraces.{IsLeafy, IsOpen, IsPending, MapsTo, NeedsBlock, Quiet, IsCommitted, AllBelow, HasPlace, HasBelow, HasCause}
-use Rattle.core_model.specs.Sessions.{Session, IsFair, IsFresh, OnBlock, NewReads, NewStands, ReadsAs, AtRest, OnItsWay, ReadsBlock, said_by, value_at}
+use Rattle.core_model.specs.RightTraces.{IsLeafy, IsLinkedAt, IsOpen, IsPending, MapsTo, NeedsBlock, Quiet, IsCommitted, AllBelow, HasPlace, HasBelow, HasCause}
+use Rattle.core_model.specs.Sessions.{Session, IsFair, IsFresh, OnBlock, NewReads, NewStands, ReadsAs, AtRest, OnItsWay, ReadsBlock, mapping_by, said_by, value_at}
 use Rattle.block_map_tree.specs.Tree.{Tree, IsLinkable}
 use Rattle.blk_base.specs.Pages.{above}
 use Rattle.blk_base.specs.declared.place.PageId.{PageId}
-use Rattle.image_model.specs.Pages.{is_page}
+use Rattle.image_model.specs.Pages.{is_page, leaf_of}
 use Rattle.core_model.specs.PageLinks.{IsThere, MayLack, page_in}
 use Rattle.core_model.specs.PageTrees.{IsMapTree, is_listed, link_at, missing_at}
 use Rattle.plain_laws.specs.Sums.{bit, total, Each}
 use Rattle.core_model.specs.Superblocks.{superblock_stage}
 use Rattle.core_model.specs.Tokens.{lock_weight}
-use Rattle.core_model.specs.Trace.{Trace, all_of, filled, sealed, moments, lines, calls, marks, places, journaled, entered, durable, applied, done, dropped, remappings, aborted, taken, has_taken, has_stopped, of_address, newest, logged_of, entry_of, entries_of}
+use Rattle.core_model.specs.Trace.{Trace, all_of, filled, sealed, moments, lines, calls, marks, places, journaled, entered, durable, applied, done, dropped, remappings, aborted, taken, has_taken, has_stopped, of_address, newest, logged_of, entry_of, damage_in}
 use Rattle.data_vio.specs.Vios.{all_logged, asked, logged, request_of, remapping}
 use Rattle.recovery_journal.specs.Log.{Log, head_of}
 
@@ -123,12 +121,16 @@ pub record HasTurn (s : Session) (t : Trace) (w : Writer) (asks : Asks) (a place
 abbrev pub IsInTurn : Session → Trace → Vio → Type 0
 IsInTurn s t v = HasTurn s t v.request v.asks v.at.0 v.place
 
+-- a mapping is to a data block, or to none
+abbrev pub IsToData : Session → Mapping → Type 0
+IsToData s mapping = OnBlock (λ x. IsDataBlock s.sizes.geometry x.0) mapping
+
 -- and knows what is mapped there
 pub record HasLock (s : Session) (t : Trace) (w : Writer) (asks : Asks) (a place : ℕ) (old : Mapping) : Type 0 where
   pub turn : HasTurn s t w asks a place
-  pub old_held : HoldsMapping old
-  -- it knows what its address is mapped to, by the slots that are set
-  pub old_is : old ≡ mapping_of (entries_of s.window (applied t)) a
+  pub old_data : IsToData s old
+  -- where the session is fair, it knows what its address is mapped to, by the slots that are set
+  pub old_is : IsFair s t → old ≡ mapping_by s (applied t) a
 
 abbrev pub Holds : Session → Trace → Vio → Type 0
 Holds s t v = HasLock s t v.request v.asks v.at.0 v.place v.old
@@ -161,8 +163,25 @@ pub record HasPendingEntry (s : Session) (t : Trace) (asks : Asks) (bytes : List
   pub maps : MapsTo asks bytes e.new
   pub fresh : OnBlock (IsFresh s) e.new
   pub leaf : IsLeafy s t e.at.0
-  pub old_held : HoldsMapping e.old
-  pub old_is : e.old ≡ mapping_of (entries_of s.window (applied t)) e.at.0
+  pub old_data : IsToData s e.old
+  pub old_is : IsFair s t → e.old ≡ mapping_by s (applied t) e.at.0
+
+-- one that needs its leaf, which stands at this block: no slot of its address was set
+pub record NeedsLeaf (s : Session) (t : Trace) (a : ℕ) (block : Option Pbn) (last : Option Remapping) : Type 0 where
+  pub at : Pbn
+  pub block_is : block ≡ Some at
+  pub stands : IsLinkedAt s t (leaf_of a) at
+  pub leaf : IsLeafy s t a
+  pub inside : IsInside s.sizes at
+  pub unset : of_address a (remappings (applied t)) ≡ []
+  pub latest : last ≡ None
+
+-- one that knows what its leaf says
+pub record HasLeaf (s : Session) (t : Trace) (w : Writer) (asks : Asks) (a place : ℕ) (old : Mapping) (last : Option Remapping) : Type 0 where
+  pub held : HasLock s t w asks a place old
+  pub leaf : IsLeafy s t a
+  pub unset : of_address a (remappings (applied t)) ≡ []
+  pub latest : last ≡ None
 
 -- its answer is one that it may have: the mark of a flush that returned, or a cause
 abbrev pub IsEarned : Session → Trace → FlushMark → Request → Answer → Bool → Type 0
@@ -191,18 +210,18 @@ pub record IsMaking (s : Session) (t : Trace) (w : Writer) (asks : Asks) (at : L
   pub is_write : asks ≡ Write
   pub none_taken : has_taken t w ≡ false
   pub lacked : MayLack s.sizes.geometry.height (asked asks at bytes) page
-  pub up : IsThere s.sizes.geometry.height s.window (applied t) (above page)
+  pub up : IsThere s.sizes.geometry.height s.links (applied t) (above page)
 
 abbrev pub MakesPage : Session → Trace → Vio → PageId → Type 0
 MakesPage s t v page = IsMaking s t v.request v.asks v.at v.bytes v.place page
 
 -- no entry puts the page anywhere; the one that does is its own, and it isn't linked
 abbrev pub IsUnmade : Session → Trace → PageId → Type 0
-IsUnmade s t page = page_in s.sizes.geometry.height s.window (journaled t) page ≡ None
+IsUnmade s t page = page_in s.links (journaled t) page ≡ None
 
 pub record HasPageEntry (s : Session) (t : Trace) (e : Logged) (page : PageId) : Type 0 where
   pub handed_in : Contains (journaled t) e
-  pub unlinked : page_in s.sizes.geometry.height s.window (applied t) page ≡ None
+  pub unlinked : page_in s.links (applied t) page ≡ None
   pub undropped : Contains (dropped t) e → ⊥
 
 -- what a write carries while it makes a page
@@ -223,6 +242,8 @@ abbrev pub CarriesOwn : Session → Trace → Vio → Phase → Type 0
 CarriesOwn s t v phase.Arrive = IsUndrawn t v.request v.asks
 CarriesOwn s t v phase.Wait = IsPlaced s t v × (has_taken t v.request ≡ false)
 CarriesOwn s t v phase.Look = IsInTurn s t v × (has_taken t v.request ≡ false)
+CarriesOwn s t v phase.LoadLeaf = IsInTurn s t v × (has_taken t v.request ≡ false) × NeedsLeaf s t v.at.0 v.leaf v.latest
+CarriesOwn s t v phase.LoadedLeaf = HasLeaf s t v.request v.asks v.at.0 v.place v.old v.latest × (has_taken t v.request ≡ false)
 CarriesOwn s t v phase.Claim = Holds s t v × (v.asks ≡ Write) × NeedsBlock t v.request v.bytes × IsLeafy s t v.at.0
 CarriesOwn s t v phase.Store = Holds s t v × (v.asks ≡ Write) × IsToFresh s v.new × IsLeafy s t v.at.0
 CarriesOwn s t v phase.Enter = Holds s t v × MapsTo v.asks v.bytes v.new × OnBlock (IsFresh s) v.new × (IsFair s t → OnBlock (λ x. ReadsAs s t x.0 v.bytes) v.new) × IsLeafy s t v.at.0
@@ -230,8 +251,8 @@ CarriesOwn s t v phase.Pending = HasPendingEntry s t v.asks v.bytes (remapping v
 CarriesOwn s t v phase.Settle = IsEntered s t v × IsCommitted t (remapping v) × AllBelow t v.at.0 v.place × OnBlock (IsFresh s) v.new × IsLeafy s t v.at.0
 CarriesOwn s t v phase.Load = Looks s t v × IsToInside s v.old
 CarriesOwn s t v phase.Loaded = Looks s t v × (IsFair s t → v.bytes ≡ value_at s t v.at.0)
-CarriesOwn s t v phase.AbortClaim = Holds s t v × MayReply s t v v.answer
-CarriesOwn s t v phase.Abort = Holds s t v × MayReply s t v v.answer
+CarriesOwn s t v phase.AbortClaim = IsInTurn s t v × MayReply s t v v.answer
+CarriesOwn s t v phase.Abort = IsInTurn s t v × MayReply s t v v.answer
 CarriesOwn s t v phase.AbortEnteredClaim = IsEntered s t v × MayReply s t v v.answer × (has_stopped t ≡ true)
 CarriesOwn s t v phase.AbortEntered = IsEntered s t v × MayReply s t v v.answer × (has_stopped t ≡ true)
 CarriesOwn s t v phase.Flush = v.asks ≡ Flush
@@ -252,8 +273,8 @@ pub record IsSealed (s : Session) (t : Trace) (vios : List Vio) (at : ℕ) : Typ
   pub committed_is : durable t ≡ all_of older
   pub some : 0 < length vios
   pub few : length vios ≤ 192
-  pub sequence : at ≡ s.sizes.start + (s.sizes.opened + length older)
-  pub left : s.sizes.opened + length older + 1 < s.sizes.geometry.journal
+  pub sequence : at ≡ s.sizes.start + length older
+  pub left : length older + 1 < s.sizes.geometry.journal
 
 -- Where a block with these requests is at a stage: which entries are committed; and where the session is fair, what stands on
 -- the device.
@@ -310,17 +331,17 @@ pub record LogicalLists (s : Session) (t : Trace) (zone next : ℕ) (placed : Li
   -- what was set or given at its addresses has a place that was drawn
   pub below : (a : ℕ) → zone_of s.sizes.zones a ≡ zone → AllBelow t a next
   -- its trees have the pages that are linked
-  pub tree_is : IsMapTree s.sizes.geometry zone s.sizes.zones s.window (applied t) tree
+  pub tree_is : IsMapTree s.sizes.geometry zone s.sizes.zones s.links (applied t) tree
 
 pub record PhysicalLists (s : Session) (t : Trace) (p : PhysicalZone) : Type 0 where
   -- those that weren't taken
   pub left : p.free ≡ drop (taken t) s.free
 
 -- The log has the entries of the blocks that were sealed, and of the one being filled, in their order. No zone lets go of an
--- entry, so its head is the first sequence of the window.
+-- entry, so its head is the first sequence.
 pub record IsLogOf (s : Session) (t : Trace) (log : Log) : Type 0 where
   pub size_is : log.size ≡ s.sizes.geometry.journal
-  pub sequence_is : log.sequence ≡ s.sizes.start + (s.sizes.opened + length (sealed t))
+  pub sequence_is : log.sequence ≡ s.sizes.start + length (sealed t)
   pub head_is : head_of log ≡ s.sizes.start
   pub filling_is : log.filling ≡ reverse (map entry_of (filled t))
   pub entries_are : said_by log.entries ≡ reverse (map entry_of (all_of (sealed t)))
@@ -341,6 +362,7 @@ pub record DeviceLists (t : Trace) (d : DeviceZone) : Type 0 where
   pub calls_is : d.calls ≡ successes (calls t)
   pub stopped_is : d.stopped ≡ has_stopped t
   pub superblock_is : d.superblock ≡ superblock_stage t
+  pub damage_is : d.damage ≡ damage_in t
 
 abbrev pub HasLists : Session → Trace → ZoneData → Type 0
 HasLists s t (at.Desk desk) = DeskLists t desk
@@ -362,15 +384,9 @@ pub record IsSoundDesk (s : Session) (desk : Desk) : Type 0 where
   -- and none waits for the notices once they have
   pub parked_early : 0 < length desk.parked → desk.notices < notified_zones s.sizes
 
--- where an address is mapped, by the last write of it or the window
-abbrev pub mapping_in : List Entry → List Remapping → ℕ → Mapping
-mapping_in window slots a = mapped_by (newest (of_address a slots)) (mapping_of window a)
-
--- it has the session's window; each address is mapped to a block that an entry can hold, inside the image
-pub record MapOk (s : Session) (window : List Entry) (slots : List Remapping) : Type 0 where
-  pub window_is : window ≡ s.window
-  pub mapped : (a : ℕ) → HoldsMapping (mapping_in window slots a)
-  pub inside : (a : ℕ) (x : Pbn) → mapping_in window slots a ≡ At x → IsInside s.sizes x
+-- each slot that is set maps its address to a data block, or to none
+abbrev pub MapOk : Session → List Remapping → Type 0
+MapOk s slots = AllByRecursion (λ (e : Remapping). IsToData s e.new) slots
 
 -- a lock of an address of the zone, whose place was drawn
 abbrev pub LockOk : Session → (zone next : ℕ) → Lock → Type 0
@@ -410,7 +426,7 @@ pub record PagesOk (zone : ℕ) (tree : Tree) (making : List PageId) (lacking : 
 
 pub record IsSoundLogical (s : Session) (l : LogicalZone) : Type 0 where
   pub among : l.zone < s.sizes.zones
-  pub map : MapOk s l.window l.slots
+  pub map : MapOk s l.slots
   pub locks : LocksOk s l.zone l.next l.held l.waiting
   pub pages : PagesOk l.zone l.tree l.making l.lacking
 

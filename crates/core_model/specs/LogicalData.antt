@@ -1,6 +1,5 @@
 -- What a logical zone keeps, as contracts see it.
 use Rattle.std.specs.Prelude.{ℕ, Bool, List}
-use Rattle.blk_base.specs.declared.journal_entry.Entry.{Entry}
 use Rattle.blk_base.specs.declared.place.Lba.{Lba}
 use Rattle.blk_base.specs.declared.place.PageId.{PageId}
 pub use Rattle.logical_locks.specs.declared.lock.Lock.{Lock}
@@ -12,8 +11,8 @@ use Rattle.data_vio.specs.declared.logged.Remapping.{Remapping}
 -- Its number among the logical zones, whether the stop notice has come, the place that is drawn next and those that were;
 -- the locks that are held, one for each address at most, and who waits for one, in the order of their places; the addresses
 -- of aborted writes whose entry was handed in: their locks are never released; the pages of its trees that are no leaves; the
--- pages that are being made, each by one request, and who waits for one of these; those that are never linked; where an address is
--- mapped that isn't set in the session, and the slots that are.
+-- pages that are being made, each by one request, and who waits for one of these; those that are never linked; the slots that are set in the
+-- session.
 pub record LogicalZone : Type 0 where
   pub zone : ℕ
   pub notified : Bool
@@ -26,5 +25,4 @@ pub record LogicalZone : Type 0 where
   pub making : List PageId
   pub lacking : List Vio
   pub unlinkable : List PageId
-  pub window : List Entry
   pub slots : List Remapping

@@ -9,7 +9,6 @@ use Rattle.block_map_tree.specs.Tree.{Links}
 use Rattle.blk_base.specs.declared.place.Mapping.TheVariants.{Unmapped, Zero, At}
 use Rattle.blk_base.specs.declared.place.ZoneId.TheVariants as id
 use Rattle.blk_base.specs.declared.request.Answer.TheVariants as reply
-use Rattle.image_layout.specs.Values.{mapping_of}
 use Rattle.vdo_model.specs.declared.report.Placed.{Placed}
 use Rattle.data_vio.specs.declared.items.Asks.{Asks}
 use Rattle.data_vio.specs.declared.items.Asks.TheVariants.{Read, Write, Discard, Flush}
@@ -19,9 +18,9 @@ use Rattle.data_vio.specs.declared.items.Vio.{Vio}
 use Rattle.data_vio.specs.declared.sizes.Sizes.{Sizes}
 use Rattle.core_model.specs.LogicalData.{Lock, LogicalZone}
 use Rattle.data_vio.specs.declared.logged.Remapping.{Remapping}
-use Rattle.core_model.specs.PageTrees.{HasPath, MayLink, but_page, is_listed, least_point, missing_at}
+use Rattle.core_model.specs.PageTrees.{HasPath, MayLink, but_page, is_listed, leaf_at, least_point, missing_at}
 use Rattle.core_model.specs.Trace.{Trace, Draws, Passes, Sets, Gives, Aborts, of_address, newest}
-use Rattle.data_vio.specs.Vios.{Post, turned, ended, makes, remapping, logged, gift}
+use Rattle.data_vio.specs.Vios.{Post, turned, ended, makes, reads_leaf, remapping, logged, gift}
 use Rattle.data_vio.specs.Vios as vios
 
 -- whether an address is among these
@@ -71,20 +70,22 @@ place_of_vio l v = record { request = v.request; zone = l.zone; place = l.next }
 abbrev pub drawn_by : LogicalZone → Vio → LogicalZone
 drawn_by l v = record l { next = l.next + 1; places = place_of_vio l v ∷ l.places }
 
--- the last write or discard that set an address in this session, and where the address is mapped
+-- the last write or discard that set an address in this session
 abbrev pub latest_at : LogicalZone → ℕ → Option Remapping
 latest_at l a = newest (of_address a l.slots)
 
-abbrev pub mapped_by : Option Remapping → Mapping → Mapping
-mapped_by None opening = opening
-mapped_by (Some e) opening = e.new
+-- what is known of where an address is mapped: what the last write set; or nothing there, where it has no leaf; or its leaf says it
+abbrev pub known_by : Option Remapping → Option Pbn → Option Mapping
+known_by (Some e) leaf = Some e.new
+known_by None None = Some Unmapped
+known_by None (Some x) = None
 
-abbrev pub mapping_at : LogicalZone → ℕ → Mapping
-mapping_at l a = mapped_by (latest_at l a) (mapping_of l.window a)
+abbrev pub known_at : LogicalZone → ℕ → Option Mapping
+known_at l a = known_by (latest_at l a) (leaf_at l.tree a)
 
 -- a request that has the lock of its address, and knows what is mapped there
-abbrev pub looked : LogicalZone → Vio → Vio
-looked l v = record v { old = mapping_at l v.at.0; latest = latest_at l v.at.0 }
+abbrev pub looked : LogicalZone → Mapping → Vio → Vio
+looked l mapping v = record v { old = mapping; latest = latest_at l v.at.0 }
 
 -- whether bytes are zeros
 abbrev pub are_zeros : List ℕ → Bool
@@ -99,36 +100,28 @@ enters_with new v = (id.Journal, item.Request (record v { phase = phase.Enter; n
 abbrev pub write_next : Vio → Post
 write_next v = if are_zeros v.bytes then enters_with Zero v else (id.Physical 0, item.Request (turned phase.Claim v))
 
--- where it goes: a read reads the mapped block, or is given zeros; a discard needs no block; a flush takes no lock
-abbrev pub read_next : Sizes → LogicalZone → Vio → Mapping → Post
-read_next sizes l v (At x) = (id.Device, item.Request (turned phase.Load v))
-read_next sizes l v Unmapped = (id.Logical l.zone, item.Request (record v { phase = phase.Loaded; bytes = zero_block }))
-read_next sizes l v Zero = (id.Logical l.zone, item.Request (record v { phase = phase.Loaded; bytes = zero_block }))
+-- where it goes that knows: a read reads the mapped block, or is given zeros; a discard needs no block; a flush takes no lock
+abbrev pub read_next : Vio → Mapping → Post
+read_next v (At x) = (id.Device, item.Request (turned phase.Load v))
+read_next v Unmapped = (v.home, item.Request (record v { phase = phase.Loaded; bytes = zero_block }))
+read_next v Zero = (v.home, item.Request (record v { phase = phase.Loaded; bytes = zero_block }))
 
-abbrev pub next_for : Sizes → LogicalZone → Vio → Asks → Option Post
-next_for sizes l v Read = Some (read_next sizes l (looked l v) (mapping_at l v.at.0))
-next_for sizes l v Write = Some (write_next (looked l v))
-next_for sizes l v Discard = Some (enters_with Unmapped (looked l v))
-next_for sizes l v Flush = None
+abbrev pub next_for : Vio → Asks → Option Post
+next_for v Read = Some (read_next v v.old)
+next_for v Write = Some (write_next v)
+next_for v Discard = Some (enters_with Unmapped v)
+next_for v Flush = None
 
-abbrev pub goes_on : Sizes → LogicalZone → Vio → Option Post
-goes_on sizes l v = next_for sizes l v v.asks
+abbrev pub goes_on : Vio → Option Post
+goes_on v = next_for v v.asks
 
--- whether nothing is known of an address: no slot of it was set, and the window maps it to nothing
-abbrev pub is_unmapped : Mapping → Bool
-is_unmapped Unmapped = true
-is_unmapped other = false
-
-abbrev pub is_unknown : LogicalZone → ℕ → Bool
-is_unknown l a = not (is_some (latest_at l a)) && is_unmapped (mapping_of l.window a)
-
--- whether a request passes: a discard of an address of which nothing is known, and that lacks a page of its path
+-- whether a request passes: a discard of an address of which no slot was set, and that lacks a page of its path
 abbrev pub is_discard : Asks → Bool
 is_discard Discard = true
 is_discard other = false
 
 abbrev pub passes_by : LogicalZone → Vio → Bool
-passes_by l v = is_discard v.asks && (is_unknown l v.at.0 && is_some (missing_at l.tree v.at.0))
+passes_by l v = is_discard v.asks && (not (is_some (latest_at l v.at.0)) && is_some (missing_at l.tree v.at.0))
 
 -- what it would have handed in
 abbrev pub pass_of : Vio → Remapping
@@ -209,7 +202,16 @@ pub data LogicalServes (sizes : Sizes) (old : LogicalZone) (v : Vio) (new : Logi
       → posts ≡ []
       → LogicalServes sizes old v new made posts
   -- it has the lock: what is mapped at its address says where it goes
-  looks : (post : Post) → v.phase ≡ phase.Look → HasPath old.tree v.at.0 → passes_by old v ≡ false → lacks old v ≡ None → goes_on sizes old v ≡ Some post
+  looks : (mapping : Mapping) (post : Post) → v.phase ≡ phase.Look → HasPath old.tree v.at.0 → passes_by old v ≡ false → lacks old v ≡ None → known_at old v.at.0 ≡ Some mapping
+      → goes_on (looked old mapping v) ≡ Some post
+      → new ≡ old → made ≡ [] → posts ≡ post ∷ []
+      → LogicalServes sizes old v new made posts
+  -- or its leaf is read first, and says it
+  needs_leaf : (x : Pbn) → v.phase ≡ phase.Look → HasPath old.tree v.at.0 → passes_by old v ≡ false → lacks old v ≡ None → known_at old v.at.0 ≡ None
+      → leaf_at old.tree v.at.0 ≡ Some x
+      → new ≡ old → made ≡ [] → posts ≡ (id.Device, item.Request (reads_leaf x v)) ∷ []
+      → LogicalServes sizes old v new made posts
+  leafed : (post : Post) → v.phase ≡ phase.LoadedLeaf → goes_on v ≡ Some post
       → new ≡ old → made ≡ [] → posts ≡ post ∷ []
       → LogicalServes sizes old v new made posts
   -- or it passes: it is done, and enters nothing

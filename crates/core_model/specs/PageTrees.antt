@@ -1,11 +1,8 @@
 -- The trees of a logical zone, as it keeps them: which pages of the path of an address are linked.
-use Rattle.std.specs.Prelude.{ℕ, zero, suc, ◌+◌, ◌-◌, ◌≡◌, ◌<◌, ◌/◌, ◌%◌, Bool, not, Option, None, Some, is_some, List, if◌then◌else◌}
+use Rattle.std.specs.Prelude.{ℕ, zero, suc, ◌-◌, ◌≡◌, ◌<◌, ◌/◌, ◌%◌, Bool, not, Option, None, Some, is_some, List, if◌then◌else◌}
 use Rattle.std.specs.List.{filter, list_any}
 use Rattle.blk_base.specs.Pages.{above, slot_of}
 use Rattle.blk_base.specs.declared.geometry.Geometry.{Geometry}
-use Rattle.blk_base.specs.declared.journal_entry.Entry.{Entry}
-use Rattle.blk_base.specs.declared.place.Mapping.{Mapping}
-use Rattle.blk_base.specs.declared.place.Mapping.TheVariants.{At}
 use Rattle.blk_base.specs.declared.place.PageId.{PageId}
 use Rattle.blk_base.specs.declared.place.Pbn.{Pbn}
 use Rattle.blk_base.specs.declared.point.Point.{Point}
@@ -13,14 +10,9 @@ use Rattle.blk_base.specs.Regions.{IsDataBlock}
 use Rattle.blk_base.specs.declared.sizes.TheConstants.{PAGE_SLOTS, TREES}
 use Rattle.block_map_tree.specs.Pages.{IsTreeOf}
 use Rattle.block_map_tree.specs.Tree.{Tree, IsLinkable, IsThere, IsTree, mapping_of}
-use Rattle.image_model.specs.Pages.{is_page, page_above}
+use Rattle.image_model.specs.Pages.{is_page, leaf_of, page_above}
 use Rattle.data_vio.specs.declared.logged.Logged.{Logged}
-use Rattle.core_model.specs.PageLinks.{page_in}
-
--- the block of a mapping, where it has one
-abbrev pub block_in : Mapping → Option Pbn
-block_in (At x) = Some x
-block_in other = None
+use Rattle.core_model.specs.PageLinks.{block_in, page_in}
 
 -- where the page above leads to this page, which is no root
 abbrev pub link_at : Tree → PageId → Option Pbn
@@ -34,6 +26,10 @@ missing_from (suc level) tree a = if is_some (link_at tree (page_above level a))
 -- the highest page of the path of an address that isn't there: roots are
 abbrev pub missing_at : Tree → ℕ → Option PageId
 missing_at tree a = missing_from (tree.forest.geometry.height - 1) tree a
+
+-- the block of the leaf of an address, where each page of its path is there
+abbrev pub leaf_at : Tree → ℕ → Option Pbn
+leaf_at tree a = if is_some (missing_at tree a) then None else link_at tree (leaf_of a)
 
 -- the path of an address leads through a tree of the zone
 pub record HasPath (tree : Tree) (a : ℕ) : Type 0 where
@@ -57,8 +53,8 @@ pub record MayLink (tree : Tree) (page : PageId) (at : Pbn) : Type 0 where
 abbrev pub least_point : Point
 least_point = record { 0 = 0 }
 
--- the trees of one of so many zones of an image, with the pages that these entries link, on top of the window
-pub record IsMapTree (g : Geometry) (zone zones : ℕ) (window : List Entry) (es : List Logged) (tree : Tree) : Type 0 where
+-- the trees of one of so many zones of an image, with the pages that it links and those that these entries do
+pub record IsMapTree (g : Geometry) (zone zones : ℕ) (links : PageId → Option Pbn) (es : List Logged) (tree : Tree) : Type 0 where
   pub forest_is : tree.forest ≡ record { geometry = g; zone = zone; zones = zones }
   pub form : IsTree tree
-  pub linked : (page : PageId) → IsLinkable tree page → link_at tree page ≡ page_in g.height window es page
+  pub linked : (page : PageId) → IsLinkable tree page → link_at tree page ≡ page_in links es page

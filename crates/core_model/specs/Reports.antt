@@ -3,16 +3,17 @@ use Rattle.std.specs.Prelude.{ℕ, ◌≡◌, ◌≢◌, ◌⊎◌, ◌<◌, len
 use Rattle.blk_base.specs.Sectors.{sector}
 use Rattle.blk_base.specs.declared.request.Writer.{Writer}
 use Rattle.disk_model.specs.Log.{Blocks, block_at}
-use Rattle.image_layout.specs.Values.{value_of, journal_of}
+use Rattle.image_layout.specs.Values.{journal_of}
+use Rattle.image_model.specs.Maps.{image_with, value_of}
 use Rattle.vdo_model.specs.Histories.{Progress, histories_of}
 use Rattle.vdo_model.specs.ZoneOrder.{by_zone}
 use Rattle.vdo_model.specs.declared.report.HistoryEntry.{HistoryEntry}
 use Rattle.vdo_model.specs.declared.report.Placed.{Placed}
 use Rattle.vdo_model.specs.declared.report.RunReport.{RunReport}
 use Rattle.data_vio.specs.declared.logged.Remapping.{Remapping}
-use Rattle.core_model.specs.Sessions.{Session, said_by}
+use Rattle.core_model.specs.Sessions.{Session, opened_image}
 use Rattle.core_model.specs.Superblocks.{superblock_bytes}
-use Rattle.core_model.specs.Trace.{Trace, lines, marks, places, entered, done, logged_of}
+use Rattle.core_model.specs.Trace.{Trace, lines, marks, places, damage_in, entered, done, logged_of}
 use Rattle.image_model.specs.Windows.{IsWindow}
 use Rattle.image_model.specs.Looked.{is_looked_at}
 use Rattle.blk_base.specs.declared.journal_entry.CommittedEntry.{CommittedEntry}
@@ -48,14 +49,15 @@ report_of s t = record {
   marks = marks t;
   places = listed_places s t;
   histories = histories_of s.script (lines t) (progress_of t) (listed_places s t);
+  damage = damage_in t;
 }
 
--- an image has a window, whose entries give its addresses these values
+-- an image has a window, with which its addresses have these values
 pub record GivesValues (g : Geometry) (start : ℕ) (image : Blocks) (values : ℕ → List ℕ) : Type 0 where
   pub last : ℕ
   pub window : List CommittedEntry
   pub is_window : IsWindow g start (journal_of g image) last window
-  pub values_are : values ≡ value_of image (said_by window)
+  pub values_are : (a : ℕ) → values a ≡ value_of (image_with g image window) a
 
 -- nothing was written to an image since it was opened, the index and the other sectors of the superblock's block aside
 pub record IsStillOpened (s : Session) (image : Blocks) : Type 0 where
@@ -72,4 +74,4 @@ ShowsValues s image values = SaysSuperblock s image × GivesValues s.sizes.geome
 
 -- the value of each address when the session began
 abbrev pub opening_values : Session → ℕ → List ℕ
-opening_values s = value_of s.image s.window
+opening_values s = value_of (opened_image s)

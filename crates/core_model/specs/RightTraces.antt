@@ -1,5 +1,5 @@
 -- A right trace: each happening may follow those before it, and at each moment a stop leaves what it may.
-use Rattle.std.specs.Prelude.{ℕ, ◌+◌, ◌≡◌, ◌≢◌, ◌⊎◌, ◌<◌, ◌≤◌, true, false, Option, None, Some, IsNone, IsSome, List, [], ◌∷◌, ◌++◌, length, slice_get, Contains}
+use Rattle.std.specs.Prelude.{ℕ, ◌+◌, ◌≡◌, ◌≢◌, ◌⊎◌, ◌<◌, ◌≤◌, Bool, true, false, Option, None, Some, IsNone, IsSome, List, [], ◌∷◌, ◌++◌, length, slice_get, Contains}
 use Rattle.std.specs.List.{AllByRecursion}
 use Rattle.blk_base.specs.Regions.{IsDataBlock}
 use Rattle.blk_base.specs.declared.place.Lba.{Lba}
@@ -15,7 +15,8 @@ use Rattle.blk_base.specs.declared.request.Request.TheVariants as request
 use Rattle.blk_base.specs.declared.request.Writer.{Writer}
 use Rattle.disk_model.specs.declared.call.Call.{Call}
 use Rattle.disk_model.specs.declared.call.Call.TheVariants as call
-use Rattle.image_layout.specs.Values.{mapping_of}
+use Rattle.page_codec.specs.Grammar.{IsPageFault}
+use Rattle.page_codec.specs.declared.fault.PageFault.{PageFault}
 use Rattle.vdo_model.specs.DeskLog.{IsNextLine, begun, answer_of}
 use Rattle.vdo_model.specs.FlushMarks.{IsMark}
 use Rattle.vdo_model.specs.Places.{IsNextPlace, place_of, zone_of}
@@ -28,14 +29,14 @@ use Rattle.data_vio.specs.declared.logged.Logged.TheVariants.{Remaps, Makes}
 use Rattle.data_vio.specs.declared.logged.NewPage.{NewPage}
 use Rattle.data_vio.specs.declared.logged.Remapping.{Remapping}
 use Rattle.image_model.specs.Pages.{leaf_of}
-use Rattle.core_model.specs.PageLinks.{IsThere, Lacks, MayLack, page_in}
+use Rattle.core_model.specs.PageLinks.{IsThere, Lacks, MayLack, leaf_head, page_in}
 use Rattle.blk_base.specs.Pages.{above}
 use Rattle.data_vio.specs.declared.items.Asks.{Asks}
 use Rattle.data_vio.specs.declared.items.Asks.TheVariants as asks
 use Rattle.core_model.specs.Superblocks.{IsInOrder, superblock_stage}
-use Rattle.core_model.specs.Sessions.{IsFair, OnBlock, Session, Shown, value_at}
+use Rattle.core_model.specs.Sessions.{IsFair, OnBlock, Session, Shown, mapping_by, value_at}
 use Rattle.data_vio.specs.Vios.{asked}
-use Rattle.core_model.specs.Trace.{Happening, Says, Flushes, Draws, Enters, Passes, Seals, Commits, Sets, Gives, Takes, Aborts, Calls, Fails, Trace, Gift, moments, lines, places, journaled, entered, new_of, remappings, filled, sealed, all_of, durable, committed, applied, done, dropped, aborted, gifts, taken, has_taken, is_read, is_ok, has_stopped, has_read_fault, of_address, logged_of, request_in, gift_of, entries_of}
+use Rattle.core_model.specs.Trace.{Happening, Says, Flushes, Draws, Enters, Passes, Seals, Commits, Sets, Gives, Takes, Aborts, Calls, Fails, Harms, Trace, Gift, moments, lines, places, journaled, entered, new_of, remappings, filled, sealed, all_of, durable, committed, applied, done, dropped, aborted, gifts, taken, has_taken, is_read, is_ok, has_stopped, has_read_fault, is_harmed, of_address, logged_of, request_in, gift_of}
 
 -- a request is begun and not answered
 pub record IsOpen (t : Trace) (w : Writer) : Type 0 where
@@ -93,7 +94,7 @@ pub record FollowsAbort (s : Session) (t : Trace) (w : Writer) (a : ℕ) : Type 
 
 -- no block of the journal is left but the one that stays free
 abbrev pub HasFullJournal : Session → Trace → Type 0
-HasFullJournal s t = s.sizes.geometry.journal ≤ s.sizes.opened + length (sealed t) + 1
+HasFullJournal s t = s.sizes.geometry.journal ≤ length (sealed t) + 1
 
 -- a write of these bytes needs a data block and took none
 pub record NeedsBlock (t : Trace) (w : Writer) (bytes : List ℕ) : Type 0 where
@@ -110,33 +111,42 @@ pub record HasNoPage (s : Session) (t : Trace) (w : Writer) (a : ℕ) : Type 0 w
   pub older : Trace
   pub moment : t ≡ newer ++ older
   pub placed : IsSome (place_of (places older) w)
-  pub lacking : Lacks s.sizes.geometry.height s.window (applied older) a
+  pub lacking : Lacks s.sizes.geometry.height s.links (applied older) a
   pub all_taken : length s.free ≤ taken older
 
 -- a write has no place in the journal, or no data block, or none for a page of its path
 abbrev pub IsFull : Session → Trace → Writer → ℕ → List ℕ → Type 0
 IsFull s t w a bytes = HasFullJournal s t ⊎ HasNoBlock s t w bytes ⊎ HasNoPage s t w a
 
+-- a write or a discard has its place, and no entry of it was handed in; the read of the leaf of its address had this fault
+abbrev pub HasNoLeaf : Trace → Writer → Bool → Type 0
+HasNoLeaf t w fault = IsSome (place_of (places t) w) × IsNone (logged_of (entered t) w) × (fault ≡ true)
+
 -- Why a request may be answered so.
 abbrev pub HasCause : Session → Trace → Writer → Request → Answer → Type 0
 -- a read: it was given these bytes; its address isn't below the logical size; the session is stopped, and the lock of
--- its address is never released; a read of the device that was made for it failed
+-- its address is never released; a read of the device that was made for it failed; the leaf of its address doesn't decode
 HasCause s t w (request.Read at) (reply.Bytes bytes) = (place : ℕ) × (gift_of (gifts t) w ≡ Some (record { request = w; at = at; place = place; bytes = bytes }))
 HasCause s t w (request.Read at) reply.Range = s.sizes.geometry.logical ≤ at.0
 HasCause s t w (request.Read at) reply.Stopped = (has_stopped t ≡ true) × FollowsAbort s t w at.0
 HasCause s t w (request.Read at) reply.ReadFault = IsSome (place_of (places t) w) × (has_read_fault t w ≡ true)
+HasCause s t w (request.Read at) reply.Damaged = IsSome (place_of (places t) w) × (is_harmed t w ≡ true)
 HasCause s t w (request.Read at) other = ⊥
--- a write: its slot was set; its address isn't below the logical size; the session is stopped, and its slot isn't set; no
--- block is left for it
+-- a write: its slot was set; its address isn't below the logical size; the session is stopped, and its slot isn't set; the read of
+-- the leaf of its address failed, or that doesn't decode; no block is left for it
 HasCause s t w (request.Write at bytes fua) reply.Ok = IsSome (logged_of (done t) w)
 HasCause s t w (request.Write at bytes fua) reply.Range = s.sizes.geometry.logical ≤ at.0
 HasCause s t w (request.Write at bytes fua) reply.Stopped = (has_stopped t ≡ true) × IsSome (place_of (places t) w) × IsNone (logged_of (done t) w)
+HasCause s t w (request.Write at bytes fua) reply.ReadFault = HasNoLeaf t w (has_read_fault t w)
+HasCause s t w (request.Write at bytes fua) reply.Damaged = HasNoLeaf t w (is_harmed t w)
 HasCause s t w (request.Write at bytes fua) reply.Full = IsSome (place_of (places t) w) × IsNone (logged_of (entered t) w) × IsFull s t w at.0 bytes
 HasCause s t w (request.Write at bytes fua) other = ⊥
 -- a discard: the same, but that it needs no data block
 HasCause s t w (request.Discard at) reply.Ok = IsSome (logged_of (done t) w)
 HasCause s t w (request.Discard at) reply.Range = s.sizes.geometry.logical ≤ at.0
 HasCause s t w (request.Discard at) reply.Stopped = (has_stopped t ≡ true) × IsSome (place_of (places t) w) × IsNone (logged_of (done t) w)
+HasCause s t w (request.Discard at) reply.ReadFault = HasNoLeaf t w (has_read_fault t w)
+HasCause s t w (request.Discard at) reply.Damaged = HasNoLeaf t w (is_harmed t w)
 HasCause s t w (request.Discard at) reply.Full = IsSome (place_of (places t) w) × IsNone (logged_of (entered t) w) × HasFullJournal s t
 HasCause s t w (request.Discard at) other = ⊥
 -- a flush: the session is stopped; one that returned is answered with its mark
@@ -171,9 +181,9 @@ pub record PlaceMayFollow (s : Session) (p : Placed) (t : Trace) : Type 0 where
   pub next : IsNextPlace s.sizes.zones s.sizes.geometry.logical s.script (lines t) p (places t)
   pub not_entered : IsNone (logged_of (entered t) p.request)
 
--- the leaf of an address is there, or the window maps the address
+-- the leaf of an address is there
 abbrev pub IsLeafy : Session → Trace → ℕ → Type 0
-IsLeafy s t a = IsThere s.sizes.geometry.height s.window (applied t) (leaf_of a) ⊎ (mapping_of s.window a ≢ Unmapped)
+IsLeafy s t a = IsThere s.sizes.geometry.height s.links (applied t) (leaf_of a)
 
 -- none of these entries names this block
 abbrev pub AreElsewhere : ℕ → List Logged → Type 0
@@ -187,24 +197,26 @@ pub record EntryMayFollow (s : Session) (e : Remapping) (t : Trace) : Type 0 whe
   pub quiet : Quiet t e.at.0
   pub below : AllBelow t e.at.0 e.place
   -- a block of the journal is left for it, and that has room
-  pub left : s.sizes.opened + length (sealed t) + 1 < s.sizes.geometry.journal
+  pub left : length (sealed t) + 1 < s.sizes.geometry.journal
   pub room : length (filled t) < 192
   -- it maps its address to a data block, or to none
   pub new_data : OnBlock (λ x. IsDataBlock s.sizes.geometry x.0) e.new
   -- no entry named that before, and the page that has its slot is there
   pub unused : OnBlock (λ x. AreElsewhere x.0 (journaled t)) e.new
   pub leaf : IsLeafy s t e.at.0
-  -- it has what its address is mapped to by the committed entries
-  pub old_is : e.old ≡ mapping_of (entries_of s.window (durable t)) e.at.0
+  -- it says what it replaces: a data block, or none; where the session is fair, what its address is mapped to by the committed entries
+  pub old_data : OnBlock (λ x. IsDataBlock s.sizes.geometry x.0) e.old
+  pub old_is : IsFair s t → e.old ≡ mapping_by s (durable t) e.at.0
 
 -- the entry of a new page may be handed in: a write lacks the page, the one above it is there, and it isn't yet
 pub record PageMayFollow (s : Session) (p : NewPage) (t : Trace) : Type 0 where
   pub is_open : IsOpen t p.request
+  pub placed : IsSome (place_of (places t) p.request)
   pub lacked : (r : Request) × (request_at s.script p.request ≡ Some r) × MayLack s.sizes.geometry.height r p.page
-  pub above : IsThere s.sizes.geometry.height s.window (applied t) (above p.page)
-  pub once : page_in s.sizes.geometry.height s.window (journaled t) p.page ≡ None
+  pub above : IsThere s.sizes.geometry.height s.links (applied t) (above p.page)
+  pub once : page_in s.links (journaled t) p.page ≡ None
   -- a block of the journal is left for it, and that has room
-  pub left : s.sizes.opened + length (sealed t) + 1 < s.sizes.geometry.journal
+  pub left : length (sealed t) + 1 < s.sizes.geometry.journal
   pub room : length (filled t) < 192
   pub new_data : IsDataBlock s.sizes.geometry p.at.0
   -- no entry named that before
@@ -221,9 +233,9 @@ pub record CommitMayFollow (s : Session) (e : Logged) (t : Trace) : Type 0 where
 pub record SealMayFollow (s : Session) (t : Trace) : Type 0 where
   pub some : 0 < length (filled t)
   pub all_committed : all_of (sealed t) ≡ durable t
-  pub left : s.sizes.opened + length (sealed t) + 1 < s.sizes.geometry.journal
+  pub left : length (sealed t) + 1 < s.sizes.geometry.journal
 
--- a discard may pass: a page of its path isn't there, no entry of its address was handed in, and its address is mapped to nothing
+-- a discard may pass: a page of its path isn't there, and no entry of its address was handed in
 pub record PassMayFollow (s : Session) (e : Remapping) (t : Trace) : Type 0 where
   pub is_open : IsOpen t e.request
   pub asked : request_at s.script e.request ≡ Some (request.Discard e.at)
@@ -231,9 +243,8 @@ pub record PassMayFollow (s : Session) (e : Remapping) (t : Trace) : Type 0 wher
   pub maps : (e.old ≡ Unmapped) × (e.new ≡ Unmapped)
   pub once : IsNone (logged_of (entered t) e.request)
   pub below : AllBelow t e.at.0 e.place
-  pub lacking : Lacks s.sizes.geometry.height s.window (applied t) e.at.0
+  pub lacking : Lacks s.sizes.geometry.height s.links (applied t) e.at.0
   pub first : of_address e.at.0 (remappings (journaled t)) ≡ []
-  pub unmapped : mapping_of s.window e.at.0 ≡ Unmapped
 
 pub record SlotMayFollow (s : Session) (e : Remapping) (t : Trace) : Type 0 where
   pub is_open : IsOpen t e.request
@@ -246,14 +257,14 @@ pub record SlotMayFollow (s : Session) (e : Remapping) (t : Trace) : Type 0 wher
 pub record LinkMayFollow (s : Session) (p : NewPage) (t : Trace) : Type 0 where
   pub is_open : IsOpen t p.request
   pub is_committed : Contains (durable t) (Makes p)
-  pub unlinked : page_in s.sizes.geometry.height s.window (applied t) p.page ≡ None
+  pub unlinked : page_in s.links (applied t) p.page ≡ None
   pub undropped : Contains (dropped t) (Makes p) → ⊥
 
 -- or be never linked, once the session is stopped
 pub record DropMayFollow (s : Session) (p : NewPage) (t : Trace) : Type 0 where
   pub is_open : IsOpen t p.request
   pub handed_in : Contains (journaled t) (Makes p)
-  pub unlinked : page_in s.sizes.geometry.height s.window (applied t) p.page ≡ None
+  pub unlinked : page_in s.links (applied t) p.page ≡ None
   pub stopped : has_stopped t ≡ true
 
 -- a write or a discard whose entry was handed in may be aborted, once the session is stopped
@@ -266,8 +277,8 @@ pub record AbortMayFollow (s : Session) (e : Remapping) (t : Trace) : Type 0 whe
 -- a write needs a data block for its data, or for a page that it lacks, which no entry puts anywhere while the one above it is there
 pub record NeedsPage (s : Session) (t : Trace) (w : Writer) (page : PageId) : Type 0 where
   pub lacked : (r : Request) × (request_at s.script w ≡ Some r) × MayLack s.sizes.geometry.height r page
-  pub up : IsThere s.sizes.geometry.height s.window (applied t) (above page)
-  pub unmade : page_in s.sizes.geometry.height s.window (journaled t) page ≡ None
+  pub up : IsThere s.sizes.geometry.height s.links (applied t) (above page)
+  pub unmade : page_in s.links (journaled t) page ≡ None
 
 abbrev pub NeedsFor : Session → Trace → Writer → Option PageId → Type 0
 NeedsFor s t w None = (at : Lba) × (bytes : List ℕ) × (request_at s.script w ≡ Some (request.Write at bytes false)) × NeedsBlock t w bytes
@@ -291,9 +302,26 @@ pub record GiftMayFollow (s : Session) (g : Gift) (t : Trace) : Type 0 where
 abbrev pub GoesOn : Trace → Call → Type 0
 GoesOn t call = is_read call ≡ false → has_stopped t ≡ false
 
--- a read of the device is made for a read of an address that is mapped to its block, by the slots that are set
+-- a page stands at this block: the opened image links it there, or an entry that was applied does
+abbrev pub IsLinkedAt : Session → Trace → PageId → Pbn → Type 0
+IsLinkedAt s t page x = (s.links page ≡ Some x) ⊎ ((w : Writer) × Contains (applied t) (Makes (record { request = w; page = page; at = x })))
+
+-- the leaf of the address of a request stands at this block, and no slot of that address was set
+pub record IsLeafFor (s : Session) (t : Trace) (w : Writer) (x : Pbn) : Type 0 where
+  pub asks : Asks
+  pub at : Lba
+  pub bytes : List ℕ
+  pub asked : request_at s.script w ≡ Some (asked asks at bytes)
+  pub stands : IsLinkedAt s t (leaf_of at.0) x
+  pub unset : of_address at.0 (remappings (applied t)) ≡ []
+
+-- a read has its place, and where the session is fair, its address is mapped to this block, by the slots that are set
+abbrev pub IsBlockFor : Session → Trace → Writer → Pbn → Type 0
+IsBlockFor s t w x = (at : Lba) × (request_at s.script w ≡ Some (request.Read at)) × (IsFair s t → mapping_by s (applied t) at.0 ≡ At x)
+
+-- a read of the device is made for a request: for the leaf of its address, or for the block to which that is mapped
 abbrev pub IsMadeFor : Session → Trace → Writer → Call → Type 0
-IsMadeFor s t w (call.Read x bytes ok) = (at : Lba) × (request_at s.script w ≡ Some (request.Read at)) × (mapping_of (entries_of s.window (applied t)) at.0 ≡ At x)
+IsMadeFor s t w (call.Read x bytes ok) = IsLeafFor s t w x ⊎ IsBlockFor s t w x
 IsMadeFor s t w other = Unit {0}
 
 -- a call may succeed, and one that was made for a request may fail
@@ -308,6 +336,12 @@ pub record FailureMayFollow (s : Session) (w : Writer) (c : Call) (t : Trace) : 
   pub goes_on : GoesOn t c
   pub made_for : IsMadeFor s t w c
   pub in_order : IsInOrder s.sizes (superblock_stage t) c
+
+-- a leaf that was read for a request may be found not to decode
+pub record HarmMayFollow (s : Session) (w : Writer) (x : Pbn) (bytes : List ℕ) (fault : PageFault) (t : Trace) : Type 0 where
+  pub is_open : IsOpen t w
+  pub leaf : IsLeafFor s t w x
+  pub damaged : IsPageFault (leaf_head s.sizes.geometry leaf.at.0 x) bytes fault
 
 -- each happening by what it is
 abbrev pub MayFollow : Session → Happening → Trace → Type 0
@@ -328,6 +362,7 @@ MayFollow s (Aborts (Remaps e)) t = AbortMayFollow s e t
 MayFollow s (Aborts (Makes p)) t = DropMayFollow s p t
 MayFollow s (Calls c) t = CallMayFollow s c t
 MayFollow s (Fails w c kept) t = FailureMayFollow s w c t
+MayFollow s (Harms w x bytes fault) t = HarmMayFollow s w x bytes fault t
 
 -- the trace is right: at each moment what happened may follow, and where the session is fair, the device has what it must
 abbrev pub RightTrace : Session → Trace → Type 0

@@ -1,11 +1,13 @@
 -- What a session is over, what stands on its device, and which values its addresses have.
-use Rattle.std.specs.Prelude.{ℕ, ◌+◌, ◌≡◌, ◌≢◌, ◌⊎◌, ◌<◌, ◌≤◌, ◌^◌, true, false, Option, None, Some, List, [], ◌∷◌, ◌++◌, length, map, reverse}
+use Rattle.std.specs.Prelude.{ℕ, ◌+◌, ◌≡◌, ◌≢◌, ◌⊎◌, ◌<◌, ◌≤◌, ◌^◌, true, false, Option, None, Some, List, [], ◌∷◌, ◌++◌, length, map, reverse, Contains, IsSome, IsTrue}
 use Rattle.std.specs.List.{AllByRecursion}
 use Rattle.blk_base.specs.Limits.{IsGeometry}
 use Rattle.blk_base.specs.Regions.{IsDataBlock, needed_blocks}
+use Rattle.blk_base.specs.Pages.{above}
 use Rattle.blk_base.specs.declared.journal_entry.Entry.{Entry}
 use Rattle.blk_base.specs.declared.place.Mapping.{Mapping}
 use Rattle.blk_base.specs.declared.place.Mapping.TheVariants.{At}
+use Rattle.blk_base.specs.declared.place.PageId.{PageId}
 use Rattle.blk_base.specs.declared.place.Pbn.{Pbn}
 use Rattle.blk_base.specs.declared.request.Request.TheVariants as request
 use Rattle.blk_base.specs.declared.request.Request.{Request}
@@ -14,42 +16,38 @@ use Rattle.disk_model.specs.Log as device
 use Rattle.disk_model.specs.declared.call.Call.{Call}
 use Rattle.disk_model.specs.declared.call.Call.TheVariants.{Read}
 use Rattle.disk_model.specs.OneImages.{HasOneImageIn}
-use Rattle.image_layout.specs.Values.{journal_of, mapping_of, value_of}
-use Rattle.stop_laws.specs.Journals.{Surely, block_of_slot}
+use Rattle.image_model.specs.Maps.{ArePagesGood, Image, image_with, mapping_of, page_at, value_of}
+use Rattle.stop_laws.specs.Journals.{Surely}
 use Rattle.vdo_model.specs.Scripts.{Script, request_at, value_written}
 use Rattle.data_vio.specs.declared.sizes.Sizes.{Sizes}
 use Rattle.data_vio.specs.declared.logged.Logged.{Logged}
 use Rattle.data_vio.specs.declared.logged.Logged.TheVariants.{Remaps, Makes}
 use Rattle.data_vio.specs.declared.logged.NewPage.{NewPage}
 use Rattle.data_vio.specs.declared.logged.Remapping.{Remapping}
-use Rattle.core_model.specs.PageLinks.{empty_page}
+use Rattle.core_model.specs.PageLinks.{IsThere, empty_page}
 use Rattle.plain_laws.specs.Sums.{total}
 use Rattle.core_model.specs.SessionLimits.{IsLimited}
 use Rattle.core_model.specs.declared.zones.SuperblockStage.{SuperblockStage}
 use Rattle.core_model.specs.declared.zones.SuperblockStage.TheVariants.{AsOpened, Written, Durable}
 use Rattle.core_model.specs.Superblocks.{superblock_bytes, superblock_stage}
 use Rattle.core_model.specs.Tokens.{is_block}
-use Rattle.core_model.specs.Trace.{Calls, Trace, all_of, calls, durable, done, filled, sealed, of_address, newest, new_of, new_pages, remappings, entry_of, entries_of}
+use Rattle.core_model.specs.Trace.{Calls, Harms, Trace, all_of, calls, durable, done, filled, sealed, of_address, newest, new_of, new_pages, remappings, entry_of}
 use Rattle.journal_stops.specs.Rings.{IsAtRest, IsUnderWay, IsWritten}
-use Rattle.journal_stops.specs.Sealed.{Sealed, head_of}
-use Rattle.image_model.specs.Windows.{IsOfImage, IsWindow}
+use Rattle.journal_stops.specs.Sealed.{Sealed}
 use Rattle.image_model.specs.Looked.{is_looked_at}
 use Rattle.blk_base.specs.declared.journal_entry.CommittedEntry.{CommittedEntry}
-use Rattle.journal_stops.specs.Sealed as blocks
 
--- What is fixed: the sizes, the script, the blocks that the device had when its log began, its log before the session,
--- the one image, the index aside, that a stop left then, the blocks that its journal has, the entries of its window, and the data blocks that are
--- free in it. The newest block and the newest entry stand first. Of the device, its image and the blocks of the journal all is
--- said where the session is fair, and nothing else.
+-- What is fixed: the sizes, the script, where the image that was opened links its pages, and its free data blocks; the blocks that
+-- the device had when its log began, its log before the session, and the one image, the index aside, that a stop left then. Of the
+-- device and its image all is said where the session is fair, and nothing else.
 pub record Session : Type 0 where
   pub sizes : Sizes
   pub script : Script
+  pub links : PageId → Option Pbn
+  pub free : List Pbn
   pub blocks : device.Blocks
   pub before : List Call
   pub image : device.Blocks
-  pub sealed : List Sealed
-  pub window : List Entry
-  pub free : List Pbn
 
 -- a request that is served as yet
 abbrev pub IsServed : Request → Type 0
@@ -58,10 +56,10 @@ IsServed (request.Write at bytes fua) = (length bytes ≡ 4096) × (fua ≡ fals
 IsServed (request.Discard at) = Unit {0}
 IsServed request.Flush = Unit {0}
 
--- a data block that no entry of the window names
+-- a data block that was free when the session began
 pub record IsFresh (s : Session) (x : Pbn) : Type 0 where
   pub is_data : IsDataBlock s.sizes.geometry x.0
-  pub unnamed : (a : ℕ) (y : Pbn) → mapping_of s.window a ≡ At y → y.0 ≢ x.0
+  pub is_free : Contains s.free x
   pub inside : x.0 < needed_blocks s.sizes.geometry
 
 -- the entries without their points
@@ -72,51 +70,54 @@ said_by committed = map (λ (c : CommittedEntry). c.entry) committed
 abbrev pub AreDistinct : List Pbn → Type 0
 AreDistinct blocks = (x : ℕ) → total (is_block x) blocks ≤ 1
 
--- The journal of the opened image has these blocks, all of which are needed, and nothing later: it may go on behind them.
-pub record HasWholeBlocks (s : Session) : Type 0 where
-  pub at_rest : IsAtRest s.image [] s.sizes.geometry s.sizes.start s.sealed
-  pub all_needed : head_of s.sizes.start s.sealed ≡ s.sizes.start
-  pub window_is : s.window ≡ said_by (blocks.entries_of s.sizes.start s.sealed)
-  pub opened : s.sizes.opened ≡ length s.sealed
-
--- The journal of the opened image has a window, and all its blocks but one count as used: none is left for more.
-pub record HasNoneLeft (s : Session) : Type 0 where
-  pub last : ℕ
-  pub committed : List CommittedEntry
-  pub is_window : IsWindow s.sizes.geometry s.sizes.start (journal_of s.sizes.geometry s.image) last committed
-  pub window_is : s.window ≡ said_by committed
-  pub full : s.sizes.opened + 1 ≡ s.sizes.geometry.journal
-
 -- the session can be served, whatever the device does
 pub record IsSession (s : Session) : Type 0 where
   pub sizes : IsGeometry s.sizes.geometry
   pub start : (1 ≤ s.sizes.start) × (s.sizes.start < 2 ^ 54)
   -- one block of the journal stays free
-  pub used : s.sizes.opened < s.sizes.geometry.journal
+  pub used : 0 < s.sizes.geometry.journal
   pub zones : 1 ≤ s.sizes.zones
   -- it is no larger than it may be
   pub limits : IsLimited s.sizes s.script
   pub served : AllByRecursion (AllByRecursion IsServed) s.script
-  pub of_image : AllByRecursion (IsOfImage s.sizes.geometry) s.window
+  -- a page that is linked stands at a data block, and the page above it is a root or linked
+  pub linked : (page : PageId) (x : Pbn) → s.links page ≡ Some x → IsDataBlock s.sizes.geometry x.0
+  pub rooted : (page : PageId) → IsSome (s.links page) → IsThere s.sizes.geometry.height s.links [] (above page)
   pub free : AllByRecursion (IsFresh s) s.free
   pub distinct : AreDistinct s.free
 
--- The image is as it was opened: the device has room for it and had no other, the index aside, and its journal says what the
--- session knows.
+-- the image that was opened: a closed one has no window
+abbrev pub opened_image : Session → Image
+opened_image s = image_with s.sizes.geometry s.image []
+
+-- where it maps an address
+abbrev pub opened_at : Session → ℕ → Mapping
+opened_at s a = mapping_of (opened_image s) a
+
+-- The image is as it was opened: the device has room for it and had no other, the index aside; no block of its journal is as late
+-- as the session; its pages can be read, and are linked as the session knows; and a free block has no page and no address.
 pub record IsAsOpened (s : Session) : Type 0 where
   pub room : needed_blocks s.sizes.geometry ≤ length s.blocks
   pub one_image : HasOneImageIn (is_looked_at s.sizes.geometry) s.blocks s.before s.image
-  -- the journal of the image has whole blocks, and may go on; or none is left
-  pub journal : HasWholeBlocks s ⊎ HasNoneLeft s
+  pub journal : IsAtRest s.image [] s.sizes.geometry s.sizes.start []
+  pub pages : ArePagesGood (opened_image s)
+  pub links : (page : PageId) → page.level + 1 < s.sizes.geometry.height → s.links page ≡ page_at (opened_image s) page
+  pub unpaged : (x at : Pbn) (page : PageId) → Contains s.free x → page_at (opened_image s) page ≡ Some at → at.0 ≢ x.0
+  pub unmapped : (x at : Pbn) (a : ℕ) → Contains s.free x → opened_at s a ≡ At at → at.0 ≢ x.0
 
 -- the device's log
 abbrev pub log : Session → Trace → List Call
 log s t = calls t ++ s.before
 
--- each read of the session gave what the device had
+-- a read gave what the device had
+abbrev pub IsHonestRead : Session → Trace → Pbn → List ℕ → Type 0
+IsHonestRead s t at bytes = (length bytes ≡ 4096) × IsMixOf (device.settled s.blocks (log s t) at.0) bytes
+
+-- each read of the session did
 abbrev pub HasHonestReads : Session → Trace → Type 0
 HasHonestReads s [] = Unit {0}
-HasHonestReads s (Calls (Read at bytes true) ∷ t) = (length bytes ≡ 4096) × IsMixOf (device.settled s.blocks (log s t) at.0) bytes × HasHonestReads s t
+HasHonestReads s (Calls (Read at bytes true) ∷ t) = IsHonestRead s t at bytes × HasHonestReads s t
+HasHonestReads s (Harms w at bytes fault ∷ t) = IsHonestRead s t at bytes × HasHonestReads s t
 HasHonestReads s (other ∷ t) = HasHonestReads s t
 
 -- The session is fair: its reads were honest, and the image as it was opened. What it promises of images, and of the values of
@@ -146,34 +147,36 @@ abbrev pub OnBlock : (Pbn → Type 0) → Mapping → Type 0
 OnBlock P (At x) = P x
 OnBlock P other = Unit {0}
 
+-- what these writes and discards map an address to, or else the opened image
+abbrev pub mapped_or : Option Remapping → Mapping → Mapping
+mapped_or None opened = opened
+mapped_or (Some e) opened = e.new
+
+abbrev pub mapping_by : Session → List Logged → ℕ → Mapping
+mapping_by s es a = mapped_or (newest (of_address a (remappings es))) (opened_at s a)
+
 -- the value of an address: that of its last write, or the one that it had when the session began
 abbrev pub value_from : Session → ℕ → Option Remapping → List ℕ
-value_from s a None = value_of s.image s.window a
+value_from s a None = value_of (opened_image s) a
 value_from s a (Some e) = bytes_of s e
 
--- What these writes, on top of the window, map the addresses to stands: the block of each address that has one has its value.
+-- What these writes, on top of the opened image, map the addresses to stands: the block of each address that has one has its value.
 abbrev pub MapStands : Session → Trace → List Logged → Type 0
-MapStands s t es = (a : ℕ) → OnBlock (λ x. Stands s t x.0 (value_from s a (newest (of_address a (remappings es))))) (mapping_of (entries_of s.window es) a)
+MapStands s t es = (a : ℕ) → OnBlock (λ x. Stands s t x.0 (value_from s a (newest (of_address a (remappings es))))) (mapping_by s es a)
 
 -- the block of the journal that is sealed with the entries of these writes, the newest first; it names the first sequence as
 -- its head
 abbrev pub sealed_with : Session → List Logged → Sealed
 sealed_with s es = record { head = s.sizes.start; entries = reverse (map entry_of es) }
 
--- the blocks of the journal with the entries of these writes, block by block, on those that it had
+-- the blocks of the journal with the entries of these writes, block by block
 abbrev pub blocks_of : Session → List (List Logged) → List Sealed
-blocks_of s [] = s.sealed
+blocks_of s [] = []
 blocks_of s (es ∷ older) = sealed_with s es ∷ blocks_of s older
 
--- none was sealed, since no block is left, and each block of the journal is as it was
-pub record StandsAsOpened (s : Session) (t : Trace) (blocks : List (List Logged)) : Type 0 where
-  pub none : blocks ≡ []
-  pub opening : HasNoneLeft s
-  pub same : (slot : ℕ) → slot < s.sizes.geometry.journal → Stands s t (block_of_slot slot) (device.block_at s.image (block_of_slot slot))
-
--- the journal has the blocks of these writes, on those that it had
+-- the journal has these
 abbrev pub HasBlocks : Session → Trace → List (List Logged) → Type 0
-HasBlocks s t blocks = (HasWholeBlocks s × IsAtRest s.blocks (log s t) s.sizes.geometry s.sizes.start (blocks_of s blocks)) ⊎ StandsAsOpened s t blocks
+HasBlocks s t blocks = IsAtRest s.blocks (log s t) s.sizes.geometry s.sizes.start (blocks_of s blocks)
 
 -- The pages among these entries stand as empty ones: as yet no page is written again.
 abbrev pub PagesStand : Session → Trace → List Logged → Type 0
@@ -193,7 +196,7 @@ NewReads s t es = AllByRecursion (λ (e : Logged). OnBlock (λ x. ReadsAs s t x.
 -- besides, the block of these writes is under way, and what they map their addresses to stands
 abbrev pub OnItsWay : Session → Trace → List (List Logged) → List Logged → Type 0
 OnItsWay s t older es =
-    (HasWholeBlocks s × IsUnderWay s.blocks (log s t) s.sizes.geometry s.sizes.start (blocks_of s older) (sealed_with s es)) × MapStands s t (all_of older) × PagesStand s t (all_of older) × NewStands s t es
+    IsUnderWay s.blocks (log s t) s.sizes.geometry s.sizes.start (blocks_of s older) (sealed_with s es) × MapStands s t (all_of older) × PagesStand s t (all_of older) × NewStands s t es
 
 -- and a read of that block's place gives it
 abbrev pub ReadsBlock : Session → Trace → List (List Logged) → List Logged → Type 0
@@ -226,10 +229,22 @@ SuperblockStands s t AsOpened = HasSuperblock s t
 SuperblockStands s t Written = HasSuperblock s t × ReadsAs s t 0 (superblock_bytes s.sizes)
 SuperblockStands s t Durable = Stands s t 0 (superblock_bytes s.sizes)
 
--- What stands on the device: the superblock, the blocks that were sealed, of which the last may be coming, with the map of
+-- a block that the session leaves as it was: it is none of the index, the superblock, the journal, and wasn't free
+pub record IsKept (s : Session) (x : ℕ) : Type 0 where
+  pub inside : x < needed_blocks s.sizes.geometry
+  pub looked : IsTrue (is_looked_at s.sizes.geometry x)
+  pub behind : s.sizes.geometry.journal < x
+  pub taken : (y : Pbn) → Contains s.free y → y.0 ≢ x
+
+-- each of these stands as it was opened
+abbrev pub KeptStands : Session → Trace → Type 0
+KeptStands s t = (x : ℕ) → IsKept s x → Stands s t x (device.block_at s.image x)
+
+-- What stands on the device: the superblock, all that the session leaves as it was, the blocks that were sealed, of which the last may be coming, with the map of
 -- their entries; and a read of each block to which an entry of the block being filled maps its address gives its value.
 pub record Shown (s : Session) (t : Trace) : Type 0 where
   pub superblock : SuperblockStands s t (superblock_stage t)
+  pub kept : KeptStands s t
   pub journal : AreAllThere s t ⊎ ComesLast s t
   pub filling : NewReads s t (filled t)
 

@@ -1,5 +1,5 @@
 -- The start of a core: nothing is begun, and every lane is empty.
-use Rattle.std.specs.Prelude.{ℕ, zero, suc, ◌+◌, ◌≡◌, ◌<◌, false, Option, None, Some, [], length}
+use Rattle.std.specs.Prelude.{ℕ, ◌+◌, ◌≡◌, ◌<◌, false, None, [], length}
 use Rattle.std.specs.List.{AllByRecursion}
 use Rattle.core_model.specs.declared.zones.ZoneData.{ZoneData}
 use Rattle.core_model.specs.declared.zones.ZoneData.TheVariants as at
@@ -27,7 +27,7 @@ pub record IsFirstDesk (s : Session) (number : ℕ) (desk : Desk) : Type 0 where
   pub notices : desk.notices ≡ 0
   pub parked : desk.parked ≡ []
 
--- a logical zone drew nothing, and has set nothing; it knows the window, and has the pages that this links
+-- a logical zone drew nothing, and has set nothing; it has the pages that the opened image links
 pub record IsFirstLogical (s : Session) (number : ℕ) (l : LogicalZone) : Type 0 where
   pub number_is : number ≡ logical_number l.zone
   pub among : l.zone < s.sizes.zones
@@ -37,11 +37,10 @@ pub record IsFirstLogical (s : Session) (number : ℕ) (l : LogicalZone) : Type 
   pub held : l.held ≡ []
   pub waiting : l.waiting ≡ []
   pub retired : l.retired ≡ []
-  pub tree : IsMapTree s.sizes.geometry l.zone s.sizes.zones s.window [] l.tree
+  pub tree : IsMapTree s.sizes.geometry l.zone s.sizes.zones s.links [] l.tree
   pub making : l.making ≡ []
   pub lacking : l.lacking ≡ []
   pub unlinkable : l.unlinkable ≡ []
-  pub window : l.window ≡ s.window
   pub slots : l.slots ≡ []
 
 -- the physical zone has all the free data blocks
@@ -50,15 +49,9 @@ pub record IsFirstPhysical (s : Session) (number : ℕ) (p : PhysicalZone) : Typ
   pub notified : p.notified ≡ false
   pub free : p.free ≡ s.free
 
--- the first block of an earlier session, where there is one
-abbrev pub earlier_from : ℕ → ℕ → Option ℕ
-earlier_from start zero = None
-earlier_from start (suc opened) = Some start
-
--- The log of a session goes on behind the blocks of the opened image, which all stay needed. The logical zones and the
--- physical zone say what they need of it.
+-- The log of a session is empty. The logical zones and the physical zone say what they need of it.
 abbrev pub first_log : Sizes → Log
-first_log sizes = opening sizes.geometry (earlier_from sizes.start sizes.opened) (sizes.start + sizes.opened) (sizes.zones + 1)
+first_log sizes = opening sizes.geometry sizes.start (sizes.zones + 1)
 
 pub record IsFirstJournal (s : Session) (number : ℕ) (j : JournalZone) : Type 0 where
   pub number_is : number ≡ journal_number s.sizes
@@ -76,6 +69,7 @@ pub record IsFirstDevice (s : Session) (number : ℕ) (d : DeviceZone) : Type 0 
   pub stopped : d.stopped ≡ false
   pub calls : d.calls ≡ 0
   pub superblock : d.superblock ≡ AsOpened
+  pub damage : d.damage ≡ None
 
 abbrev pub IsFirstData : Session → ℕ → ZoneData → Type 0
 IsFirstData s number (at.Desk desk) = IsFirstDesk s number desk

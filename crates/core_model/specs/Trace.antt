@@ -1,15 +1,17 @@
 -- What happens in a session, in order: its trace. The newest happening stands first. Each list that a zone only adds to
 -- is a part of the trace.
 use Rattle.std.specs.Prelude.{ℕ, suc, ◌==◌, Bool, true, false, not, ◌&&◌, ◌||◌, Option, None, Some, List, [], ◌∷◌, ◌++◌, if◌then◌else◌}
-use Rattle.blk_base.specs.declared.journal_entry.Entry.{Entry}
 use Rattle.blk_base.specs.declared.place.Mapping.{Mapping}
 use Rattle.blk_base.specs.declared.place.Mapping.TheVariants.{At}
 use Rattle.blk_base.specs.declared.place.PageId.{PageId}
 use Rattle.blk_base.specs.declared.place.Pbn.{Pbn}
+use Rattle.page_codec.specs.declared.fault.PageFault.{PageFault}
 use Rattle.blk_base.specs.declared.request.Answer.TheVariants.{Ok}
 use Rattle.blk_base.specs.declared.request.Writer.{Writer}
 use Rattle.disk_model.specs.declared.call.Call.{Call}
 use Rattle.disk_model.specs.declared.call.Call.TheVariants.{Read, Write, Flush}
+use Rattle.vdo_model.specs.declared.report.Damage.{Damage}
+use Rattle.vdo_model.specs.declared.report.Damage.TheVariants.{Page}
 use Rattle.vdo_model.specs.declared.report.DeskLine.{DeskLine}
 use Rattle.vdo_model.specs.declared.report.DeskLine.TheVariants.{Answer}
 use Rattle.vdo_model.specs.declared.report.FlushMark.{FlushMark}
@@ -47,6 +49,8 @@ pub data Happening : Type 0 where
   Calls : Call → Happening
   -- a call that was made for a request fails; it is kept in the device's log, or found no memory for its place there
   Fails : Writer → Call → (kept : Bool) → Happening
+  -- a leaf is read for a request, and doesn't decode: the device gave these bytes, which have this fault
+  Harms : Writer → Pbn → List ℕ → PageFault → Happening
 
 abbrev pub Trace : Type 0
 Trace = List Happening
@@ -63,6 +67,7 @@ moments (Says line ∷ t) = Desk line ∷ moments t
 moments (Flushes mark ∷ t) = Desk (Answer mark.request Ok) ∷ moments t
 moments (Calls call ∷ t) = Device call ∷ moments t
 moments (Fails w call kept ∷ t) = failed_call kept call (moments t)
+moments (Harms w at bytes fault ∷ t) = Device (Read at bytes true) ∷ moments t
 moments (other ∷ t) = moments t
 
 abbrev pub lines : Trace → List DeskLine
@@ -185,10 +190,11 @@ is_ok (Read at bytes ok) = ok
 is_ok (Write at bytes ok) = ok
 is_ok (Flush ok) = ok
 
--- the session is stopped: a write or flush of the device failed
+-- the session is stopped: a write or flush of the device failed, or a leaf that was read doesn't decode
 abbrev pub has_stopped : Trace → Bool
 has_stopped [] = false
 has_stopped (Fails w call kept ∷ t) = not (is_read call) || has_stopped t
+has_stopped (Harms w at bytes fault ∷ t) = true
 has_stopped (other ∷ t) = has_stopped t
 
 -- a read of the device that was made for a request failed
@@ -196,6 +202,22 @@ abbrev pub has_read_fault : Trace → Writer → Bool
 has_read_fault [] w = false
 has_read_fault (Fails v call kept ∷ t) w = (is_read call && same_writer v w) || has_read_fault t w
 has_read_fault (other ∷ t) w = has_read_fault t w
+
+-- a leaf that was read for a request doesn't decode
+abbrev pub is_harmed : Trace → Writer → Bool
+is_harmed [] w = false
+is_harmed (Harms v at bytes fault ∷ t) w = same_writer v w || is_harmed t w
+is_harmed (other ∷ t) w = is_harmed t w
+
+-- the first damage that was found
+abbrev pub first_of : Option Damage → Damage → Option Damage
+first_of (Some earlier) later = Some earlier
+first_of None later = Some later
+
+abbrev pub damage_in : Trace → Option Damage
+damage_in [] = None
+damage_in (Harms w at bytes fault ∷ t) = first_of (damage_in t) (Page at fault)
+damage_in (other ∷ t) = damage_in t
 
 -- those of one address
 abbrev pub of_address : ℕ → List Remapping → List Remapping
@@ -226,8 +248,3 @@ new_of (Makes p) = At p.at
 abbrev pub request_in : Logged → Writer
 request_in (Remaps e) = e.request
 request_in (Makes p) = p.request
-
--- these entries, over those of the window
-abbrev pub entries_of : List Entry → List Logged → List Entry
-entries_of window [] = window
-entries_of window (e ∷ older) = entry_of e ∷ entries_of window older

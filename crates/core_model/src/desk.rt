@@ -83,6 +83,7 @@ fn blank() -> Vio {
         home: ZoneId::Desk,
         phase: Phase::Reply,
         page: None,
+        leaf: None,
         bytes: Block::zero(),
         place: 0,
         old: Mapping::Unmapped,

@@ -60,19 +60,14 @@ impl Model for JournalZone {
     } };
 }
 
-// The log of a session, behind the blocks of the opened image.
+// The log of a session: it has no entry.
 fn first_log(alloc: Global, sizes: &Sizes) -> Result<Journal, AllocError>
     requires geometry { IsGeometry sizes.now.geometry }
     requires start { (1 ≤ sizes.now.start) × (sizes.now.start < 2 ^ 54) }
-    requires room { sizes.now.opened + 1 ≤ sizes.now.geometry.journal }
     ensures { IfOk result (λ log. log ≡ first_log sizes.now) }
 {
     let zones = u32::from(sizes.zones) + 1;
-    if sizes.opened == 0 {
-        return Journal::new(alloc, &sizes.geometry, sizes.start, zones);
-    }
-    let next = sizes.start + u64::from(sizes.opened);
-    Journal::behind(alloc, &sizes.geometry, sizes.start, next, zones)
+    Journal::new(alloc, &sizes.geometry, sizes.start, zones)
 }
 
 // The block that was sealed last is durable.
@@ -90,7 +85,6 @@ impl JournalZone {
     pub fn new(alloc: Global, sizes: &Sizes) -> Result<JournalZone, AllocError>
         requires geometry { IsGeometry sizes.now.geometry }
         requires start { (1 ≤ sizes.now.start) × (sizes.now.start < 2 ^ 54) }
-        requires room { sizes.now.opened + 1 ≤ sizes.now.geometry.journal }
         ensures { IfOk result (λ zone. zone ≡ record {
           notified = false;
           busy = false;

@@ -10,7 +10,7 @@
 //! know of zones.
 //!
 //! No rows yet: but through the definitions that use them: `Carries` in most phases; `IsSession` and `Shown`;
-//! `GivesValues` and `report_of`; `first_log` and `earlier_from`; the tokens. A legal core is in the rows of `core_laws`.
+//! `GivesValues` and `report_of`; `first_log`; the tokens. A legal core is in the rows of `core_laws`.
 #![tactic(auto)]
 
 mod counts;

@@ -2,14 +2,14 @@ ghost use Rattle.std.specs.Prelude.{◌↔◌, IsTrue, ◌≡◌, ◌+◌, ◌-�
 ghost use Rattle.logical_locks.specs.Holders.{HasRoom};
 ghost use Rattle.core_model.specs.Limits.{IsLogicalWithin};
 ghost use Rattle.core_model.specs.LogicalRules as rows;
-ghost use Rattle.core_model.specs.PageTrees.{HasPath, MayLink, but_page, is_listed, missing_at};
+ghost use Rattle.core_model.specs.PageTrees.{HasPath, MayLink, but_page, is_listed, leaf_at, missing_at};
 ghost use Rattle.core_model.specs.SessionLimits.{most_entries, most_items, most_requests};
 ghost use Rattle.core_model.specs.Waiters.{AreOwn, IsFree, vios};
 ghost use Rattle.data_vio.specs.Vios.{turned};
 ghost use Rattle.data_vio.specs.declared.items.Phase.TheVariants as phase;
 
 use crate::{MapTree, PageList, Slots};
-use blk_base::{Entry, Lba, PageId, Pbn};
+use blk_base::{Lba, PageId, Pbn};
 use data_vio::{
     BoxedVio, ENTRY_ROOM, Fifo, LANE_ROOM, LOCK_ROOM, MAKING_ROOM, Phase, REQUEST_ROOM, Register,
     Remapping,
@@ -17,7 +17,7 @@ use data_vio::{
 use logical_locks::Locks;
 use std::alloc::{AllocError, Global};
 use std::marker::Model;
-use vdo_model::{Placed, ReportList};
+use vdo_model::Placed;
 
 /// The addresses of some trees: their places, locks and slots.
 #[derive(Drop)]
@@ -37,8 +37,6 @@ pub struct LogicalZone {
     lacking: Fifo<BoxedVio, LANE_ROOM>,
     // The pages whose entry was handed in and that are never linked.
     unlinkable: PageList<ENTRY_ROOM>,
-    // The entries of the journal when the session began.
-    window: ReportList<Entry>,
     slots: Slots,
 }
 
@@ -62,7 +60,6 @@ impl Model for LogicalZone {
       making = l.making;
       lacking = l.lacking;
       unlinkable = l.unlinkable;
-      window = l.window;
       slots = l.slots;
     } };
 
@@ -75,13 +72,8 @@ impl Model for LogicalZone {
 
 impl LogicalZone {
     /// A logical zone at the start of a session, by its number among the logical ones: it drew nothing and has set nothing,
-    /// has these trees, and knows these entries of the window. All its room is taken here.
-    pub fn new(
-        alloc: Global,
-        zone: u8,
-        tree: MapTree,
-        window: ReportList<Entry>,
-    ) -> Result<LogicalZone, AllocError>
+    /// and has these trees. All its room is taken here.
+    pub fn new(alloc: Global, zone: u8, tree: MapTree) -> Result<LogicalZone, AllocError>
         ensures { IfOk result (λ logical. logical ≡ record {
           zone = zone;
           notified = false;
@@ -94,7 +86,6 @@ impl LogicalZone {
           making = [];
           lacking = [];
           unlinkable = [];
-          window = window;
           slots = [];
         }) }
     {
@@ -115,7 +106,6 @@ impl LogicalZone {
             making,
             lacking,
             unlinkable,
-            window,
             slots,
         })
     }
@@ -134,13 +124,6 @@ impl LogicalZone {
         self.places.as_slice()
     }
 
-    /// The entries of the journal when the session began, the oldest first.
-    pub fn window(&self) -> &[Entry]
-        ensures { self.now.window ≡ reverse result.now }
-    {
-        self.window.as_slice()
-    }
-
     /// The last write that set the slot of an address in this session.
     pub fn latest(&self, at: Lba) -> Option<Remapping>
         ensures { result ≡ rows.latest_at self.now at.0 }
@@ -154,6 +137,14 @@ impl LogicalZone {
         ensures { result ≡ missing_at self.now.tree at.0 }
     {
         self.tree.missing(at)
+    }
+
+    /// The block of the leaf of an address; `None` where that isn't there.
+    pub fn leaf(&self, at: Lba) -> Option<Pbn>
+        requires { HasPath self.now.tree at.0 }
+        ensures { result ≡ leaf_at self.now.tree at.0 }
+    {
+        self.tree.leaf(at)
     }
 
     /// Whether a page is being made.

@@ -1,6 +1,6 @@
 ghost use Rattle.std.specs.Prelude.{◌≡◌, ◌<◌, None, Some};
 ghost use Rattle.block_map_tree.specs.Tree.{IsTree, Links};
-ghost use Rattle.core_model.specs.PageTrees.{HasPath, MayLink, least_point, missing_at};
+ghost use Rattle.core_model.specs.PageTrees.{HasPath, MayLink, leaf_at, least_point, missing_at};
 ghost use Rattle.image_model.specs.Pages.{page_above};
 
 use blk_base::{Lba, PAGE_SLOTS, PageId, Pbn, Point, TREES};
@@ -46,6 +46,17 @@ impl MapTree {
         ensures { Links self.old self.new page at least_point }
     {
         self.nodes.link(page, at, Point(0));
+    }
+
+    /// The block of the leaf of an address; `None` where that isn't there.
+    pub fn leaf(&self, at: Lba) -> Option<Pbn>
+        requires { HasPath self.now at.0 }
+        ensures { result ≡ leaf_at self.now at.0 }
+    {
+        match self.nodes.find(&path(at, self.height)) {
+            Found::Leaf(block) => Some(block),
+            Found::Missing(_) => None,
+        }
     }
 
     /// The highest page of the path of an address that isn't there; `None` where each is.

@@ -1,4 +1,6 @@
 use crate::{Desk, JournalZone, LogicalZone, Ports, Supply};
+use vdo_model::Damage;
+
 /// The data blocks.
 #[derive(Drop)]
 pub struct PhysicalZone {
@@ -27,6 +29,8 @@ pub struct DeviceZone {
     pub calls: u64,
     /// Nothing else is written before this is durable.
     pub superblock: SuperblockStage,
+    /// The first leaf that was read and doesn't decode.
+    pub damage: Option<Damage>,
 }
 
 /// What a zone of each kind keeps.

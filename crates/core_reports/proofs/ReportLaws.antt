@@ -1,8 +1,8 @@
 -- The zones of a legal core have what its report says.
-use Rattle.std.proofs.Common.{ℕ, suc, ◌≡◌, ◌<◌, ◌≤◌, ◌+◌, ◌-◌, ◌++◌, Some, List, [], ◌∷◌, length, slice_get, refl, sym, ◌∙◌, ap, subst, append_assoc, inl, inr, arith}
+use Rattle.std.proofs.Common.{ℕ, suc, ◌≡◌, ◌<◌, ◌≤◌, ◌+◌, ◌-◌, ◌++◌, Option, Some, List, [], ◌∷◌, length, slice_get, refl, sym, ◌∙◌, ap, subst, append_assoc, inl, inr, arith}
 use Rattle.std.proofs.lemmas.List.{append-nil}
 use Rattle.core_laws.proofs.Common.{AllAnswered, AllByRecursion, AreDrawn, DataOk, DeskLine, HistoryEntry, IsSession, Placed, RunReport, Script, Session, Trace, Zone, ZoneData, desk_number, journal_number, journaled, lines, marks, places, some_is, cases_lt}
-use Rattle.core_laws.proofs.kept.ZoneKinds.{desk_sits, journal_sits}
+use Rattle.core_laws.proofs.kept.ZoneKinds.{desk_sits, device_sits, journal_sits}
 use Rattle.core_laws.proofs.trace.PlacesOfTrace.{places_drawn}
 use Rattle.core_limits.proofs.DeskLimits.{asked_inside}
 use Rattle.core_limits.proofs.PlaceLimits.{places_few}
@@ -10,6 +10,9 @@ use Rattle.vdo_model.proofs.ZoneOrderLaws.{drawn_same, listed_same}
 use Rattle.vdo_model.specs.Histories.{histories_of}
 use Rattle.vdo_model.specs.ZoneOrder.{by_zone}
 use Rattle.core_model.specs.DeskData.{Desk}
+use Rattle.core_model.specs.Trace.{damage_in}
+use Rattle.data_vio.specs.Zones.{device_number}
+use Rattle.vdo_model.specs.declared.report.Damage.{Damage}
 use Rattle.core_model.specs.declared.desk.DeskReport.{DeskReport}
 use Rattle.core_model.specs.Legal.{Legal}
 use Rattle.core_laws.proofs.trace.StoppedPasses.{handed_journaled}
@@ -17,7 +20,7 @@ use Rattle.core_model.specs.Reports.{listed_places, progress_of, report_of}
 use Rattle.core_model.specs.SessionLimits.{most_requests, most_streams}
 use Rattle.core_model.specs.declared.zones.ZoneData.TheVariants as at
 use Rattle.core_reports.specs.Found.{AreFound, IsFound}
-use Rattle.core_reports.specs.Listed.{HasDesk, HasEntered, places_at, places_of_all}
+use Rattle.core_reports.specs.Listed.{HasDamage, HasDesk, HasEntered, places_at, places_of_all}
 use Rattle.core_reports.specs.Rooms.{IsRoomFor}
 
 module _ (s : Session) (t : Trace) where
@@ -150,12 +153,24 @@ module _ (s : Session) (t : Trace) (zones : List Zone) (session : IsSession s) (
         each = λ n z j had keeps. (own n z (at.Journal j) had keeps).lists.entered_is;
       }
 
-  -- so the desk, the places and the histories make the report
-  pub report_is : (rows : DeskReport) (ps : List Placed) (hs : List HistoryEntry)
+  pub its_damage : HasDamage (damage_in t) zones
+  its_damage =
+      let sits = device_sits s t zones legal.each legal.count in
+      record {
+        number = device_number s.sizes;
+        zone = sits.zone;
+        device = sits.it;
+        had = sits.had;
+        keeps = sits.keeps;
+        each = λ n z d had keeps. (own n z (at.Device d) had keeps).lists.damage_is;
+      }
+
+  -- so the desk, the places, the histories and the damage make the report
+  pub report_is : (rows : DeskReport) (ps : List Placed) (hs : List HistoryEntry) (damage : Option Damage)
       → rows ≡ record { requests = its_desk.desk.requests; log = its_desk.desk.log; marks = its_desk.desk.marks } → ps ≡ places_of_all zones
-      → hs ≡ histories_of its_desk.desk.requests its_desk.desk.log (progress_of t) ps
-      → ◌≡◌ {A = RunReport} (record { requests = rows.requests; desk = rows.log; marks = rows.marks; places = ps; histories = hs }) (report_of s t)
-  report_is rows ps hs rows_are ps_are hs_are =
+      → hs ≡ histories_of its_desk.desk.requests its_desk.desk.log (progress_of t) ps → damage ≡ damage_in t
+      → ◌≡◌ {A = RunReport} (record { requests = rows.requests; desk = rows.log; marks = rows.marks; places = ps; histories = hs; damage = damage }) (report_of s t)
+  report_is rows ps hs damage rows_are ps_are hs_are damage_is =
       let placed : ps ≡ listed_places s t = ps_are ∙ places_listed in
       let requests : rows.requests ≡ s.script = ap (λ (r : DeskReport). r.requests) rows_are ∙ its_desk.requests_is in
       let log : rows.log ≡ lines t = ap (λ (r : DeskReport). r.log) rows_are ∙ its_desk.log_is in
@@ -165,4 +180,4 @@ module _ (s : Session) (t : Trace) (zones : List Zone) (session : IsSession s) (
       ∙ ap (λ (script : Script). histories_of script its_desk.desk.log (progress_of t) ps) its_desk.requests_is
       ∙ ap (λ (desk : List DeskLine). histories_of s.script desk (progress_of t) ps) its_desk.log_is
       ∙ ap (λ (qs : List Placed). histories_of s.script (lines t) (progress_of t) qs) placed in
-      rw (requests, log, marked, placed, histories) refl
+      rw (requests, log, marked, placed, histories, damage_is) refl

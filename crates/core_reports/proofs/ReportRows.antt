@@ -1,6 +1,6 @@
 -- What the zones of a small core have of its report, and the requests that are found: each clause is met, and is broken
 -- alone.
-use Rattle.std.proofs.Common.{ℕ, zero, suc, ◌≡◌, false, Some, None, List, [], ◌∷◌, replicate, slice_get, sym, ap, ◌∙◌, refl, arith}
+use Rattle.std.proofs.Common.{ℕ, zero, suc, ◌≡◌, false, true, Option, Some, None, List, [], ◌∷◌, replicate, slice_get, sym, ap, ◌∙◌, refl, arith}
 use Rattle.std.proofs.lemmas.List.{length-replicate}
 use Rattle.std.proofs.lemmas.Option.{same_Some}
 use Rattle.std.specs.List.{AllByRecursion}
@@ -17,15 +17,20 @@ use Rattle.core_model.specs.DeskData.{Desk}
 use Rattle.core_model.specs.Reports.{is_there}
 use Rattle.core_model.specs.Trace.{logged_of, remappings}
 use Rattle.core_model.specs.JournalData.{JournalZone}
+use Rattle.core_model.specs.declared.zones.DeviceZone.{DeviceZone}
+use Rattle.core_model.specs.declared.zones.SuperblockStage.TheVariants.{Durable}
+use Rattle.page_codec.specs.declared.fault.PageFault.TheVariants.{Header}
+use Rattle.vdo_model.specs.declared.report.Damage.{Damage}
+use Rattle.vdo_model.specs.declared.report.Damage.TheVariants.{Page}
 use Rattle.data_vio.specs.declared.logged.Logged.{Logged}
 use Rattle.data_vio.specs.declared.logged.Remapping.{Remapping}
 use Rattle.core_model.specs.declared.zones.Zone.{Zone}
 use Rattle.core_model.specs.declared.zones.ZoneData.{ZoneData}
 use Rattle.core_model.specs.declared.zones.ZoneData.TheVariants as at
 use Rattle.core_model.proofs.rows.PhaseRows.{desk, device, empty_log, journal, logical, physical}
-use Rattle.core_model.proofs.rows.WorkedTraces.{first, of_first, other, place, script, second, writer}
+use Rattle.core_model.proofs.rows.WorkedTraces.{block, first, of_first, other, place, script, second, writer}
 use Rattle.core_reports.specs.Found.{AreFound, AreNoted, IsFound}
-use Rattle.core_reports.specs.Listed.{HasDesk, HasEntered, places_at, places_of_all}
+use Rattle.core_reports.specs.Listed.{HasDamage, HasDesk, HasEntered, places_at, places_of_all}
 use Rattle.core_reports.specs.Rooms.{IsRoomFor}
 
 -- room: for one request of stream 0 and two of stream 1, and too little for stream 1
@@ -128,6 +133,36 @@ desk_is_none is = only_desk is.number is.zone is.journal is.had is.keeps
 
 two_journals : HasEntered (Remaps of_first ∷ []) (of_journal (of_first ∷ []) ∷ of_journal [] ∷ []) → ⊥
 two_journals is = absurd (let none = is.each 1 (of_journal []) _ refl refl in cc)
+
+-- the device's zone, which found this first
+abbrev bad_leaf : Option Damage
+bad_leaf = Some (Page (block 79) Header)
+
+abbrev of_device : Option Damage → Zone
+of_device damage = record { number = 5; steps = 0; keeps = at.Device (record { stopped = true; calls = 7; superblock = Durable; damage = damage }); ports = front.ports }
+
+abbrev damage_at : ZoneData → Option Damage
+damage_at (at.Device d) = d.damage
+damage_at kept = None
+
+damage_there : HasDamage bad_leaf (front ∷ of_device bad_leaf ∷ [])
+damage_there = record { number = 1; zone = of_device bad_leaf; device = _; had = refl; keeps = refl; each = each }
+  where
+    each : (n : ℕ) (z : Zone) (d : DeviceZone) → slice_get (front ∷ of_device bad_leaf ∷ []) n ≡ Some z → z.keeps ≡ at.Device d → d.damage ≡ bad_leaf
+    each zero z d had keeps = absurd (let same : desk [] [] 0 [] ≡ at.Device d = ap (λ (y : Zone). y.keeps) (same_Some _ _ had) ∙ keeps in cc)
+    each (suc zero) z d had keeps = ap damage_at (sym (ap (λ (y : Zone). y.keeps) (same_Some _ _ had) ∙ keeps))
+    each (suc (suc n)) z d had keeps = absurd cc
+
+-- had, keeps: there is none; each: there are two, and one of them found nothing
+no_device : HasDamage bad_leaf (front ∷ []) → ⊥
+no_device is = by is.number is.zone is.device is.had is.keeps
+  where
+    by : (n : ℕ) (z : Zone) (d : DeviceZone) → slice_get (front ∷ []) n ≡ Some z → z.keeps ≡ at.Device d → ⊥
+    by zero z d had keeps = let same : desk [] [] 0 [] ≡ at.Device d = ap (λ (y : Zone). y.keeps) (same_Some _ _ had) ∙ keeps in cc
+    by (suc n) z d had keeps = cc
+
+two_devices : HasDamage bad_leaf (of_device bad_leaf ∷ of_device None ∷ []) → ⊥
+two_devices is = absurd (let none = is.each 1 (of_device None) _ refl refl in cc)
 
 -- notes: the first request of stream 0 is answered by line 1
 abbrev answered : Writer → List DeskLine

@@ -1,10 +1,12 @@
 -- What the zones of a core have of its report.
-use Rattle.std.specs.Prelude.{ℕ, ◌≡◌, List, [], ◌∷◌, ◌++◌, Some, slice_get}
+use Rattle.std.specs.Prelude.{ℕ, ◌≡◌, Option, List, [], ◌∷◌, ◌++◌, Some, slice_get}
+use Rattle.vdo_model.specs.declared.report.Damage.{Damage}
 use Rattle.vdo_model.specs.declared.report.Placed.{Placed}
 use Rattle.core_model.specs.DeskData.{Desk}
 use Rattle.data_vio.specs.Zones.{desk_number}
 use Rattle.core_model.specs.JournalData.{JournalZone}
 use Rattle.data_vio.specs.declared.logged.Logged.{Logged}
+use Rattle.core_model.specs.declared.zones.DeviceZone.{DeviceZone}
 use Rattle.core_model.specs.declared.zones.Zone.{Zone}
 use Rattle.core_model.specs.declared.zones.ZoneData.{ZoneData}
 use Rattle.core_model.specs.declared.zones.ZoneData.TheVariants as at
@@ -33,3 +35,12 @@ pub record HasEntered (entries : List Logged) (zones : List Zone) : Type 0 where
   pub had : slice_get zones number ≡ Some zone
   pub keeps : zone.keeps ≡ at.Journal journal
   pub each : (n : ℕ) (z : Zone) (j : JournalZone) → slice_get zones n ≡ Some z → z.keeps ≡ at.Journal j → j.entered ≡ entries
+
+-- the device's zone is there, and each that is there found this first
+pub record HasDamage (damage : Option Damage) (zones : List Zone) : Type 0 where
+  pub number : ℕ
+  pub zone : Zone
+  pub device : DeviceZone
+  pub had : slice_get zones number ≡ Some zone
+  pub keeps : zone.keeps ≡ at.Device device
+  pub each : (n : ℕ) (z : Zone) (d : DeviceZone) → slice_get zones n ≡ Some z → z.keeps ≡ at.Device d → d.damage ≡ damage

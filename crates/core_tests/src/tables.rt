@@ -1,7 +1,7 @@
 use crate::cores::{Ask, Unplayed, push};
 use crate::judging::{Met, answer_of, byte_of, judge, may_show};
 use crate::maps::wrong_in_image;
-use crate::sessions::{Plan, Trees, Trouble, driven, rooted, troubled_of};
+use crate::sessions::{Plan, Trees, Trouble, driven, opening_calls, troubled_of};
 use blk_base::{Answer, Lba, Pbn, Writer};
 use disk_model::{Call, CallKind, FaultAt, MemDisk};
 use std::alloc::Global;
@@ -127,8 +127,8 @@ const PLANS: [Plan; 5] = [
 
 const SCHEDULES: u64 = 20;
 
-/// The calls of a run are shared out among so many schedules: each call is that of two schedules.
-const SHARE: u64 = 10;
+/// The calls of a run are shared out among so many schedules.
+const SHARE: u64 = 20;
 
 // What a run met.
 fn met_by<R: Wait>(
@@ -154,13 +154,16 @@ fn runs_without_a_fault(rt: HostRuntime) -> Result<(), Fail> {
     // The plans have 7, 4, 7, 4 and 5 reads of addresses, and 2 requests out of range. Some writes and discards are too many for
     // the journal, in which each has a block of its own, or shares one, and each leaf that they lack takes one more.
     let want = Met {
-        reads: 27 * 20,
-        ranges: 2 * 20,
+        reads: 27 * SCHEDULES as u32,
+        ranges: 2 * SCHEDULES as u32,
         full: total.full,
         ..Met::NOTHING
     };
     assert_eq!(rt; total, want);
-    assert_eq!(rt; (0 < total.full, total.full < 12 * 20), (true, true));
+    assert_eq!(rt;
+        (0 < total.full, total.full < 12 * SCHEDULES as u32),
+        (true, true)
+    );
     Ok(())
 }
 
@@ -190,11 +193,6 @@ fn fault_of(earlier: &[Call], call: &Call, effect: bool) -> FaultAt {
     }
 }
 
-// How many calls read the journal when a device is opened.
-fn reads_of(plan: &Plan) -> u64 {
-    u64::from(plan.trees.geometry().journal)
-}
-
 // The faults of each call of a run behind those of its opening.
 fn faults_of<R: Wait>(
     rt: &R,
@@ -205,9 +203,10 @@ fn faults_of<R: Wait>(
     let mut device = troubled_of(alloc, &plan.trees.geometry(), Trouble::Nothing)?;
     let _report = driven(rt, alloc, plan, number, &mut device)?;
     let mut faults = Vec::new(alloc);
+    let opening = opening_calls(alloc, plan)?;
     let calls = device.calls();
     for (k, call) in calls.iter().enumerate() {
-        if k as u64 >= reads_of(plan)
+        if k as u64 >= opening
             && let Some(earlier) = calls.get(..k)
         {
             push(&mut faults, fault_of(earlier, call, k % 2 == 0))?;
@@ -364,7 +363,7 @@ fn shown_after<R: Wait>(
     Ok(newest.and(mixed))
 }
 
-// What is shown after a stop before, or within, each call of a run.
+// What is shown after a stop before, or within, calls of a run.
 fn shown_at_each_call<R: Wait>(
     rt: &R,
     alloc: Global,
@@ -372,10 +371,11 @@ fn shown_at_each_call<R: Wait>(
     number: u64,
 ) -> Result<Shown, Unplayed> {
     let faults = faults_of(rt, alloc, plan, number)?;
+    let opening = opening_calls(alloc, plan)?;
     let mut total = Shown::NOTHING;
     for k in 0..=faults.len() as u64 {
         if is_of(k, number) {
-            let calls = reads_of(plan).wrapping_add(k);
+            let calls = opening.wrapping_add(k);
             total = total.and(shown_after(rt, alloc, plan, number, calls)?);
         }
     }
@@ -388,7 +388,7 @@ fn stops_are_right<R: Wait>(rt: &R, alloc: Global, plan: &Plan) -> Result<(u32, 
     for number in 0..SCHEDULES {
         total = total.and(shown_at_each_call(rt, alloc, plan, number)?);
     }
-    let many = total.stops > 80 && total.newer > 80 && total.looked > 320;
+    let many = total.stops > 12 && total.newer > 8 && total.looked > 48;
     Ok((total.wrong, many))
 }
 
@@ -430,7 +430,7 @@ fn wrong_after<R: Wait>(
     number: u64,
     calls: u64,
 ) -> Result<u32, Unplayed> {
-    let mut device = rooted(alloc, &plan.trees.geometry(), Trouble::Cut(calls))?;
+    let mut device = troubled_of(alloc, &plan.trees.geometry(), Trouble::Cut(calls))?;
     let report = driven(rt, alloc, plan, number, &mut device)?;
     let mut image = device.pick_image(alloc, number.wrapping_add(2))?;
     wrong_in_image(
@@ -442,14 +442,15 @@ fn wrong_after<R: Wait>(
     )
 }
 
-// The same of stops at each call of a run, shared out among the schedules, and how many these are.
+// The same of stops at calls of a run by each schedule, and how many these are.
 fn images_of<R: Wait>(rt: &R, alloc: Global, plan: &Plan) -> Result<(u32, u32), Unplayed> {
     let (mut wrong, mut stops) = (0_u32, 0_u32);
-    for number in 0..SHARE {
+    let opening = opening_calls(alloc, plan)?;
+    for number in 0..SCHEDULES {
         let faults = faults_of(rt, alloc, plan, number)?;
         for k in 0..=faults.len() as u64 {
             if is_of(k, number) {
-                let calls = reads_of(plan).wrapping_add(k);
+                let calls = opening.wrapping_add(k);
                 wrong = wrong.wrapping_add(wrong_after(rt, alloc, plan, number, calls)?);
                 stops = stops.wrapping_add(1);
             }
@@ -462,7 +463,7 @@ fn images_of<R: Wait>(rt: &R, alloc: Global, plan: &Plan) -> Result<(u32, u32), 
 fn images_after_stops(rt: HostRuntime) -> Result<(), Fail> {
     for plan in [&PLANS[3], &PLANS[4]] {
         let (wrong, stops) = images_of(&rt, rt.alloc(), plan)?;
-        assert_eq!(rt; (wrong, stops > 30), (0, true));
+        assert_eq!(rt; (wrong, stops > 6), (0, true));
     }
     Ok(())
 }

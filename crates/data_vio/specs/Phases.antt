@@ -31,6 +31,8 @@ abbrev pub row : Phase → PhaseRow
 row phase.Arrive = record { zone = AtHome; locks = false; claims = false; arrives = true; entered = false }
 row phase.Wait = record { zone = InNoLane; locks = false; claims = false; arrives = false; entered = false }
 row phase.Look = record { zone = AtHome; locks = true; claims = false; arrives = false; entered = false }
+row phase.LoadLeaf = record { zone = AtDevice; locks = true; claims = false; arrives = false; entered = false }
+row phase.LoadedLeaf = record { zone = AtHome; locks = true; claims = false; arrives = false; entered = false }
 row phase.Claim = record { zone = AtPhysical; locks = true; claims = false; arrives = false; entered = false }
 row phase.Store = record { zone = AtDevice; locks = true; claims = true; arrives = false; entered = false }
 row phase.Enter = record { zone = AtJournal; locks = true; claims = true; arrives = false; entered = false }

@@ -4,6 +4,7 @@ use Rattle.blk_base.specs.declared.place.Lba.{Lba}
 use Rattle.blk_base.specs.declared.place.Mapping.{Mapping}
 use Rattle.blk_base.specs.declared.place.Mapping.TheVariants.{Unmapped, At}
 use Rattle.blk_base.specs.declared.place.PageId.{PageId}
+use Rattle.blk_base.specs.declared.place.Pbn.{Pbn}
 use Rattle.blk_base.specs.declared.place.ZoneId.{ZoneId}
 use Rattle.blk_base.specs.declared.place.ZoneId.TheVariants as id
 use Rattle.blk_base.specs.declared.request.Answer.{Answer}
@@ -63,6 +64,7 @@ begun_vio sizes w asks at bytes =
       home = id.Logical (zone_of sizes.zones at.0);
       phase = phase.Arrive;
       page = None;
+      leaf = None;
       bytes = bytes;
       place = 0;
       old = Unmapped;
@@ -79,6 +81,14 @@ turned next v = record v { phase = next }
 -- it is to be answered so, and goes on to another phase
 abbrev pub ended : Phase → Answer → Vio → Vio
 ended next answer v = record v { phase = next; answer = Some answer }
+
+-- the leaf of its address, at this block, is read first
+abbrev pub reads_leaf : Pbn → Vio → Vio
+reads_leaf x v = record v { phase = phase.LoadLeaf; leaf = Some x; latest = None }
+
+-- and says what its address is mapped to
+abbrev pub has_leaf : Mapping → Vio → Vio
+has_leaf mapping v = record v { phase = phase.LoadedLeaf; leaf = None; old = mapping }
 
 -- it makes a page, and when that is made it looks up its own address again
 abbrev pub makes : PageId → Vio → Vio

@@ -1,10 +1,10 @@
 ghost use Rattle.std.specs.Prelude.{◌≡◌, None, Some, IfOk};
 ghost use Rattle.blk_base.specs.declared.request.Answer.TheVariants as reply;
 ghost use Rattle.data_vio.specs.declared.items.Phase.TheVariants as phase;
-ghost use Rattle.data_vio.specs.Vios.{ended, entry_of, gives_up, logged, made, makes, remapping, turned};
+ghost use Rattle.data_vio.specs.Vios.{ended, entry_of, gives_up, has_leaf, logged, made, makes, reads_leaf, remapping, turned};
 
 use crate::{Logged, NewPage, Phase, Remapping, Vio};
-use blk_base::{Answer, Block, Entry, Mapping, PageId};
+use blk_base::{Answer, Block, Entry, Mapping, PageId, Pbn};
 use std::alloc::{AllocError, Global};
 use std::marker::Model;
 
@@ -77,6 +77,26 @@ impl BoxedVio {
     {
         self.vio.old = old;
         self.vio.latest = latest;
+        self
+    }
+
+    /// The leaf of its address, which stands at this block, is read first: no write of that address was done in the session.
+    pub fn read_leaf(mut self, leaf: Pbn) -> BoxedVio
+        ensures { result ≡ reads_leaf leaf self }
+    {
+        self.vio.phase = Phase::LoadLeaf;
+        self.vio.leaf = Some(leaf);
+        self.vio.latest = None;
+        self
+    }
+
+    /// Its leaf says what its address is mapped to.
+    pub fn has_leaf(mut self, old: Mapping) -> BoxedVio
+        ensures { result ≡ has_leaf old self }
+    {
+        self.vio.phase = Phase::LoadedLeaf;
+        self.vio.leaf = None;
+        self.vio.old = old;
         self
     }
 

@@ -1,5 +1,5 @@
 use crate::{BLOCK_ENTRIES, BoxedVio, Fifo, Remapping};
-use blk_base::{Answer, Block, Lba, Mapping, PageId, Writer, ZoneId};
+use blk_base::{Answer, Block, Lba, Mapping, PageId, Pbn, Writer, ZoneId};
 
 /// What a request asks for.
 #[derive(Clone, Copy)]
@@ -20,6 +20,10 @@ pub enum Phase {
     Wait,
     /// Logical: it has the lock of its address, and what is mapped there says where it goes.
     Look,
+    /// Device: the leaf of its address is read, which says what is mapped there.
+    LoadLeaf,
+    /// Logical: it has the lock, and its leaf said what is mapped at its address: that says where it goes.
+    LoadedLeaf,
     /// Physical: a write takes a free data block, for its data or for the page that it makes.
     Claim,
     /// Device: the data of a write, or its page, is written to its block.
@@ -61,6 +65,8 @@ pub struct Vio {
     /// The page of the block map that a write makes, which the path of its address lacks; `None` while it is about its own
     /// address.
     pub page: Option<PageId>,
+    /// The block of the leaf of its address, while that is read.
+    pub leaf: Option<Pbn>,
     /// What a write gives its address, or what a read got.
     pub bytes: Block,
     /// The number that it drew in its logical zone.

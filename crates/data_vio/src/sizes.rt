@@ -5,10 +5,8 @@ use blk_base::Geometry;
 #[derive(Clone, Copy)]
 pub struct Sizes {
     pub geometry: Geometry,
-    /// The first sequence of the journal's window.
+    /// The first sequence of the session's journal.
     pub start: u64,
-    /// How many blocks of the journal are used when the session begins.
-    pub opened: u32,
     /// How many logical zones there are.
     pub zones: u8,
     /// How many requests of a stream are under way at most.

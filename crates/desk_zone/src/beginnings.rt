@@ -30,6 +30,7 @@ fn begun_vio(sizes: &Sizes, request: Writer, asks: Asks, at: Lba, bytes: Block) 
         home: ZoneId::Logical(u32::from(tree % sizes.zones)),
         phase: Phase::Arrive,
         page: None,
+        leaf: None,
         bytes,
         place: 0,
         old: Mapping::Unmapped,

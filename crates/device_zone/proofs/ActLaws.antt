@@ -23,7 +23,7 @@ use Rattle.core_model.specs.declared.zones.SuperblockStage.TheVariants.{AsOpened
 use Rattle.core_model.specs.DeviceRules as device
 use Rattle.disk_model.specs.declared.call.Call.TheVariants.{Flush}
 use Rattle.device_zone.specs.DeviceCalls.{is_awaited, needs_call}
-use Rattle.device_zone.specs.Served.{CanServe, IsAtInside}
+use Rattle.device_zone.specs.Served.{CanServe, IsAtInside, IsLeafInside}
 use Rattle.core_model.specs.Steps.{HasAct}
 use Rattle.core_model.specs.Steps.Act.{calls, works}
 use Rattle.core_model.specs.Trace.{Trace}
@@ -44,6 +44,7 @@ works_on tells honest sizes old new b posts before after (made, row, log) = (mad
 served_there : (sizes : Sizes) (old : DeviceZone) (v : Vio) (q : Phase) → CanServe sizes old v q → (row q).zone ≡ AtDevice
 served_there sizes old v phase.Store can = refl
 served_there sizes old v phase.Load can = refl
+served_there sizes old v phase.LoadLeaf can = refl
 served_there sizes old v phase.Flush can = refl
 served_there sizes old v other can = absurd can
 
@@ -91,6 +92,7 @@ waits_still sizes old front w new made posts (device.fails call kept is goes h1 
 by_phase : (sizes : Sizes) (old : DeviceZone) (v : Vio) (q : Phase) → (row q).zone ≡ AtDevice → (IsReady old → ⊥) → CanServe sizes old v q
 by_phase sizes old v phase.Store there waits = λ goes durable. absurd (waits (inr durable))
 by_phase sizes old v phase.Load there waits = λ ready. absurd (waits ready)
+by_phase sizes old v phase.LoadLeaf there waits = λ ready. absurd (waits ready)
 by_phase sizes old v phase.Flush there waits = tt
 by_phase sizes old v other there waits = absurd cc
 
@@ -102,6 +104,9 @@ serves sizes old v new made posts (device.store_fails x kept p to r durable insi
 serves sizes old v new made posts (device.store_unmade p halts h1 h2 h3) = subst (CanServe sizes old v) (sym p) (λ runs lasts. absurd cc)
 serves sizes old v new made posts (device.loads x bytes p from ready inside h1 h2 h3) = subst (CanServe sizes old v) (sym p) (λ now. subst (IsAtInside sizes) (sym from) inside)
 serves sizes old v new made posts (device.load_fails x bytes kept p from ready inside h1 h2 h3) = subst (CanServe sizes old v) (sym p) (λ now. subst (IsAtInside sizes) (sym from) inside)
+serves sizes old v new made posts (device.loads_leaf x bytes ms p from ready inside is h1 h2 h3) = subst (CanServe sizes old v) (sym p) (λ now. subst (IsLeafInside sizes) (sym from) inside)
+serves sizes old v new made posts (device.leaf_fails x bytes kept p from ready inside h1 h2 h3) = subst (CanServe sizes old v) (sym p) (λ now. subst (IsLeafInside sizes) (sym from) inside)
+serves sizes old v new made posts (device.harms x bytes fault p from ready inside is h1 h2 h3) = subst (CanServe sizes old v) (sym p) (λ now. subst (IsLeafInside sizes) (sym from) inside)
 serves sizes old v new made posts (device.flushes p r durable h1 h2 h3) = subst (CanServe sizes old v) (sym p) tt
 serves sizes old v new made posts (device.flush_fails kept p r durable h1 h2 h3) = subst (CanServe sizes old v) (sym p) tt
 serves sizes old v new made posts (device.flush_unmade p halts h1 h2 h3) = subst (CanServe sizes old v) (sym p) tt

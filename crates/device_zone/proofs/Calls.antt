@@ -1,7 +1,9 @@
 -- What a call leaves in the log of the device, as a part of the trace.
-use Rattle.std.proofs.Common.{◌≡◌, ◌<◌, ◌≤◌, Bool, true, false, List, [], ◌∷◌, Result, Ok, Err, OnOk, OnErr, Some, IsTrue, ℕ, length, refl, ap, sym, ◌∙◌, inl, inr, arith}
+use Rattle.std.proofs.Common.{◌≡◌, ◌<◌, ◌≤◌, Bool, true, false, List, [], ◌∷◌, Result, Ok, Err, OnOk, OnErr, Some, IsTrue, ℕ, length, slice_index_or, refl, ap, sym, ◌∙◌, inl, inr, arith}
 use Rattle.blk_base.specs.declared.place.Pbn.{Pbn}
 use Rattle.blk_base.specs.declared.place.ZoneId.{ZoneId}
+use Rattle.blk_base.specs.declared.request.Writer.{Writer}
+use Rattle.page_codec.specs.declared.fault.PageFault.{PageFault}
 use Rattle.disk_model.specs.declared.call.Call.{Call}
 use Rattle.disk_model.specs.declared.call.Call.TheVariants as call
 use Rattle.disk_model.specs.Causes.{Rose, HasCause}
@@ -16,8 +18,13 @@ use Rattle.data_vio.specs.declared.items.Stage.TheVariants as stage
 use Rattle.data_vio.specs.declared.items.Vio.{Vio}
 use Rattle.data_vio.specs.declared.sizes.Sizes.{Sizes}
 use Rattle.core_model.specs.DeviceRules.{call_of, journal_bytes}
-use Rattle.core_model.specs.Trace.{Calls}
-use Rattle.data_vio.specs.Vios.{Post}
+use Rattle.core_model.specs.Trace.{Calls, Harms}
+use Rattle.data_vio.specs.Vios.{Post, ended, has_leaf}
+use Rattle.data_vio.specs.declared.items.Phase.TheVariants as phase
+use Rattle.blk_base.specs.declared.request.Answer.TheVariants as reply
+use Rattle.blk_base.specs.declared.place.Mapping.{Mapping}
+use Rattle.blk_base.specs.declared.place.Mapping.TheVariants.{Unmapped}
+use Rattle.image_model.specs.Pages.{slot_of_address}
 use Rattle.step_parts.specs.DeviceLog.{GivesSettled, HasCalled}
 use Rattle.device_zone.specs.DeviceCalls.{HasFailed, needs_call}
 
@@ -38,6 +45,10 @@ pub done_call : {T E : Type 0} (tells honest : Bool) (before after : Seen) (c : 
     → OnOk result (HasCalled tells honest before after (Calls c ∷ []))
 done_call tells honest before after c (Err e) stays given said faults unkept = tt
 done_call tells honest before after c (Ok x) stays given said faults unkept = record { stays = stays; given = given; log = said; faults = omega (arith, faults); unkept = omega (arith, unkept); idle = λ none. absurd cc }
+
+-- a leaf that was read, and doesn't decode
+pub harm_called : (tells honest : Bool) (before after : Seen) (w : Writer) (at : Pbn) (bytes : List ℕ) (fault : PageFault) → HasCalled tells honest before after (Calls (call.Read at bytes true) ∷ []) → HasCalled tells honest before after (Harms w at bytes fault ∷ [])
+harm_called tells honest before after w at bytes fault done = record { stays = done.stays; log = done.log; given = done.given; faults = done.faults; unkept = done.unkept; idle = λ none. absurd cc }
 
 -- a call that failed: it stands in the log, or the count of those without a place rose
 failed : (tells honest : Bool) (before after : Seen) (c : Call) → Stays before after → (IsTrue tells → FailedInLog before.log after.log c (Rose before.unkept after.unkept))
@@ -86,3 +97,11 @@ block_post posts rest to to' b b' posted to_is b_is = rw (← to_is, ← b_is) p
 pub oldest_of : (vs : List Vio) → 0 < length vs → (v : Vio) × (others : List Vio) × (vs ≡ v ∷ others)
 oldest_of [] some = absurd (omega (arith, some))
 oldest_of (v ∷ others) some = (v, others, refl)
+
+-- what is posted of a leaf that was read, by another name of its request
+pub posts_leaf : (posts : List Post) (v w seen seen_too : Vio) (mapping : Mapping) (ms : List Mapping) → posts ≡ (seen.home, item.Request w) ∷ [] → w ≡ has_leaf mapping v
+    → mapping ≡ slice_index_or ms (slot_of_address seen_too.at.0) Unmapped → seen ≡ v → seen_too ≡ v → posts ≡ (v.home, item.Request (has_leaf (slice_index_or ms (slot_of_address v.at.0) Unmapped) v)) ∷ []
+posts_leaf posts v w seen seen_too mapping ms posted w_is m_is seen_is seen_too_is = rw (posted, w_is, m_is, seen_is, seen_too_is) refl
+
+pub posts_harm : (posts rest : List Post) (v w seen : Vio) → posts ≡ (seen.home, item.Request w) ∷ rest → w ≡ ended phase.Abort reply.Damaged v → seen ≡ v → posts ≡ (v.home, item.Request (ended phase.Abort reply.Damaged v)) ∷ rest
+posts_harm posts rest v w seen posted w_is seen_is = rw (posted, w_is, seen_is) refl

@@ -6,6 +6,7 @@
 mod block_work;
 mod device_calls;
 mod dispatch;
+mod leaves;
 mod requests;
 mod start;
 mod stop_notices;

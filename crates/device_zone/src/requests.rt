@@ -10,6 +10,7 @@ ghost use Rattle.step_parts.specs.DeviceLog.{HasCalled};
 ghost use Rattle.device_zone.specs.Served.{CanServe, MayServe};
 
 use crate::device_calls::{flush, read_block, write_block};
+use crate::leaves::serve_load_leaf;
 use crate::stop_notices::halt;
 use crate::superblock::{announce, waits};
 use blk_base::{Answer, Block, Mapping, Mappings, PageId, Pbn, ZoneId};
@@ -212,6 +213,7 @@ pub(crate) fn call_device<D: Disk>(
     match phase {
         Phase::Store => serve_store(sizes, zone, vio, disk, posts),
         Phase::Load => serve_load(sizes, zone, vio, disk, posts),
+        Phase::LoadLeaf => serve_load_leaf(sizes, zone, vio, disk, posts),
         Phase::Flush => flush_for(sizes, zone, vio, disk, posts),
         _ => unreachable!(),
     }

@@ -13,5 +13,6 @@ pub fn first() -> DeviceZone
         stopped: false,
         calls: 0,
         superblock: SuperblockStage::AsOpened,
+        damage: None,
     }
 }

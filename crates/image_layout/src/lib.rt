@@ -1,18 +1,16 @@
-//! The layout of an image on its device: its superblock, what its blocks are before anything was written, and where the
+//! The layout of an image on its device: its superblock, and where the
 //! entries of its recovery journal map an address.
 //!
 //! Only tested: vectors; all pairs of faults; the printed names; the ends of the ranges of a plan.
 #![tactic(auto)]
 
 mod fault;
-mod first;
 mod planner;
 mod superblock_reader;
 mod superblock_writer;
 mod values;
 
 pub use fault::{Field, LayoutFault, SuperFault};
-pub use first::first_image;
 pub use planner::plan;
 pub use superblock_reader::read_super;
 pub use superblock_writer::write_super;

@@ -7,7 +7,7 @@ use Rattle.data_vio.specs.declared.sizes.Sizes.{Sizes}
 use Rattle.core_model.specs.declared.zones.ZoneData.TheVariants as at
 use Rattle.core_model.specs.LogicalData.{LogicalZone}
 use Rattle.core_model.specs.LogicalRules.{LogicalServes}
-use Rattle.core_model.specs.LogicalRules.LogicalServes.{arrives_retired, arrives_free, arrives_held, looks, passes, is_dropped, waits, makes_page, links, settles, gives, aborts, unmakes, drops, aborts_entered}
+use Rattle.core_model.specs.LogicalRules.LogicalServes.{arrives_retired, arrives_free, arrives_held, looks, needs_leaf, leafed, passes, is_dropped, waits, makes_page, links, settles, gives, aborts, unmakes, drops, aborts_entered}
 use Rattle.core_model.specs.Steps.Act.{serves, serves_notice}
 use Rattle.core_model.specs.Trace.{Trace}
 use Rattle.data_vio.specs.Vios.{Post}
@@ -18,7 +18,9 @@ makes_no_call : (sizes : Sizes) (old new : LogicalZone) (v : Vio) (made : Trace)
 makes_no_call sizes old new v made posts (arrives_retired h1 h2 h3 is h5) = silent _ _ is refl refl refl
 makes_no_call sizes old new v made posts (arrives_free h1 h2 h3 h4 is h6) = silent _ _ is refl refl refl
 makes_no_call sizes old new v made posts (arrives_held h1 h2 h3 h4 is h6) = silent _ _ is refl refl refl
-makes_no_call sizes old new v made posts (looks post h1 h2 h3 h4 h5 h6 is h8) = silent _ _ is refl refl refl
+makes_no_call sizes old new v made posts (looks mapping post h1 h2 h3 h4 h5 h6 h7 is h9) = silent _ _ is refl refl refl
+makes_no_call sizes old new v made posts (needs_leaf x h1 h2 h3 h4 h5 h6 h7 is h9) = silent _ _ is refl refl refl
+makes_no_call sizes old new v made posts (leafed post h1 h2 h3 is h5) = silent _ _ is refl refl refl
 makes_no_call sizes old new v made posts (passes h1 h2 h3 h4 is h6) = silent _ _ is refl refl refl
 makes_no_call sizes old new v made posts (is_dropped page h1 h2 h3 h4 h5 is h7) = silent _ _ is refl refl refl
 makes_no_call sizes old new v made posts (waits page h1 h2 h3 h4 h5 h6 is h8) = silent _ _ is refl refl refl

@@ -8,14 +8,13 @@ ghost use Rattle.core_model.specs.LogicalRules as rows;
 ghost use Rattle.core_model.specs.PageTrees.{HasPath};
 ghost use Rattle.core_model.specs.Trace.{Trace, Aborts, Draws, Gives, Passes, Sets};
 ghost use Rattle.data_vio.specs.Vios as vios;
-ghost use Rattle.logical_zone.specs.Served.{CanServe, GoesOn};
+ghost use Rattle.logical_zone.specs.Served.{CanServe, GoesOn, GoesWithAll};
 
 use crate::pages::{drop_page, lacks, link, make, unmake};
 use crate::waiters::stop_all;
 use blk_base::{Answer, Block, Lba, Mapping, ZoneId};
 use core_model::LogicalZone;
 use data_vio::{Asks, BoxedVio, Item, Phase, Sizes};
-use image_layout::mapping_at;
 use lane_kernels::is_zero;
 use step_parts::Posts;
 
@@ -26,9 +25,9 @@ fn zeros(vio: BoxedVio) -> BoxedVio
     vio.load(Block::zero())
 }
 
-// Where a read goes that has the lock of its address: it reads the mapped block, or is given zeros.
-fn read_next(sizes: &Sizes, zone: &LogicalZone, vio: BoxedVio, mapping: Mapping) -> (ZoneId, Item)
-    ensures { result ≡ rows.read_next sizes.now zone.now vio mapping }
+// Where a read goes that knows what is mapped at its address: it reads the mapped block, or is given zeros.
+fn read_next(vio: BoxedVio, mapping: Mapping) -> (ZoneId, Item)
+    ensures { result ≡ rows.read_next vio mapping }
 {
     match mapping {
         Mapping::At(_) => {
@@ -36,11 +35,9 @@ fn read_next(sizes: &Sizes, zone: &LogicalZone, vio: BoxedVio, mapping: Mapping)
             (ZoneId::Device, Item::Request(loads))
         }
         Mapping::Unmapped | Mapping::Zero => {
+            let home = vio.get().home;
             let loaded = zeros(vio);
-            (
-                ZoneId::Logical(u32::from(zone.zone())),
-                Item::Request(loaded),
-            )
+            (home, Item::Request(loaded))
         }
     }
 }
@@ -60,7 +57,7 @@ fn are_zeros(bytes: &Block) -> bool
     is_zero(bytes)
 }
 
-// Where a write goes that has the lock of its address: it takes a block, but for one of zeros.
+// Where a write goes that knows it: it takes a block, but for one of zeros.
 fn write_next(vio: BoxedVio) -> (ZoneId, Item)
     ensures { result ≡ rows.write_next vio }
 {
@@ -72,41 +69,42 @@ fn write_next(vio: BoxedVio) -> (ZoneId, Item)
     }
 }
 
-// A request that has the lock of its address, and knows what is mapped there.
-fn look(zone: &LogicalZone, vio: BoxedVio) -> BoxedVio
-    ensures { result ≡ rows.looked zone.now vio }
-{
-    let at = vio.get().at;
-    let latest = zone.latest(at);
-    let old = match latest {
-        Some(write) => write.new,
-        None => mapping_at(zone.window(), at),
-    };
-    vio.look(old, latest)
-}
-
-// Where a request goes that has the lock of its address; a flush takes no lock.
-fn goes_on(sizes: &Sizes, zone: &LogicalZone, vio: BoxedVio) -> Option<(ZoneId, Item)>
-    ensures { result ≡ rows.goes_on sizes.now zone.now vio }
+// Where a request goes that knows what is mapped at its address; a flush takes no lock.
+fn goes_on(vio: BoxedVio) -> Option<(ZoneId, Item)>
+    ensures { result ≡ rows.goes_on vio }
 {
     let asks = vio.get().asks;
-    let looked = look(zone, vio);
-    let mapping = looked.get().old;
+    let mapping = vio.get().old;
     match asks {
-        Asks::Read => Some(read_next(sizes, zone, looked, mapping)),
-        Asks::Write => Some(write_next(looked)),
-        Asks::Discard => Some(enter_with(looked, Mapping::Unmapped)),
+        Asks::Read => Some(read_next(vio, mapping)),
+        Asks::Write => Some(write_next(vio)),
+        Asks::Discard => Some(enter_with(vio, Mapping::Unmapped)),
         Asks::Flush => None,
     }
 }
 
-// Whether a discard passes: nothing is known of its address, and it lacks a page of its path.
+// What is known of where an address is mapped: what the last write set, or nothing there, where it has no leaf; `None` where
+// its leaf has to say it.
+fn known(zone: &LogicalZone, at: Lba) -> Option<Mapping>
+    requires { HasPath zone.now.tree at.0 }
+    ensures { result ≡ rows.known_at zone.now at.0 }
+{
+    match zone.latest(at) {
+        Some(write) => Some(write.new),
+        None => match zone.leaf(at) {
+            Some(_) => None,
+            None => Some(Mapping::Unmapped),
+        },
+    }
+}
+
+// Whether a discard passes: no slot of its address was set, and it lacks a page of its path.
 fn passes(zone: &LogicalZone, vio: &BoxedVio) -> bool
     requires { HasPath zone.now.tree vio.now.at.0 }
     ensures { result ≡ rows.passes_by zone.now vio.now }
 {
     let at = vio.get().at;
-    is_discard(vio.get().asks) && is_unknown(zone, at) && zone.missing(at).is_some()
+    is_discard(vio.get().asks) && zone.latest(at).is_none() && zone.missing(at).is_some()
 }
 
 // Whether it is a discard.
@@ -114,20 +112,6 @@ fn is_discard(asks: Asks) -> bool
     ensures { result ≡ rows.is_discard asks }
 {
     matches!(asks, Asks::Discard)
-}
-
-// Whether a mapping is to nothing.
-fn is_unmapped(mapping: Mapping) -> bool
-    ensures { result ≡ rows.is_unmapped mapping }
-{
-    matches!(mapping, Mapping::Unmapped)
-}
-
-// Whether nothing is known of an address: no slot of it was set, and the window maps it to nothing.
-fn is_unknown(zone: &LogicalZone, at: Lba) -> bool
-    ensures { result ≡ rows.is_unknown zone.now at.0 }
-{
-    zone.latest(at).is_none() && is_unmapped(mapping_at(zone.window(), at))
 }
 
 // Whoever gets the lock of an address looks up what is mapped there.
@@ -168,17 +152,65 @@ fn arrive(sizes: &Sizes, zone: &mut LogicalZone, vio: BoxedVio, posts: &mut Post
     }
 }
 
-// It has the lock: what is mapped at its address says where it goes.
-fn go_on(sizes: &Sizes, zone: &LogicalZone, vio: BoxedVio, posts: &mut Posts)
+// It has the lock, and knows what is mapped at its address: that says where it goes.
+fn go_on(sizes: &Sizes, zone: &LogicalZone, vio: BoxedVio, mapping: Mapping, posts: &mut Posts)
     requires phase { vio.phase ≡ phase.Look }
     requires path { HasPath zone.now.tree vio.at.0 }
     requires stays { rows.passes_by zone.now vio ≡ false }
     requires leaf { rows.lacks zone.now vio ≡ None }
-    requires goes { GoesOn sizes.now zone.now vio }
+    requires knows { rows.known_at zone.now vio.at.0 ≡ Some mapping }
+    requires goes { GoesOn (rows.looked zone.now mapping vio) }
     requires none { posts.old ≡ [] }
     ensures { rows.LogicalServes sizes.now zone.now vio zone.now [] posts.new }
 {
-    let Some((to, item)) = goes_on(sizes, zone, vio) else {
+    let latest = zone.latest(vio.get().at);
+    let Some((to, item)) = goes_on(vio.look(mapping, latest)) else {
+        unreachable!();
+    };
+    posts.first(to, item);
+}
+
+// It has the lock, and its leaf has to say what is mapped at its address: that is read first.
+fn read_leaf(sizes: &Sizes, zone: &LogicalZone, vio: BoxedVio, posts: &mut Posts)
+    requires phase { vio.phase ≡ phase.Look }
+    requires path { HasPath zone.now.tree vio.at.0 }
+    requires stays { rows.passes_by zone.now vio ≡ false }
+    requires leaf { rows.lacks zone.now vio ≡ None }
+    requires unknown { rows.known_at zone.now vio.at.0 ≡ None }
+    requires none { posts.old ≡ [] }
+    ensures { rows.LogicalServes sizes.now zone.now vio zone.now [] posts.new }
+{
+    let Some(leaf) = zone.leaf(vio.get().at) else {
+        unreachable!();
+    };
+    posts.first(ZoneId::Device, Item::Request(vio.read_leaf(leaf)));
+}
+
+// It has the lock, and lacks no page: it goes on where it knows what is mapped at its address, or else its leaf is read.
+fn find(sizes: &Sizes, zone: &LogicalZone, vio: BoxedVio, posts: &mut Posts)
+    requires phase { vio.phase ≡ phase.Look }
+    requires path { HasPath zone.now.tree vio.at.0 }
+    requires stays { rows.passes_by zone.now vio ≡ false }
+    requires leaf { rows.lacks zone.now vio ≡ None }
+    requires goes { GoesWithAll zone.now vio }
+    requires none { posts.old ≡ [] }
+    ensures { rows.LogicalServes sizes.now zone.now vio zone.now [] posts.new }
+{
+    let at = vio.get().at;
+    match known(zone, at) {
+        Some(mapping) => go_on(sizes, zone, vio, mapping, posts),
+        None => read_leaf(sizes, zone, vio, posts),
+    }
+}
+
+// Its leaf said what is mapped at its address: that says where it goes.
+fn go_on_leafed(sizes: &Sizes, zone: &LogicalZone, vio: BoxedVio, posts: &mut Posts)
+    requires phase { vio.phase ≡ phase.LoadedLeaf }
+    requires goes { GoesOn vio }
+    requires none { posts.old ≡ [] }
+    ensures { rows.LogicalServes sizes.now zone.now vio zone.now [] posts.new }
+{
+    let Some((to, item)) = goes_on(vio) else {
         unreachable!();
     };
     posts.first(to, item);
@@ -204,7 +236,7 @@ fn pass(sizes: &Sizes, zone: &mut LogicalZone, vio: BoxedVio, posts: &mut Posts)
 // A request that has the lock of its address goes on, or passes.
 fn look_on(sizes: &Sizes, zone: &mut LogicalZone, vio: BoxedVio, posts: &mut Posts)
     requires phase { vio.phase ≡ phase.Look }
-    requires can { CanServe sizes.now zone.old vio phase.Look }
+    requires can { CanServe zone.old vio phase.Look }
     requires within { IsLogicalWithin (2 ^ 64 - 2) zone.old }
     requires none { posts.old ≡ [] }
     ensures { (made : Trace) × rows.LogicalServes sizes.now zone.old vio zone.new made posts.new }
@@ -214,14 +246,14 @@ fn look_on(sizes: &Sizes, zone: &mut LogicalZone, vio: BoxedVio, posts: &mut Pos
     } else if let Some(page) = lacks(zone, &vio) {
         make(sizes, zone, vio, page, posts);
     } else {
-        go_on(sizes, zone, vio, posts);
+        find(sizes, zone, vio, posts);
     }
 }
 
 // The entry of a write is committed: its slot is set, and the lock released.
 fn settle(sizes: &Sizes, zone: &mut LogicalZone, vio: BoxedVio, posts: &mut Posts)
     requires phase { vio.phase ≡ phase.Settle }
-    requires can { CanServe sizes.now zone.old vio phase.Settle }
+    requires can { CanServe zone.old vio phase.Settle }
     requires within { IsLogicalWithin (2 ^ 64 - 2) zone.old }
     requires none { posts.old ≡ [] }
     ensures { rows.LogicalServes sizes.now zone.old vio zone.new
@@ -295,7 +327,7 @@ fn abort_entered(sizes: &Sizes, zone: &mut LogicalZone, vio: BoxedVio, posts: &m
 /// One phase of a request in a logical zone.
 pub(crate) fn serve_logical(sizes: &Sizes, zone: &mut LogicalZone, vio: BoxedVio, posts: &mut Posts)
     requires within { IsLogicalWithin (2 ^ 64 - 2) zone.old }
-    requires can { CanServe sizes.now zone.old vio vio.phase }
+    requires can { CanServe zone.old vio vio.phase }
     requires none { posts.old ≡ [] }
     ensures { (made : Trace) × rows.LogicalServes sizes.now zone.old vio zone.new made posts.new }
 {
@@ -303,6 +335,7 @@ pub(crate) fn serve_logical(sizes: &Sizes, zone: &mut LogicalZone, vio: BoxedVio
     match phase {
         Phase::Arrive => arrive(sizes, zone, vio, posts),
         Phase::Look => look_on(sizes, zone, vio, posts),
+        Phase::LoadedLeaf => go_on_leafed(sizes, zone, vio, posts),
         Phase::Settle => settle(sizes, zone, vio, posts),
         Phase::Loaded => give(sizes, zone, vio, posts),
         Phase::Abort => abort(sizes, zone, vio, posts),

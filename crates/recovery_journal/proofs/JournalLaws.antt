@@ -1,5 +1,5 @@
 -- What is true of a journal stays true over each call, and what the calls say of it.
-use Rattle.std.specs.Prelude.{ℕ, ◌≡◌, ◌+◌, ◌-◌, ◌*◌, ◌/◌, ◌<◌, ◌≤◌, ◌^◌, ◌⊎◌, Bool, true, false, List, [], ◌∷◌, ◌++◌, length, take, drop, max, nat_le, position, Option, None, Some, All, Any, IfSome, refl}
+use Rattle.std.specs.Prelude.{ℕ, ◌≡◌, ◌+◌, ◌-◌, ◌*◌, ◌/◌, ◌<◌, ◌≤◌, ◌^◌, ◌⊎◌, Bool, true, false, List, [], ◌∷◌, ◌++◌, length, take, drop, max, nat_le, position, None, Some, All, Any, refl}
 use Rattle.std.specs.List.{list_any}
 use Rattle.std.proofs.Common.{arith, sym, subst, ap, ◌∙◌, inl, inr, get_or, length-append}
 use Rattle.std.proofs.lemmas.Bool.{cases_lt, leb-true, le-leb}
@@ -12,7 +12,7 @@ use Rattle.blk_base.specs.Points.{raised}
 use Rattle.blk_base.specs.declared.point.Point.{Point}
 use Rattle.blk_base.specs.declared.journal_entry.Entry.{Entry}
 use Rattle.blk_base.specs.declared.journal_entry.CommittedEntry.{CommittedEntry}
-use Rattle.recovery_journal.specs.Log.{Log, IsNamed, point_at, first_sequence, first_needed, head_of, placed, unhanded, IsNeeded, IsDurable, IsHead, HandsOut, NoneCommitted, IsBehind, Advances}
+use Rattle.recovery_journal.specs.Log.{Log, IsNamed, point_at, first_sequence, head_of, placed, unhanded, IsNeeded, IsDurable, IsHead, HandsOut, NoneCommitted, IsBehind, Advances}
 use Rattle.journal_codec.specs.Grammar.{HoldsEntry, HoldsBlock}
 use Rattle.recovery_journal.specs.Kept.{rank, AreRising, AreBelow, IsKept}
 use Rattle.recovery_journal.proofs.RisingLaws.{length-AreRising, AreRising-from, AreRising-append, AreRising-drop, AreRising-placed, points_above, points_from_first, few_entries, first_reached, first_rises}
@@ -30,7 +30,6 @@ kept_added log e kept number room =
       number_filling = λ some. number;
       rising = kept.rising;
       named = kept.named;
-      earlier = kept.earlier;
       handed = kept.handed;
       committed = kept.committed;
       ring = kept.ring;
@@ -42,20 +41,8 @@ kept_added log e kept number room =
 
 -- the head is the least sequence that some zone needs
 
-needed_below : (earlier : Option ℕ) (next : ℕ) → IfSome earlier (λ first. (1 ≤ first) × (first ≤ next)) → first_needed earlier next ≤ next
-needed_below None next below = omega arith
-needed_below (Some first) next below = below.1
-
-needed_rises : (earlier : Option ℕ) (before after : ℕ) → before ≤ after → first_needed earlier before ≤ first_needed earlier after
-needed_rises None before after rises = rises
-needed_rises (Some first) before after rises = omega arith
-
-earlier_rises : (earlier : Option ℕ) (before after : ℕ) → before ≤ after → IfSome earlier (λ first. (1 ≤ first) × (first ≤ before)) → IfSome earlier (λ first. (1 ≤ first) × (first ≤ after))
-earlier_rises None before after rises below = tt
-earlier_rises (Some first) before after rises below = (below.0, omega (arith, below.1))
-
 pub head_below : (log : Log) → IsKept log → head_of log ≤ first_sequence log.entries log.sequence
-head_below log kept = needed_below log.earlier (first_sequence log.entries log.sequence) kept.earlier
+head_below log kept = omega arith
 
 pub head_reached : (log : Log) → IsKept log → head_of log ≤ log.sequence
 head_reached log kept = omega (arith, head_below log kept, first_reached log.entries log.sequence kept.rising)
@@ -71,28 +58,14 @@ needed_first : (marks : List Point) (es : List CommittedEntry) (sequence : ℕ) 
 needed_first marks [] sequence needed = inl refl
 needed_first marks (e ∷ es) sequence needed = inr (0, e, omega arith, refl, (All-head (λ (f : CommittedEntry). IsNeeded marks f.point) e es needed, refl))
 
--- nor a block of an earlier session
-
-below_earlier : (earlier : Option ℕ) (next : ℕ) → IfSome earlier (λ first. first_needed earlier next ≤ first)
-below_earlier None next = tt
-below_earlier (Some first) next = omega arith
-
-needed_head : (earlier : Option ℕ) (marks : List Point) (es : List CommittedEntry) (sequence : ℕ) → All (λ e. IsNeeded marks e.point) es
-    → (earlier ≡ Some (first_needed earlier (first_sequence es sequence)))
-    ⊎ (first_needed earlier (first_sequence es sequence) ≡ sequence)
-    ⊎ Any (λ e. IsNeeded marks e.point × (e.point.0 / 512 ≡ first_needed earlier (first_sequence es sequence))) es
-needed_head None marks es sequence needed = inr (needed_first marks es sequence needed)
-needed_head (Some first) marks es sequence needed = inl refl
-
 pub is_head : (log : Log) → IsKept log → IsHead log (head_of log)
 is_head log kept =
     record {
       reached = head_reached log kept;
-      earlier = below_earlier log.earlier (first_sequence log.entries log.sequence);
       least = All-weaker (λ (e : CommittedEntry). point_at (first_sequence log.entries log.sequence) 0 ≤ e.point.0)
           (λ (e : CommittedEntry). IsNeeded log.marks e.point → point_at (head_of log) 0 ≤ e.point.0)
           (λ e above needed. omega (arith, head_below log kept, above)) log.entries (first_least log.entries log.sequence kept.rising);
-      needed = needed_head log.earlier log.marks log.entries log.sequence kept.needed;
+      needed = needed_first log.marks log.entries log.sequence kept.needed;
     }
 
 -- handing out
@@ -139,7 +112,6 @@ kept_handed log e kept inside is =
       number_filling = kept.number_filling;
       rising = kept.rising;
       named = kept.named;
-      earlier = kept.earlier;
       handed = omega arith;
       committed = kept.committed;
       ring = kept.ring;
@@ -210,10 +182,9 @@ kept_sealed log kept waits few written =
       rising = AreRising-append 0 log.entries (log.sequence * 192) new ((log.sequence + 1) * 192) kept.rising
           (AreRising-from (log.sequence * 192 + 0) (log.sequence * 192) new ((log.sequence + 1) * 192) (omega arith) (AreRising-placed log.sequence 0 log.filling (omega arith)));
       named = All-append IsNamed log.entries new kept.named (placed_named log.sequence 0 log.filling (omega (arith, kept.first, kept.committed.0)));
-      earlier = subst (λ (next : ℕ). IfSome log.earlier (λ first. (1 ≤ first) × (first ≤ next))) (sym head) kept.earlier;
       handed = omega (arith, length-append log.entries new, kept.handed);
       committed = (omega (arith, kept.committed.0), omega arith);
-      ring = omega (arith, ap (λ (next : ℕ). first_needed log.earlier next) head, kept.ring_filling waits);
+      ring = omega (arith, head, kept.ring_filling waits);
       ring_filling = λ some. absurd (omega (arith, some));
       marks = All-weaker (λ (mark : Point). mark.0 ≤ point_at log.sequence 0) (λ (mark : Point). mark.0 ≤ point_at (log.sequence + 1) 0) (λ mark below. omega (arith, below)) log.marks kept.marks;
       unhanded = All-same (λ (e : CommittedEntry). AreBelow log e.point.0) (drop log.handed (log.entries ++ new)) (drop log.handed log.entries ++ new)
@@ -282,9 +253,7 @@ module _ (log : Log) (zone : ℕ) (point : Point) (count : ℕ) (kept : IsKept l
       needed_from_first (raised log.marks zone point) (drop count log.entries) (log.sequence * 192) (AreRising-drop count 0 log.entries (log.sequence * 192) kept.rising) found.next
 
   pub head_rises : head_of log ≤ head_of (advanced log zone point count)
-  head_rises =
-      needed_rises log.earlier (first_sequence log.entries log.sequence) (first_sequence (drop count log.entries) log.sequence)
-      (first_rises 0 count log.entries log.sequence kept.rising)
+  head_rises = first_rises 0 count log.entries log.sequence kept.rising
 
   pub kept_advanced : IsKept (advanced log zone point count)
   kept_advanced =
@@ -298,8 +267,6 @@ module _ (log : Log) (zone : ℕ) (point : Point) (count : ℕ) (kept : IsKept l
         number = kept.number;
         number_filling = kept.number_filling;
         named = All-drop IsNamed count log.entries kept.named;
-        earlier = earlier_rises log.earlier (first_sequence log.entries log.sequence) (first_sequence (drop count log.entries) log.sequence)
-            (first_rises 0 count log.entries log.sequence kept.rising) kept.earlier;
         rising = AreRising-drop count 0 log.entries (log.sequence * 192) kept.rising;
         handed = omega (arith, length-drop count log.entries, kept.handed);
         committed = kept.committed;

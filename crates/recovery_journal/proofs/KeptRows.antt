@@ -1,9 +1,8 @@
 -- What is true of a recovery journal at every moment: for each clause a case that it accepts, and one that breaks it alone.
-use Rattle.std.proofs.Common.{ℕ, zero, suc, ◌≡◌, ◌+◌, ◌^◌, ◌<◌, ◌≤◌, None, Some, List, [], ◌∷◌, length, All, refl, ap, arith}
-use Rattle.blk_base.specs.declared.journal_entry.CommittedEntry.{CommittedEntry}
+use Rattle.std.proofs.Common.{zero, suc, ◌≡◌, ◌+◌, ◌^◌, ◌≤◌, [], ◌∷◌, refl, ap, arith}
 use Rattle.blk_base.specs.declared.point.Point.{Point}
 use Rattle.recovery_journal.specs.Kept.{AreBelow, AreRising, IsKept, rank}
-use Rattle.recovery_journal.specs.Log.{IsNamed, IsNeeded, Log}
+use Rattle.recovery_journal.specs.Log.{IsNamed, IsNeeded}
 use Rattle.recovery_journal.proofs.LogRows.{at, both, empty, maps, mark, one, the_log, two_marks}
 
 -- Places: 192 in each block, of which two points each are one.
@@ -44,7 +43,6 @@ kept = record {
   rising = rising;
   named = both IsNamed (at 1024) (at 1026) (omega arith) (omega arith);
   handed = omega arith;
-  earlier = tt;
   committed = (omega arith, omega arith);
   ring = omega arith;
   ring_filling = λ some. omega arith;
@@ -76,12 +74,6 @@ of_no_block is = let named = is.named 0 (at 0) (omega arith) in omega (arith, na
 
 more_handed : IsKept (record empty { handed = 1 }) → ⊥
 more_handed is = let handed = is.handed in omega (arith, handed)
-
-earlier_from_nothing : IsKept (record empty { earlier = Some 0 }) → ⊥
-earlier_from_nothing is = let earlier = is.earlier in omega (arith, earlier)
-
-earlier_is_later : IsKept (record empty { earlier = Some 4 }) → ⊥
-earlier_is_later is = let earlier = is.earlier in omega (arith, earlier)
 
 committed_early : IsKept (record empty { committed = 4 }) → ⊥
 committed_early is = let committed = is.committed in omega (arith, committed)

@@ -1,7 +1,7 @@
 -- What a recovery journal knows: for each clause a case that it accepts, and one that breaks it alone. The journal of the
 -- rows has two entries of its block 2, the first of which was handed out, and one entry in block 3.
 use Rattle.std.proofs.lemmas.List.{length-replicate, append-nil}
-use Rattle.std.proofs.Common.{ℕ, zero, suc, ◌≡◌, ◌⊎◌, ◌+◌, ◌<◌, ◌≤◌, ◌++◌, Option, None, Some, List, [], ◌∷◌, length, replicate, All, Any, slice_index_or, refl, sym, ◌∙◌, ap, subst, inl, inr, arith, length-append}
+use Rattle.std.proofs.Common.{ℕ, zero, suc, ◌≡◌, ◌<◌, ◌≤◌, ◌++◌, List, [], ◌∷◌, length, replicate, All, slice_index_or, refl, sym, ◌∙◌, ap, subst, inl, inr, arith, length-append}
 use Rattle.std.proofs.lemmas.List.Elements.{All-cons, All-nil}
 use Rattle.blk_base.specs.declared.geometry.Geometry.{Geometry}
 use Rattle.blk_base.specs.declared.journal_entry.CommittedEntry.{CommittedEntry}
@@ -10,7 +10,7 @@ use Rattle.blk_base.specs.declared.journal_entry.Entry.TheVariants.{Remap}
 use Rattle.blk_base.specs.declared.place.Mapping.TheVariants.{At, Unmapped}
 use Rattle.blk_base.specs.declared.point.Point.{Point}
 use Rattle.journal_codec.specs.declared.forms.JournalBlock.{JournalBlock}
-use Rattle.recovery_journal.specs.Log.{Advances, HandsOut, HasNoRoom, HasRoom, IsBehind, IsDurable, IsHead, IsNamed, IsNeeded, IsWriting, Log, NoneCommitted, Seals, first_needed, first_point, first_sequence, head_of, opening, placed, point_at, unhanded}
+use Rattle.recovery_journal.specs.Log.{Advances, HandsOut, HasNoRoom, HasRoom, IsBehind, IsDurable, IsHead, IsNamed, IsNeeded, IsWriting, Log, NoneCommitted, Seals, first_point, first_sequence, head_of, opening, placed, point_at, unhanded}
 
 abbrev pub maps : ℕ → Entry
 maps block = Remap (record { 0 = 5 }) Unmapped (At (record { 0 = block }))
@@ -31,7 +31,6 @@ the_log = record {
   handed = 1;
   committed = 3;
   marks = mark 1026 ∷ mark 1024 ∷ [];
-  earlier = None;
 }
 
 -- one without entries
@@ -80,44 +79,22 @@ first_of_two = refl
 first_of_none : first_sequence [] 7 ≡ 7
 first_of_none = refl
 
-needed_here : first_needed None 7 ≡ 7
-needed_here = refl
-
-needed_earlier : first_needed (Some 1) 7 ≡ 1
-needed_earlier = refl
-
 head_is : head_of the_log ≡ 2
 head_is = refl
-
-head_of_earlier : head_of (record the_log { earlier = Some 1 }) ≡ 1
-head_of_earlier = refl
 
 the_head : IsHead the_log 2
 the_head = record {
   reached = omega arith;
-  earlier = tt;
   least = both (λ entry. IsNeeded the_log.marks entry.point → 1024 ≤ entry.point.0) (at 1024) (at 1026) (λ is. omega arith) (λ is. omega arith);
-  needed = inr (inr (0, at 1024, omega arith, refl, ((1, mark 1024, omega arith, refl, omega arith), refl)));
-}
-
-of_earlier : IsHead (record the_log { earlier = Some 1 }) 1
-of_earlier = record {
-  reached = omega arith;
-  earlier = omega arith;
-  least = both (λ entry. IsNeeded the_log.marks entry.point → 512 ≤ entry.point.0) (at 1024) (at 1026) (λ is. omega arith) (λ is. omega arith);
-  needed = inl refl;
+  needed = inr (0, at 1024, omega arith, refl, ((1, mark 1024, omega arith, refl, omega arith), refl));
 }
 
 of_no_entries : IsHead empty 3
-of_no_entries = record { reached = omega arith; earlier = tt; least = All-nil (λ entry. IsNeeded empty.marks entry.point → 1536 ≤ entry.point.0); needed = inr (inl refl) }
+of_no_entries = record { reached = omega arith; least = All-nil (λ entry. IsNeeded empty.marks entry.point → 1536 ≤ entry.point.0); needed = inl refl }
 
 -- reached: not behind the block being filled
 not_reached : IsHead (record empty { sequence = 2 }) 3 → ⊥
 not_reached is = let reached = is.reached in omega (arith, reached)
-
--- earlier: not behind the first block of an earlier session
-past_earlier : IsHead (record the_log { earlier = Some 1 }) 2 → ⊥
-past_earlier is = let earlier = is.earlier in omega (arith, earlier)
 
 -- least: not behind an entry that is needed
 past_needed : IsHead the_log 3 → ⊥
@@ -126,11 +103,10 @@ past_needed is = let least = is.least 0 (at 0) (omega arith) (1, mark 1024, omeg
 -- needed: not before every one
 before_needed : IsHead the_log 1 → ⊥
 before_needed is = elim is.needed [
-  | inl earlier ↦ absurd (cc earlier)
-  | inr (inl last) ↦ omega (arith, last)
-  | inr (inr (zero, x, below, same, both_are)) ↦ let point = ap (λ (e : CommittedEntry). e.point.0) same in let block = both_are.1 in omega (arith, point, block)
-  | inr (inr (suc zero, x, below, same, both_are)) ↦ let point = ap (λ (e : CommittedEntry). e.point.0) same in let block = both_are.1 in omega (arith, point, block)
-  | inr (inr (suc (suc k), x, below, same, both_are)) ↦ omega (arith, below)
+  | inl last ↦ omega (arith, last)
+  | inr (zero, x, below, same, both_are) ↦ let point = ap (λ (e : CommittedEntry). e.point.0) same in let block = both_are.1 in omega (arith, point, block)
+  | inr (suc zero, x, below, same, both_are) ↦ let point = ap (λ (e : CommittedEntry). e.point.0) same in let block = both_are.1 in omega (arith, point, block)
+  | inr (suc (suc k), x, below, same, both_are) ↦ omega (arith, below)
 ]
 
 -- Room.
@@ -306,20 +282,17 @@ another_sequence is = let same = ap (λ (l : Log). l.sequence) is.rest in omega 
 
 -- A journal at its start.
 module _ (geometry : Geometry) where
-  begins_empty : (opening geometry None 3 2).entries ≡ []
+  begins_empty : (opening geometry 3 2).entries ≡ []
   begins_empty = refl
 
-  begins_there : (opening geometry None 3 2).sequence ≡ 3
+  begins_there : (opening geometry 3 2).sequence ≡ 3
   begins_there = refl
 
-  begins_committed : (opening geometry None 3 2).committed ≡ 3
+  begins_committed : (opening geometry 3 2).committed ≡ 3
   begins_committed = refl
 
-  begins_with_marks : (opening geometry None 3 2).marks ≡ mark 1536 ∷ mark 1536 ∷ []
+  begins_with_marks : (opening geometry 3 2).marks ≡ mark 1536 ∷ mark 1536 ∷ []
   begins_with_marks = refl
 
-  begins_behind : (opening geometry (Some 1) 3 2).earlier ≡ Some 1
-  begins_behind = refl
-
-  begins_in_its_ring : ((opening geometry None 3 2).size ≡ geometry.journal) × ((opening geometry None 3 2).nonce ≡ geometry.nonce)
+  begins_in_its_ring : ((opening geometry 3 2).size ≡ geometry.journal) × ((opening geometry 3 2).nonce ≡ geometry.nonce)
   begins_in_its_ring = (refl, refl)

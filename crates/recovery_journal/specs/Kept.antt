@@ -1,7 +1,7 @@
 -- What is true of a recovery journal at every moment.
-use Rattle.std.specs.Prelude.{ℕ, ◌+◌, ◌*◌, ◌/◌, ◌%◌, ◌^◌, ◌<◌, ◌≤◌, List, [], ◌∷◌, length, All, IfSome}
+use Rattle.std.specs.Prelude.{ℕ, ◌+◌, ◌*◌, ◌/◌, ◌%◌, ◌^◌, ◌<◌, ◌≤◌, List, [], ◌∷◌, length, All}
 use Rattle.blk_base.specs.declared.journal_entry.CommittedEntry.{CommittedEntry}
-use Rattle.recovery_journal.specs.Log.{Log, IsNamed, IsNeeded, point_at, first_sequence, head_of, unhanded}
+use Rattle.recovery_journal.specs.Log.{Log, IsNamed, IsNeeded, point_at, head_of, unhanded}
 
 -- how many places of blocks stand before a point: each block has 192
 abbrev pub rank : ℕ → ℕ
@@ -25,7 +25,6 @@ pub record IsKept (log : Log) : Type 0 where
   pub rising : AreRising 0 log.entries (log.sequence * 192)
   pub named : All IsNamed log.entries
   pub handed : log.handed ≤ length log.entries
-  pub earlier : IfSome log.earlier (λ first. (1 ≤ first) × (first ≤ first_sequence log.entries log.sequence))
   pub committed : (log.committed ≤ log.sequence) × (log.sequence ≤ log.committed + 1)
   pub ring : log.sequence + 1 ≤ head_of log + log.size
   pub ring_filling : 0 < length log.filling → log.sequence + 2 ≤ head_of log + log.size

@@ -1,6 +1,6 @@
 -- What a recovery journal knows: its entries with their points, what is committed and handed out, and what each zone
 -- still needs.
-use Rattle.std.specs.Prelude.{ℕ, ◌≡◌, ◌+◌, ◌/◌, ◌<◌, ◌≤◌, ◌⊎◌, Option, Some, None, List, [], ◌∷◌, ◌++◌, length, drop, replicate, All, Any, IfSome}
+use Rattle.std.specs.Prelude.{ℕ, ◌≡◌, ◌+◌, ◌/◌, ◌<◌, ◌≤◌, ◌⊎◌, List, [], ◌∷◌, ◌++◌, length, drop, replicate, All, Any}
 use Rattle.blk_base.specs.Points.{point_of, raised}
 use Rattle.blk_base.specs.declared.geometry.Geometry.{Geometry}
 use Rattle.blk_base.specs.declared.point.Point.{Point}
@@ -12,8 +12,7 @@ use Rattle.blk_base.specs.declared.journal_entry.CommittedEntry.{CommittedEntry}
 -- `size` is how many blocks the ring on the device has. `sequence` is that of the block being filled, and `filling` its
 -- entries. `entries` are those of sealed blocks that some zone still needs, in the order of their points; the first
 -- `handed` of them were handed out. The blocks below `committed` are committed. Each zone's part of every entry below its
--- mark is durable. Where the session goes on behind blocks of an earlier one, `earlier` is the first of these: they all
--- stay needed.
+-- mark is durable.
 pub record Log : Type 0 where
   pub nonce : ℕ
   pub size : ℕ
@@ -23,15 +22,14 @@ pub record Log : Type 0 where
   pub handed : ℕ
   pub committed : ℕ
   pub marks : List Point
-  pub earlier : Option ℕ
 
 -- the point of an entry of a block
 abbrev pub point_at : ℕ → ℕ → ℕ
 point_at sequence number = point_of sequence number Increment
 
--- an empty journal, of which no zone needs a block; behind the blocks of an earlier session, where there are some
-abbrev pub opening : Geometry → Option ℕ → ℕ → ℕ → Log
-opening geometry earlier start zones =
+-- an empty journal, of which no zone needs a block
+abbrev pub opening : Geometry → ℕ → ℕ → Log
+opening geometry start zones =
     record {
       nonce = geometry.nonce;
       size = geometry.journal;
@@ -41,7 +39,6 @@ opening geometry earlier start zones =
       handed = 0;
       committed = start;
       marks = replicate zones (record { 0 = point_at start 0 });
-      earlier = earlier;
     }
 
 -- the entry's block has a sequence of at least 1
@@ -61,22 +58,15 @@ abbrev pub first_sequence : List CommittedEntry → ℕ → ℕ
 first_sequence [] sequence = sequence
 first_sequence (entry ∷ entries) sequence = entry.point.0 / 512
 
--- the least sequence that is needed: that of an earlier session, or this one
-abbrev pub first_needed : Option ℕ → ℕ → ℕ
-first_needed None sequence = sequence
-first_needed (Some first) sequence = first
-
 -- the head that a sealed block records
 abbrev pub head_of : Log → ℕ
-head_of log = first_needed log.earlier (first_sequence log.entries log.sequence)
+head_of log = first_sequence log.entries log.sequence
 
--- the first block of an earlier session; without one, the least sequence with an entry that some zone still needs; where
--- there is none, that of the block being filled
+-- the least sequence with an entry that some zone still needs; where there is none, that of the block being filled
 pub record IsHead (log : Log) (head : ℕ) : Type 0 where
   pub reached : head ≤ log.sequence
-  pub earlier : IfSome log.earlier (λ first. head ≤ first)
   pub least : All (λ entry. IsNeeded log.marks entry.point → point_at head 0 ≤ entry.point.0) log.entries
-  pub needed : (log.earlier ≡ Some head) ⊎ (head ≡ log.sequence) ⊎ Any (λ entry. IsNeeded log.marks entry.point × (entry.point.0 / 512 ≡ head)) log.entries
+  pub needed : (head ≡ log.sequence) ⊎ Any (λ entry. IsNeeded log.marks entry.point × (entry.point.0 / 512 ≡ head)) log.entries
 
 -- the block being filled takes one more entry, and its slot in the ring has a block that nobody needs
 pub record HasRoom (log : Log) : Type 0 where

@@ -13,5 +13,4 @@ log_of journal =
       handed = journal.handed;
       committed = journal.committed;
       marks = journal.marks.items;
-      earlier = journal.earlier;
     }

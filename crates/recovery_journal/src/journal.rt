@@ -5,7 +5,7 @@ ghost use Rattle.recovery_journal.specs.Log.{opening, head_of, first_point, unha
 
 use crate::Place;
 use crate::new_entry::enter;
-use crate::watermarks::{count_durable, first_needed, first_sequence, leave_out, sequence_of};
+use crate::watermarks::{count_durable, first_sequence, leave_out, sequence_of};
 use blk_base::{CommittedEntry, Entry, Geometry, Half, JOURNAL_ENTRIES, Point, raise, repeated};
 use journal_codec::{Entries, JournalBlock};
 use std::alloc::{AllocError, Global};
@@ -29,8 +29,6 @@ pub struct Journal {
     committed: u64,
     // Each zone's part of every entry below its mark is durable.
     marks: Vec<Point>,
-    // The first block of an earlier session, where there is one: its blocks all stay needed.
-    earlier: Option<u64>,
 }
 
 impl Model for Journal {
@@ -63,46 +61,7 @@ impl Journal {
         requires geometry { IsGeometry geometry.now }
         requires start { (1 ≤ start) × (start < 2 ^ 55) }
         requires zones { 0 < zones }
-        ensures { IfOk result (λ journal. journal ≡ opening geometry.now None start zones) }
-    {
-        Journal::begin(alloc, geometry, None, start, zones)
-    }
-
-    /// An empty journal of a session that goes on behind the blocks `first` to `start` − 1 of an earlier one, at least one
-    /// and at most J − 1: they all stay needed as long as the journal runs, so its head is `first` throughout. Its own
-    /// first block has the sequence `start`, up to 2^55 − 1, and it has so many zones, at least one. Takes the room for the
-    /// entries of a full ring.
-    pub fn behind(
-        alloc: Global,
-        geometry: &Geometry,
-        first: u64,
-        start: u64,
-        zones: u32,
-    ) -> Result<Journal, AllocError>
-        requires geometry { IsGeometry geometry.now }
-        requires first { (1 ≤ first) × (first < start) }
-        requires start { start < 2 ^ 55 }
-        requires room { start + 1 ≤ first + geometry.now.journal }
-        requires zones { 0 < zones }
-        ensures { IfOk result (λ journal. journal ≡ opening geometry.now (Some first) start zones) }
-    {
-        Journal::begin(alloc, geometry, Some(first), start, zones)
-    }
-
-    // An empty journal, behind the blocks of an earlier session where there are some.
-    fn begin(
-        alloc: Global,
-        geometry: &Geometry,
-        earlier: Option<u64>,
-        start: u64,
-        zones: u32,
-    ) -> Result<Journal, AllocError>
-        requires geometry { IsGeometry geometry.now }
-        requires room { IfSome earlier (λ first.
-            (1 ≤ first) × (first ≤ start) × (start + 1 ≤ first + geometry.now.journal)) }
-        requires start { (1 ≤ start) × (start < 2 ^ 55) }
-        requires zones { 0 < zones }
-        ensures { IfOk result (λ journal. journal ≡ opening geometry.now earlier start zones) }
+        ensures { IfOk result (λ journal. journal ≡ opening geometry.now start zones) }
     {
         let first = Point::of(start, 0, Half::Increment);
         let marks = repeated(alloc, first, zones as usize)?;
@@ -116,7 +75,6 @@ impl Journal {
             handed: 0,
             committed: start,
             marks,
-            earlier,
         })
     }
 
@@ -260,13 +218,12 @@ impl Journal {
         self.handed -= durable;
     }
 
-    /// The least sequence that is still needed: the first of an earlier session, where there is one, since its blocks all
-    /// stay needed; else the least that some zone still needs; where there is none, that of the block being filled. It
-    /// never falls: no call gives a journal with a lower one.
+    /// The least sequence that some zone still needs; where there is none, that of the block being filled. It never falls:
+    /// no call gives a journal with a lower one.
     pub fn head(&self) -> u64
         ensures value { result ≡ head_of self.now }
         ensures least { IsHead self.now result }
     {
-        first_needed(self.earlier, first_sequence(&self.entries, self.sequence))
+        first_sequence(&self.entries, self.sequence)
     }
 }

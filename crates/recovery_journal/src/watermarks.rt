@@ -1,7 +1,7 @@
 ghost use Rattle.std.specs.Prelude.{◌≡◌, ◌/◌, ◌≤◌, All, nat_le, length, take, drop};
 ghost use Rattle.std.specs.List.{list_any};
 ghost use Rattle.std.specs.VecDeque.{deque_len, deque_capacity};
-ghost use Rattle.recovery_journal.specs.Log.{first_sequence, first_needed, IsNeeded, IsDurable};
+ghost use Rattle.recovery_journal.specs.Log.{first_sequence, IsNeeded, IsDurable};
 
 use blk_base::{CommittedEntry, Point};
 use std::collections::VecDeque;
@@ -22,16 +22,6 @@ pub(crate) fn first_sequence(entries: &VecDeque<CommittedEntry>, sequence: u64) 
 {
     match entries.front() {
         Some(first) => sequence_of(first.point),
-        None => sequence,
-    }
-}
-
-/// The least sequence that is needed: that of an earlier session, or else this one.
-pub(crate) fn first_needed(earlier: Option<u64>, sequence: u64) -> u64
-    ensures { result ≡ first_needed earlier sequence }
-{
-    match earlier {
-        Some(needed) => needed,
         None => sequence,
     }
 }

@@ -1,44 +1,18 @@
 //! What an audit says of the image that a script leaves: each page counts as a mapping of its block.
 
 use crate::runs::{Device, Ran, command_on, made, run_on};
-use blk_base::{Geometry, PageId, Pbn, TREES};
-use disk_model::{CallKind, Disk, MemDisk};
+use disk_model::{CallKind, MemDisk};
 use std::alloc::{AllocError, Global};
 use std::sync::Wait;
 use std::test::Fail;
 use std::thread::Threads;
-use test_images::page_block;
 
-/// The first root, behind the superblock and the journal.
-const FIRST_ROOT: u32 = 1 + Geometry::DEFAULT.journal;
-
-// Puts the roots of trees of this height, which a session neither reads nor writes: each leads nowhere.
-fn put_roots(device: &mut MemDisk, height: u32) {
-    let geometry = Geometry {
-        height,
-        ..Geometry::DEFAULT
-    };
-    for tree in 0..TREES {
-        let at = FIRST_ROOT + u32::from(tree);
-        let root = PageId {
-            tree,
-            level: if height == 3 { 2 } else { 1 },
-            index: 0,
-        };
-        if at < device.blocks() {
-            let _written = device.write(Pbn(at), &page_block(geometry, root, at, &[]));
-        }
-    }
-}
-
-/// What an audit of a device whose trees have this height puts, and its status, once it has roots.
+/// What an audit of a device puts, and its status.
 pub(crate) fn audited<R: Threads + Wait + Sync>(
     rt: &R,
     alloc: Global,
-    mut device: MemDisk,
-    height: u32,
+    device: MemDisk,
 ) -> Result<Ran, AllocError> {
-    put_roots(&mut device, height);
     command_on(rt, alloc, device, "audit")
 }
 
@@ -88,14 +62,6 @@ const ROWS: [Row; 12] = [
     (Device::Failing(CallKind::Write, 3), WRITE, USED_1),
 ];
 
-// The height of its trees.
-fn height_of(device: Device) -> u32 {
-    match device {
-        Device::Tall => 3,
-        _ => 2,
-    }
-}
-
 // Whether the audit behind the script puts this.
 fn is_audited<R: Threads + Wait + Sync>(
     rt: &R,
@@ -104,7 +70,7 @@ fn is_audited<R: Threads + Wait + Sync>(
 ) -> Result<(u8, bool), AllocError> {
     let ran = run_on(rt, alloc, made(alloc, device)?, script, None, 2000)?;
     let Ran { device: left, .. } = ran;
-    let audited = audited(rt, alloc, left, height_of(device))?;
+    let audited = audited(rt, alloc, left)?;
     Ok((audited.status, audited.sink.bytes() == text))
 }
 

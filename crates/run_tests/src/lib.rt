@@ -5,12 +5,14 @@
 #[cfg(test)]
 mod audits;
 #[cfg(test)]
+mod bends;
+#[cfg(test)]
 mod journals;
+#[cfg(test)]
+mod later_runs;
 #[cfg(test)]
 mod runs;
 #[cfg(test)]
 mod stops;
 #[cfg(test)]
 mod torn;
-#[cfg(test)]
-mod windows;

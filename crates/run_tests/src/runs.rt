@@ -1,8 +1,9 @@
 ghost use Rattle.blk_base.specs.Limits.{IsGeometry};
 
-use crate::journals::{Standing, fresh_blocks, with_journal};
-use blk_base::{Block, Geometry, Pbn, Super};
+use crate::journals::fresh_blocks;
+use blk_base::{Block, Geometry, Lba, Pbn, Super};
 use disk_model::{Call, CallKind, FaultAt, MemDisk, MemSink, MemSource, OpenGate};
+use grow_image::GrowFault;
 use image_layout::{Field, SuperFault, write_super};
 use image_model::ImageFault;
 use std::alloc::{AllocError, Global};
@@ -34,10 +35,10 @@ pub(crate) fn fresh(alloc: Global) -> Result<MemDisk, AllocError> {
 
 // What a run has beside its device.
 #[derive(Drop)]
-struct Outside {
-    words: Words,
-    source: MemSource,
-    sink: MemSink,
+pub(crate) struct Outside {
+    pub(crate) words: Words,
+    pub(crate) source: MemSource,
+    pub(crate) sink: MemSink,
 }
 
 // A run that ended: its device, its status and what it put.
@@ -48,8 +49,9 @@ pub(crate) struct Ran {
     pub(crate) sink: MemSink,
 }
 
-/// A block of an image, and the bytes that it begins with; the others are zeros.
-pub(crate) type Part = (usize, &'static [u8]);
+/// The calls of a device before a session on a fresh image: recovery reads the superblock, and then it is read again, with the
+/// journal, the roots, and of the slab its counters and its journal.
+pub(crate) const OPENING: usize = 1 + 1 + 8 + 60 + 1 + 4;
 
 /// A device to begin with.
 #[derive(Clone, Copy)]
@@ -58,10 +60,6 @@ pub(crate) enum Device {
     Fresh,
     /// A fresh image, of which the first such call of a block fails without effect.
     Failing(CallKind, u32),
-    /// A fresh image with other blocks.
-    With(&'static [Part]),
-    /// A fresh image whose journal has blocks, with other blocks besides.
-    Journal(&'static [Standing], &'static [Part]),
     /// A fresh image with a block map of height 3.
     Tall,
     /// A fresh image with another byte in its superblock.
@@ -80,7 +78,7 @@ fn words_of(alloc: Global, row: &[&str]) -> Result<Words, AllocError> {
 }
 
 // These words, a source of this script that fails after so many bytes, and a sink with so much room.
-fn outside_of(
+pub(crate) fn outside_of(
     alloc: Global,
     row: &[&str],
     script: &[u8],
@@ -212,28 +210,6 @@ fn failing(alloc: Global, kind: CallKind, at: u32) -> Result<MemDisk, AllocError
     Ok(device)
 }
 
-// A block that begins with these bytes.
-fn beginning_with(bytes: &[u8]) -> Block {
-    let mut block = Block::zero();
-    let count = bytes.len().min(4096);
-    block.bytes[..count].copy_from_slice(&bytes[..count]);
-    block
-}
-
-fn put_parts(blocks: &mut [Block], parts: &[Part]) {
-    for &(at, bytes) in parts {
-        if let Some(block) = blocks.get_mut(at) {
-            block.copy_from(&beginning_with(bytes));
-        }
-    }
-}
-
-fn with_parts(alloc: Global, journal: &[Standing], parts: &[Part]) -> Result<MemDisk, AllocError> {
-    let mut blocks = with_journal(alloc, journal)?;
-    put_parts(&mut blocks, parts);
-    MemDisk::from_blocks(alloc, blocks)
-}
-
 fn with_superblock(alloc: Global, head: &Super) -> Result<MemDisk, AllocError> {
     let mut blocks = fresh_blocks(alloc, &Geometry::DEFAULT)?;
     if let Some(first) = blocks.first_mut() {
@@ -261,8 +237,6 @@ pub(crate) fn made(alloc: Global, device: Device) -> Result<MemDisk, AllocError>
     match device {
         Device::Fresh => fresh(alloc),
         Device::Failing(kind, at) => failing(alloc, kind, at),
-        Device::With(parts) => with_parts(alloc, &[], parts),
-        Device::Journal(journal, parts) => with_parts(alloc, journal, parts),
         Device::Tall => sized(alloc, &TALL),
         Device::Changed(at, byte) => changed(alloc, at, byte),
         Device::Zeros(blocks) => MemDisk::zeroed(alloc, blocks),
@@ -376,7 +350,7 @@ const FAILED_WRITES: [Case; 5] = [
         (
             b"0 0 write 5 stopped z0:0\n0 1 flush stopped\n0 2 read 5 4096*00 z0:1\n",
             3,
-            Calls::Count(9 + 1),
+            Calls::Count(OPENING + 1),
         ),
     ),
     // The first write of a data block fails: that of the leaf.
@@ -468,12 +442,12 @@ const REFUSED_LINES: [Case; 2] = [
     (
         Device::Fresh,
         b"0 discard 5 1\n0 read 5\n16 read 5\n",
-        (b"script line 3: stream\n", 2, Calls::Count(9)),
+        (b"script line 3: stream\n", 2, Calls::Count(OPENING)),
     ),
     (
         Device::Fresh,
         b"0 write 5 4095*61\n",
-        (b"script line 1: block length\n", 2, Calls::Count(9)),
+        (b"script line 1: block length\n", 2, Calls::Count(OPENING)),
     ),
 ];
 
@@ -503,15 +477,15 @@ const SERVED_LINES: [Case; 6] = [
             Calls::Any,
         ),
     ),
-    // Below the root a leaf and the page above it are made, each with four calls of the device, as the write; address 999 is in
-    // another tree, which has none.
+    // Below the root a leaf and the page above it are made, each with four calls of the device, as the write, which reads its leaf
+    // first; address 999 is in another tree, which has none.
     (
         Device::Tall,
         b"0 write 0 4096*61\n0 read 999\n",
         (
             b"0 0 write 0 ok z0:0\n0 1 read 999 4096*00 z0:1\n",
             0,
-            Calls::Count(9 + 2 + 3 * 4),
+            Calls::Count(OPENING + 2 + 3 * 4 + 1),
         ),
     ),
     (
@@ -587,7 +561,7 @@ const BY_EVERY_SCHEDULE: [Case; 2] = [
 #[test]
 fn schedules(rt: HostRuntime) -> Result<(), Fail> {
     for &case in &BY_EVERY_SCHEDULE {
-        for number in 0..100 {
+        for number in 0..8 {
             let end = end_by_schedule(&rt, rt.alloc(), number, case)?;
             assert_eq!(rt; (number, end), (number, all_right(0)));
         }
@@ -604,8 +578,8 @@ fn flushes(alloc: Global, count: u64) -> Result<Vec<u8>, AllocError> {
     Ok(script)
 }
 
-// The superblock and the journal are read, and nothing is written.
-const TOO_MANY: End = (b"script line 65537: too many\n", 2, Calls::Count(9));
+// The image is opened, and nothing is written.
+const TOO_MANY: End = (b"script line 65537: too many\n", 2, Calls::Count(OPENING));
 
 #[test]
 fn a_request_too_many(rt: HostRuntime) -> Result<(), Fail> {
@@ -745,7 +719,7 @@ fn is_put(alloc: Global, fault: &Fault, line: &str) -> Result<bool, AllocError> 
     Ok(put && sink.bytes() == line.as_bytes())
 }
 
-const FAULT_LINES: [(Fault, &str); 12] = [
+const FAULT_LINES: [(Fault, &str); 14] = [
     (Fault::Usage, "usage\n"),
     (
         Fault::Script(ScriptRefusal {
@@ -784,6 +758,14 @@ const FAULT_LINES: [(Fault, &str); 12] = [
         "bad image: shared page 85\n",
     ),
     (Fault::Differs(12), "audit differs 12\n"),
+    (
+        Fault::Grow(GrowFault::Smaller(Field::Slabs)),
+        "grow: smaller slabs\n",
+    ),
+    (
+        Fault::Grow(GrowFault::Mapped { at: Lba(1000) }),
+        "grow: mapped 1000\n",
+    ),
     (Fault::Memory, "no memory\n"),
     (Fault::Read, "read fault\n"),
 ];

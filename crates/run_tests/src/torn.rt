@@ -1,11 +1,13 @@
-use crate::journals::{whole_block, with_journal};
+use crate::journals::{fresh_blocks, super_block, whole_block};
 use crate::runs::{Ran, run_on};
-use blk_base::{Block, Entry, Lba, Mapping, Pbn};
+use blk_base::{Block, Entry, Geometry, Lba, Mapping, PageId, Pbn};
 use disk_model::MemDisk;
 use std::alloc::{AllocError, Global};
+use std::process::Abort;
 use std::sync::Wait;
 use std::test::Fail;
 use std::thread::Threads;
+use test_images::{page_block, put_block};
 
 /// Each sector of a journal block has so many entries.
 const IN_A_SECTOR: u32 = 24;
@@ -22,13 +24,27 @@ fn entry_of(address: u32) -> Entry {
     }
 }
 
-// Block 1 of the journal, with an entry for each of the first 192 addresses.
+/// The leaf of these addresses, and its block, behind those of the data.
+const LEAF: PageId = PageId {
+    tree: 0,
+    level: 0,
+    index: 0,
+};
+
+const LEAF_AT: u32 = 93;
+
+const NEW_LEAF: Entry = Entry::NewPage {
+    page: LEAF,
+    at: Pbn(LEAF_AT),
+};
+
+// Block 2 of the journal, with an entry for each of the first 192 addresses.
 fn full_block(alloc: Global) -> Result<Block, AllocError> {
     let mut entries = Vec::new(alloc);
     for address in 0..8 * IN_A_SECTOR {
         entries.push(entry_of(address))?;
     }
-    Ok(whole_block(1, 1, &entries))
+    Ok(whole_block(2, 1, &entries))
 }
 
 // Puts those sectors of a block into another one whose bits are 1.
@@ -50,11 +66,19 @@ fn put_data(blocks: &mut [Block]) {
     }
 }
 
-// A device on which the write of that block was stopped: its sectors are there whose bits are 1.
+// A device on which the write of that block was stopped, behind one with the entry of the leaf: its sectors are there whose bits
+// are 1.
 fn stopped(alloc: Global, bits: u32) -> Result<MemDisk, AllocError> {
     let written = full_block(alloc)?;
-    let mut blocks = with_journal(alloc, &[])?;
-    if let Some(block) = blocks.get_mut(2) {
+    let mut blocks = fresh_blocks(alloc, &Geometry::DEFAULT)?;
+    put_block(&mut blocks, 0, &super_block(&Geometry::DEFAULT, false, 1));
+    put_block(&mut blocks, 2, &whole_block(1, 1, &[NEW_LEAF]));
+    put_block(
+        &mut blocks,
+        LEAF_AT,
+        &page_block(Geometry::DEFAULT, LEAF, LEAF_AT, &[]),
+    );
+    if let Some(block) = blocks.get_mut(3) {
         put_sectors(block, &written, bits);
     }
     put_data(&mut blocks);
@@ -91,17 +115,19 @@ fn put_line(
     text.extend_from_slice(line.as_bytes())
 }
 
-// What a run then puts: what so many sectors from the front on show, and what the write is answered with.
-fn text(alloc: Global, front: u32, answer: &str) -> Result<Vec<u8>, AllocError> {
+// What a run then puts: how many entries were recovered, and what so many sectors from the front on show.
+fn text(alloc: Global, front: u32) -> Result<Vec<u8>, AllocError> {
     let mut text = Vec::new(alloc);
+    let entries = front.saturating_mul(IN_A_SECTOR).saturating_add(1);
+    let recovered = format!(in alloc; "recovered {entries} entries\n")?;
+    text.extend_from_slice(recovered.as_bytes())?;
     for sector in 0..8_u32 {
         let first = sector * IN_A_SECTOR;
         let last = first + IN_A_SECTOR - 1;
         put_line(&mut text, alloc, 2 * sector, first, sector < front)?;
         put_line(&mut text, alloc, 2 * sector + 1, last, sector < front)?;
     }
-    let write = format!(in alloc; "0 16 write 999 {answer} z0:16\n")?;
-    text.extend_from_slice(write.as_bytes())?;
+    text.extend_from_slice(b"0 16 write 999 ok z0:16\n")?;
     Ok(text)
 }
 
@@ -110,27 +136,38 @@ fn end<R: Threads + Wait + Sync>(
     rt: &R,
     alloc: Global,
     bits: u32,
-    answer: &str,
 ) -> Result<(u8, bool), AllocError> {
     let script = script(alloc)?;
     let ran = run_on(rt, alloc, stopped(alloc, bits)?, &script, None, 4000)?;
-    let text = text(alloc, bits.trailing_ones(), answer)?;
+    let text = text(alloc, bits.trailing_ones())?;
     let Ran { status, sink, .. } = ran;
     Ok((status, sink.bytes() == text.as_slice()))
 }
 
-// A stop within the write of a full block leaves any of its sectors: those from the front on count, and no others. The
-// next run may write where the block is whole, or nothing of it is there.
+// Such a stop: the run behind it ends well.
+fn is_right_behind<R: Threads + Wait + Sync + Abort>(
+    rt: &R,
+    alloc: Global,
+    bits: u32,
+) -> Result<(), Fail> {
+    let end = end(rt, alloc, bits)?;
+    assert_eq!(rt; (bits, end), (bits, (0, true)));
+    Ok(())
+}
+
+// A stop within the write of a full block leaves any of its sectors: those from the front on count, and no others.
 #[test]
-fn each_part_of_a_full_block(rt: HostRuntime) -> Result<(), Fail> {
-    for bits in 0..256 {
-        let (answer, status) = if bits == 0 || bits == 255 {
-            ("ok", 0)
-        } else {
-            ("full", 1)
-        };
-        let end = end(&rt, rt.alloc(), bits, answer)?;
-        assert_eq!(rt; (bits, end), (bits, (status, true)));
+fn parts_of_a_full_block(rt: HostRuntime) -> Result<(), Fail> {
+    for high in 0..32 {
+        is_right_behind(&rt, rt.alloc(), 8 * high)?;
+    }
+    Ok(())
+}
+
+#[test]
+fn fronts_of_a_full_block(rt: HostRuntime) -> Result<(), Fail> {
+    for bits in [1, 3, 7, 255] {
+        is_right_behind(&rt, rt.alloc(), bits)?;
     }
     Ok(())
 }

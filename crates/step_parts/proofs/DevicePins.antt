@@ -6,7 +6,8 @@ use Rattle.blk_base.specs.Sectors.{sector}
 use Rattle.disk_model.specs.declared.call.Call.{Call}
 use Rattle.disk_model.specs.declared.call.Call.TheVariants.{Flush, Read}
 use Rattle.disk_model.specs.Seen.{Seen}
-use Rattle.core_model.specs.Trace.{Trace, Calls, Fails, Takes}
+use Rattle.core_model.specs.Trace.{Trace, Calls, Fails, Harms, Takes}
+use Rattle.page_codec.specs.declared.fault.PageFault.TheVariants.{Header}
 use Rattle.step_parts.specs.DeviceLog.{failed_calls, lost_calls, has_calls, RoseBy, HasCalled}
 
 abbrev seen : List Call → ℕ → ℕ → Seen
@@ -115,6 +116,26 @@ module _ (w : Writer) where
 
     given-not_a_part : length other ≢ 4096 → HasCalled true true (holds []) (holds (read other ∷ [])) (Calls (read other) ∷ []) → ⊥
     given-not_a_part short has = short (has.given refl refl).0
+
+    -- so one that was found not to decode, which is a call too
+    abbrev harmed : List ℕ → Trace
+    harmed content = Harms w (record { 0 = 0 }) content Header ∷ []
+
+    given_damaged : length bytes ≡ 4096 → HasCalled true true (holds []) (holds (read bytes ∷ [])) (harmed bytes)
+    given_damaged whole = record {
+      stays = record { opening = refl; size = refl };
+      log = λ told. refl;
+      given = λ told honest. (whole, (λ i below. inl refl), tt);
+      faults = omega arith;
+      unkept = omega arith;
+      idle = λ none. absurd cc;
+    }
+
+    given-not_other_damage : sector 0 other ≢ sector 0 bytes → HasCalled true true (holds []) (holds (read other ∷ [])) (harmed other) → ⊥
+    given-not_other_damage differ has = elim ((has.given refl refl).1 0 (omega arith)) [ inl same ↦ differ same | inr none ↦ none ]
+
+    given-not_unsaid : HasCalled true true (holds []) (holds []) (harmed bytes) → ⊥
+    given-not_unsaid has = let size = ap length (has.log refl) in omega (arith, size)
 
     -- one that lies may give any
     given-of_a_liar : HasCalled true false (holds []) (holds (read other ∷ [])) (Calls (read other) ∷ [])

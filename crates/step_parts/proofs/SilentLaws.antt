@@ -2,7 +2,7 @@
 use Rattle.std.proofs.Common.{◌≡◌, Bool, true, false, List, [], ◌∷◌, ◌++◌, refl, ap, sym, arith}
 use Rattle.disk_model.specs.Seen.{Seen}
 use Rattle.disk_model.specs.declared.call.Call.{Call}
-use Rattle.core_model.specs.Trace.{Trace, Calls, Fails, calls}
+use Rattle.core_model.specs.Trace.{Trace, Calls, Fails, Harms, calls}
 use Rattle.step_parts.specs.DeviceLog.{GivesSettled, HasCalled, failed_calls, lost_calls}
 
 -- the device is as it was
@@ -13,6 +13,7 @@ Silent made = (tells honest : Bool) (seen : Seen) → HasCalled tells honest see
 no_read : (seen : Seen) (made : Trace) → calls made ≡ [] → GivesSettled seen.opening seen.log made
 no_read seen [] none = tt
 no_read seen (Calls call ∷ t) none = absurd cc
+no_read seen (Harms w at bytes fault ∷ t) none = absurd cc
 no_read seen (Fails w call true ∷ t) none = absurd cc
 no_read seen (Fails w call false ∷ t) none = no_read seen t none
 no_read seen (other ∷ t) none = no_read seen t none

@@ -5,7 +5,7 @@ use Rattle.disk_model.specs.declared.call.Call.TheVariants.{Read}
 use Rattle.disk_model.specs.Images.{IsMixOf}
 use Rattle.disk_model.specs.Log.{Blocks, settled}
 use Rattle.disk_model.specs.Seen.{Seen, Stays}
-use Rattle.core_model.specs.Trace.{Trace, Calls, Fails, calls}
+use Rattle.core_model.specs.Trace.{Trace, Calls, Fails, Harms, calls}
 
 -- how many calls failed, and how many of these found no memory for a place in the log
 abbrev pub failed_calls : Trace → ℕ
@@ -23,6 +23,7 @@ abbrev pub has_calls : Trace → Bool
 has_calls [] = false
 has_calls (Calls call ∷ t) = true
 has_calls (Fails w call kept ∷ t) = true
+has_calls (Harms w at bytes fault ∷ t) = true
 has_calls (other ∷ t) = has_calls t
 
 -- a count rose by at least so many, or stands at the last value of its type
@@ -33,6 +34,8 @@ RoseBy n before now = min (before + n) (2 ^ 64 - 1) ≤ now
 abbrev pub GivesSettled : Blocks → List Call → Trace → Type 0
 GivesSettled opening log [] = Unit {0}
 GivesSettled opening log (Calls (Read at bytes true) ∷ t) =
+    (length bytes ≡ 4096) × IsMixOf (settled opening (calls t ++ log) at.0) bytes × GivesSettled opening log t
+GivesSettled opening log (Harms w at bytes fault ∷ t) =
     (length bytes ≡ 4096) × IsMixOf (settled opening (calls t ++ log) at.0) bytes × GivesSettled opening log t
 GivesSettled opening log (other ∷ t) = GivesSettled opening log t
 

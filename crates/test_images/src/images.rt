@@ -1,19 +1,37 @@
 ghost use Rattle.blk_base.specs.Limits.{IsGeometry};
 
 use crate::blocks::{journal_block, page_block};
-use blk_base::{Block, Entry, Geometry, Layout, Mapping, PageId, TREES};
+use blk_base::{Block, Entry, Geometry, Layout, Mapping, PageId, Super, TREES};
 use disk_model::MemDisk;
-use image_layout::first_image;
+use image_layout::write_super;
 use std::alloc::{AllocError, Global};
 
 /// A page, its block, and what its slots say.
 pub type Page = (PageId, u32, &'static [(u16, Mapping)]);
 
-/// A device with a fresh image of these sizes.
+/// The blocks of an empty image of these sizes, whose last session was closed: a superblock with `start` 1, the roots, and
+/// zeros.
+pub fn empty_image(alloc: Global, geometry: &Geometry) -> Result<Vec<Block>, AllocError>
+    requires { IsGeometry geometry.now }
+{
+    let mut blocks = zeros(alloc, Layout::of(geometry).needed())?;
+    let head = Super {
+        geometry: *geometry,
+        clean: true,
+        start: 1,
+    };
+    let mut first = Block::zero();
+    write_super(&head, &mut first);
+    put_block(&mut blocks, 0, &first);
+    put_pages(&mut blocks, *geometry, &[]);
+    Ok(blocks)
+}
+
+/// A device with an empty image of these sizes.
 pub fn fresh(alloc: Global, geometry: &Geometry) -> Result<MemDisk, AllocError>
     requires { IsGeometry geometry.now }
 {
-    let blocks = first_image(alloc, geometry, &Layout::of(geometry))?;
+    let blocks = empty_image(alloc, geometry)?;
     MemDisk::from_blocks(alloc, blocks)
 }
 

@@ -8,6 +8,6 @@ mod spelled;
 mod texts;
 
 pub use blocks::{journal_block, page_block, reference_block, slab_block};
-pub use images::{Page, fresh, put_block, put_journal, put_pages, zeros};
+pub use images::{Page, empty_image, fresh, put_block, put_journal, put_pages, zeros};
 pub use spelled::{Mismatch, Spelling, difference, with_added, with_byte};
 pub use texts::{first_other, not_shown};

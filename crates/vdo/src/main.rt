@@ -1,5 +1,5 @@
-//! The program: it makes an image on a file, recovers or rebuilds one, or looks at one, or serves a script on a fresh
-//! image in memory.
+//! The program: it makes an image on a file, recovers, rebuilds or grows one, or looks at one, or serves a script on a
+//! fresh image in memory.
 //!
 //! Only tested: the stored run; which device and command the words name, and a file that can't be opened or written
 //! (`tools/image_files.sh`); the instructions of a run (docs/PERFORMANCE.md).
@@ -16,7 +16,7 @@ use arguments::{ArgumentsError, CommandLine, Device, command_line};
 use blk_base::{Geometry, Layout};
 use disk_model::{Disk, MemDisk, OpenGate};
 use file_disk::open_disk;
-use image_layout::first_image;
+use image_format::format;
 use std::alloc::{AllocError, Global};
 use std::process::ExitCode;
 use std::sync::Wait;
@@ -60,11 +60,13 @@ impl<'r> Streams<'r> {
     }
 }
 
-/// A device in memory with a fresh image.
+/// A device in memory with an empty image of the default sizes. A call of it fails for want of memory alone.
 fn fresh(alloc: Global) -> Result<MemDisk, AllocError> {
-    let layout = Layout::of(&Geometry::DEFAULT);
-    let blocks = first_image(alloc, &Geometry::DEFAULT, &layout)?;
-    MemDisk::from_blocks(alloc, blocks)
+    let mut device = MemDisk::zeroed(alloc, Layout::of(&Geometry::DEFAULT).needed())?;
+    match format(&Geometry::DEFAULT, &mut device) {
+        Ok(_) => Ok(device),
+        Err(_) => Err(AllocError),
+    }
 }
 
 /// A command on a device in memory, on which an image of the default sizes is made first; where that fails, its status.

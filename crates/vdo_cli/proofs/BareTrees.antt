@@ -1,18 +1,16 @@
--- The trees of the one logical zone of a session whose window links no page: their roots alone.
-use Rattle.std.specs.Prelude.{ℕ, ◌≡◌, ◌<◌, ◌≤◌, ◌+◌, ◌-◌, ◌*◌, ◌^◌, None, Some, List, [], ◌∷◌, length, replicate, slice_index_or, refl}
+-- The trees of the one logical zone of a session over an image that links no page: their roots alone.
+use Rattle.std.specs.Prelude.{ℕ, ◌≡◌, ◌<◌, ◌≤◌, ◌-◌, ◌*◌, ◌^◌, Option, None, List, [], length, replicate, slice_index_or, refl}
 use Rattle.std.proofs.Common.{sym, ◌∙◌, ap, subst, inl, inr, arith}
 use Rattle.std.proofs.lemmas.Bool.Decides.{leb_tells}
 use Rattle.std.proofs.lemmas.List.{length-replicate, get_or-replicate}
 use Rattle.std.proofs.lemmas.List.Elements.{All-replicate}
 use Rattle.std.proofs.Math.ListN.{get_or-eq_default}
-use Rattle.std.specs.List.{AllByRecursion}
 use Rattle.blk_base.specs.Limits.{IsGeometry}
 use Rattle.blk_base.specs.declared.geometry.Geometry.{Geometry}
-use Rattle.blk_base.specs.declared.journal_entry.Entry.{Entry}
-use Rattle.blk_base.specs.declared.journal_entry.Entry.TheVariants.{Remap, NewPage}
 use Rattle.blk_base.specs.declared.place.Mapping.{Mapping}
 use Rattle.blk_base.specs.declared.place.Mapping.TheVariants.{Unmapped}
 use Rattle.blk_base.specs.declared.place.PageId.{PageId}
+use Rattle.blk_base.specs.declared.place.Pbn.{Pbn}
 use Rattle.page_codec.specs.Grammar.{AreHeld}
 use Rattle.page_codec.proofs.HeldLaws.{held_unmapped}
 use Rattle.dirty_pages.specs.Marks.{HasPoint, clean}
@@ -22,13 +20,8 @@ use Rattle.block_map_tree.proofs.PageLaws.{in_row, root_or_lower, row_lower, row
 use Rattle.block_map_tree.specs.Pages.{IsForest, IsOnPath}
 use Rattle.block_map_tree.specs.Tree.{Tree, most_rows, row_of, trees_of}
 use Rattle.block_map_tree.specs.declared.forms.Forest.{Forest}
-use Rattle.core_model.specs.PageLinks.{opened_page}
-use Rattle.core_model.specs.PageTrees.{IsMapTree, block_in}
-
--- an entry that maps an address
-abbrev pub IsRemap : Entry → Type 0
-IsRemap (Remap at old new) = Unit {0}
-IsRemap (NewPage page at) = ⊥
+use Rattle.core_model.specs.PageLinks.{block_in}
+use Rattle.core_model.specs.PageTrees.{IsMapTree}
 
 abbrev forest : Geometry → Forest
 forest g = record { geometry = g; zone = 0; zones = 1 }
@@ -49,11 +42,6 @@ blank_slot n place slot = elim (leb_tells n place) [
   | inr inside ↦ ap (λ (r : List Mapping). slice_index_or r slot Unmapped) (get_or-replicate n place blank [] inside.1) ∙ replicate_at 812 slot Unmapped
 ]
 
-none_linked : (height : ℕ) (window : List Entry) (page : PageId) → AllByRecursion IsRemap window → opened_page height window page ≡ None
-none_linked height [] page maps = refl
-none_linked height (Remap at old new ∷ older) page maps = none_linked height older page maps.1
-none_linked height (NewPage other at ∷ older) page maps = absurd maps.0
-
 few_rows : (g : Geometry) (page : PageId) → IsForest (forest g) → IsOnPath (forest g) page → 1 ≤ page.level → row_of (forest g) page < most_rows g.height
 few_rows g page is_forest on level =
     let heights = is_forest.sizes.height in
@@ -68,9 +56,9 @@ few_rows g page is_forest on level =
           omega (arith, row, wide, most)
     ]
 
-pub bare_is : (g : Geometry) (window : List Entry) → IsGeometry g → AllByRecursion IsRemap window → IsMapTree g 0 1 window [] (bare g)
+pub bare_is : (g : Geometry) (links : PageId → Option Pbn) → IsGeometry g → ((page : PageId) → links page ≡ None) → IsMapTree g 0 1 links [] (bare g)
 unfolding bare
-bare_is g window sizes maps =
+bare_is g links sizes unlinked =
     let n = count g in
     let is_forest : IsForest (forest g) = record { sizes = sizes; zone = omega arith; zones = omega arith } in
     let wide : length (replicate n blank) ≡ n = length-replicate n blank in
@@ -85,5 +73,5 @@ bare_is g window sizes maps =
         marks = marked ∙ sym wide;
         there = λ page point inner has. absurd (elim (subst (λ (m : Marks). HasPoint m point) (replicate_at n _ clean) has) [ inl dirty ↦ cc | inr writing ↦ cc ]);
       };
-      linked = λ page linkable. ap block_in (blank_slot n _ _) ∙ sym (none_linked g.height window page maps);
+      linked = λ page linkable. ap block_in (blank_slot n _ _) ∙ sym (unlinked page);
     }

@@ -2,13 +2,14 @@
 use Rattle.std.proofs.Common.{ℕ, ◌≡◌, true, false, List, [], ◌∷◌, Some, None, codes, refl}
 use Rattle.blk_base.specs.declared.geometry.Geometry.{Geometry}
 use Rattle.vdo_words.specs.declared.commands.Command.TheVariants.{Run, Workload}
-use Rattle.vdo_words.specs.declared.commands.Command.TheVariants.{Audit as AuditCommand, ForceRebuild as RebuildCommand, Recover as RecoverCommand, Status as StatusCommand}
+use Rattle.vdo_words.specs.declared.commands.Command.TheVariants.{Audit as AuditCommand, ForceRebuild as RebuildCommand, Grow as GrowCommand, Recover as RecoverCommand, Status as StatusCommand}
 use Rattle.vdo_words.specs.declared.commands.Command.TheVariants.{Format as FormatCommand}
 use Rattle.vdo_words.specs.declared.commands.FormatOptions.{FormatOptions}
+use Rattle.vdo_words.specs.declared.commands.GrowOptions.{GrowOptions}
 use Rattle.vdo_words.specs.declared.commands.CoreOptions.{CoreOptions}
 use Rattle.vdo_words.specs.declared.commands.WorkloadOptions.{WorkloadOptions}
 use Rattle.vdo_words.specs.declared.commands.Drive.TheVariants.{Schedule, Threads}
-use Rattle.vdo_cli.specs.declared.words.Served.TheVariants.{Audit, ForceRebuild, Script, Format, Recover, Status}
+use Rattle.vdo_cli.specs.declared.words.Served.TheVariants.{Audit, ForceRebuild, Format, Grow, Recover, Script, Status}
 use Rattle.vdo_cli.specs.Commands.{are_default, number_of, served_in, served_of, sizes_of}
 
 -- the options of a core that has none
@@ -38,7 +39,7 @@ each_size_is_its_option : sizes_of (record { logical = 1; slabs = 2; slab_blocks
     ≡ record { logical = 1; slabs = 2; slab_blocks = 3; journal = 4; index = 5; slab_journal = 6; height = 7; nonce = 8 }
 each_size_is_its_option = refl
 
--- served_in: `run` with such a core and a schedule, `format`, `recover`, `force-rebuild`, `audit` and `status`
+-- served_in: `run` with such a core and a schedule, `format`, `recover`, `force-rebuild`, `grow`, `audit` and `status`
 in_run : (number : ℕ) → served_in (Some (Run (record { drive = Schedule number; core = core }))) ≡ Some (Script number)
 in_run number = refl
 
@@ -56,6 +57,9 @@ in_recover = refl
 
 in_force_rebuild : served_in (Some RebuildCommand) ≡ Some ForceRebuild
 in_force_rebuild = refl
+
+in_grow : (options : GrowOptions) → served_in (Some (GrowCommand options)) ≡ Some (Grow options)
+in_grow options = refl
 
 in_audit : served_in (Some AuditCommand) ≡ Some Audit
 in_audit = refl
@@ -115,7 +119,17 @@ rebuilt = refl
 rebuilt_with_an_option : served_of (codes "force-rebuild" ∷ codes "--slabs" ∷ codes "2" ∷ []) ≡ None
 rebuilt_with_an_option = refl
 
--- nor has the audit
+-- growing has two, which it needs
+abbrev pub grow_words : List (List ℕ)
+grow_words = codes "grow" ∷ codes "--logical" ∷ codes "2000" ∷ codes "--slabs" ∷ codes "2" ∷ []
+
+pub grows : served_of grow_words ≡ Some (Grow (record { logical = 2000; slabs = 2 }))
+grows = refl
+
+grows_without_slabs : served_of (codes "grow" ∷ codes "--logical" ∷ codes "2000" ∷ []) ≡ None
+grows_without_slabs = refl
+
+-- the audit has none
 abbrev pub audit_words : List (List ℕ)
 audit_words = codes "audit" ∷ []
 

@@ -1,77 +1,69 @@
 -- Rows that pin how a core served a session (`IsDriven`), what its report tells (`IsReported`), and what happened to the
 -- device on the way (`Happens`). Those that are accepted are of the session of a script that asks for nothing.
-use Rattle.std.proofs.Common.{ℕ, ◌≡◌, ◌≢◌, ◌<◌, ◌++◌, Bool, true, false, List, [], ◌∷◌, ◌*◌, length, replicate, slice_get, Some, None, IsSome, refl, sym, ◌∙◌, ap, subst, arith}
-use Rattle.std.specs.List.{AllByRecursion}
-use Rattle.blk_base.specs.declared.geometry.Super.{Super}
-use Rattle.blk_base.specs.declared.journal_entry.Entry.{Entry}
+use Rattle.std.proofs.Common.{ℕ, ◌≡◌, ◌≢◌, ◌<◌, ◌^◌, ◌++◌, Bool, true, false, List, [], ◌∷◌, ◌*◌, length, replicate, slice_get, Some, None, IsSome, refl, sym, ◌∙◌, ap, subst, inl, inr, arith}
+use Rattle.blk_base.specs.declared.opened.Opened.{Opened}
+use Rattle.blk_base.specs.declared.place.PageId.{PageId}
 use Rattle.blk_base.specs.declared.place.Pbn.{Pbn}
+use Rattle.blk_base.specs.declared.request.Answer.{Answer as Reply}
 use Rattle.blk_base.specs.declared.request.Answer.TheVariants as reply
 use Rattle.blk_base.specs.declared.request.Request.TheVariants as request
 use Rattle.blk_base.specs.declared.request.Writer.{Writer}
 use Rattle.disk_model.specs.declared.call.Call.{Call}
-use Rattle.disk_model.specs.declared.call.Call.TheVariants.{Read, Write, Flush}
-use Rattle.disk_model.specs.Images.{HasOneImage, IsImage}
+use Rattle.disk_model.specs.declared.call.Call.TheVariants.{Write, Flush}
 use Rattle.disk_model.specs.Log.{Blocks}
 use Rattle.disk_model.specs.Seen.{Seen}
-use Rattle.disk_model.specs.Since.{OnlyReads}
-use Rattle.disk_model.proofs.OneImageLaws.{one_image-unique}
 use Rattle.data_vio.specs.declared.sizes.Sizes.{Sizes}
+use Rattle.core_model.specs.PageLinks.{opened_page}
 use Rattle.core_model.specs.Sessions.{Session}
 use Rattle.core_model.specs.SessionLimits.{requests_in}
 use Rattle.core_model.specs.Start.{IsFirst, IsFirstData}
 use Rattle.core_model.specs.declared.zones.Zone.{Zone}
 use Rattle.core_model.specs.declared.zones.ZoneData.{ZoneData}
 use Rattle.core_model.specs.declared.zones.ZoneData.TheVariants as kind
-use Rattle.core_model.specs.Trace.{Calls, Fails, Says, Seals, Trace, lines}
+use Rattle.core_model.specs.Trace.{Calls, Fails, Happening, Says, Seals, Trace, lines}
+use Rattle.page_codec.specs.declared.fault.PageFault.{PageFault}
+use Rattle.rebuild.specs.declared.forms.Recovered.{Recovered}
 use Rattle.schedule.specs.Turns.{Drives}
 use Rattle.stream_text.specs.StreamRows.{no_requests}
 use Rattle.vdo_core.specs.Cores.{CanBegin}
 use Rattle.vdo_core.specs.Done.{IsDone}
-use Rattle.vdo_core.specs.FreeBlocks.{free_of}
+use Rattle.vdo_core.proofs.SessionLaws.{bare}
 use Rattle.vdo_core.specs.Plays.{core_with}
 use Rattle.vdo_core.specs.declared.events.Event.{Event}
 use Rattle.vdo_model.specs.DeskLog.{answer_of}
 use Rattle.vdo_model.specs.FlushMarks.{Moment, Desk, Device, lines_of}
 use Rattle.vdo_model.specs.Scripts.{Script, request_at}
+use Rattle.vdo_model.specs.declared.report.Damage.TheVariants.{Page}
 use Rattle.vdo_model.specs.declared.report.DeskLine.{DeskLine}
 use Rattle.vdo_model.specs.declared.report.DeskLine.TheVariants.{Begin, Answer}
 use Rattle.vdo_model.specs.declared.report.RunReport.{RunReport}
 use Rattle.vdo_model.proofs.Example.{address, of_a}
-use Rattle.vdo_cli.specs.Openings.{IsOpened, opening_of, trust}
+use Rattle.vdo_cli.specs.Openings.{IsReady}
+use Rattle.vdo_cli.specs.Outsides.{trust}
 use Rattle.vdo_cli.specs.Sessions.{IsDriven, IsOver, IsReported, run_sizes, task}
 use Rattle.vdo_cli.specs.Stops.{Happens}
-use Rattle.vdo_cli.proofs.BareTrees.{IsRemap}
 use Rattle.vdo_cli.proofs.EmptyScript.{empty_driven, empty_happens, empty_report, empty_reported}
-use Rattle.vdo_cli.proofs.PlayPins.{at, device}
+use Rattle.vdo_cli.proofs.PlayPins.{device}
 use Rattle.vdo_cli.proofs.SessionLaws.{answered, turns_call, turns_lead}
 
--- Accepted: of an image that was opened, and whose window links no page, all three parts of the session of no request.
-module _ (schedule : ℕ) (head : Super) (window : List Entry) (used : ℕ) (before opened : Seen) (is_opened : IsOpened (trust true true) before opened (opening_of head window used))
-    (maps : AllByRecursion IsRemap window) where
-  driven-empty : IsDriven (trust true true) schedule (task (opening_of head window used) no_requests) [] opened opened
-  driven-empty = empty_driven true true schedule head window used before opened is_opened maps
+-- Accepted: of an image that is ready and links no page, all three parts of the session of no request.
+module _ (schedule : ℕ) (found : Recovered) (start : Opened) (before opened : Seen) (ready : IsReady (trust true true) before opened found start)
+    (unlinked : (page : PageId) → opened_page start.pages.items page ≡ None) (named : start.head.geometry.nonce < 2 ^ 64) where
+  driven-empty : IsDriven (trust true true) schedule (task start no_requests) [] opened opened
+  driven-empty = empty_driven true true schedule found start before opened ready unlinked
 
-  reported-empty : IsReported (opening_of head window used) empty_report [] opened opened
-  reported-empty = empty_reported true true schedule head window used before opened is_opened maps
+  reported-empty : IsReported start empty_report [] opened opened
+  reported-empty = empty_reported true true schedule found start before opened ready unlinked
 
   happens-empty : Happens [] empty_report before opened opened
-  happens-empty = empty_happens true true schedule head window used before opened is_opened maps refl
+  happens-empty = empty_happens true true schedule found start before opened ready unlinked named refl
 
 -- IsDriven. By schedule 7 over some image.
-abbrev session_over : Super → List Entry → ℕ → Script → Session
-session_over head window used script = record {
-  sizes = run_sizes head used;
-  script = script;
-  blocks = [];
-  before = [];
-  image = [];
-  sealed = [];
-  window = window;
-  free = free_of head.geometry window;
-}
+abbrev session_over : Opened → Script → Session
+session_over start script = bare (run_sizes start.head) script start
 
-is_over : (head : Super) (window : List Entry) (used : ℕ) (script : Script) → IsOver (task (opening_of head window used) script) (session_over head window used script)
-is_over head window used script = record { sizes_is = refl; script_is = refl; window_is = refl; free_is = refl }
+is_over : (start : Opened) (script : Script) → IsOver (task start script) (session_over start script)
+is_over start script = record { sizes_is = refl; script_is = refl; links_is = refl; free_is = refl }
 
 -- a core that begins with no request is done, so it takes no turn, and nothing happens
 done_by : (s : Session) (zones : List Zone) (zone : Zone) (keeps : ZoneData) → slice_get zones 0 ≡ Some zone → zone.keeps ≡ keeps → s.script ≡ no_requests → IsFirstData s 0 keeps → IsDone zones
@@ -96,21 +88,21 @@ makes_nothing : (tells honest : Bool) (sizes : Sizes) (state state' : ℕ) (even
 makes_nothing tells honest sizes state state' [] first last before after made done (at_state, same, silent, nothing) = nothing
 makes_nothing tells honest sizes state state' (e ∷ events) first last before after made done (between, seen, early, late, undone, turn, one, rest, is) = absurd (undone done)
 
-driven-empty_no_more : (head : Super) (window : List Entry) (used : ℕ) (before after : Seen) → IsDriven (trust true false) 7 (task (opening_of head window used) no_requests) (Seals ∷ []) before after → ⊥
-driven-empty_no_more head window used before after driven =
-    let done = begins_done (session_over head window used no_requests) driven.first refl (driven.begins (session_over head window used no_requests) (is_over head window used no_requests)) in
-    let nothing = makes_nothing true false (run_sizes head used) 7 driven.state driven.events driven.first driven.last before after (Seals ∷ []) done driven.drives in
+driven-empty_no_more : (start : Opened) (before after : Seen) → IsDriven (trust true false) 7 (task start no_requests) (Seals ∷ []) before after → ⊥
+driven-empty_no_more start before after driven =
+    let done = begins_done (session_over start no_requests) driven.first refl (driven.begins (session_over start no_requests) (is_over start no_requests)) in
+    let nothing = makes_nothing true false (run_sizes start.head) 7 driven.state driven.events driven.first driven.last before after (Seals ∷ []) done driven.drives in
     absurd cc
 
-module _ (head : Super) (window : List Entry) (used : ℕ) (script : Script) (trace : Trace) (before after : Seen) (driven : IsDriven (trust true false) 7 (task (opening_of head window used) script) trace before after) where
+module _ (start : Opened) (script : Script) (trace : Trace) (before after : Seen) (driven : IsDriven (trust true false) 7 (task start script) trace before after) where
   -- the first core is one of the session: it has zones
   driven-not_from_no_zone : driven.first ≡ [] → ⊥
-  driven-not_from_no_zone none = let first = driven.begins (session_over head window used script) (is_over head window used script) in omega (arith, first.count, ap length none)
+  driven-not_from_no_zone none = let first = driven.begins (session_over start script) (is_over start script) in omega (arith, first.count, ap length none)
 
   -- the turns begin with the number of this schedule; without any the core stays as it is, and nothing happens; and a core
   -- that is done takes none
   abbrev Led : List Event → Type 0
-  Led events = Drives true false (run_sizes head used) 7 driven.state events driven.first driven.last before after trace
+  Led events = Drives true false (run_sizes start.head) 7 driven.state events driven.first driven.last before after trace
 
   driven-not_by_schedule_8 : driven.events ≡ [] → driven.state ≡ 8 → ⊥
   driven-not_by_schedule_8 none is = let led : Led [] = subst Led none driven.drives in omega (arith, led.0, is)
@@ -128,32 +120,32 @@ module _ (head : Super) (window : List Entry) (used : ℕ) (script : Script) (tr
   driven-not_to_no_zone : driven.last ≡ [] → ⊥
   driven-not_to_no_zone none = let had = driven.done.had in let nothing : None ≡ Some driven.done.zone = rw none at had in absurd cc
 
-  driven-not_without_an_answer : CanBegin (run_sizes head used) script window → (w : Writer) → IsSome (request_at script w) → answer_of (lines trace) w ≡ None → ⊥
+  driven-not_without_an_answer : CanBegin (run_sizes start.head) script start → (w : Writer) → IsSome (request_at script w) → answer_of (lines trace) w ≡ None → ⊥
   driven-not_without_an_answer can w asked none =
-      let leads = turns_lead true false (run_sizes head used) 7 driven.state driven.events driven.first driven.last before after trace driven.drives in
-      let called = turns_call true false (run_sizes head used) 7 driven.state driven.events driven.first driven.last before after trace driven.drives in
-      let all = answered true false head window used script driven.first driven.last trace before after can driven.begins leads driven.done called in
+      let leads = turns_lead true false (run_sizes start.head) 7 driven.state driven.events driven.first driven.last before after trace driven.drives in
+      let called = turns_call true false (run_sizes start.head) 7 driven.state driven.events driven.first driven.last before after trace driven.drives in
+      let all = answered true false start script driven.first driven.last trace before after can driven.begins leads driven.done called in
       let has : IsSome (answer_of (lines trace) w) = all w asked in
       absurd (let unanswered = rw none at has in cc)
 
 -- the device has the calls that happened, and no other
-driven-not_called_besides : (head : Super) (window : List Entry) (used : ℕ) (script : Script) (opening : Blocks) → IsDriven (trust true false) 7 (task (opening_of head window used) script) [] (device opening [] 0 0) (device opening (Flush true ∷ []) 0 0) → ⊥
-driven-not_called_besides head window used script opening driven =
-    let called = turns_call true false (run_sizes head used) 7 driven.state driven.events driven.first driven.last (device opening [] 0 0) (device opening (Flush true ∷ []) 0 0) [] driven.drives in
+driven-not_called_besides : (start : Opened) (script : Script) (opening : Blocks) → IsDriven (trust true false) 7 (task start script) [] (device opening [] 0 0) (device opening (Flush true ∷ []) 0 0) → ⊥
+driven-not_called_besides start script opening driven =
+    let called = turns_call true false (run_sizes start.head) 7 driven.state driven.events driven.first driven.last (device opening [] 0 0) (device opening (Flush true ∷ []) 0 0) [] driven.drives in
     let size = ap length (called.log refl) in
     omega (arith, size)
 
 -- IsReported. The session is that of this image, with one logical zone
-reported-not_of_two_zones : (head : Super) (window : List Entry) (used : ℕ) (report : RunReport) (trace : Trace) (before after : Seen) (reported : IsReported (opening_of head window used) report trace before after)
+reported-not_of_two_zones : (start : Opened) (report : RunReport) (trace : Trace) (before after : Seen) (reported : IsReported start report trace before after)
     → reported.session.sizes.zones ≡ 2 → ⊥
-reported-not_of_two_zones head window used report trace before after reported two = omega (arith, two, ap (λ (sizes : Sizes). sizes.zones) reported.is_over.sizes_is)
+reported-not_of_two_zones start report trace before after reported two = omega (arith, two, ap (λ (sizes : Sizes). sizes.zones) reported.is_over.sizes_is)
 
 -- the report has the places that were drawn, here none
 abbrev placed_report : RunReport
 placed_report = record empty_report { places = record { request = of_a 0; zone = 0; place = 0 } ∷ [] }
 
-reported-not_with_other_places : (head : Super) (window : List Entry) (used : ℕ) (before after : Seen) → IsReported (opening_of head window used) placed_report [] before after → ⊥
-reported-not_with_other_places head window used before after reported =
+reported-not_with_other_places : (start : Opened) (before after : Seen) → IsReported start placed_report [] before after → ⊥
+reported-not_with_other_places start before after reported =
     let places = ap (λ (report : RunReport). length report.places) reported.report_is in
     let zones = ap (λ (sizes : Sizes). sizes.zones) reported.is_over.sizes_is in
     let none = rw zones at places in
@@ -163,16 +155,16 @@ reported-not_with_other_places head window used before after reported =
 abbrev begun_report : RunReport
 begun_report = record empty_report { desk = Begin (of_a 0) ∷ [] }
 
-reported-not_another_desk : (head : Super) (window : List Entry) (used : ℕ) (trace : Trace) (before after : Seen) → IsReported (opening_of head window used) begun_report trace before after → ⊥
-reported-not_another_desk head window used trace before after reported = absurd (let asked = reported.run_right.desk_log.0.1 in cc)
+reported-not_another_desk : (start : Opened) (trace : Trace) (before after : Seen) → IsReported start begun_report trace before after → ⊥
+reported-not_another_desk start trace before after reported = absurd (let asked = reported.run_right.desk_log.0.1 in cc)
 
 -- an answer has its cause: a read of address 1 isn't beyond a logical size of 2
 abbrev read_report : RunReport
 read_report = record empty_report { requests = (request.Read (address 1) ∷ []) ∷ replicate 15 []; desk = Answer (of_a 0) reply.Range ∷ Begin (of_a 0) ∷ [] }
 
-reported-not_beyond : (head : Super) (window : List Entry) (used : ℕ) (before after : Seen) → 1 < head.geometry.logical
-    → IsReported (opening_of head window used) read_report (Says (Answer (of_a 0) reply.Range) ∷ Says (Begin (of_a 0)) ∷ []) before after → ⊥
-reported-not_beyond head window used before after below reported =
+reported-not_beyond : (start : Opened) (before after : Seen) → 1 < start.head.geometry.logical
+    → IsReported start read_report (Says (Answer (of_a 0) reply.Range) ∷ Says (Begin (of_a 0)) ∷ []) before after → ⊥
+reported-not_beyond start before after below reported =
     let beyond = reported.causes [] (Says (Begin (of_a 0)) ∷ []) (of_a 0) (request.Read (address 1)) reply.Range refl refl in
     let logical = ap (λ (sizes : Sizes). sizes.geometry.logical) reported.is_over.sizes_is in
     omega (arith, below, beyond, logical)
@@ -181,38 +173,41 @@ reported-not_beyond head window used before after below reported =
 abbrev fault_report : RunReport
 fault_report = record read_report { desk = Answer (of_a 0) reply.ReadFault ∷ Begin (of_a 0) ∷ [] }
 
-reported-not_without_rise : (head : Super) (window : List Entry) (used : ℕ) (trace : Trace) (opening : Blocks) (log log' : List Call) → IsReported (opening_of head window used) fault_report trace (device opening log 0 0) (device opening log' 0 0) → ⊥
-reported-not_without_rise head window used trace opening log log' reported = let rose = reported.faults (of_a 0) (request.Read (address 1)) reply.ReadFault refl refl tt in omega (arith, rose)
+reported-not_without_rise : (start : Opened) (trace : Trace) (opening : Blocks) (log log' : List Call) → IsReported start fault_report trace (device opening log 0 0) (device opening log' 0 0) → ⊥
+reported-not_without_rise start trace opening log log' reported = let rose = reported.faults (of_a 0) (request.Read (address 1)) reply.ReadFault refl refl in omega (arith, rose)
+
+-- a request that was answered stopped, or damaged, was stopped by damage, where no call failed
+abbrev answered_with : Reply → RunReport
+answered_with a = record read_report { desk = Answer (of_a 0) a ∷ Begin (of_a 0) ∷ [] }
+
+reported-not_stopped_so : (start : Opened) (trace : Trace) (opening : Blocks) (log log' : List Call) → IsReported start (answered_with reply.Stopped) trace (device opening log 0 0) (device opening log' 0 0) → ⊥
+reported-not_stopped_so start trace opening log log' reported = elim (reported.faults (of_a 0) (request.Read (address 1)) reply.Stopped refl refl) [ inl rose ↦ omega (arith, rose) | inr some ↦ absurd (cc some) ]
+
+reported-not_damaged_so : (start : Opened) (trace : Trace) (before after : Seen) → IsReported start (answered_with reply.Damaged) trace before after → ⊥
+reported-not_damaged_so start trace before after reported = absurd (let some = reported.faults (of_a 0) (request.Read (address 1)) reply.Damaged refl refl in cc)
+
+-- damage was found of a leaf that was read
+nothing_happened : (newer older : Trace) (h : Happening) → [] ≡ newer ++ h ∷ older → ⊥
+nothing_happened [] older h is = absurd cc
+nothing_happened (first ∷ newer) older h is = absurd cc
+
+reported-not_damaged_by_nothing : (start : Opened) (before after : Seen) (x : Pbn) (fault : PageFault) → IsReported start (record empty_report { damage = Some (Page x fault) }) [] before after → ⊥
+reported-not_damaged_by_nothing start before after x fault reported = let has = reported.damage x fault refl in nothing_happened has.newer has.older _ has.is
 
 -- no write follows a flush that failed
-reported-not_written_after : (head : Super) (window : List Entry) (used : ℕ) (report : RunReport) (before after : Seen) (w : Writer) (x : Pbn) (bytes : List ℕ) (kept : Bool)
-    → IsReported (opening_of head window used) report (Calls (Write x bytes true) ∷ Fails w (Flush false) kept ∷ []) before after → ⊥
-reported-not_written_after head window used report before after w x bytes kept reported = absurd (let goes_on = reported.stops.0 refl in cc)
+reported-not_written_after : (start : Opened) (report : RunReport) (before after : Seen) (w : Writer) (x : Pbn) (bytes : List ℕ) (kept : Bool)
+    → IsReported start report (Calls (Write x bytes true) ∷ Fails w (Flush false) kept ∷ []) before after → ⊥
+reported-not_written_after start report before after w x bytes kept reported = absurd (let goes_on = reported.stops.0 refl in cc)
 
--- Happens. Before the session the device was only read,
-happens-not_written_before : (head : Super) (window : List Entry) (moments : List Moment) (report : RunReport) (after : Seen) (opening : Blocks) (bytes : List ℕ)
-    → Happens moments report (device opening [] 0 0) (device opening (Write (at 0) bytes true ∷ []) 0 0) after → ⊥
-happens-not_written_before head window moments report after opening bytes happens = written happens.earlier happens.earlier_is happens.only_reads
-  where
-    written : (calls : List Call) → Write (at 0) bytes true ∷ [] ≡ calls ++ [] → OnlyReads calls → ⊥
-    written [] is reads = absurd cc
-    written (Read place given ok ∷ calls) is reads = absurd cc
-    written (Write place given ok ∷ calls) is reads = reads
-    written (Flush ok ∷ calls) is reads = reads
-
-module _ (head : Super) (window : List Entry) (moments : List Moment) (report : RunReport) (before opened after : Seen) (happens : Happens moments report before opened after) where
-  -- and a stop then leaves the image that was there,
-  happens-not_another_image : (image other : Blocks) → HasOneImage before.opening before.log image → IsImage before.opening opened.log other → other ≢ image → ⊥
-  happens-not_another_image image other one is differ =
-      differ (one_image-unique before.opening before.log image other one (happens.stops_early [] happens.earlier refl other (subst (λ (log : List Call). IsImage before.opening log other) happens.earlier_is is)))
-
+-- Happens.
+module _ (moments : List Moment) (report : RunReport) (before opened after : Seen) (happens : Happens moments report before opened after) where
   -- the moments have the lines of the desk log, and the calls of the device
   happens-not_another_line : moments ≡ [] → report.desk ≡ Begin (of_a 0) ∷ [] → ⊥
   happens-not_another_line none begun = let size = ap (λ (ms : List Moment). length (lines_of ms)) (sym none) ∙ ap length (happens.lines ∙ begun) in omega (arith, size)
 
-happens-not_called_besides : (head : Super) (window : List Entry) (before : Seen) (opening : Blocks)
+happens-not_called_besides : (before : Seen) (opening : Blocks)
     → Happens [] empty_report before (device opening [] 0 0) (device opening (Flush true ∷ []) 0 0) → ⊥
-happens-not_called_besides head window before opening happens = let size = ap length happens.calls in omega (arith, size)
+happens-not_called_besides before opening happens = let size = ap length happens.calls in omega (arith, size)
 
 -- a flush that was answered Ok has its mark
 abbrev flushing : List Moment
@@ -221,5 +216,5 @@ flushing = Desk (Answer (of_a 0) reply.Ok) ∷ Device (Flush true) ∷ Desk (Beg
 abbrev unmarked_report : RunReport
 unmarked_report = record empty_report { requests = (request.Flush ∷ []) ∷ replicate 15 []; desk = lines_of flushing }
 
-happens-not_without_its_mark : (head : Super) (window : List Entry) (before opened after : Seen) → Happens flushing unmarked_report before opened after → ⊥
-happens-not_without_its_mark head window before opened after happens = absurd (let has = happens.flushes.all (of_a 0) refl refl in cc)
+happens-not_without_its_mark : (before opened after : Seen) → Happens flushing unmarked_report before opened after → ⊥
+happens-not_without_its_mark before opened after happens = absurd (let has = happens.flushes.all (of_a 0) refl refl in cc)

@@ -1,24 +1,25 @@
--- The session of a script that asks for nothing: over each image that was opened, and whose window links no page, a core
--- begins, is done at once, and tells an empty report. So there is a session that was served, and the rows beside this file speak of it.
-use Rattle.std.proofs.Common.{ℕ, zero, suc, ◌≡◌, Bool, false, IsTrue, List, [], ◌∷◌, None, Ok, refl, sym, ap, subst, arith}
+-- The session of a script that asks for nothing: over each image that is ready and links no page, a core begins, is done at once,
+-- and tells an empty report. So there is a session that was served, and the rows beside this file speak of it.
+use Rattle.std.proofs.Common.{ℕ, zero, suc, ◌≡◌, ◌<◌, ◌^◌, Bool, false, IsTrue, List, [], ◌∷◌, None, Ok, refl, sym, ap, subst, arith}
 use Rattle.std.proofs.lemmas.Option.{same_Some}
 use Rattle.std.specs.List.{AllByRecursion}
 use Rattle.blk_base.specs.Limits.{IsGeometry}
-use Rattle.blk_base.specs.declared.geometry.Super.{Super}
-use Rattle.blk_base.specs.declared.journal_entry.Entry.{Entry}
+use Rattle.blk_base.specs.declared.opened.Opened.{Opened}
+use Rattle.blk_base.specs.declared.place.PageId.{PageId}
 use Rattle.blk_base.specs.declared.request.Request.{Request}
 use Rattle.data_vio.specs.declared.sizes.Sizes.{Sizes}
 use Rattle.core_model.specs.declared.zones.SuperblockStage.TheVariants.{AsOpened}
 use Rattle.core_model.specs.declared.zones.Zone.{Zone}
 use Rattle.core_model.specs.declared.zones.ZoneData.{ZoneData}
 use Rattle.core_model.specs.declared.zones.ZoneData.TheVariants as at
+use Rattle.core_model.specs.PageLinks.{opened_page}
 use Rattle.core_model.specs.Sessions.{Session}
 use Rattle.core_model.specs.Start.{IsFirst, IsFirstData, IsFirstZone, first_log}
 use Rattle.core_model.specs.Steps.{rests}
 use Rattle.disk_model.specs.Seen.{Seen}
 use Rattle.disk_model.specs.Streams.{SourceSeen}
-use Rattle.disk_model.proofs.SinceLaws.{were_only_read}
 use Rattle.plain_laws.specs.Sums.{Each}
+use Rattle.rebuild.specs.declared.forms.Recovered.{Recovered}
 use Rattle.step_parts.specs.DeviceLog.{HasCalled}
 use Rattle.stream_text.specs.ReadingBytes.{HasWholeBlock}
 use Rattle.stream_text.specs.StreamRows.{no_requests}
@@ -30,33 +31,33 @@ use Rattle.vdo_core.specs.Plays.{core_with}
 use Rattle.vdo_model.specs.Scripts.{Script}
 use Rattle.vdo_model.specs.declared.report.RunReport.{RunReport}
 use Rattle.vdo_cli.specs.Endings.{RunsSession}
-use Rattle.vdo_cli.specs.Openings.{IsOpened, opening_of, trust}
+use Rattle.vdo_cli.specs.Openings.{IsReady}
 use Rattle.vdo_cli.specs.Sessions.{IsDriven, IsOver, IsReported, run_sizes, task}
 use Rattle.vdo_cli.specs.Stops.{Happens}
-use Rattle.vdo_cli.specs.Outsides.{input_setting, inputs}
-use Rattle.vdo_cli.proofs.BareTrees.{IsRemap, bare, bare_is}
+use Rattle.vdo_cli.specs.Outsides.{input_setting, inputs, trust}
+use Rattle.vdo_cli.proofs.BareTrees.{bare, bare_is}
 use Rattle.vdo_cli.proofs.ScriptLaws.{can_begin}
 use Rattle.vdo_cli.proofs.SessionLaws.{happens, plays, reported}
 
 -- a report of no request
 abbrev pub empty_report : RunReport
-empty_report = record { requests = no_requests; desk = []; marks = []; places = []; histories = [] }
+empty_report = record { requests = no_requests; desk = []; marks = []; places = []; histories = []; damage = None }
 
--- The first core over an image with this superblock and window, with this script.
-module _ (head : Super) (window : List Entry) (used : ℕ) (script : Script) where
+-- The first core over what was opened, with this script.
+module _ (start : Opened) (script : Script) where
   abbrev pub first_zone : ℕ → ZoneData → Zone
   first_zone number keeps = record { number = number; steps = 0; keeps = keeps; ports = record { inbox = []; outboxes = [] ∷ [] ∷ [] ∷ [] ∷ [] ∷ [] } }
 
   abbrev pub first_zones : List Zone
   first_zones =
       first_zone 0 (at.Desk (record { requests = script; log = []; marks = []; notices = 0; parked = [] }))
-      ∷ first_zone 1 (at.Logical (record { zone = 0; notified = false; next = 0; places = []; held = []; waiting = []; retired = []; tree = bare head.geometry; making = []; lacking = []; unlinkable = []; window = window; slots = [] }))
-      ∷ first_zone 2 (at.Physical (record { notified = false; free = free_of head.geometry window }))
-      ∷ first_zone 3 (at.Journal (record { notified = false; busy = false; broken = false; log = first_log (run_sizes head used); filling = []; waiting = []; entered = []; committed = [] }))
-      ∷ first_zone 4 (at.Device (record { stopped = false; calls = 0; superblock = AsOpened }))
+      ∷ first_zone 1 (at.Logical (record { zone = 0; notified = false; next = 0; places = []; held = []; waiting = []; retired = []; tree = bare start.head.geometry; making = []; lacking = []; unlinkable = []; slots = [] }))
+      ∷ first_zone 2 (at.Physical (record { notified = false; free = free_of start }))
+      ∷ first_zone 3 (at.Journal (record { notified = false; busy = false; broken = false; log = first_log (run_sizes start.head); filling = []; waiting = []; entered = []; committed = [] }))
+      ∷ first_zone 4 (at.Device (record { stopped = false; calls = 0; superblock = AsOpened; damage = None }))
       ∷ []
 
-  module _ (sizes : IsGeometry head.geometry) (maps : AllByRecursion IsRemap window) (s : Session) (over : IsOver (task (opening_of head window used) script) s) where
+  module _ (sizes : IsGeometry start.head.geometry) (unlinked : (page : PageId) → opened_page start.pages.items page ≡ None) (s : Session) (over : IsOver (task start script) s) where
     zones_are : s.sizes.zones ≡ 1
     zones_are = ap (λ (sizes : Sizes). sizes.zones) over.sizes_is
 
@@ -77,8 +78,7 @@ module _ (head : Super) (window : List Entry) (used : ℕ) (script : Script) whe
       making = refl;
       lacking = refl;
       unlinkable = refl;
-      tree = rw (over.sizes_is, over.window_is) (bare_is head.geometry window sizes maps);
-      window = sym over.window_is;
+      tree = rw (over.sizes_is, over.links_is) (bare_is start.head.geometry (opened_page start.pages.items) sizes unlinked);
       slots = refl;
     }))
     each (suc (suc zero)) zone is = subst (IsFirstZone s 2) (same_Some _ _ is) (begun 2 _ (record { number_is = omega (arith, zones_are); notified = refl; free = sym over.free_is }))
@@ -93,15 +93,15 @@ module _ (head : Super) (window : List Entry) (used : ℕ) (script : Script) whe
       entered = refl;
       committed = refl;
     }))
-    each (suc (suc (suc (suc zero)))) zone is = subst (IsFirstZone s 4) (same_Some _ _ is) (begun 4 _ (record { number_is = omega (arith, zones_are); stopped = refl; calls = refl; superblock = refl }))
+    each (suc (suc (suc (suc zero)))) zone is = subst (IsFirstZone s 4) (same_Some _ _ is) (begun 4 _ (record { number_is = omega (arith, zones_are); stopped = refl; calls = refl; superblock = refl; damage = refl }))
     each (suc (suc (suc (suc (suc i))))) zone is = absurd cc
 
     pub first_begins : IsFirst s (core_with first_zones [])
     first_begins = record { count = omega (arith, zones_are); each = each; trace_is = refl }
 
 -- of a script without requests it is done, and the device isn't called
-pub first_done : (head : Super) (window : List Entry) (used : ℕ) → IsDone (first_zones head window used no_requests)
-first_done head window used = record { zone = _; desk = _; had = refl; keeps = refl; full = refl }
+pub first_done : (start : Opened) → IsDone (first_zones start no_requests)
+first_done start = record { zone = _; desk = _; had = refl; keeps = refl; full = refl }
 
 pub not_called : (tells honest : Bool) (seen : Seen) → HasCalled tells honest seen seen []
 not_called tells honest seen = record {
@@ -117,39 +117,38 @@ not_called tells honest seen = record {
 no_request : (P : Request → Type 0) → AllByRecursion (AllByRecursion P) no_requests
 no_request P = (tt, (tt, (tt, (tt, (tt, (tt, (tt, (tt, (tt, (tt, (tt, (tt, (tt, (tt, (tt, (tt, tt))))))))))))))))
 
--- Over an image that was opened, and whose window links no page.
-module _ (tells honest : Bool) (schedule : ℕ) (head : Super) (window : List Entry) (used : ℕ) (before opened : Seen) (is_opened : IsOpened (trust tells honest) before opened (opening_of head window used))
-    (maps : AllByRecursion IsRemap window) where
-  can : CanBegin (run_sizes head used) no_requests window
-  can = can_begin tells honest before opened head window used no_requests is_opened (record { rows = refl; few = omega arith; writes = no_request HasWholeBlock })
+-- Over an image that is ready and links no page.
+module _ (tells honest : Bool) (schedule : ℕ) (found : Recovered) (start : Opened) (before opened : Seen) (ready : IsReady (trust tells honest) before opened found start)
+    (unlinked : (page : PageId) → opened_page start.pages.items page ≡ None) where
+  pub can : CanBegin (run_sizes start.head) no_requests start
+  can = can_begin _ start no_requests ready.opening.head ready.opening.fits (record { rows = refl; few = omega arith; writes = no_request HasWholeBlock })
 
   -- a core begins and is done, tells an empty report, and calls no device
-  pub empty_driven : IsDriven (trust tells honest) schedule (task (opening_of head window used) no_requests) [] opened opened
+  pub empty_driven : IsDriven (trust tells honest) schedule (task start no_requests) [] opened opened
   empty_driven = record {
-    first = first_zones head window used no_requests;
-    last = first_zones head window used no_requests;
-    begins = first_begins head window used no_requests can.geometry maps;
+    first = first_zones start no_requests;
+    last = first_zones start no_requests;
+    begins = first_begins start no_requests can.geometry unlinked;
     events = [];
     state = schedule;
     drives = (refl, refl, refl, refl);
-    done = first_done head window used;
+    done = first_done start;
   }
 
-  pub empty_reported : IsReported (opening_of head window used) empty_report [] opened opened
+  pub empty_reported : IsReported start empty_report [] opened opened
   empty_reported =
-      reported tells honest head window used no_requests (first_zones head window used no_requests) (first_zones head window used no_requests) [] opened opened can
-      (first_begins head window used no_requests can.geometry maps) rests (first_done head window used) (not_called tells honest opened)
+      reported tells honest start no_requests (first_zones start no_requests) (first_zones start no_requests) [] opened opened can
+      (first_begins start no_requests can.geometry unlinked) rests (first_done start) (not_called tells honest opened)
 
-  pub empty_happens : IsTrue tells → Happens [] empty_report before opened opened
-  empty_happens =
-      happens tells honest head window used no_requests (first_zones head window used no_requests) (first_zones head window used no_requests) [] opened opened can
-      (first_begins head window used no_requests can.geometry maps) rests (first_done head window used) (not_called tells honest opened) before is_opened
-      (were_only_read tells honest 0 before opened _ is_opened.read.read)
+  module _ (named : start.head.geometry.nonce < 2 ^ 64) where
+    pub empty_happens : IsTrue tells → Happens [] empty_report before opened opened
+    empty_happens =
+        happens tells honest start no_requests (first_zones start no_requests) (first_zones start no_requests) [] opened opened can
+        (first_begins start no_requests can.geometry unlinked) rests (first_done start) (not_called tells honest opened) before found ready named
 
-  pub empty_plays : (source_tells : Bool) (source rest : SourceSeen) → (IsTrue source_tells → whole_script source.left ≡ Ok no_requests) → (IsTrue source_tells → rest.left ≡ [])
-      → RunsSession (input_setting tells honest source_tells) schedule empty_report (inputs before source) (inputs opened rest)
-  empty_plays source_tells source rest script_is whole =
-      plays tells honest head window used no_requests (first_zones head window used no_requests) (first_zones head window used no_requests) [] opened opened can
-      (first_begins head window used no_requests can.geometry maps) rests (first_done head window used) (not_called tells honest opened) before is_opened
-      (were_only_read tells honest 0 before opened _ is_opened.read.read) source_tells schedule schedule [] source rest
-      (record { opening = refl; size = refl }) (refl, refl, refl, refl) script_is whole
+    pub empty_plays : (source_tells : Bool) (source rest : SourceSeen) → (IsTrue source_tells → whole_script source.left ≡ Ok no_requests) → (IsTrue source_tells → rest.left ≡ [])
+        → RunsSession (input_setting tells honest source_tells) schedule found empty_report (inputs before source) (inputs opened rest)
+    empty_plays source_tells source rest script_is whole =
+        plays tells honest start no_requests (first_zones start no_requests) (first_zones start no_requests) [] opened opened can
+        (first_begins start no_requests can.geometry unlinked) rests (first_done start) (not_called tells honest opened) before found ready named source_tells schedule schedule [] source rest
+        (record { opening = refl; size = refl }) (refl, refl, refl, refl) script_is whole

@@ -2,18 +2,18 @@
 use Rattle.std.proofs.Common.{ℕ, ◌≡◌, Bool, List, [], Option, Some, None, Result, Ok, Err, IfErr, inl, inr}
 use Rattle.std.specs.Result.{IsErrAnd}
 use Rattle.blk_base.specs.declared.geometry.Geometry.{Geometry}
-use Rattle.disk_model.specs.Seen.{Seen}
-use Rattle.disk_model.specs.Streams.{Puts, SinkSeen, SourceSeen}
+use Rattle.disk_model.specs.Streams.{Puts, SinkSeen}
+use Rattle.image_model.specs.declared.fault.ImageFault.{ImageFault}
+use Rattle.image_model.specs.declared.fault.ImageFault.TheVariants as image
 use Rattle.audit.specs.declared.forms.Report.{Report}
 use Rattle.command_text.specs.Audits.{report_text}
 use Rattle.vdo_model.specs.declared.report.RunReport.{RunReport}
 use Rattle.vdo_cli.specs.declared.fault.Fault.{Fault}
 use Rattle.vdo_cli.specs.declared.fault.Fault.TheVariants as fault
-use Rattle.vdo_cli.specs.Endings.{FailsOpened, PlayFails, ScriptFails}
-use Rattle.vdo_cli.specs.Openings.{OpeningFails, trust}
+use Rattle.vdo_cli.specs.Endings.{PlayFails}
 use Rattle.vdo_cli.specs.NewImages.{IsMade, IsMadeOrNot, IsNotMade}
-use Rattle.vdo_cli.specs.Inspections.{TellsReport}
-use Rattle.vdo_cli.specs.Outsides.{Outcome, Outside, PutsOrFails, Setting, Tells, input_setting, inputs, outcome}
+use Rattle.vdo_cli.specs.Inspections.{TellsReport, told_as}
+use Rattle.vdo_cli.specs.Outsides.{InputSetting, Inputs, Outcome, Outside, PutsOrFails, Setting, Tells, input_setting_of, inputs_of, outcome}
 use Rattle.vdo_cli.specs.Runs.{NotBegun, PlayedOut, RunsScript}
 
 -- after a session
@@ -23,10 +23,26 @@ served_ends s schedule before after status report None served = served
 served_ends s schedule before after status report (Some fault.Sink) served = served
 served_ends s schedule before after status report (Some other) served = absurd served.closes
 
+-- the sink is no cause for that
+not_told : (cause : ImageFault) → fault.Sink ≡ told_as cause → ⊥
+not_told image.Device is = absurd cc
+not_told image.Memory is = absurd cc
+not_told image.Unclean is = absurd cc
+not_told (image.Super fault) is = absurd cc
+not_told (image.Window sequence) is = absurd cc
+not_told (image.Page at fault) is = absurd cc
+not_told (image.Counter at point) is = absurd cc
+not_told (image.SharedPage at) is = absurd cc
+not_told (image.Counts at stored mapped) is = absurd cc
+
+never_sink : (s : InputSetting) (before after : Inputs) (recovered : Option ℕ) → PlayFails s before after recovered fault.Sink → ⊥
+never_sink s before after recovered (inl on_image) = not_told on_image.cause on_image.fault_is
+never_sink s before after recovered (inr on_script) = absurd on_script.cause
+
 -- where no session was begun
 pub not_begun_ends : (s : Setting) (schedule : ℕ) (before after : Outside) (status : ℕ) (report : RunReport) (why : Fault)
     → NotBegun s before after (outcome status report (Some why)) why → RunsScript s schedule before after (outcome status report (Some why))
-not_begun_ends s schedule before after status report fault.Sink begun = absurd begun.cause
+not_begun_ends s schedule before after status report fault.Sink begun = absurd (never_sink (input_setting_of s) (inputs_of before) (inputs_of after) begun.recovered begun.cause)
 not_begun_ends s schedule before after status report other begun = begun
 
 -- where an image was made
@@ -56,24 +72,7 @@ tells_clean tells report status None before after none told = (none, told)
 tells_clean tells report status (Some (fault.Differs count)) before after none told = absurd told
 tells_clean tells report status (Some other) before after none told = (none, told)
 
--- where the device couldn't be opened
-pub not_opened : (tells honest source_tells : Bool) (before after : Seen) (source rest : SourceSeen) (why : Fault)
-    → OpeningFails (trust tells honest) before after why → PlayFails (input_setting tells honest source_tells) (inputs before source) (inputs after rest) why
-not_opened tells honest source_tells before after source rest fault.Device fails = fails
-not_opened tells honest source_tells before after source rest (fault.Image why) fails = fails
-not_opened tells honest source_tells before after source rest fault.Memory fails = tt
-not_opened tells honest source_tells before after source rest other fails = absurd fails
-
 -- what holds of an error holds of it where it is passed on
 pub passed_on : {T E : Type 0} (result : Result T E) (P : E → Type 0) (why : E) → IsErrAnd result (λ e. e ≡ why) → P why → IfErr result P
 passed_on (Ok x) P why is holds = tt
 passed_on (Err e) P why is holds = rw is holds
-
--- where an image was opened, and the script can't be served
-pub not_served : (tells honest source_tells : Bool) (before after : Seen) (source rest : SourceSeen) (why : Fault)
-    → ((Cause : Type 0) → Cause → FailsOpened (trust tells honest) before after Cause) → ScriptFails source_tells source rest why
-    → PlayFails (input_setting tells honest source_tells) (inputs before source) (inputs after rest) why
-not_served tells honest source_tells before after source rest fault.Memory opened fails = tt
-not_served tells honest source_tells before after source rest (fault.Script refusal) opened fails = opened _ fails
-not_served tells honest source_tells before after source rest fault.Read opened fails = opened _ fails
-not_served tells honest source_tells before after source rest other opened fails = absurd fails

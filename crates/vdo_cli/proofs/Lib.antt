@@ -1,11 +1,11 @@
 mod BareTrees
-pub mod OpeningLaws
-pub mod WorkedRows
+pub mod OpenedPages
+pub mod OpenedSessions
+pub mod RecoveredImages
+pub mod FreeLaws
 pub mod StopLaws
 pub mod SessionLaws
 pub mod ScriptLaws
-pub mod ServeLaws
-pub mod OneLaws
 pub mod EndingLaws
 pub mod OnwardLaws
 pub mod CommandPins
@@ -16,9 +16,10 @@ pub mod FormatPins
 pub mod AuditPins
 pub mod StatusPins
 pub mod RecoveryPins
+pub mod ReadyPins
 pub mod RebuildPins
+pub mod GrowthPins
 pub mod EmptyScript
-pub mod ServePins
 pub mod SessionPins
 pub mod DrivenPins
 pub mod ValuePins

@@ -1,29 +1,56 @@
 -- A device goes on over runs.
-use Rattle.std.proofs.Common.{ℕ, ◌≡◌, ◌++◌, Bool, List, [], Option, Some, None, inl, inr, refl, sym, ◌∙◌, ap, append_assoc}
+use Rattle.std.proofs.Common.{ℕ, ◌≡◌, ◌++◌, Bool, List, [], Option, Some, None, Result, Ok, inl, inr, refl, sym, ◌∙◌, ap, append_assoc}
 use Rattle.blk_base.specs.declared.geometry.Geometry.{Geometry}
 use Rattle.disk_model.specs.declared.call.Call.{Call}
 use Rattle.disk_model.specs.Seen.{Seen}
 use Rattle.disk_model.specs.Since.{IsUntouched}
 use Rattle.disk_model.proofs.SeenLaws.{stays_on}
 use Rattle.core_model.specs.Trace.{calls}
+use Rattle.image_model.specs.declared.fault.ImageFault.{ImageFault}
+use Rattle.rebuild.specs.Recoveries.{IsRecovery}
+use Rattle.rebuild.specs.declared.forms.Recovered.{Recovered}
 use Rattle.vdo_cli.specs.declared.fault.Fault.{Fault}
 use Rattle.vdo_cli.specs.declared.fault.Fault.TheVariants as fault
 use Rattle.vdo_cli.specs.Onward.{GoesOn}
 use Rattle.vdo_cli.specs.declared.words.Served.{Served}
 use Rattle.vdo_cli.specs.declared.words.Served.TheVariants as served
 use Rattle.vdo_cli.specs.Commands.{served_of}
+use Rattle.vdo_words.specs.declared.commands.GrowOptions.{GrowOptions}
+use Rattle.vdo_cli.specs.Growths.{EndsGrowth}
 use Rattle.vdo_cli.specs.NewImages.{MakesImage}
 use Rattle.vdo_cli.specs.Rebuilds.{EndsRebuild}
 use Rattle.vdo_cli.specs.Recoveries.{EndsRecovery}
-use Rattle.vdo_cli.specs.Outsides.{Outcome, Outside, Setting}
+use Rattle.vdo_cli.specs.Openings.{IsUnready}
+use Rattle.vdo_cli.specs.Outsides.{Outcome, Outside, Setting, Trust}
 use Rattle.vdo_cli.specs.Runs.{EndsAs, EndsSo, NotBegun, PlayedOut, RunsScriptBy}
 
 untouched : (tells : Bool) (before after : Seen) → IsUntouched tells before after → GoesOn tells before after
 untouched tells before after is = record { stays = is.stays; calls = λ told. let since = is.reads told in (since.0, since.1) }
 
+-- over one run and the next
+pub goes_on : (tells : Bool) (first middle last : Seen) → GoesOn tells first middle → GoesOn tells middle last → GoesOn tells first last
+goes_on tells first middle last old new = record {
+  stays = stays_on first middle last old.stays new.stays;
+  calls = λ told.
+      let older = old.calls told in
+      let newer = new.calls told in
+      (newer.0 ++ older.0, newer.1 ∙ ap (λ (log : List Call). newer.0 ++ log) older.1 ∙ sym (append_assoc newer.0 older.0 first.log));
+}
+
+recovered : (tells honest : Bool) (before middle after : Seen) (result : Result Recovered ImageFault) → IsRecovery tells honest before middle result → IsUntouched tells middle after → GoesOn tells before after
+recovered tells honest before middle after result recovery reads =
+    goes_on tells before middle after (record { stays = recovery.stays; calls = recovery.grows }) (untouched tells middle after reads)
+
+not_ready : (trust : Trust) (before after : Seen) (recovered_so : Option ℕ) (why : ImageFault) → IsUnready trust before after recovered_so why → GoesOn trust.tells before after
+not_ready trust before after recovered_so why (inl is) = record { stays = is.recovery.stays; calls = is.recovery.grows }
+not_ready trust before after recovered_so why (inr is) = recovered trust.tells trust.honest before is.middle after (Ok is.found) is.recovery is.opening.untouched
+
 not_begun : (s : Setting) (before after : Outside) (ends : Outcome) (why : Fault)
     → NotBegun s before after ends why → GoesOn s.device.tells before.device after.device
-not_begun s before after ends why fails = untouched s.device.tells before.device after.device fails.untouched
+not_begun s before after ends why fails = elim fails.cause [
+  | inl on_image ↦ not_ready s.device before.device after.device fails.recovered on_image.cause on_image.unready
+  | inr on_script ↦ recovered s.device.tells s.device.honest before.device on_script.ready.middle after.device (Ok on_script.found) on_script.ready.recovery on_script.ready.opening.untouched
+]
 
 played : (s : Setting) (schedule : ℕ) (before after : Outside) (ends : Outcome)
     → PlayedOut s schedule before after ends → GoesOn s.device.tells before.device after.device
@@ -64,6 +91,13 @@ rebuild_goes_on s before after ends is = elim is.ends [
   | inr refused ↦ record { stays = refused.cause.stays; calls = refused.cause.grows }
 ]
 
+growth_goes_on : (s : Setting) (options : GrowOptions) (before after : Outside) (ends : Outcome)
+    → EndsGrowth s options before after ends → GoesOn s.device.tells before.device after.device
+growth_goes_on s options before after ends is = elim is.ends [
+  | inl done ↦ record { stays = done.growing.stays; calls = done.growing.grows }
+  | inr refused ↦ record { stays = refused.cause.stays; calls = refused.cause.grows }
+]
+
 same_device : (tells : Bool) (before after : Seen) → after ≡ before → GoesOn tells before after
 same_device tells before after same = rw same (record { stays = record { opening = refl; size = refl }; calls = λ told. ([], refl) })
 
@@ -75,6 +109,7 @@ served_goes_on s (Some (served.Script schedule)) before after outcome ends = scr
 served_goes_on s (Some (served.Format sizes)) before after outcome ends = format_goes_on s sizes before after outcome ends
 served_goes_on s (Some served.Recover) before after outcome ends = recovery_goes_on s before after outcome ends
 served_goes_on s (Some served.ForceRebuild) before after outcome ends = rebuild_goes_on s before after outcome ends
+served_goes_on s (Some (served.Grow options)) before after outcome ends = growth_goes_on s options before after outcome ends
 served_goes_on s (Some served.Audit) before after outcome ends = untouched s.device.tells before.device after.device ends.looks.untouched
 served_goes_on s (Some served.Status) before after outcome ends = untouched s.device.tells before.device after.device ends.looks.untouched
 
@@ -82,13 +117,3 @@ served_goes_on s (Some served.Status) before after outcome ends = untouched s.de
 pub run_goes_on : (s : Setting) (words : List (List ℕ)) (before after : Outside) (outcome : Outcome)
     → EndsSo s words before after outcome → GoesOn s.device.tells before.device after.device
 run_goes_on s words before after outcome ends = served_goes_on s (served_of words) before after outcome ends
-
--- over one run and the next
-pub goes_on : (tells : Bool) (first middle last : Seen) → GoesOn tells first middle → GoesOn tells middle last → GoesOn tells first last
-goes_on tells first middle last old new = record {
-  stays = stays_on first middle last old.stays new.stays;
-  calls = λ told.
-      let older = old.calls told in
-      let newer = new.calls told in
-      (newer.0 ++ older.0, newer.1 ∙ ap (λ (log : List Call). newer.0 ++ log) older.1 ∙ sym (append_assoc newer.0 older.0 first.log));
-}

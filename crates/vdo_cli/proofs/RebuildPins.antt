@@ -20,7 +20,7 @@ use Rattle.vdo_cli.specs.Texts.{fault_text}
 use Rattle.vdo_cli.proofs.AuditPins.{bare, begins, looks, no_image, status_in}
 use Rattle.vdo_cli.proofs.CommandPins.{rebuild_words}
 use Rattle.vdo_cli.proofs.PlayPins.{at, source, sink}
-use Rattle.vdo_cli.proofs.RecoveryPins.{failed, first_of, flushed, not_flushed, not_last, went_on}
+use Rattle.vdo_cli.proofs.RecoveryPins.{failed, first_of, not_flushed, not_last, went_on}
 use Rattle.vdo_cli.proofs.RunPins.{Ends, some_report}
 
 -- Image. There is none, nothing was done,

@@ -29,7 +29,7 @@ use Rattle.vdo_cli.proofs.PlayPins.{at, device, source, sink}
 use Rattle.vdo_cli.proofs.RunPins.{Ends, some_report}
 
 -- Image. There is none, nothing was done,
-refused : IsRecovery true false begins.device begins.device (Err (image.Super NotAnImage))
+pub refused : IsRecovery true false begins.device begins.device (Err (image.Super NotAnImage))
 refused = record {
   stays = looks.untouched.stays;
   later = looks.untouched.later;
@@ -90,7 +90,7 @@ image-not_written held ends = elim ends.ends [
 abbrev pub failed : Seen
 failed = device [] (Read (at 0) [] false ∷ []) 1 0
 
-failed_so : IsRecovery true false begins.device failed (Err image.Device)
+pub failed_so : IsRecovery true false begins.device failed (Err image.Device)
 failed_so = record {
   stays = record { opening = refl; size = refl };
   later = record { faults = omega arith; unkept = omega arith };

@@ -1,20 +1,17 @@
 -- A script that was read can be served over the image that was opened.
-use Rattle.std.proofs.Common.{ℕ, ◌≡◌, Bool, List, [], ◌∷◌, refl, arith}
+use Rattle.std.proofs.Common.{ℕ, ◌≡◌, [], ◌∷◌, refl, arith}
 use Rattle.std.specs.List.{AllByRecursion}
-use Rattle.blk_base.specs.declared.geometry.Super.{Super}
-use Rattle.blk_base.specs.declared.journal_entry.Entry.{Entry}
+use Rattle.blk_base.specs.declared.opened.Opened.{Opened}
 use Rattle.blk_base.specs.declared.request.Request.{Request}
 use Rattle.blk_base.specs.declared.request.Request.TheVariants.{Read, Write, Discard, Flush}
-use Rattle.disk_model.specs.Seen.{Seen}
 use Rattle.core_model.specs.SessionLimits.{requests_in}
 use Rattle.core_model.specs.Sessions.{IsServed}
 use Rattle.plain_laws.proofs.ListLaws.{every-map}
+use Rattle.rebuild.specs.Openings.{Fits, HasItsHead}
 use Rattle.stream_text.specs.ReadingBytes.{EachRequest, HasWholeBlock, IsWholeScript}
 use Rattle.stream_text.specs.StreamRows.{count_of}
 use Rattle.vdo_core.specs.Cores.{CanBegin}
-use Rattle.vdo_core.proofs.JournalLaws.{entries_of_image, leaves_one}
 use Rattle.vdo_model.specs.Scripts.{Script}
-use Rattle.vdo_cli.specs.Openings.{IsOpened, opening_of, trust}
 use Rattle.vdo_cli.specs.Sessions.{run_sizes}
 
 -- a request that has a whole block where it writes is served
@@ -32,12 +29,11 @@ same_count : (script : Script) → count_of script ≡ requests_in script
 same_count [] = refl
 same_count (requests ∷ script) = let rest = same_count script in omega (arith, rest)
 
-pub can_begin : (tells honest : Bool) (before now : Seen) (head : Super) (window : List Entry) (used : ℕ) (script : Script) → IsOpened (trust tells honest) before now (opening_of head window used) → IsWholeScript script
-    → CanBegin (run_sizes head used) script window
-can_begin tells honest before now head window used script opened whole = record {
-  geometry = opened.read.is_head.sizes;
-  start = opened.read.is_head.start;
-  used = let left = leaves_one head.geometry head.start opened.journal opened.serves.found.last used opened.serves.used_is in omega (arith, left);
+pub can_begin : (size : ℕ) (start : Opened) (script : Script) → HasItsHead size start → Fits start → IsWholeScript script → CanBegin (run_sizes start.head) script start
+can_begin size start script head fits whole = record {
+  geometry = fits.sizes;
+  same = refl;
+  start = head.1.start;
   zones = omega arith;
   depth = omega arith;
   limits = record {
@@ -47,5 +43,6 @@ can_begin tells honest before now head window used script opened whole = record 
     zones = omega arith;
   };
   served = all_served script whole.writes;
-  of_image = entries_of_image head.geometry head.start opened.serves.found.last opened.journal opened.serves.found.entries window opened.serves.entries_are opened.serves.is_window.is_window;
+  pages = fits.pages;
+  counters = fits.counters;
 }

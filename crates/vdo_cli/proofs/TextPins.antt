@@ -1,19 +1,30 @@
 -- The texts and the statuses of a run, computed: of each fault its line and its status, and of a desk log the session's.
-use Rattle.std.proofs.Common.{ℕ, ◌≡◌, ◌++◌, true, false, List, [], ◌∷◌, codes, refl}
+use Rattle.std.proofs.Common.{ℕ, ◌≡◌, ◌++◌, true, false, List, [], ◌∷◌, Some, None, codes, refl}
 use Rattle.std.specs.Prelude.{decimal}
+use Rattle.blk_base.specs.declared.place.Lba.{Lba}
 use Rattle.blk_base.specs.declared.place.Pbn.{Pbn}
 use Rattle.blk_base.specs.declared.request.Answer.TheVariants as reply
+use Rattle.grow_image.specs.declared.fault.GrowFault.TheVariants as grow_fault
+use Rattle.image_layout.specs.declared.fault.Field.{Field}
+use Rattle.image_layout.specs.declared.fault.Field.TheVariants.{Logical}
 use Rattle.image_layout.specs.declared.fault.LayoutFault.{LayoutFault}
 use Rattle.image_layout.specs.declared.fault.LayoutFault.TheVariants.{LogicalTooLarge}
 use Rattle.image_layout.specs.declared.fault.SuperFault.{SuperFault}
 use Rattle.image_layout.specs.declared.fault.SuperFault.TheVariants.{NotAnImage, Version}
 use Rattle.image_model.specs.declared.fault.ImageFault.TheVariants as image
+use Rattle.command_text.proofs.Numerals.{numerals}
+use Rattle.command_text.specs.declared.parts.DamagedPlace.TheVariants as place
 use Rattle.page_codec.specs.declared.fault.PageFault.{PageFault}
+use Rattle.page_codec.specs.declared.fault.PageFault.TheVariants.{Header}
 use Rattle.stream_text.specs.declared.refusal.LineFault.TheVariants as line_fault
+use Rattle.vdo_model.specs.declared.report.Damage.{Damage}
+use Rattle.vdo_model.specs.declared.report.Damage.TheVariants as damage
+use Rattle.vdo_model.specs.declared.report.DeskLine.{DeskLine}
 use Rattle.vdo_model.specs.declared.report.DeskLine.TheVariants.{Begin, Answer}
+use Rattle.vdo_model.specs.declared.report.RunReport.{RunReport}
 use Rattle.vdo_model.proofs.Example.{of_a, of_b, full_lines, desk}
 use Rattle.vdo_cli.specs.declared.fault.Fault.TheVariants as fault
-use Rattle.vdo_cli.specs.Texts.{fault_text, fault_status, line_fault_text, is_lost, is_full, some_lost, some_full, desk_status}
+use Rattle.vdo_cli.specs.Texts.{fault_text, refusal_text, session_notes, fault_status, line_fault_text, is_lost, is_full, some_lost, some_full, served_status, struck_status}
 
 -- line_fault_text: of all kinds
 line_faults : (line_fault_text line_fault.TooLong ≡ codes "too long")
@@ -72,6 +83,12 @@ counts_line = refl
 differs_line : fault_text (fault.Differs 12) ≡ codes "audit differs " ++ decimal 12 ++ codes "\n"
 differs_line = refl
 
+smaller_line : fault_text (fault.Grow (grow_fault.Smaller Logical)) ≡ codes "grow: smaller logical\n"
+smaller_line = refl
+
+mapped_line : fault_text (fault.Grow (grow_fault.Mapped (record { 0 = 1000 }))) ≡ codes "grow: mapped " ++ decimal 1000 ++ codes "\n"
+mapped_line = refl
+
 memory_line : fault_text fault.Memory ≡ codes "no memory\n"
 memory_line = refl
 
@@ -103,6 +120,12 @@ page_status at why = refl
 differs_status : (count : ℕ) → fault_status (fault.Differs count) ≡ 6
 differs_status count = refl
 
+smaller_status : (field : Field) → fault_status (fault.Grow (grow_fault.Smaller field)) ≡ 8
+smaller_status field = refl
+
+mapped_status : (at : Lba) → fault_status (fault.Grow (grow_fault.Mapped at)) ≡ 4
+mapped_status at = refl
+
 window_status : fault_status (fault.Image (image.Window 12)) ≡ 4
 window_status = refl
 
@@ -118,12 +141,12 @@ sink_status = refl
 -- is_lost, is_full: of all answers
 lost_answers : (b : List ℕ)
     → (is_lost reply.Stopped ≡ true) × (is_lost reply.ReadFault ≡ true) × (is_lost reply.Ok ≡ false) × (is_lost (reply.Bytes b) ≡ false)
-    × (is_lost reply.Range ≡ false) × (is_lost reply.NoSpace ≡ false) × (is_lost reply.Full ≡ false) × (is_lost reply.Damaged ≡ false)
+    × (is_lost reply.Range ≡ false) × (is_lost reply.NoSpace ≡ false) × (is_lost reply.Full ≡ false) × (is_lost reply.Damaged ≡ true)
 lost_answers b = (refl, refl, refl, refl, refl, refl, refl, refl)
 
 full_answers : (b : List ℕ)
     → (is_full reply.Full ≡ true) × (is_full reply.Stopped ≡ false) × (is_full reply.ReadFault ≡ false) × (is_full reply.Ok ≡ false)
-    × (is_full (reply.Bytes b) ≡ false) × (is_full reply.Range ≡ false) × (is_full reply.NoSpace ≡ false) × (is_full reply.Damaged ≡ false)
+    × (is_full (reply.Bytes b) ≡ false) × (is_full reply.Range ≡ false) × (is_full reply.NoSpace ≡ true) × (is_full reply.Damaged ≡ false)
 full_answers b = (refl, refl, refl, refl, refl, refl, refl, refl)
 
 -- some_lost, some_full: any line of the log, the newest or not
@@ -133,18 +156,41 @@ older_lost = refl
 older_full : some_full (Begin (of_b 0) ∷ full_lines) ≡ true
 older_full = refl
 
--- desk_status: 3 goes before 1, and 1 before 0
-all_right : desk_status desk ≡ 0
-all_right = refl
+-- struck_status: 4 goes before 3, and 3 before what served_status says, 1 before 0
+abbrev told : List DeskLine → RunReport
+told lines = record { requests = []; desk = lines; marks = []; places = []; histories = []; damage = None }
 
-nothing_asked : desk_status [] ≡ 0
-nothing_asked = refl
+all_right : (struck_status (told desk) ≡ None) × (served_status desk ≡ 0)
+all_right = (refl, refl)
 
-full_status : desk_status full_lines ≡ 1
-full_status = refl
+nothing_asked : (struck_status (told []) ≡ None) × (served_status [] ≡ 0)
+nothing_asked = (refl, refl)
 
-lost_status : desk_status (Answer (of_b 0) reply.ReadFault ∷ desk) ≡ 3
+full_status : (struck_status (told full_lines) ≡ None) × (served_status full_lines ≡ 1)
+full_status = (refl, refl)
+
+lost_status : struck_status (told (Answer (of_b 0) reply.ReadFault ∷ desk)) ≡ Some 3
 lost_status = refl
 
-lost_and_full_status : desk_status (Answer (of_b 0) reply.Stopped ∷ full_lines) ≡ 3
+lost_and_full_status : struck_status (told (Answer (of_b 0) reply.Stopped ∷ full_lines)) ≡ Some 3
 lost_and_full_status = refl
+
+abbrev of_page : Damage
+of_page = damage.Page (record { 0 = 85 }) Header
+
+damaged_status : struck_status (record (told (Answer (of_b 0) reply.Stopped ∷ full_lines)) { damage = Some of_page }) ≡ Some 4
+damaged_status = refl
+
+-- session_notes: what was recovered, and the page that is damaged
+notes_of_damage : session_notes (Some 30) (record (told []) { damage = Some of_page }) ≡ record { recovered = Some 30; damage = Some (place.Page (record { 0 = 85 })); space = None }
+notes_of_damage = refl
+
+notes_of_nothing : session_notes None (told []) ≡ record { recovered = None; damage = None; space = None }
+notes_of_nothing = refl
+
+-- refusal_text: the fault's line, behind that of a recovery
+refused_behind_none : refusal_text None fault.Usage ≡ codes "usage\n"
+refused_behind_none = refl
+
+refused_behind_some : refusal_text (Some 30) fault.Usage ≡ codes "recovered 30 entries\nusage\n"
+refused_behind_some = simp numerals refl

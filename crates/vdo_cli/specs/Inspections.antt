@@ -1,5 +1,5 @@
 -- How the commands end that look at an image: of what was read, and with nothing written.
-use Rattle.std.specs.Prelude.{ℕ, ◌≡◌, ◌⊎◌, ◌≤◌, Bool, List, [], length, Option, Some}
+use Rattle.std.specs.Prelude.{ℕ, ◌≡◌, ◌⊎◌, ◌≤◌, Bool, [], length, Option, Some}
 use Rattle.audit.specs.Audits.{AuditFails, IsAudited}
 use Rattle.audit.specs.declared.forms.Report.{Report}
 use Rattle.command_text.specs.Audits.{report_text}
@@ -10,7 +10,6 @@ use Rattle.image_model.specs.declared.fault.ImageFault.{ImageFault}
 use Rattle.image_model.specs.declared.fault.ImageFault.TheVariants as image
 use Rattle.image_status.specs.Statuses.{IsStatusRead}
 use Rattle.image_status.specs.declared.forms.ImageStatus.{ImageStatus}
-use Rattle.vdo_model.specs.declared.report.RunReport.{RunReport}
 use Rattle.vdo_cli.specs.declared.fault.Fault.{Fault}
 use Rattle.vdo_cli.specs.declared.fault.Fault.TheVariants as fault
 use Rattle.vdo_cli.specs.Outsides.{Outcome, Outside, PutsOrFails, Refuses, Setting, Tells, no_report}

@@ -9,5 +9,6 @@ pub mod NewImages
 pub mod Inspections
 pub mod Recoveries
 pub mod Rebuilds
+pub mod Growths
 pub mod Runs
 pub mod Onward

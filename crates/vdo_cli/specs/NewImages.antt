@@ -1,12 +1,11 @@
 -- How the making of an image ends.
-use Rattle.std.specs.Prelude.{ℕ, ◌≡◌, Bool, IsTrue, List, Option, Some, None, Ok}
+use Rattle.std.specs.Prelude.{◌≡◌, Bool, IsTrue, Option, Some, None, Ok}
 use Rattle.blk_base.specs.declared.geometry.Geometry.{Geometry}
 use Rattle.disk_model.specs.Seen.{Seen, Stays}
 use Rattle.image_format.specs.Formats.{FormatFails, LeavesEmpty, StopsAreRight}
 use Rattle.image_format.specs.declared.fault.FormatFault.TheVariants as format
 use Rattle.image_layout.specs.Planning.{plan_of}
 use Rattle.command_text.specs.Formats.{formatted_text}
-use Rattle.vdo_model.specs.declared.report.RunReport.{RunReport}
 use Rattle.vdo_cli.specs.declared.fault.Fault.{Fault}
 use Rattle.vdo_cli.specs.declared.fault.Fault.TheVariants as fault
 use Rattle.vdo_cli.specs.Outsides.{Outcome, Outside, Refuses, Setting, Tells, no_report}

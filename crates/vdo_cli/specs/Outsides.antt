@@ -6,8 +6,15 @@ use Rattle.disk_model.specs.Streams.{PutsPart, SinkSeen, SourceSeen}
 use Rattle.vdo_model.specs.declared.report.RunReport.{RunReport}
 use Rattle.vdo_cli.specs.declared.fault.Fault.{Fault}
 use Rattle.vdo_cli.specs.declared.fault.Fault.TheVariants as fault
-use Rattle.vdo_cli.specs.Openings.{Trust, trust}
-use Rattle.vdo_cli.specs.Texts.{fault_text, fault_status}
+use Rattle.vdo_cli.specs.Texts.{fault_text, fault_status, refusal_text}
+
+-- What the type of a device says of it: whether it tells its log, and whether one that tells is honest.
+pub record Trust : Type 0 where
+  pub tells : Bool
+  pub honest : Bool
+
+abbrev pub trust : Bool → Bool → Trust
+trust tells honest = record { tells = tells; honest = honest }
 
 -- Which of the outside tell, and whether the device is honest.
 pub record Setting : Type 0 where
@@ -73,7 +80,13 @@ Tells tells text status (Some other) before after = ⊥
 
 -- the report where no session was begun
 abbrev pub no_report : RunReport
-no_report = record { requests = []; desk = []; marks = []; places = []; histories = [] }
+no_report = record { requests = []; desk = []; marks = []; places = []; histories = []; damage = None }
+
+-- no session was begun: its fault's line is put, behind what was recovered, with the fault's status
+pub record RefusesAfter (tells : Bool) (recovered : Option ℕ) (why : Fault) (status : ℕ) (report : RunReport) (before after : SinkSeen) : Type 0 where
+  pub status_is : status ≡ fault_status why
+  pub report_is : report ≡ no_report
+  pub puts : PutsOrFails tells (refusal_text recovered why) before after
 
 -- a fault's line is put, with its status
 pub record Refuses (tells : Bool) (why : Fault) (status : ℕ) (report : RunReport) (before after : SinkSeen) : Type 0 where

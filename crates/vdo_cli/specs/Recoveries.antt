@@ -1,10 +1,8 @@
 -- How the recovery of an image ends.
-use Rattle.std.specs.Prelude.{ℕ, ◌≡◌, ◌⊎◌, Option, Ok, Err}
+use Rattle.std.specs.Prelude.{◌≡◌, ◌⊎◌, Ok, Err}
 use Rattle.command_text.specs.Parts.{recovery_text}
 use Rattle.rebuild.specs.Recoveries.{IsRecovery}
 use Rattle.rebuild.specs.declared.forms.Recovered.{Recovered}
-use Rattle.vdo_model.specs.declared.report.RunReport.{RunReport}
-use Rattle.vdo_cli.specs.declared.fault.Fault.{Fault}
 use Rattle.vdo_cli.specs.Inspections.{FindsNothing}
 use Rattle.vdo_cli.specs.Outsides.{Outcome, Outside, Setting, Tells, no_report}
 

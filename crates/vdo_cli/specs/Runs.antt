@@ -1,45 +1,52 @@
 -- What a run promises, by what its words ask for and how it ended.
-use Rattle.std.specs.Prelude.{ℕ, ◌≡◌, ◌++◌, Bool, false, IsTrue, List, Option, Some, None, MatchBool}
+use Rattle.std.specs.Prelude.{ℕ, ◌≡◌, ◌++◌, Bool, IsTrue, List, Option, Some, None}
 use Rattle.disk_model.specs.Causes.{Rose}
-use Rattle.disk_model.specs.Since.{IsUntouched}
 use Rattle.disk_model.specs.Streams.{PutsPart, SinkSeen}
-use Rattle.stream_text.specs.Texts.{answers_text}
+use Rattle.rebuild.specs.declared.forms.Recovered.{Recovered}
 use Rattle.vdo_model.specs.declared.report.RunReport.{RunReport}
 use Rattle.vdo_cli.specs.declared.fault.Fault.{Fault}
 use Rattle.vdo_cli.specs.declared.fault.Fault.TheVariants as fault
 use Rattle.vdo_cli.specs.declared.words.Served.{Served}
 use Rattle.vdo_cli.specs.declared.words.Served.TheVariants as served
 use Rattle.vdo_cli.specs.Commands.{served_of}
-use Rattle.vdo_cli.specs.Endings.{RunsSession, PlayFails}
+use Rattle.vdo_cli.specs.Endings.{KeepsImage, PlayFails, RunsSession}
+use Rattle.vdo_cli.specs.Growths.{EndsGrowth}
 use Rattle.vdo_cli.specs.Inspections.{EndsAudit, EndsStatus}
+use Rattle.vdo_cli.specs.Openings.{recovered_of}
 use Rattle.vdo_cli.specs.NewImages.{MakesImage}
 use Rattle.vdo_cli.specs.Rebuilds.{EndsRebuild}
 use Rattle.vdo_cli.specs.Recoveries.{EndsRecovery}
-use Rattle.vdo_cli.specs.Outsides.{Outcome, Outside, PutsOrFails, Refuses, Setting, input_setting_of, inputs_of}
-use Rattle.vdo_cli.specs.Texts.{some_lost, desk_status}
+use Rattle.vdo_cli.specs.Outsides.{Outcome, Outside, PutsOrFails, Refuses, RefusesAfter, Setting, input_setting_of, inputs_of}
+use Rattle.vdo_cli.specs.Texts.{served_status, session_text, struck_status}
 
--- a session's answers are put, with its status: that of the first of a device's fault, the sink's, and Full
-abbrev pub Closes : Bool → RunReport → ℕ → Option Fault → SinkSeen → SinkSeen → Type 0
-Closes tells report status None before after =
-    (status ≡ desk_status report.desk)
-    × MatchBool (some_lost report.desk)
-    (PutsOrFails tells (answers_text report.requests report.desk report.places) before after)
-    (IsTrue tells → after.held ≡ before.held ++ answers_text report.requests report.desk report.places)
-Closes tells report status (Some fault.Sink) before after =
-    (status ≡ 7) × (some_lost report.desk ≡ false) × Rose before.faults after.faults
-    × (IsTrue tells → PutsPart before.held after.held (answers_text report.requests report.desk report.places))
-Closes tells report status (Some other) before after = ⊥
+-- The text of a session is put, with its status: that of damage or of the device's failure, also where the sink failed; or else that
+-- of its answers.
+abbrev pub PutsWith : Option ℕ → Bool → List ℕ → ℕ → ℕ → SinkSeen → SinkSeen → Type 0
+PutsWith (Some struck) tells text served status before after = (status ≡ struck) × PutsOrFails tells text before after
+PutsWith None tells text served status before after = (status ≡ served) × (IsTrue tells → after.held ≡ before.held ++ text)
 
--- no session was begun: the cause is the fault's, and nothing was written since
+-- it is put so, or the sink failed
+abbrev pub Closes : Bool → Option ℕ → RunReport → ℕ → Option Fault → SinkSeen → SinkSeen → Type 0
+Closes tells recovered report status None before after =
+    PutsWith (struck_status report) tells (session_text recovered report) (served_status report.desk) status before after
+Closes tells recovered report status (Some fault.Sink) before after =
+    (status ≡ 7) × (struck_status report ≡ None) × Rose before.faults after.faults
+    × (IsTrue tells → PutsPart before.held after.held (session_text recovered report))
+Closes tells recovered report status (Some other) before after = ⊥
+
+-- No session was begun: the cause is the fault's. Where there was no recovery nothing was written, and else only what recovery writes:
+-- of a sound image a stop leaves what says the same.
 pub record NotBegun (s : Setting) (before after : Outside) (outcome : Outcome) (why : Fault) : Type 0 where
-  pub cause : PlayFails (input_setting_of s) (inputs_of before) (inputs_of after) why
-  pub untouched : IsUntouched s.device.tells before.device after.device
-  pub refuses : Refuses s.sink_tells why outcome.status outcome.report before.sink after.sink
+  pub recovered : Option ℕ
+  pub cause : PlayFails (input_setting_of s) (inputs_of before) (inputs_of after) recovered why
+  pub early : KeepsImage s.device before.device after.device
+  pub refuses : RefusesAfter s.sink_tells recovered why outcome.status outcome.report before.sink after.sink
 
 -- a session was served to its end by the schedule of this number, and its answers were put
 pub record PlayedOut (s : Setting) (schedule : ℕ) (before after : Outside) (outcome : Outcome) : Type 0 where
-  pub session : RunsSession (input_setting_of s) schedule outcome.report (inputs_of before) (inputs_of after)
-  pub closes : Closes s.sink_tells outcome.report outcome.status outcome.fault before.sink after.sink
+  pub found : Recovered
+  pub session : RunsSession (input_setting_of s) schedule found outcome.report (inputs_of before) (inputs_of after)
+  pub closes : Closes s.sink_tells (recovered_of found) outcome.report outcome.status outcome.fault before.sink after.sink
 
 -- how the run of a script ends that has this fault, or none
 abbrev pub RunsScriptBy : Option Fault → Setting → ℕ → Outside → Outside → Outcome → Type 0
@@ -65,6 +72,7 @@ EndsAs s (Some (served.Script schedule)) before after outcome = RunsScript s sch
 EndsAs s (Some (served.Format sizes)) before after outcome = MakesImage s sizes before after outcome
 EndsAs s (Some served.Recover) before after outcome = EndsRecovery s before after outcome
 EndsAs s (Some served.ForceRebuild) before after outcome = EndsRebuild s before after outcome
+EndsAs s (Some (served.Grow options)) before after outcome = EndsGrowth s options before after outcome
 EndsAs s (Some served.Audit) before after outcome = EndsAudit s before after outcome
 EndsAs s (Some served.Status) before after outcome = EndsStatus s before after outcome
 

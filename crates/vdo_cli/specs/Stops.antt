@@ -2,10 +2,8 @@
 use Rattle.std.specs.Prelude.{ℕ, ◌≡◌, ◌⊎◌, ◌++◌, false, List, Ok}
 use Rattle.blk_base.specs.declared.geometry.Super.{Super}
 use Rattle.disk_model.specs.declared.call.Call.{Call}
-use Rattle.disk_model.specs.Images.{IsImage}
 use Rattle.disk_model.specs.Log.{Blocks}
 use Rattle.disk_model.specs.Seen.{Seen}
-use Rattle.disk_model.specs.Since.{OnlyReads}
 use Rattle.core_model.specs.Reports.{GivesValues}
 use Rattle.image_layout.specs.Opened.{super_of_image}
 use Rattle.vdo_model.specs.declared.report.RunReport.{RunReport}
@@ -21,15 +19,10 @@ pub record OpensWith (head : Super) (image : Blocks) (values : ℕ → List ℕ)
   pub superblock : (super_of_image image ≡ Ok head) ⊎ (super_of_image image ≡ Ok (unclosed head))
   pub has_values : GivesValues head.geometry head.start image values
 
--- What happened in a run: the superblock and the window were read, and then the session went on, of which these are the
--- moments.
+-- What happened in a run: the image was recovered and opened, and then the session went on, of which these are the moments.
 pub record Happens (moments : List Moment) (report : RunReport) (before opened after : Seen) : Type 0 where
   pub earlier : List Call
   pub earlier_is : opened.log ≡ earlier ++ before.log
-  pub only_reads : OnlyReads earlier
-  -- a stop before or within any of these reads leaves an image that was there
-  pub stops_early : (later prefix : List Call) → earlier ≡ later ++ prefix → (image : Blocks) → IsImage before.opening (prefix ++ before.log) image
-      → IsImage before.opening before.log image
   -- the moments are the lines of the desk log and the calls that the device's log has since
   pub lines : lines_of moments ≡ report.desk
   pub calls : after.log ≡ calls_of moments ++ opened.log

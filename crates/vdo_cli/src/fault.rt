@@ -1,9 +1,10 @@
+use grow_image::GrowFault;
 use image_layout::LayoutFault;
 use image_model::ImageFault;
 use stream_text::ScriptRefusal;
 use thiserror::Error;
 
-/// Why a run ended with a status other than 0, 1 and, after requests were served, 3.
+/// Why a run ended with a status other than 0, 1 and, after requests were served, 3 and 4.
 #[derive(Debug, Drop, Error)]
 pub enum Fault {
     /// The words are no command. Status 2.
@@ -12,8 +13,8 @@ pub enum Fault {
     /// A line of the script has a fault. Status 2.
     #[error("{0}")]
     Script(ScriptRefusal),
-    /// The device failed: a read before the script was read, or while an image was looked at, or a call while one was made,
-    /// recovered or rebuilt. Status 3.
+    /// The device failed: a call before the script was read, or while an image was looked at, made, recovered, rebuilt or
+    /// grown. Status 3.
     #[error("device fault")]
     Device,
     /// An image of the wanted sizes can't be had on the device. Status 8.
@@ -23,9 +24,13 @@ pub enum Fault {
     #[error("bad image: {0}")]
     Image(ImageFault),
     /// Memory ran out before the first request was served, or while an image was looked at, or before the first write of a
-    /// recovery or a rebuild. Status 5.
+    /// recovery, a rebuild or a growth. Status 5.
     #[error("no memory")]
     Memory,
+    /// The image has more addresses or slabs than it is to have, status 8; or an address that it is to have is mapped already,
+    /// status 4.
+    #[error("grow: {0}")]
+    Grow(GrowFault),
     /// An audit found so many blocks whose stored count isn't the number of their mappings. Status 6.
     #[error("audit differs {0}")]
     Differs(u32),

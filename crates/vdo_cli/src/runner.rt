@@ -1,29 +1,36 @@
 ghost use Rattle.std.specs.Prelude.{◌≡◌, ◌<◌, ◌^◌, Some, None, IsTrue, length};
 ghost use Rattle.stream_text.specs.AnswerRooms.{HasRoomFor};
+ghost use Rattle.vdo_cli.specs.Growths.{EndsGrowth};
 ghost use Rattle.vdo_cli.specs.Inspections.{EndsAudit, EndsStatus, TellsReport};
 ghost use Rattle.vdo_cli.specs.NewImages.{MakesImage};
-ghost use Rattle.vdo_cli.specs.Outsides.{Refuses, Tells, no_report, outcome, outside, setting};
+ghost use Rattle.vdo_cli.specs.Openings as openings;
+ghost use Rattle.vdo_cli.specs.Outsides.{Refuses, RefusesAfter, Tells, no_report, outcome, outside, setting};
 ghost use Rattle.vdo_cli.specs.Rebuilds.{EndsRebuild};
 ghost use Rattle.vdo_cli.specs.Recoveries.{EndsRecovery};
 ghost use Rattle.vdo_cli.specs.Runs.{EndsSo, Closes, RunsScript};
 
-use crate::endings::{fault_of, has_full, has_lost, put_fault, status_of};
+use crate::endings::{
+    fault_of, growth_fault_of, has_full, put_fault, put_refusal, session_notes, status_of,
+    struck_status,
+};
 use crate::new_image::make_image;
-use crate::session::{Played, play};
+use crate::ready::recovered_of;
+use crate::session::{NotPlayed, Played, play};
 use crate::words::Served;
 use crate::{Fault, Words};
 use audit::{Report, audit};
 use blk_base::Geometry;
-use command_text::{Line, put_audit};
+use command_text::{Line, put_audit, put_run};
 use disk_model::{Disk, Sink, Source, ZoneGate};
 use force_rebuild::force;
+use grow_image::grow;
 use image_status::read_status;
 use rebuild::recover;
 use std::alloc::Global;
 use std::sync::Wait;
 use std::thread::Threads;
-use stream_text::{AnswerRoom, put_answers};
 use vdo_model::{ReportList, Requests, RunReport};
+use vdo_words::GrowOptions;
 
 /// A run that ended: its status, why no other one, what became of the requests (nothing where no session was begun), and
 /// the device.
@@ -45,6 +52,7 @@ fn empty_report(alloc: Global) -> RunReport
         marks: ReportList::new(alloc),
         places: ReportList::new(alloc),
         histories: ReportList::new(alloc),
+        damage: None,
     }
 }
 
@@ -75,22 +83,41 @@ fn refuse<D: Disk, K: Sink>(alloc: Global, fault: Fault, device: D, out: &mut K)
     end_with(alloc, status_of(&fault), Some(fault), device)
 }
 
-// Puts the answers of a session.
-fn close<D: Disk, K: Sink>(report: RunReport, room: AnswerRoom, device: D, out: &mut K) -> Ended<D>
-    requires { HasRoomFor room report.requests }
+// Puts a fault's line where no session was begun, behind how many entries were recovered.
+fn refuse_after<D: Disk, K: Sink>(alloc: Global, not: NotPlayed, device: D, out: &mut K) -> Ended<D>
     ensures device { result.device ≡ device }
-    ensures report { result.report ≡ report }
-    ensures closes { Closes K.tells report result.status result.fault
+    ensures fault { result.fault ≡ Some not.fault }
+    ensures refuses { RefusesAfter K.tells not.recovered not.fault result.status result.report
         (K.seen out.old) (K.seen out.new) }
 {
-    let lost = has_lost(report.desk.as_slice());
+    let NotPlayed { recovered, fault } = not;
+    // The status is the fault's, whatever becomes of its line.
+    let _put = put_refusal(recovered, &fault, out);
+    end_with(alloc, status_of(&fault), Some(fault), device)
+}
+
+// Puts the text of a session.
+fn close<D: Disk, K: Sink>(played: Played, device: D, out: &mut K) -> Ended<D>
+    requires { HasRoomFor played.room played.report.requests }
+    ensures device { result.device ≡ device }
+    ensures report { result.report ≡ played.report }
+    ensures closes { Closes K.tells (openings.recovered_of played.found) played.report result.status result.fault
+        (K.seen out.old) (K.seen out.new) }
+{
+    let Played {
+        found,
+        report,
+        room,
+    } = played;
+    let struck = struck_status(&report);
     let full = has_full(report.desk.as_slice());
+    let notes = session_notes(recovered_of(found), &report);
     let mut room = room;
-    let put = put_answers(&report.requests, &report, &mut room, out);
-    let (status, fault) = match put {
-        _ if lost => (3, None),
-        Err(_) => (7, Some(Fault::Sink)),
-        Ok(()) => (if full { 1 } else { 0 }, None),
+    let put = put_run(&report.requests, &report, &notes, &mut room, out);
+    let (status, fault) = match (struck, put) {
+        (Some(struck), _) => (struck, None),
+        (None, Err(_)) => (7, Some(Fault::Sink)),
+        (None, Ok(())) => (if full { 1 } else { 0 }, None),
     };
     Ended {
         status,
@@ -145,8 +172,8 @@ fn run_script<R: Wait, D: Disk, S: Source, K: Sink>(
 {
     let mut device = device;
     match play(rt, alloc, schedule, &mut device, script) {
-        Ok(Played { report, room }) => close(report, room, device, out),
-        Err(fault) => refuse(alloc, fault, device, out),
+        Ok(played) => close(played, device, out),
+        Err(not) => refuse_after(alloc, not, device, out),
     }
 }
 
@@ -208,6 +235,26 @@ fn rebuild_device<D: Disk, S: Source, K: Sink>(
     }
 }
 
+// Gives the image so many addresses and slabs.
+fn grow_device<D: Disk, S: Source, K: Sink>(
+    alloc: Global,
+    options: GrowOptions,
+    device: D,
+    script: &S,
+    out: &mut K,
+) -> Ended<D>
+    ensures { EndsGrowth (setting D.tells D.honest S.tells K.tells) options
+        (outside (D.seen device) (S.seen script.now) (K.seen out.old))
+        (outside (D.seen result.device) (S.seen script.now) (K.seen out.new))
+        (outcome result.status result.report result.fault) }
+{
+    let mut device = device;
+    match grow(alloc, &mut device, options.logical, options.slabs) {
+        Ok(grown) => tell(alloc, &grown, device, out),
+        Err(why) => refuse(alloc, growth_fault_of(why), device, out),
+    }
+}
+
 // Compares the stored counts of the image with its mappings.
 fn audit_device<D: Disk, S: Source, K: Sink>(
     alloc: Global,
@@ -248,37 +295,41 @@ fn status_of_device<D: Disk, S: Source, K: Sink>(
 
 /// Does what the words say. `run`, or `run --schedule N`: the requests of the script, each stream's in its order, are
 /// served on the device's image by the zones of a core, whose steps and moves come in the order of the schedule N (0
-/// where none is given). Their answers are put to `out`, one line for each. What earlier runs wrote is there again: it
-/// is read from the window of the recovery journal. `format`, with the sizes of an image as its options: an empty image
+/// where none is given). An image whose last session wasn't closed is recovered first, and how many entries of its journal were
+/// used is put. Then come the answers, one line for each, and the damage, if a leaf was found that doesn't decode. What earlier
+/// runs wrote is there again. `format`, with the sizes of an image as its options: an empty image
 /// is made on the device, and a line says so. `recover`: an image whose last session wasn't closed is closed, and how many
 /// entries of its journal were used is told; a sound one says the same then; nothing is written where it was closed.
 /// `force-rebuild`: each data block gets the number of its mappings as its stored count, whatever the image's counters and
 /// slabs' journals hold, the image is closed, and how many blocks are used is told; each address keeps its value, where
 /// nothing in the recovery journal is from a later time.
+/// `grow`, with `--logical` and `--slabs`: an image whose last session was closed gets so many addresses and slabs; each old
+/// address keeps its value, each new one has zeros, and how large the image is then is told.
 /// `audit`: each data block whose stored count isn't the number of its mappings is told, or how many are used where
 /// none differs; nothing is written. `status`: what the image says of itself is told, and nothing is written.
 ///
-/// On an honest device on which nothing was pending, a stop before or within any call leaves an image with the superblock
-/// that it had and a journal with a window. By that window each address has the value of one of its writes: of none older
-/// than the last one that was answered before a flush was begun which was answered too (docs/DESIGN.md, "A stop"). That a
-/// later run opens this image isn't claimed: a run refuses one whose sequences are used up. The report's marks say which calls
-/// of the device made the flushes last. A stop while an image is made leaves what the old image said, or no image, or an empty
+/// On an honest device on which nothing was pending, and whose image is sound, a stop before a session leaves a sound image that
+/// says the same. A stop before or within any call of the session leaves an image with the superblock that was opened, or the
+/// session's, and a journal with a window, as long as 2^20 sequences are left. By that window each address has the value of one of
+/// its writes: of none older than the last one that was answered before a flush was begun which was answered too (docs/DESIGN.md,
+/// "A stop"); and no damage is found. The report's marks say which calls of the device made the flushes last. A stop while an image
+/// is made leaves what the old image said, or no image, or an empty
 /// one. One while a sound image is recovered leaves a sound one that says the same. One while an image is rebuilt leaves one
-/// with the same map, which can be rebuilt again.
+/// with the same map, which can be rebuilt again. One while a sound image grows leaves it as it was, or grown.
 ///
 /// | Status | Comes where |
 /// |---|---|
-/// | 0 | each request was answered Ok, or with bytes; or the image was made; or recovered, or was closed; or rebuilt; or no block differs, or the status was told |
+/// | 0 | each request was answered Ok, or with bytes; or the image was made; or recovered, or was closed; or rebuilt, or grown; or no block differs, or the status was told |
 /// | 1 | a request was answered Full: no journal block was left for its entry or that of a page, or no data block |
 /// | 2 | the words are no command that is served (`Usage`) or a line of the script has a fault (`Script`) |
-/// | 3 | the device failed: before the script was read, or while an image was made, recovered, rebuilt or looked at (`Device`), or a request was answered Stopped or with a read fault |
-/// | 4 | the device has no image, or a block of its window can't be replayed, or a recovery, a rebuild, an audit or a status met a page or a count that can't be (`Image`) |
-/// | 5 | memory ran out before the first request was served, or while an image was looked at, or before the first write of a recovery or a rebuild (`Memory`) |
+/// | 3 | the device failed: before the script was read, or while an image was made, recovered, rebuilt, grown or looked at (`Device`), or a request was answered Stopped or with a read fault |
+/// | 4 | the device has no image, or one with a fault in its window, a page or a count (`Image`); or it isn't closed, or has a mapping in an address that it is to get (`Image`, `Grow`); or a session found damage |
+/// | 5 | memory ran out before the first request was served, or while an image was looked at, or before the first write of a recovery, a rebuild or a growth (`Memory`) |
 /// | 6 | an audit found blocks that differ (`Differs`) |
 /// | 7 | the source or the sink failed (`Read`, `Sink`) |
-/// | 8 | an image of these sizes can't be had on the device (`Layout`) |
+/// | 8 | an image of these sizes can't be had on the device (`Layout`), or the image is larger (`Grow`) |
 ///
-/// The first that applies is taken in this order: words, superblock, window, script; and of a session 3, 7, 1, 0.
+/// The first that applies is taken in this order: words, superblock, image, script; and of a session 4, 3, 7, 1, 0.
 pub fn run<R: Threads + Wait + Sync, D: Disk + Send + Drop, S: Source, K: Sink, G: ZoneGate + Sync>(
     rt: &R,
     words: &Words,
@@ -298,6 +349,7 @@ pub fn run<R: Threads + Wait + Sync, D: Disk + Send + Drop, S: Source, K: Sink, 
         Some(Served::Format(sizes)) => format(alloc, &sizes, device, script, out),
         Some(Served::Recover) => recover_device(alloc, device, script, out),
         Some(Served::ForceRebuild) => rebuild_device(alloc, device, script, out),
+        Some(Served::Grow(options)) => grow_device(alloc, options, device, script, out),
         Some(Served::Audit) => audit_device(alloc, device, script, out),
         Some(Served::Status) => status_of_device(alloc, device, script, out),
         None => refuse(alloc, Fault::Usage, device, out),

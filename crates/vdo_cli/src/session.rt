@@ -1,14 +1,15 @@
 ghost use Rattle.std.specs.Prelude.{◌≡◌, ◌≤◌, [], Ok, IfOk, IfErr, IsTrue};
-ghost use Rattle.disk_model.specs.Since.{IsUntouched};
 ghost use Rattle.stream_text.specs.AnswerRooms.{HasRoomFor};
 ghost use Rattle.stream_text.specs.ReadingBytes.{IsWholeScript};
 ghost use Rattle.stream_text.specs.WholeScript.{whole_script};
-ghost use Rattle.vdo_cli.specs.Endings.{RunsSession, PlayFails, ScriptFails};
-ghost use Rattle.vdo_cli.specs.Outsides.{input_setting, inputs};
+ghost use Rattle.vdo_cli.specs.Endings.{KeepsImage, RunsSession, PlayFails, ScriptFails};
+ghost use Rattle.vdo_cli.specs.Outsides.{input_setting, inputs, trust};
 
 use crate::Fault;
-use crate::session_image::{Opened, open};
+use crate::endings::fault_of;
+use crate::ready::{get_ready, recovered_of};
 use disk_model::{Disk, Source};
+use rebuild::Recovered;
 use schedule::{Schedule, drive};
 use std::alloc::Global;
 use std::sync::Wait;
@@ -22,11 +23,19 @@ const SETUP: Setup = Setup {
     depth: 1,
 };
 
-/// What a session left: its report, and room to put its answers.
+/// What a session left: what was recovered before, its report, and room to put its answers.
 #[derive(Drop)]
 pub(crate) struct Played {
+    pub(crate) found: Recovered,
     pub(crate) report: RunReport,
     pub(crate) room: AnswerRoom,
+}
+
+/// Why no session was begun, and how many entries were recovered before.
+#[derive(Drop)]
+pub(crate) struct NotPlayed {
+    pub(crate) recovered: Option<u32>,
+    pub(crate) fault: Fault,
 }
 
 // Reads the requests of the script, and says its refusal as a fault of the run.
@@ -45,36 +54,56 @@ fn read_requests<S: Source>(alloc: Global, script: &mut S) -> Result<Requests, F
     }
 }
 
-/// Reads the superblock, the window and the script, and serves the script's requests by the schedule of this number.
+/// Recovers the image where its last session wasn't closed, opens it, reads the script, and serves its requests by the schedule
+/// of this number. Before the session nothing is written but by the recovery.
 pub(crate) fn play<R: Wait, D: Disk, S: Source>(
     rt: &R,
     alloc: Global,
     number: u64,
     device: &mut D,
     script: &mut S,
-) -> Result<Played, Fault>
+) -> Result<Played, NotPlayed>
     ensures session { IfOk result (λ played. RunsSession (input_setting D.tells D.honest S.tells)
-        number played.report
+        number played.found played.report
         (inputs (D.seen device.old) (S.seen script.old))
         (inputs (D.seen device.new) (S.seen script.new))) }
     ensures room { IfOk result (λ played. HasRoomFor played.room played.report.requests) }
-    ensures fault { IfErr result (PlayFails (input_setting D.tells D.honest S.tells)
+    ensures fault { IfErr result (λ not. PlayFails (input_setting D.tells D.honest S.tells)
         (inputs (D.seen device.old) (S.seen script.old))
-        (inputs (D.seen device.new) (S.seen script.new))) }
-    ensures untouched { IfErr result (λ fault.
-        IsUntouched D.tells (D.seen device.old) (D.seen device.new)) }
+        (inputs (D.seen device.new) (S.seen script.new)) not.recovered not.fault) }
+    ensures early { IfErr result (λ not. KeepsImage (trust D.tells D.honest)
+        (D.seen device.old) (D.seen device.new)) }
     ensures later { (S.seen script.old).faults ≤ (S.seen script.new).faults }
 {
-    let Opened { head, used, window } = open(alloc, device)?;
-    let requests = read_requests(alloc, script)?;
-    let Ok(room) = AnswerRoom::with_room_for(alloc, &requests) else {
-        return Err(Fault::Memory);
+    let ready = match get_ready(alloc, device) {
+        Ok(ready) => ready,
+        Err(not) => {
+            return Err(NotPlayed {
+                recovered: not.recovered,
+                fault: fault_of(not.why),
+            });
+        }
     };
-    let Ok(mut core) = Core::begin(alloc, &SETUP, &head, used, &window, requests) else {
-        return Err(Fault::Memory);
+    let recovered = recovered_of(ready.found);
+    let requests = match read_requests(alloc, script) {
+        Ok(requests) => requests,
+        Err(fault) => return Err(NotPlayed { recovered, fault }),
+    };
+    let Ok(room) = AnswerRoom::with_room_for(alloc, &requests) else {
+        return Err(NotPlayed {
+            recovered,
+            fault: Fault::Memory,
+        });
+    };
+    let Ok(mut core) = Core::begin(alloc, &SETUP, &ready.start, requests) else {
+        return Err(NotPlayed {
+            recovered,
+            fault: Fault::Memory,
+        });
     };
     drive(rt, &mut core, &mut Schedule::from_number(number), device);
     Ok(Played {
+        found: ready.found,
         report: core.report(),
         room,
     })

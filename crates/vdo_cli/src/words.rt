@@ -5,7 +5,7 @@ ghost use Rattle.vdo_cli.specs.Commands.{served_of};
 use blk_base::Geometry;
 use std::alloc::{AllocError, Global};
 use std::marker::Model;
-use vdo_words::{Command, CoreOptions, Drive, FormatOptions, read_command};
+use vdo_words::{Command, CoreOptions, Drive, FormatOptions, GrowOptions, read_command};
 
 // Whether the options of a core are those that it has without any.
 fn are_default(options: &CoreOptions) -> bool
@@ -29,6 +29,8 @@ pub(crate) enum Served {
     Recover,
     /// An image's stored counts are set from its block map.
     ForceRebuild,
+    /// An image gets so many addresses and slabs.
+    Grow(GrowOptions),
     /// An image's stored counts are compared with its mappings.
     Audit,
     /// An image is asked what it says of itself.
@@ -63,6 +65,7 @@ fn served_in(command: Option<Command>) -> Option<Served>
         Some(Command::Format(options)) => Some(Served::Format(sizes_of(&options))),
         Some(Command::Recover) => Some(Served::Recover),
         Some(Command::ForceRebuild) => Some(Served::ForceRebuild),
+        Some(Command::Grow(options)) => Some(Served::Grow(options)),
         Some(Command::Audit) => Some(Served::Audit),
         Some(Command::Status) => Some(Served::Status),
         _ => None,

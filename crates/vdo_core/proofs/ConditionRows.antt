@@ -1,5 +1,5 @@
 -- Rows that pin what a step of a zone needs: a zone that can step, and for each clause one that breaks it alone.
-use Rattle.std.proofs.Common.{ℕ, ◌≡◌, ◌≤◌, ◌∙◌, true, false, List, [], ◌∷◌, length, refl, sym, ap, inl, inr, arith}
+use Rattle.std.proofs.Common.{ℕ, ◌≡◌, ◌≤◌, ◌∙◌, false, List, [], ◌∷◌, length, refl, sym, ap, inl, inr, arith}
 use Rattle.std.specs.List.{AllByRecursion}
 use Rattle.blk_base.specs.declared.geometry.Geometry.{Geometry}
 use Rattle.blk_base.specs.declared.place.ZoneId.TheVariants as id
@@ -23,7 +23,7 @@ use Rattle.vdo_core.specs.Conditions.{AllCanStep, CanBeginAt, CanStep, HasLane}
 
 module _ (g : Geometry) where
   abbrev sizes : ℕ → Sizes
-  sizes zones = record { geometry = g; start = 1; opened = 0; zones = zones; depth = 1 }
+  sizes zones = record { geometry = g; start = 1; zones = zones; depth = 1 }
 
   -- the physical zone of a core of two logical ones, with these in its inbox, and so many outboxes
   abbrev physical : List Item → List (List Item) → Zone

@@ -1,13 +1,11 @@
 -- Rows that pin what a core is and begins with, when it is done, and what there is to move and room for: for each clause a
 -- small case that it accepts, and one that breaks it alone.
-use Rattle.std.proofs.Common.{ℕ, ◌≡◌, ◌≤◌, ◌+◌, ◌-◌, ◌*◌, Bool, true, false, List, [], ◌∷◌, length, replicate, Some, slice_get, refl, ap, sym, ◌∙◌, subst, arith}
+use Rattle.std.proofs.Common.{ℕ, ◌≡◌, ◌+◌, ◌-◌, ◌*◌, true, false, List, [], ◌∷◌, length, replicate, None, Some, slice_get, refl, ap, sym, ◌∙◌, subst, arith}
 use Rattle.std.proofs.lemmas.List.{length-replicate}
 use Rattle.blk_base.specs.declared.geometry.Geometry.{Geometry}
-use Rattle.blk_base.specs.declared.journal_entry.Entry.{Entry}
-use Rattle.blk_base.specs.declared.journal_entry.Entry.TheVariants.{NewPage, Remap}
 use Rattle.blk_base.specs.declared.place.Lba.{Lba}
-use Rattle.blk_base.specs.declared.place.Mapping.{Mapping}
-use Rattle.blk_base.specs.declared.place.Mapping.TheVariants.{Unmapped, Zero, At}
+use Rattle.blk_base.specs.declared.opened.Opened.{Opened}
+use Rattle.blk_base.specs.declared.opened.OpenedPage.{OpenedPage}
 use Rattle.blk_base.specs.declared.place.Pbn.{Pbn}
 use Rattle.blk_base.specs.declared.request.Request.TheVariants as request
 use Rattle.vdo_model.specs.Scripts.{Script}
@@ -18,7 +16,6 @@ use Rattle.data_vio.specs.declared.items.Item.{Item}
 use Rattle.data_vio.specs.declared.items.Item.TheVariants.{StopNotice}
 use Rattle.data_vio.specs.declared.sizes.Sizes.{Sizes}
 use Rattle.core_model.specs.declared.zones.Zone.{Zone}
-use Rattle.core_model.specs.declared.zones.ZoneData.{ZoneData}
 use Rattle.core_model.specs.declared.zones.ZoneData.TheVariants as at
 use Rattle.core_model.specs.SessionLimits.{requests_in}
 use Rattle.core_model.specs.Sessions.{IsSession, Session}
@@ -28,44 +25,38 @@ use Rattle.core_model.specs.Steps.Leads.{rests, steps}
 use Rattle.core_model.specs.Trace.{Trace}
 use Rattle.vdo_core.specs.Cores.{CanBegin, IsReached}
 use Rattle.vdo_core.specs.Done.{IsDone}
-use Rattle.vdo_core.specs.FreeBlocks.{free_of}
+use Rattle.vdo_core.specs.FreeBlocks.{free_among, free_of}
 use Rattle.vdo_core.specs.Lanes.{HasRoomFor}
 use Rattle.vdo_core.specs.Moves.{MovesSome, has_items}
 use Rattle.vdo_core.specs.Plays.{core_with}
 use Rattle.vdo_core.proofs.SessionLaws.{legal_here}
 
--- the data blocks that no entry names: those of an image with two slabs of two data blocks each
+-- the data blocks whose counter is 0: those of an image with two slabs of two data blocks each
 abbrev small : Geometry
 small = record { height = 2; nonce = 1; logical = 10; slabs = 2; slab_blocks = 2; journal = 8; index = 4; slab_journal = 2 }
 
 abbrev block : ℕ → Pbn
 block b = record { 0 = b }
 
-abbrev maps : Mapping → Entry
-maps new = Remap (record { 0 = 5 }) Unmapped new
+abbrev free_with : List ℕ → List Pbn
+free_with counters = free_among small counters 4
 
-abbrev all_of_small : List Pbn
-all_of_small = block 73 ∷ block 74 ∷ block 78 ∷ block 79 ∷ []
-
-all_free : free_of small [] ≡ all_of_small
+all_free : free_with (0 ∷ 0 ∷ 0 ∷ 0 ∷ []) ≡ block 73 ∷ block 74 ∷ block 78 ∷ block 79 ∷ []
 all_free = refl
 
-one_taken : free_of small (maps (At (block 74)) ∷ maps Zero ∷ maps Unmapped ∷ []) ≡ block 73 ∷ block 78 ∷ block 79 ∷ []
+one_taken : free_with (0 ∷ 1 ∷ 0 ∷ 0 ∷ []) ≡ block 73 ∷ block 78 ∷ block 79 ∷ []
 one_taken = refl
 
--- a block that an older entry names is taken too
-older_taken : free_of small (maps (At (block 78)) ∷ maps (At (block 73)) ∷ []) ≡ block 74 ∷ block 79 ∷ []
-older_taken = refl
+-- one that is mapped more than once is taken too
+two_taken : free_with (255 ∷ 0 ∷ 2 ∷ 0 ∷ []) ≡ block 74 ∷ block 79 ∷ []
+two_taken = refl
 
--- and so is the block of a new page of the block map, with another one that an older entry names; another page's isn't
-abbrev page : ℕ → Entry
-page b = NewPage (record { tree = 0; level = 0; index = 0 }) (block b)
+none_free : free_with (1 ∷ 1 ∷ 1 ∷ 1 ∷ []) ≡ []
+none_free = refl
 
-page_taken : free_of small (page 74 ∷ maps (At (block 79)) ∷ []) ≡ block 73 ∷ block 78 ∷ []
-page_taken = refl
-
-page_elsewhere : free_of small (page 75 ∷ []) ≡ all_of_small
-page_elsewhere = refl
+-- free_of: by what was opened
+free_of_opened : (opened : Opened) → opened.head.geometry ≡ small → opened.counters.items ≡ 0 ∷ 1 ∷ 0 ∷ 0 ∷ [] → free_of opened ≡ block 73 ∷ block 78 ∷ block 79 ∷ []
+free_of_opened opened geometry counters = rw (geometry, counters) refl
 
 -- IsDone: the desk stands first, and has two lines for each request
 module _ (lines : List DeskLine) (outboxes : List (List Item)) where
@@ -121,7 +112,7 @@ abbrev zone_with : ℕ → List (List Item) → Zone
 zone_with number outboxes = record {
   number = number;
   steps = 0;
-  keeps = at.Device (record { stopped = false; calls = 0; superblock = AsOpened });
+  keeps = at.Device (record { stopped = false; calls = 0; superblock = AsOpened; damage = None });
   ports = record { inbox = []; outboxes = outboxes };
 }
 
@@ -166,62 +157,58 @@ room-not_past_it z room = let count = length-replicate 926 StopNotice in omega (
 room-not_past_it_in_an_outbox : (z : Zone) → HasRoomFor 1 (record z { ports = record z.ports { inbox = []; outboxes = [] ∷ replicate 926 StopNotice ∷ [] } }) → ⊥
 room-not_past_it_in_an_outbox z room = let count = length-replicate 926 StopNotice in omega (arith, count, room.outboxes.1.0)
 
--- CanBegin: with a window of the image, a block of the journal that stays free, and a script that is served and within the
--- limits
+-- CanBegin: with what was opened of an image of these sizes, and a script that is served and within the limits
 module _ (g : Geometry) where
   abbrev sizes : ℕ → ℕ → Sizes
-  sizes start zones = record { geometry = g; start = start; opened = 0; zones = zones; depth = 1 }
+  sizes start zones = record { geometry = g; start = start; zones = zones; depth = 1 }
 
-  module _ (window : List Entry) (at : Lba) where
-    begins-not_without_a_zone : (script : Script) → CanBegin (sizes 1 0) script window → ⊥
+  module _ (opened : Opened) (at : Lba) where
+    begins-not_without_a_zone : (script : Script) → CanBegin (sizes 1 0) script opened → ⊥
     begins-not_without_a_zone script can = omega (arith, can.zones)
 
     abbrev of_depth : ℕ → Sizes
-    of_depth depth = record { geometry = g; start = 1; opened = 0; zones = 1; depth = depth }
+    of_depth depth = record { geometry = g; start = 1; zones = 1; depth = depth }
 
     -- one request of a stream is under way at least: where a core begins with two, one begins with one too, but none with none
-    begins-of_depth_1 : (script : Script) → CanBegin (of_depth 2) script window → CanBegin (of_depth 1) script window
+    begins-of_depth_1 : (script : Script) → CanBegin (of_depth 2) script opened → CanBegin (of_depth 1) script opened
     begins-of_depth_1 script can = record {
       geometry = can.geometry;
+      same = can.same;
       start = can.start;
-      used = can.used;
       zones = can.zones;
       depth = omega arith;
       limits = record { streams = can.limits.streams; depth = omega arith; requests = can.limits.requests; zones = can.limits.zones };
       served = can.served;
-      of_image = can.of_image;
+      pages = can.pages;
+      counters = can.counters;
     }
 
-    begins-not_of_depth_0 : (script : Script) → CanBegin (of_depth 0) script window → ⊥
+    begins-not_of_depth_0 : (script : Script) → CanBegin (of_depth 0) script opened → ⊥
     begins-not_of_depth_0 script can = omega (arith, can.depth)
 
-    begins-not_at_sequence_0 : (script : Script) → CanBegin (sizes 0 1) script window → ⊥
+    begins-not_at_sequence_0 : (script : Script) → CanBegin (sizes 0 1) script opened → ⊥
     begins-not_at_sequence_0 script can = omega (arith, can.start.0)
 
-    begins-not_with_half_a_block : CanBegin (sizes 1 1) ((request.Write at (replicate 2048 0) false ∷ []) ∷ []) window → ⊥
+    begins-not_with_half_a_block : CanBegin (sizes 1 1) ((request.Write at (replicate 2048 0) false ∷ []) ∷ []) opened → ⊥
     begins-not_with_half_a_block can = let half : 2048 ≡ 4096 = sym (length-replicate {A = ℕ} 2048 0) ∙ can.served.0.0.0 in absurd (omega (arith, half))
 
-    begins-not_with_a_forced_write : (block : List ℕ) → CanBegin (sizes 1 1) ((request.Write at block true ∷ []) ∷ []) window → ⊥
+    begins-not_with_a_forced_write : (block : List ℕ) → CanBegin (sizes 1 1) ((request.Write at block true ∷ []) ∷ []) opened → ⊥
     begins-not_with_a_forced_write block can = let forced = can.served.0.0.1 in absurd cc
 
-    begins-not_with_17_streams : CanBegin (sizes 1 1) (replicate 17 []) window → ⊥
+    begins-not_with_17_streams : CanBegin (sizes 1 1) (replicate 17 []) opened → ⊥
     begins-not_with_17_streams can = omega (arith, can.limits.streams)
 
-    begins-not_with_no_block_left : (script : Script) → CanBegin (record (sizes 1 1) { opened = g.journal }) script window → ⊥
-    begins-not_with_no_block_left script can = omega (arith, can.used)
+    -- the image has these sizes, its pages are the roots at least, and each data block has its counter
+    begins-not_of_other_sizes : (script : Script) → opened.head.geometry.slabs ≡ g.slabs + 1 → CanBegin (sizes 1 1) script opened → ⊥
+    begins-not_of_other_sizes script more can = let same = ap (λ (h : Geometry). h.slabs) can.same in omega (arith, more, same)
 
-    begins-with_one_block_left : (script : Script) → CanBegin (sizes 1 1) script window → CanBegin (record (sizes 1 1) { opened = g.journal - 1 }) script window
-    begins-with_one_block_left script can = record {
-      geometry = can.geometry;
-      start = can.start;
-      used = let some = can.used in omega (arith, some);
-      zones = can.zones;
-      depth = can.depth;
-      limits = record { streams = can.limits.streams; depth = omega arith; requests = can.limits.requests; zones = can.limits.zones };
-      served = can.served;
-      of_image = can.of_image;
-    }
+    begins-not_without_roots : (script : Script) → opened.pages.items ≡ [] → CanBegin (sizes 1 1) script opened → ⊥
+    begins-not_without_roots script none can =
+        let height = can.geometry.height in
+        let same = ap (λ (h : Geometry). h.height) can.same in
+        let listed = can.pages.roots (record { tree = 0; level = g.height - 1; index = 0 }) (record { tree = record { inside = omega arith; own = omega arith }; level = omega (arith, height, same); index = refl }) in
+        let below = listed.1.1 in
+        omega (arith, below, ap (λ (pages : List OpenedPage). length pages) none)
 
-    -- each entry of the window is of the image
-    begins-not_with_an_entry_past_the_image : (script : Script) (address : Lba) → g.logical ≤ address.0 → CanBegin (sizes 1 1) script (Remap address Unmapped Unmapped ∷ window) → ⊥
-    begins-not_with_an_entry_past_the_image script address past can = let inside = can.of_image.0.0 in omega (arith, inside, past)
+    begins-not_with_a_counter_missing : (script : Script) → length opened.counters.items + 1 ≡ opened.head.geometry.slabs * opened.head.geometry.slab_blocks → CanBegin (sizes 1 1) script opened → ⊥
+    begins-not_with_a_counter_missing script fewer can = omega (arith, can.counters, fewer)

@@ -1,13 +1,17 @@
--- A session over a device in memory that has a new image is fair, whatever was called: such a device tells, and is honest. And
--- a session for what was read of a device is never fair where that says nothing of itself.
-use Rattle.std.proofs.Common.{◌≡◌, true, List, [], refl, arith}
-use Rattle.blk_base.specs.declared.journal_entry.Entry.{Entry}
+-- A session over a device in memory is fair where that has the image that was opened, whatever was called: such a device tells, and
+-- is honest. And a session for what was opened of a device is never fair where that says nothing of itself.
+use Rattle.std.proofs.Common.{ℕ, ◌≡◌, ◌<◌, ◌≤◌, None, true, length, refl, arith}
+use Rattle.blk_base.specs.Regions.{needed_blocks}
+use Rattle.blk_base.specs.declared.opened.Opened.{Opened}
+use Rattle.blk_base.specs.declared.place.PageId.{PageId}
+use Rattle.disk_model.specs.Log.{Blocks, block_at}
 use Rattle.disk_model.specs.Memory.{fresh, seen_of}
 use Rattle.disk_model.specs.Seen.{Seen}
-use Rattle.image_layout.specs.FirstImage.{first_blocks}
+use Rattle.image_model.specs.Empty.{IsEmpty}
 use Rattle.vdo_model.specs.Scripts.{Script}
 use Rattle.data_vio.specs.declared.sizes.Sizes.{Sizes}
-use Rattle.core_model.specs.Sessions.{IsFair, Session}
+use Rattle.core_model.specs.PageLinks.{opened_page}
+use Rattle.core_model.specs.Sessions.{IsAsOpened, IsFair, Session}
 use Rattle.core_model.specs.Trace.{Trace}
 use Rattle.core_laws.proofs.kept.NewImages.{new_opened}
 use Rattle.step_parts.specs.DeviceLog.{HasCalled}
@@ -15,27 +19,29 @@ use Rattle.vdo_core.specs.Cores.{CanBegin}
 use Rattle.vdo_core.specs.FreeBlocks.{free_of}
 use Rattle.vdo_core.proofs.SessionLaws.{bare, can_serve, honest_reads}
 
-module _ (sizes : Sizes) (script : Script) (can : CanBegin sizes script []) where
-  -- the session over the new image on a device in memory
+module _ (sizes : Sizes) (script : Script) (opened : Opened) (image : Blocks) where
+  -- the session over this image on a device in memory
   abbrev in_memory : Session
   in_memory =
-      let seen = seen_of (fresh (first_blocks sizes.geometry)) in record {
+      let seen = seen_of (fresh image) in record {
         sizes = sizes;
         script = script;
+        links = opened_page opened.pages.items;
+        free = free_of opened;
         blocks = seen.opening;
         before = seen.log;
-        image = first_blocks sizes.geometry;
-        sealed = [];
-        window = [];
-        free = free_of sizes.geometry [];
+        image = image;
       }
 
-  fair-in_memory : (after : Seen) (t : Trace) → sizes.opened ≡ 0 → HasCalled true true (seen_of (fresh (first_blocks sizes.geometry))) after t → IsFair in_memory t
-  fair-in_memory after t unused called = record {
-    honest = honest_reads in_memory t (called.given refl refl);
-    opened = new_opened in_memory (can_serve sizes script [] in_memory can (record { sizes_is = refl; script_is = refl; window_is = refl; free_is = refl }))
-        (record { blocks = refl; unwritten = refl; image = refl; unsealed = refl; no_window = refl; unused = unused });
-  }
+  fair-in_memory : (after : Seen) (t : Trace) → IsAsOpened in_memory → HasCalled true true (seen_of (fresh image)) after t → IsFair in_memory t
+  fair-in_memory after t as_opened called = record { honest = honest_reads in_memory t (called.given refl refl); opened = as_opened }
 
-fair-not_without_a_device : (sizes : Sizes) (script : Script) (window : List Entry) (t : Trace) → IsFair (bare sizes script window) t → ⊥
-fair-not_without_a_device sizes script window t fair = let room = fair.opened.room in omega (arith, room)
+  -- so where that is a new image, which links no page
+  fair-over_a_new_image : (after : Seen) (t : Trace) → CanBegin sizes script opened → IsEmpty sizes.geometry image → needed_blocks sizes.geometry ≤ length image
+      → ((b : ℕ) → b < length image → length (block_at image b) ≡ 4096) → ((page : PageId) → opened_page opened.pages.items page ≡ None) → HasCalled true true (seen_of (fresh image)) after t → IsFair in_memory t
+  fair-over_a_new_image after t can empty room whole links called =
+      let session = can_serve sizes script opened in_memory can (record { sizes_is = refl; script_is = refl; links_is = refl; free_is = refl }) in
+      fair-in_memory after t (new_opened in_memory session (record { empty = empty; room = room; whole = whole; blocks = refl; unwritten = refl; links = links })) called
+
+fair-not_without_a_device : (sizes : Sizes) (script : Script) (opened : Opened) (t : Trace) → IsFair (bare sizes script opened) t → ⊥
+fair-not_without_a_device sizes script opened t fair = let room = fair.opened.room in omega (arith, room)

@@ -1,5 +1,6 @@
 pub mod DoneLaws
 pub mod FreeLaws
+pub mod LinkLaws
 pub mod PlayLaws
 mod StartLaws
 mod ZoneLaws
@@ -10,7 +11,6 @@ pub mod PlayRows
 mod ToolRows
 mod LaneLaws
 pub mod StepLaws
-pub mod JournalLaws
 pub mod SessionLaws
 mod MoveLaws
 mod RestLaws

@@ -1,5 +1,5 @@
 -- Events one after another.
-use Rattle.std.proofs.Common.{arith, subst, ◌<◌, ◌≤◌, ◌+◌, length, drop, get_or, ◌≡◌, ℕ, zero, suc, Bool, true, false, List, [], ◌∷◌, ◌++◌, Some, slice_get, slice_set, refl, sym, ap, ◌∙◌, append_assoc, inl, inr}
+use Rattle.std.proofs.Common.{arith, subst, ◌+◌, ◌≡◌, ℕ, zero, suc, Bool, true, false, List, [], ◌∷◌, ◌++◌, Some, slice_get, slice_set, refl, sym, ap, ◌∙◌, append_assoc, inl, inr}
 use Rattle.std.proofs.lemmas.List.{append-nil}
 use Rattle.std.proofs.lemmas.Option.{same_Some}
 use Rattle.disk_model.specs.Seen.{Seen}
@@ -12,7 +12,7 @@ use Rattle.data_vio.specs.declared.sizes.Sizes.{Sizes}
 use Rattle.core_model.specs.declared.zones.Zone.{Zone}
 use Rattle.core_model.specs.Steps.{Core, IsIdle, Leads}
 use Rattle.core_model.specs.Steps.Leads.{rests, steps, moves}
-use Rattle.core_model.specs.Trace.{Trace, Calls, Fails, calls}
+use Rattle.core_model.specs.Trace.{Trace, Calls, Fails, Harms, calls}
 use Rattle.core_laws.proofs.trace.Cuts.{calls_append}
 use Rattle.step_parts.specs.DeviceLog.{GivesSettled, HasCalled, failed_calls, has_calls, lost_calls}
 use Rattle.step_parts.proofs.SilentLaws.{unchanged}
@@ -49,12 +49,16 @@ none_called : (more made : Trace) → has_calls (more ++ made) ≡ false → (ha
 none_called [] made none = (refl, none)
 none_called (Calls c ∷ t) made none = absurd cc
 none_called (Fails w c kept ∷ t) made none = absurd cc
+none_called (Harms w at bytes fault ∷ t) made none = absurd cc
 none_called (other ∷ t) made none = none_called t made none
 
 -- and what they gave is what the device may have given, which had the earlier ones
 given_append : (opening : Blocks) (log : List Call) (more made : Trace) → GivesSettled opening (calls made ++ log) more → GivesSettled opening log made → GivesSettled opening log (more ++ made)
 given_append opening log [] made late early = early
 given_append opening log (Calls (Read at bytes true) ∷ t) made late early =
+    let later : calls t ++ (calls made ++ log) ≡ calls (t ++ made) ++ log = sym (append_assoc (calls t) (calls made) log) ∙ ap (λ (cs : List Call). cs ++ log) (sym (calls_append t made)) in
+    (late.0, subst (λ (cs : List Call). IsMixOf (settled opening cs at.0) bytes) later late.1, given_append opening log t made late.2 early)
+given_append opening log (Harms w at bytes fault ∷ t) made late early =
     let later : calls t ++ (calls made ++ log) ≡ calls (t ++ made) ++ log = sym (append_assoc (calls t) (calls made) log) ∙ ap (λ (cs : List Call). cs ++ log) (sym (calls_append t made)) in
     (late.0, subst (λ (cs : List Call). IsMixOf (settled opening cs at.0) bytes) later late.1, given_append opening log t made late.2 early)
 given_append opening log (other ∷ t) made late early = given_append opening log t made late early

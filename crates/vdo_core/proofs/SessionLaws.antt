@@ -1,8 +1,7 @@
--- A session for what was read of an image, whatever is on the device: nothing is said of that.
+-- A session for what was opened of an image, whatever is on the device: nothing is said of that.
 use Rattle.std.proofs.Common.{◌≡◌, ◌≤◌, Bool, true, List, [], ◌∷◌, ◌++◌, length, refl, sym, ◌∙◌, ap, subst, arith}
-use Rattle.std.specs.List.{AllByRecursion}
-use Rattle.blk_base.specs.declared.journal_entry.Entry.{Entry}
-use Rattle.blk_base.specs.declared.place.Pbn.{Pbn}
+use Rattle.blk_base.specs.Limits.{IsGeometry}
+use Rattle.blk_base.specs.declared.opened.Opened.{Opened}
 use Rattle.disk_model.specs.Seen.{Seen}
 use Rattle.disk_model.specs.declared.call.Call.TheVariants.{Read}
 use Rattle.vdo_model.specs.Scripts.{Script}
@@ -11,10 +10,11 @@ use Rattle.core_model.specs.declared.zones.Zone.{Zone}
 use Rattle.core_model.specs.declared.zones.ZoneData.{ZoneData}
 use Rattle.core_model.specs.Facts.{DataOk}
 use Rattle.core_model.specs.Legal.{Legal}
-use Rattle.core_model.specs.Sessions.{AreDistinct, HasHonestReads, IsFresh, IsSession, Session}
+use Rattle.core_model.specs.PageLinks.{opened_page}
+use Rattle.core_model.specs.Sessions.{AreDistinct, HasHonestReads, IsSession, Session}
 use Rattle.core_model.specs.Start.{IsFirst}
 use Rattle.core_model.specs.Steps.Leads.{rests}
-use Rattle.core_model.specs.Trace.{Calls, Trace}
+use Rattle.core_model.specs.Trace.{Calls, Harms, Trace}
 use Rattle.data_vio.specs.Zones.{desk_number}
 use Rattle.core_laws.proofs.kept.FirstState.{legal_first}
 use Rattle.core_laws.proofs.kept.LegalMoves.{legal_leads}
@@ -26,41 +26,44 @@ use Rattle.vdo_core.specs.FreeBlocks.{free_of}
 use Rattle.vdo_core.specs.Plays.{LeadsTo, core_with}
 use Rattle.vdo_core.specs.Starts.{IsOf}
 use Rattle.vdo_core.proofs.FreeLaws.{free_distinct, free_fresh}
+use Rattle.vdo_core.proofs.LinkLaws.{linked_data, linked_up}
 use Rattle.vdo_core.proofs.StepLaws.{can_step}
 use Rattle.vdo_core.proofs.PlayLaws.{leads_on}
 
--- any session of these sizes, script, window and free blocks can be served, whatever else it says of a device
-pub can_serve : (sizes : Sizes) (script : Script) (window : List Entry) (s : Session) → CanBegin sizes script window → IsOf s sizes script window (free_of sizes.geometry window) → IsSession s
-can_serve sizes script window s can over =
-    let same : s.sizes.geometry ≡ sizes.geometry = ap (λ (z : Sizes). z.geometry) over.sizes_is in
-    let free : s.free ≡ free_of sizes.geometry s.window = over.free_is ∙ ap (free_of sizes.geometry) (sym over.window_is) in
+-- any session of these sizes and this script over what was opened can be served, whatever else it says of a device
+pub can_serve : (sizes : Sizes) (script : Script) (opened : Opened) (s : Session) → CanBegin sizes script opened → IsOf s sizes script opened → IsSession s
+can_serve sizes script opened s can over =
+    let g = opened.head.geometry in
+    let same : s.sizes.geometry ≡ g = ap (λ (z : Sizes). z.geometry) over.sizes_is ∙ can.same in
+    let geometry : IsGeometry g = subst IsGeometry can.same can.geometry in
     record {
       sizes = rw over.sizes_is can.geometry;
       start = rw over.sizes_is can.start;
-      used = rw over.sizes_is can.used;
+      used = rw over.sizes_is (let journal = can.geometry.journal in omega (arith, journal));
       zones = rw over.sizes_is can.zones;
       limits = rw (over.sizes_is, over.script_is) can.limits;
       served = rw over.script_is can.served;
-      of_image = rw (over.sizes_is, over.window_is) can.of_image;
-      free = subst (λ (xs : List Pbn). AllByRecursion (IsFresh s) xs) (sym free) (free_fresh sizes.geometry can.geometry s same);
-      distinct = subst AreDistinct (sym free) (free_distinct sizes.geometry can.geometry s.window);
+      linked = λ page x is. rw same (linked_data g opened.pages.items can.pages page x (rw over.links_is at is));
+      rooted = λ page some. rw (same, over.links_is) (linked_up g opened.pages.items can.pages page (rw over.links_is at some));
+      free = free_fresh s opened geometry same over.free_is;
+      distinct = subst AreDistinct (sym over.free_is) (free_distinct opened geometry);
     }
 
 -- the session, with no device
-abbrev pub bare : Sizes → Script → List Entry → Session
-bare sizes script window = record { sizes = sizes; script = script; blocks = []; before = []; image = []; sealed = []; window = window; free = free_of sizes.geometry window }
+abbrev pub bare : Sizes → Script → Opened → Session
+bare sizes script opened = record { sizes = sizes; script = script; links = opened_page opened.pages.items; free = free_of opened; blocks = []; before = []; image = [] }
 
-module _ (sizes : Sizes) (script : Script) (window : List Entry) (can : CanBegin sizes script window) where
-  pub is_of : IsOf (bare sizes script window) sizes script window (free_of sizes.geometry window)
-  is_of = record { sizes_is = refl; script_is = refl; window_is = refl; free_is = refl }
+module _ (sizes : Sizes) (script : Script) (opened : Opened) (can : CanBegin sizes script opened) where
+  pub is_of : IsOf (bare sizes script opened) sizes script opened
+  is_of = record { sizes_is = refl; script_is = refl; links_is = refl; free_is = refl }
 
-  pub is_session : IsSession (bare sizes script window)
-  is_session = can_serve sizes script window (bare sizes script window) can is_of
+  pub is_session : IsSession (bare sizes script opened)
+  is_session = can_serve sizes script opened (bare sizes script opened) can is_of
 
   -- a first core of it is reached
-  abbrev pub first_reached : (zones : List Zone) → IsFirst (bare sizes script window) (core_with zones []) → IsReached sizes zones
+  abbrev pub first_reached : (zones : List Zone) → IsFirst (bare sizes script opened) (core_with zones []) → IsReached sizes zones
   first_reached zones begins = record {
-    session = bare sizes script window;
+    session = bare sizes script opened;
     first = zones;
     trace = [];
     sizes_are = refl;
@@ -72,7 +75,8 @@ module _ (sizes : Sizes) (script : Script) (window : List Entry) (can : CanBegin
 -- reads that gave what was settled are honest
 pub honest_reads : (s : Session) (t : Trace) → GivesSettled s.blocks s.before t → HasHonestReads s t
 honest_reads s [] given = tt
-honest_reads s (Calls (Read at bytes true) ∷ t) given = (given.0, given.1, honest_reads s t given.2)
+honest_reads s (Calls (Read at bytes true) ∷ t) given = ((given.0, given.1), honest_reads s t given.2)
+honest_reads s (Harms w at bytes fault ∷ t) given = ((given.0, given.1), honest_reads s t given.2)
 honest_reads s (other ∷ t) given = honest_reads s t given
 
 -- what is reached is legal, and leads to what is reached, and each zone can step there

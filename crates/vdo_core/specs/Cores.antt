@@ -1,10 +1,10 @@
 -- A core as a whole, and what it can begin with.
-use Rattle.std.specs.Prelude.{ℕ, ◌≡◌, ◌<◌, ◌≤◌, ◌^◌, List, []}
+use Rattle.std.specs.Prelude.{ℕ, ◌≡◌, ◌*◌, ◌<◌, ◌≤◌, ◌^◌, List, [], length}
 use Rattle.std.specs.List.{AllByRecursion}
 use Rattle.blk_base.specs.Limits.{IsGeometry}
 use Rattle.blk_base.specs.declared.geometry.Super.{Super}
-use Rattle.blk_base.specs.declared.journal_entry.Entry.{Entry}
-use Rattle.image_model.specs.Windows.{IsOfImage}
+use Rattle.blk_base.specs.declared.opened.Opened.{Opened}
+use Rattle.block_map_tree.specs.Opening.{IsOpened, all_trees}
 use Rattle.vdo_model.specs.Scripts.{Script}
 use Rattle.data_vio.specs.declared.sizes.Sizes.{Sizes}
 use Rattle.core_model.specs.declared.zones.Zone.{Zone}
@@ -37,21 +37,20 @@ pub record IsWhole (sizes : Sizes) (zones : List Zone) (room : List ℕ) : Type 
   pub reached : IsReached sizes zones
   pub has_room : IsRoomFor room reached.session.script
 
--- the sizes of a session over an image with this superblock, of whose journal so many blocks are used
-abbrev pub sizes_of : Setup → Super → ℕ → Sizes
-sizes_of setup head used =
-    record { geometry = head.geometry; start = head.start; opened = used; zones = setup.logical_zones; depth = setup.depth }
+-- the sizes of a session over an image with this superblock
+abbrev pub sizes_of : Setup → Super → Sizes
+sizes_of setup head = record { geometry = head.geometry; start = head.start; zones = setup.logical_zones; depth = setup.depth }
 
--- A core can begin with these sizes, this script and the entries of the window, the newest first: the session is no larger
--- than it may be, one block of the journal stays free, its requests are served, and the entries are of an image of these sizes.
--- Of what the device has nothing is asked.
-pub record CanBegin (sizes : Sizes) (script : Script) (window : List Entry) : Type 0 where
+-- A core can begin with these sizes and this script, over what was opened of an image: the session is no larger than it may be, its
+-- requests are served, and the pages and the counters are those of an image of these sizes. Of what the device has nothing is asked.
+pub record CanBegin (sizes : Sizes) (script : Script) (opened : Opened) : Type 0 where
   pub geometry : IsGeometry sizes.geometry
+  pub same : sizes.geometry ≡ opened.head.geometry
   pub start : (1 ≤ sizes.start) × (sizes.start < 2 ^ 54)
-  pub used : sizes.opened < sizes.geometry.journal
   pub zones : 1 ≤ sizes.zones
   -- a request may be under way
   pub depth : 1 ≤ sizes.depth
   pub limits : IsLimited sizes script
   pub served : AllByRecursion (AllByRecursion IsServed) script
-  pub of_image : AllByRecursion (IsOfImage sizes.geometry) window
+  pub pages : IsOpened (all_trees opened.head.geometry) opened.pages.items
+  pub counters : length opened.counters.items ≡ opened.head.geometry.slabs * opened.head.geometry.slab_blocks

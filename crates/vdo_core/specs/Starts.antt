@@ -1,14 +1,15 @@
 -- What a core begins with.
-use Rattle.std.specs.Prelude.{◌≡◌, List}
-use Rattle.blk_base.specs.declared.journal_entry.Entry.{Entry}
-use Rattle.blk_base.specs.declared.place.Pbn.{Pbn}
+use Rattle.std.specs.Prelude.{◌≡◌}
+use Rattle.blk_base.specs.declared.opened.Opened.{Opened}
 use Rattle.vdo_model.specs.Scripts.{Script}
 use Rattle.data_vio.specs.declared.sizes.Sizes.{Sizes}
+use Rattle.core_model.specs.PageLinks.{opened_page}
 use Rattle.core_model.specs.Sessions.{Session}
+use Rattle.vdo_core.specs.FreeBlocks.{free_of}
 
--- a session of these sizes, requests, entries of the window and free blocks
-pub record IsOf (s : Session) (sizes : Sizes) (script : Script) (window : List Entry) (free : List Pbn) : Type 0 where
+-- a session of these sizes and requests over an image that was opened: where that links its pages, and its free blocks
+pub record IsOf (s : Session) (sizes : Sizes) (script : Script) (opened : Opened) : Type 0 where
   pub sizes_is : s.sizes ≡ sizes
   pub script_is : s.script ≡ script
-  pub window_is : s.window ≡ window
-  pub free_is : s.free ≡ free
+  pub links_is : s.links ≡ opened_page opened.pages.items
+  pub free_is : s.free ≡ free_of opened

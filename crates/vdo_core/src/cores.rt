@@ -1,4 +1,4 @@
-ghost use Rattle.std.specs.Prelude.{◌≡◌, ◌≤◌, [], IfOk, IsTrue, false, length, reverse};
+ghost use Rattle.std.specs.Prelude.{◌≡◌, ◌≤◌, [], IfOk, IsTrue, false, length};
 ghost use Rattle.disk_model.specs.Seen.{Stays};
 ghost use Rattle.core_model.specs.Legal.{Legal};
 ghost use Rattle.core_model.specs.Reports.{report_of};
@@ -9,7 +9,6 @@ ghost use Rattle.vdo_core.specs.declared.stepped.Stepped.TheVariants.{Did, Idle}
 ghost use Rattle.device_zone.specs.DeviceCalls.{Fits};
 ghost use Rattle.vdo_core.specs.Cores.{CanBegin, IsWhole, sizes_of};
 ghost use Rattle.vdo_core.specs.Done.{IsDone};
-ghost use Rattle.vdo_core.specs.FreeBlocks.{free_of};
 ghost use Rattle.vdo_core.specs.Plays.{HasNoWork, PlaysOne, core_with};
 ghost use Rattle.vdo_core.specs.Starts.{IsOf};
 
@@ -19,7 +18,7 @@ use crate::start::begin;
 use crate::stepped::Stepped;
 use crate::work::{is_done, ready};
 use crate::zones::Zones;
-use blk_base::{Entry, Layout, Super};
+use blk_base::Opened;
 use core_reports::{ReportRoom, report};
 use data_vio::Sizes;
 use disk_model::Disk;
@@ -66,37 +65,29 @@ impl Model for Core {
 }
 
 impl Core {
-    /// The core at the start of a session over an image that was opened, with its superblock, how many blocks of its journal
-    /// are used (all but one where a session may not go on behind its last one), and the entries of its window, the oldest
-    /// first. It has the requests, no one of which is begun, and takes all the room that the session will need. It fails where
-    /// no memory is found for it.
+    /// The core at the start of a session over an image that was opened. It has the requests, no one of which is begun, and
+    /// takes all the room that the session will need. It fails where no memory is found for it.
     pub fn begin(
         alloc: Global,
         setup: &Setup,
-        head: &Super,
-        used: u32,
-        window: &[Entry],
+        opened: &Opened,
         requests: Requests,
     ) -> Result<Core, AllocError>
-        requires { CanBegin (sizes_of setup.now head.now used) requests (reverse window.now) }
-        ensures sizes { IfOk result (λ core. core.sizes ≡ sizes_of setup.now head.now used) }
+        requires { CanBegin (sizes_of setup.now opened.now.head) requests opened.now }
+        ensures sizes { IfOk result (λ core. core.sizes ≡ sizes_of setup.now opened.now.head) }
         ensures first { IfOk result (λ core.
-            (s : Session) →
-            IsOf s core.sizes requests (reverse window.now)
-            (free_of head.now.geometry (reverse window.now))
-            → IsFirst s (core_with core.zones [])) }
+            (s : Session) → IsOf s core.sizes requests opened.now →
+            IsFirst s (core_with core.zones [])) }
     {
         let sizes = Sizes {
-            geometry: head.geometry,
-            start: head.start,
-            opened: used,
+            geometry: opened.head.geometry,
+            start: opened.head.start,
             zones: setup.logical_zones,
             depth: setup.depth,
         };
-        let layout = Layout::of(&head.geometry);
-        let free = free_blocks(alloc, &layout, window)?;
+        let free = free_blocks(alloc, opened)?;
         let room = ReportRoom::with_room_for(alloc, &requests)?;
-        let zones = begin(alloc, &sizes, requests, window, free)?;
+        let zones = begin(alloc, &sizes, requests, opened, free)?;
         Ok(Core { sizes, zones, room })
     }
 

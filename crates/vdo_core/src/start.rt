@@ -1,35 +1,26 @@
-ghost use Rattle.std.specs.Prelude.{◌≡◌, ◌+◌, ◌<◌, ◌≤◌, ◌^◌, [], ◌∷◌, ◌++◌, IfOk, OnOk, length, reverse};
+ghost use Rattle.std.specs.Prelude.{◌≡◌, ◌+◌, ◌<◌, ◌≤◌, ◌^◌, [], ◌∷◌, ◌++◌, IfOk, OnOk, length};
 ghost use Rattle.std.specs.List.{AllByRecursion};
 ghost use Rattle.blk_base.specs.Limits.{IsGeometry};
-ghost use Rattle.image_model.specs.Windows.{IsOfImage};
+ghost use Rattle.block_map_tree.specs.Opening.{IsOpened, all_trees};
 ghost use Rattle.data_vio.specs.Zones as numbers;
+ghost use Rattle.core_model.specs.PageLinks.{opened_page};
 ghost use Rattle.core_model.specs.Sessions.{Session, IsServed};
 ghost use Rattle.core_model.specs.SessionLimits.{most_requests, most_streams, most_zones, requests_in};
 ghost use Rattle.core_model.specs.Start.{IsFirst, IsFirstZone, IsFirstData};
 ghost use Rattle.plain_laws.specs.Sums.{Each};
 ghost use Rattle.vdo_core.specs.Plays.{core_with};
+ghost use Rattle.vdo_core.specs.FreeBlocks.{free_of};
 ghost use Rattle.vdo_core.specs.Starts.{IsOf};
 
 use crate::numbers::{
     DESK, device_number, journal_number, logical_number, physical_number, zone_count,
 };
 use crate::zones::Zones;
-use blk_base::{Entry, Pbn};
+use blk_base::{Opened, Pbn};
 use core_model::{Desk, Ports, Zone, ZoneData};
 use data_vio::Sizes;
 use std::alloc::{AllocError, Global};
-use vdo_model::{ReportList, Requests};
-
-// A copy of the entries, the oldest first.
-fn copied(alloc: Global, window: &[Entry]) -> Result<ReportList<Entry>, AllocError>
-    ensures { IfOk result (λ rows. rows ≡ reverse window.now) }
-{
-    let mut rows = ReportList::new(alloc);
-    for entry in window {
-        rows.push(*entry)?;
-    }
-    Ok(rows)
-}
+use vdo_model::Requests;
 
 // An item more, behind the others.
 fn push<T: Drop>(items: &mut Vec<T>, item: T) -> Result<(), AllocError>
@@ -67,22 +58,22 @@ fn add(
 fn add_logical(
     alloc: Global,
     sizes: &Sizes,
-    window: &[Entry],
+    opened: &Opened,
     zones: &mut Vec<Zone>,
 ) -> Result<(), AllocError>
     requires desk { length zones.old.items ≡ 1 }
-    requires geometry { IsGeometry sizes.now.geometry }
+    requires geometry { IsGeometry opened.now.head.geometry }
+    requires same { sizes.now.geometry ≡ opened.now.head.geometry }
     requires zones { sizes.now.zones ≤ most_zones }
-    requires of_image { AllByRecursion (IsOfImage sizes.now.geometry) (reverse window.now) }
+    requires pages { IsOpened (all_trees opened.now.head.geometry) opened.now.pages.items }
     ensures count { OnOk result (length zones.new.items ≡ 1 + sizes.now.zones) }
     ensures first { OnOk result
-        ((s : Session) → s.sizes ≡ sizes.now → s.window ≡ reverse window.now →
+        ((s : Session) → s.sizes ≡ sizes.now → s.links ≡ opened_page opened.now.pages.items →
         Each (IsFirstZone s) zones.old.items → Each (IsFirstZone s) zones.new.items) }
 {
     for zone in 0..sizes.zones {
         let number = logical_number(zone);
-        let window = copied(alloc, window)?;
-        let logical = logical_zone::first(alloc, sizes, zone, window)?;
+        let logical = logical_zone::first(alloc, sizes, opened, zone)?;
         add(alloc, sizes, number, ZoneData::Logical(logical), zones)?;
     }
     Ok(())
@@ -98,7 +89,6 @@ fn add_others(
     requires count { length zones.old.items ≡ numbers.physical_number sizes.now }
     requires geometry { IsGeometry sizes.now.geometry }
     requires start { (1 ≤ sizes.now.start) × (sizes.now.start < 2 ^ 54) }
-    requires room { sizes.now.opened + 1 ≤ sizes.now.geometry.journal }
     ensures count { OnOk result (length zones.new.items ≡ numbers.zone_count sizes.now) }
     ensures first { OnOk result
         ((s : Session) → s.sizes ≡ sizes.now → s.free ≡ free.items →
@@ -119,32 +109,33 @@ fn add_others(
     Ok(())
 }
 
-/// The core at the start of a session: it has the requests, no one of which is begun, the entries of the window, the
-/// oldest first, which are of the image, and the free data blocks. There are 4 logical zones at most. Each request must be one that is served, and there may be 16 streams and 65,536
-/// requests in all. It takes all the room that the session will need, and fails where no memory is found for it.
+/// The core at the start of a session: it has the requests, no one of which is begun, the pages that the opened image links,
+/// and the free data blocks. There are 4 logical zones at most. Each request must be one that is served, and there may be 16
+/// streams and 65,536 requests in all. It takes all the room that the session will need, and fails where no memory is found
+/// for it.
 pub fn begin(
     alloc: Global,
     sizes: &Sizes,
     requests: Requests,
-    window: &[Entry],
+    opened: &Opened,
     free: Vec<Pbn>,
 ) -> Result<Zones, AllocError>
     requires geometry { IsGeometry sizes.now.geometry }
+    requires same { sizes.now.geometry ≡ opened.now.head.geometry }
     requires start { (1 ≤ sizes.now.start) × (sizes.now.start < 2 ^ 54) }
-    requires room { sizes.now.opened + 1 ≤ sizes.now.geometry.journal }
     requires zones { sizes.now.zones ≤ most_zones }
-    requires of_image { AllByRecursion (IsOfImage sizes.now.geometry) (reverse window.now) }
+    requires pages { IsOpened (all_trees opened.now.head.geometry) opened.now.pages.items }
+    requires free { free.items ≡ free_of opened.now }
     requires served { AllByRecursion (AllByRecursion IsServed) requests }
     requires streams { length requests ≤ most_streams }
     requires few { requests_in requests ≤ most_requests }
     ensures { IfOk result (λ zones.
-        (s : Session) → IsOf s sizes.now requests (reverse window.now) free.items →
-        IsFirst s (core_with zones [])) }
+        (s : Session) → IsOf s sizes.now requests opened.now → IsFirst s (core_with zones [])) }
 {
     let mut zones = Vec::new(alloc);
     let desk = Desk::new(alloc, requests)?;
     add(alloc, sizes, DESK, ZoneData::Desk(desk), &mut zones)?;
-    add_logical(alloc, sizes, window, &mut zones)?;
+    add_logical(alloc, sizes, opened, &mut zones)?;
     add_others(alloc, sizes, free, &mut zones)?;
     Zones::from_vec(alloc, zones)
 }

@@ -1,21 +1,18 @@
 -- The device's calls: what they write, what reads give, and which data blocks they are of.
 use Rattle.std.proofs.Common.{◌≡◌, ◌≢◌, ℕ, zero, suc, ◌*◌, ◌/◌, ◌%◌, ◌<◌, ◌≤◌, ◌^◌, Bool, Some, List, [], ◌∷◌, ◌++◌, length, length-append, get_or, subst, inl, inr, arith, ◌⊎◌, false, Option, None, ap, sym, ◌∙◌, ◌+◌, true, refl}
-use Rattle.core_laws.proofs.Common.{all_of, AllByRecursion, AreAllThere, asked, Asks, AtRest, Call, Calls, ComesLast, device_number, entries_of, Entry, entry_of, eqb_tells, every-front, every-get, every-map, filled, Geometry, Happening, HasBlocks, HasWholeBlocks, IsAsOpened, IsFair, IsFresh, IsServed, IsSession, IsWrite, Lba, log, Remapping, Mapping, MayFollow, newest, NewStands, of_address, OnBlock, OnItsWay, Pbn, Quiet, ReadsAs, ReadsBlock, Request, request_at, RightTrace, sealed, Session, Shown, Stands, Trace, value_from, value_written, Writer, Logged, Makes, Remaps, remappings, durable, journaled, new_of, NewPage as MadePage, applied, passed}
+use Rattle.core_laws.proofs.Common.{all_of, AllByRecursion, AreAllThere, asked, Asks, AtRest, Call, Calls, ComesLast, device_number, Entry, entry_of, eqb_tells, every-front, every-get, every-map, filled, Geometry, Happening, HasBlocks, IsAsOpened, IsFair, IsFresh, IsServed, IsSession, IsWrite, Lba, log, Remapping, Mapping, MayFollow, newest, NewStands, of_address, OnBlock, OnItsWay, Pbn, Quiet, ReadsAs, ReadsBlock, Request, request_at, RightTrace, sealed, Session, Shown, Stands, Trace, value_from, value_written, Writer, Logged, Makes, Remaps, remappings, durable, journaled, new_of, NewPage as MadePage, applied, passed, mapped_or, mapping_by, opened_at}
 use Rattle.core_laws.proofs.trace.PassesOfTrace.{cut_passed}
 use Rattle.std.proofs.Math.Nat.{div-le_self, mod-lt, mul-le-mul_left}
 use Rattle.std.proofs.lemmas.List.Elements.{All-from_recursion}
 use Rattle.blk_base.specs.Limits.{IsGeometry, logical_limit}
 use Rattle.blk_base.specs.Regions.{IsDataBlock, journal_slot_of, needed_blocks, slab_stride_of}
 use Rattle.blk_base.proofs.RegionLaws.{data_block_high, data_block_inside}
-use Rattle.blk_base.specs.declared.journal_entry.Entry.TheVariants.{Remap, NewPage}
 use Rattle.blk_base.specs.declared.place.Mapping.TheVariants.{Unmapped, Zero, At}
 use Rattle.disk_model.specs.Log.{block_at, Misses, settled}
 use Rattle.disk_model.specs.declared.call.Call.TheVariants.{Write}
-use Rattle.image_layout.specs.Values.{mapping_of, value_in, value_of}
 use Rattle.stop_laws.specs.Journals.{MissesJournal, block_of_slot}
 use Rattle.disk_model.specs.Images.{IsMixOf}
 use Rattle.disk_model.proofs.ImageLaws.{settled_are_contents, block_of_mix, settled-write}
-use Rattle.core_model.specs.LogicalRules.{mapped_by}
 use Rattle.core_laws.proofs.lists.Zeros.{zeros_length}
 use Rattle.blk_base.specs.declared.place.PageId.{PageId}
 use Rattle.image_model.specs.Pages.{IsBelowRoot}
@@ -24,17 +21,19 @@ use Rattle.byte_fields.specs.Mappings.{HoldsMapping}
 use Rattle.journal_codec.specs.Grammar.{HoldsEntry}
 use Rattle.core_laws.proofs.kept.ActKept.{shown_kept}
 use Rattle.core_laws.proofs.kept.Keys.{Key, OfBlock, OfJournal, Spares, Clears, OfAddress, OfPage, OfRequest}
-use Rattle.core_laws.proofs.kept.StandsOn.{AreElsewhere, IsCallOf, SparesBlocks, block_spared, call_sealed, entered_parts, failed, journal_spared, map_kept, new_kept, new_reads_kept, on_each, pages_kept, spares_all, succeeded, write_spares, SparesBlock, superblock_kept}
+use Rattle.core_laws.proofs.kept.StandsOn.{AreElsewhere, IsCallOf, SparesBlocks, block_spared, call_sealed, entered_parts, failed, harmed, journal_spared, left_kept, map_kept, new_kept, new_reads_kept, on_each, pages_kept, spares_all, succeeded, write_spares, SparesBlock, superblock_kept}
 use Rattle.blk_base.specs.declared.request.Request.TheVariants as request
 use Rattle.disk_model.specs.Log as device
 use Rattle.data_vio.specs.declared.items.Asks.TheVariants as asks
 use Rattle.core_laws.proofs.journal.SealedBlocks.{block_has, block_length, blocks_length, heads_start}
 use Rattle.core_laws.proofs.lists.CoreLists.{newest_has}
-use Rattle.core_laws.proofs.kept.Spared.{SparesAddress, SparesPage, SparesRequest, mapping_by, mapping_same}
-use Rattle.journal_stops.specs.Rings.{IsAtRest, IsWhole, place_of}
+use Rattle.core_laws.proofs.kept.Spared.{SparesAddress, SparesPage, SparesRequest, mapping_same}
+use Rattle.journal_stops.specs.Rings.{IsWhole, place_of}
 use Rattle.journal_stops.specs.Sealed.{IsSealed, next_of}
 use Rattle.journal_stops.proofs.StepLaws.{begins, is_written}
-use Rattle.core_model.specs.Sessions.{HasNoneLeft, blocks_of, sealed_with}
+use Rattle.core_model.specs.Sessions.{IsKept, blocks_of, sealed_with}
+use Rattle.core_laws.proofs.kept.OpenedBlocks.{opened_data}
+use Rattle.image_model.specs.Maps.{value_with}
 use Rattle.image_model.specs.Windows.{IsOfImage, LeadsToData}
 
 -- Data blocks lie behind the journal and inside the image; the blocks that the window names are data blocks.
@@ -45,18 +44,6 @@ blocks_fit g sizes =
     let stride : slab_stride_of g ≤ 40000 = omega (arith, sizes.slab_blocks, sizes.slab_journal) in
     let slabs : g.slabs * slab_stride_of g ≤ g.slabs * 40000 = mul-le-mul_left g.slabs stride in
     omega (arith, slabs, sizes.slabs, sizes.journal, sizes.index)
-
-pub mapped_data : (g : Geometry) (entries : List Entry) (a : ℕ) (x : Pbn) → AllByRecursion (IsOfImage g) entries → mapping_of entries a ≡ At x → IsDataBlock g x.0
-mapped_data g [] a x each is = absurd cc
-mapped_data g (Remap at old new ∷ older) a x each is = elim (eqb_tells at.0 a) [
-  | inl same ↦ let new_is : new ≡ At x = rw same.0 at is in subst (LeadsToData g) new_is each.0.2
-  | inr other ↦ let rest : mapping_of older a ≡ At x = rw other.0 at is in mapped_data g older a x each.1 rest
-]
-mapped_data g (NewPage page at ∷ older) a x each is = mapped_data g older a x each.1 is
-
--- Where the window maps an address is a data block.
-pub window_data : (s : Session) (a : ℕ) (x : Pbn) → IsSession s → mapping_of s.window a ≡ At x → IsDataBlock s.sizes.geometry x.0
-window_data s a x session is = mapped_data s.sizes.geometry s.window a x session.of_image is
 
 -- A write of a data block is none of the journal, nor of the superblock; a write of the journal none of a data block.
 pub data_misses : (g : Geometry) (x : Pbn) (bytes : List ℕ) (ok : Bool) → IsDataBlock g x.0 → MissesJournal g (Write x bytes ok)
@@ -92,9 +79,9 @@ whole_written s w asks.Read at bytes session is = zeros_length
 whole_written s w asks.Discard at bytes session is = zeros_length
 whole_written s w asks.Flush at bytes session is = zeros_length
 
--- A block that the window names had 4096 bytes.
-pub window_whole : (s : Session) (a : ℕ) (x : Pbn) → IsSession s → IsAsOpened s → mapping_of s.window a ≡ At x → length (block_at s.image x.0) ≡ 4096
-window_whole s a x session opened is = opened.one_image.whole x.0 (omega (arith, data_block_inside s.sizes.geometry x.0 (window_data s a x session is), opened.room))
+-- A block to which the opened image maps an address had 4096 bytes.
+pub opened_whole : (s : Session) (a : ℕ) (x : Pbn) → IsAsOpened s → opened_at s a ≡ At x → length (block_at s.image x.0) ≡ 4096
+opened_whole s a x opened is = opened.one_image.whole x.0 (omega (arith, data_block_inside s.sizes.geometry x.0 (opened_data s opened a x is), opened.room))
 
 -- A read of the device gives the value of its address, where the session is fair.
 
@@ -102,13 +89,13 @@ window_whole s a x session opened is = opened.one_image.whole x.0 (omega (arith,
 pub stands_reads : (s : Session) (t : Trace) (x : ℕ) (bytes : List ℕ) → Stands s t x bytes → ReadsAs s t x bytes
 stands_reads s t x bytes k = settled_are_contents (λ content. content ≡ bytes) s.blocks (log s t) x k
 
--- Where these writes, on top of the window, map an address is a data block.
-pub mapped_is_data : (s : Session) (es : List Logged) (a : ℕ) (x : Pbn) → IsSession s → AreData s (remappings es) → mapping_of (entries_of s.window es) a ≡ At x → IsDataBlock s.sizes.geometry x.0
-mapped_is_data s [] a x session to_data is = window_data s a x session is
-mapped_is_data s (Makes p ∷ es) a x session to_data is = mapped_is_data s es a x session to_data is
-mapped_is_data s (Remaps e ∷ es) a x session to_data is = elim (eqb_tells e.at.0 a) [
+-- Where these writes, on top of the opened image, map an address is a data block.
+pub mapped_is_data : (s : Session) (es : List Logged) (a : ℕ) (x : Pbn) → IsAsOpened s → AreData s (remappings es) → mapping_by s es a ≡ At x → IsDataBlock s.sizes.geometry x.0
+mapped_is_data s [] a x opened to_data is = opened_data s opened a x is
+mapped_is_data s (Makes p ∷ es) a x opened to_data is = mapped_is_data s es a x opened to_data is
+mapped_is_data s (Remaps e ∷ es) a x opened to_data is = elim (eqb_tells e.at.0 a) [
   | inl same ↦ let to : e.new ≡ At x = rw same.0 at is in subst (OnBlock (λ y. IsDataBlock s.sizes.geometry y.0)) to to_data.0
-  | inr other ↦ mapped_is_data s es a x session to_data.1 (rw other.0 at is)
+  | inr other ↦ mapped_is_data s es a x opened to_data.1 (rw other.0 at is)
 ]
 
 -- a list in front of another that is no longer is empty
@@ -120,14 +107,14 @@ none_between front (e ∷ between) behind is =
     let rest = length-append between behind in
     absurd (omega (arith, longer, all, rest))
 
--- What an address has, by its last write or the window.
+-- What an address has, by its last write or the opened image.
 module _ (s : Session) (t : Trace) (session : IsSession s) (right : RightTrace s t) (fair : IsFair s t) where
   newest_of : (P : Remapping → Type 0) (es : List Remapping) (a : ℕ) (e : Remapping) → newest (of_address a es) ≡ Some e → AllByRecursion P es → P e
   newest_of P es a e is all = newest_has P (of_address a es) e is (each_of_address P a es all)
 
   -- a value that is mapped to a block is whole
-  pub value_whole : (es : List Remapping) (a : ℕ) (x : Pbn) (o : Option Remapping) → AllByRecursion (IsWrite s t) es → newest (of_address a es) ≡ o → mapped_by o (mapping_of s.window a) ≡ At x → length (value_from s a o) ≡ 4096
-  value_whole es a x None writes is maps = let value : value_of s.image s.window a ≡ device.block_at s.image x.0 = ap (value_in s.image) maps in ap length value ∙ window_whole s a x session fair.opened maps
+  pub value_whole : (es : List Remapping) (a : ℕ) (x : Pbn) (o : Option Remapping) → AllByRecursion (IsWrite s t) es → newest (of_address a es) ≡ o → mapped_or o (opened_at s a) ≡ At x → length (value_from s a o) ≡ 4096
+  value_whole es a x None writes is maps = let value : value_from s a None ≡ device.block_at s.image x.0 = ap (value_with s.image) maps in ap length value ∙ opened_whole s a x fair.opened maps
   value_whole es a x (Some e) writes is maps =
       let write = newest_of (IsWrite s t) es a e is writes in
       ap (λ o. length (value_written o)) write.asked ∙ whole_written s e.request write.asks e.at write.bytes session write.asked
@@ -137,13 +124,13 @@ module _ (s : Session) (t : Trace) (session : IsSession s) (right : RightTrace s
   changes a es = of_address a (remappings es)
 
   abbrev StandsHere : ℕ → List Logged → Type 0
-  StandsHere a es = OnBlock (λ x. Stands s t x.0 (value_from s a (newest (of_address a (remappings es))))) (mapping_of (entries_of s.window es) a)
+  StandsHere a es = OnBlock (λ x. Stands s t x.0 (value_from s a (newest (of_address a (remappings es))))) (mapping_by s es a)
 
   -- it is said by the entries of the address alone
   stands_same : (a : ℕ) (es fs : List Logged) → of_address a (remappings es) ≡ of_address a (remappings fs) → StandsHere a es → StandsHere a fs
   stands_same a es fs same k =
-      subst (λ (m : Mapping). OnBlock (λ x. Stands s t x.0 (value_from s a (newest (of_address a (remappings fs))))) m) (mapping_same s.window es fs a same)
-      (subst (λ (xs : List Remapping). OnBlock (λ x. Stands s t x.0 (value_from s a (newest xs))) (mapping_of (entries_of s.window es) a)) same k)
+      subst (λ (m : Mapping). OnBlock (λ x. Stands s t x.0 (value_from s a (newest (of_address a (remappings fs))))) m) (mapping_same s es fs a same)
+      (subst (λ (xs : List Remapping). OnBlock (λ x. Stands s t x.0 (value_from s a (newest xs))) (mapping_by s es a)) same k)
 
   quiet_stands : (a : ℕ) → Quiet t a → AreAllThere s t ⊎ ComesLast s t → StandsHere a (durable t)
   quiet_stands a quiet (inl k) = stands_same a (all_of (sealed t)) (durable t) same (k.stands.1 a)
@@ -165,12 +152,12 @@ module _ (s : Session) (t : Trace) (session : IsSession s) (right : RightTrace s
       by (inr way) = way.1 a
 
   -- a read of the block that an address is mapped to gives its value
-  pub read_value : (a : ℕ) (latest : Option Remapping) (x : Pbn) (bytes : List ℕ) → Quiet t a → latest ≡ newest (changes a (applied t)) → mapped_by latest (mapping_of s.window a) ≡ At x
+  pub read_value : (a : ℕ) (latest : Option Remapping) (x : Pbn) (bytes : List ℕ) → Quiet t a → latest ≡ newest (changes a (applied t)) → mapped_or latest (opened_at s a) ≡ At x
       → length bytes ≡ 4096 → IsMixOf (device.settled s.blocks (log s t) x.0) bytes → bytes ≡ value_from s a latest
   read_value a latest x bytes quiet is maps size mix =
       let same : newest (changes a (durable t)) ≡ latest = ap newest (cut_passed a (remappings (durable t)) (remappings (applied t)) (passed t) quiet.all_done) ∙ sym is in
       let writes = (every-front (IsWrite s t) (remappings (applied t)) (passed t) (done_writes s t right)).0 in
-      let maps_now : mapping_of (entries_of s.window (durable t)) a ≡ At x = mapping_by s.window (durable t) a ∙ ap (λ o. mapped_by o (mapping_of s.window a)) same ∙ maps in
+      let maps_now : mapping_by s (durable t) a ≡ At x = ap (λ o. mapped_or o (opened_at s a)) same ∙ maps in
       let here : Stands s t x.0 (value_from s a (newest (changes a (durable t))))
       = subst (OnBlock (λ y. Stands s t y.0 (value_from s a (newest (changes a (durable t)))))) maps_now (quiet_stands a quiet (shown_of s t right fair).journal) in
       let stands : Stands s t x.0 (value_from s a latest) = subst (λ (o : Option Remapping). Stands s t x.0 (value_from s a o)) same here in
@@ -185,15 +172,17 @@ pub call_clears : {s : Session} {t : Trace} {n : ℕ} {mine : Key → Type 0} {h
     → Clears s n mine h t
 call_clears succeeded here block journal = record { zone = here; request = tt; address = tt; page = tt; block = block; journal = journal }
 call_clears failed here block journal = record { zone = here; request = tt; address = tt; page = tt; block = block; journal = journal }
+call_clears harmed here block journal = record { zone = here; request = tt; address = tt; page = tt; block = block; journal = journal }
 
 -- a call hands in no entry
 pub call_filled : (t : Trace) {h : Happening} {c : Call} → IsCallOf h c → filled (h ∷ t) ≡ filled t
 call_filled t succeeded = refl
 call_filled t failed = refl
+call_filled t harmed = refl
 
 -- a call that writes nothing
 pub quiet_journal : (s : Session) (t : Trace) {h : Happening} (c : Call) → IsCallOf h c → ((x : ℕ) → Misses c x) → Spares s t h OfJournal
-quiet_journal s t {h} c is misses = (call_sealed s t is, journal_spared s is (λ slot below. misses (block_of_slot slot)), ((λ a x named. block_spared is x.0 (misses x.0)), spares_all h (λ x. block_spared is x (misses x)) (journaled t)))
+quiet_journal s t {h} c is misses = (call_sealed s t is, journal_spared s is (λ slot below. misses (block_of_slot slot)), ((λ x left. block_spared is x (misses x)), spares_all h (λ x. block_spared is x (misses x)) (journaled t)))
 
 pub quiet_call : (s : Session) (t : Trace) {h : Happening} (c : Call) → IsCallOf h c → MayFollow s h t → ((x : ℕ) → Misses c x) → RightTrace s t → RightTrace s (h ∷ t)
 quiet_call s t {h} c is may misses right =
@@ -213,26 +202,29 @@ module _ (s : Session) (t : Trace) {h : Happening} {c : Call} (is : IsCallOf h c
   first_journal = (
     call_sealed s t is,
     journal_spared s is (λ slot below. misses (block_of_slot slot) (λ same. omega (arith, same))),
-    ((λ a x named. data_missed x.0 (window_data s a x session named)), entries_missed (journaled t) (journaled_data s t right)),
+    ((λ x left. block_spared is x (misses x (λ same. let behind = left.behind in omega (arith, same, behind)))), entries_missed (journaled t) (journaled_data s t right)),
   )
 
   pub first_spares : (k : Key) → Spares s t h k
   first_spares (OfRequest w) = by is
     where
-      by : {g : Happening} → IsCallOf g c → SparesRequest g w
+      by : {g : Happening} {d : Call} → IsCallOf g d → SparesRequest g w
       by succeeded = tt
       by failed = tt
+      by harmed = tt
   first_spares (OfAddress a) = by is
     where
-      by : {g : Happening} → IsCallOf g c → SparesAddress g a
+      by : {g : Happening} {d : Call} → IsCallOf g d → SparesAddress g a
       by succeeded = tt
       by failed = tt
+      by harmed = tt
   first_spares (OfBlock x) = data_missed x
   first_spares (OfPage page) = by is
     where
-      by : {g : Happening} → IsCallOf g c → SparesPage g page
+      by : {g : Happening} {d : Call} → IsCallOf g d → SparesPage g page
       by succeeded = tt
       by failed = tt
+      by harmed = tt
   first_spares OfJournal = first_journal
 
 -- the data of a write
@@ -240,7 +232,7 @@ pub store_call : (s : Session) (t : Trace) {h : Happening} (x : Pbn) (bytes : Li
     → RightTrace s t → RightTrace s (h ∷ t)
 store_call s t {h} x bytes ok is may fresh apart right = (
   may,
-  shown_kept s h t (call_sealed s t is) (call_filled t is) (journal_spared s is (data_misses s.sizes.geometry x bytes ok fresh.is_data)) ((λ a y named. block_spared is y.0 (λ same. fresh.unnamed a y named (sym same))), write_spares is (journaled t) apart)
+  shown_kept s h t (call_sealed s t is) (call_filled t is) (journal_spared s is (data_misses s.sizes.geometry x bytes ok fresh.is_data)) ((λ y left. block_spared is y (left.taken x fresh.is_free)), write_spares is (journaled t) apart)
       (block_spared is 0 (data_not_first s.sizes.geometry x.0 fresh.is_data)) (shown_of s t right),
   right,
 )
@@ -251,48 +243,31 @@ store_reads s t x bytes = subst (λ (options : List (List ℕ)). AllByRecursion 
 
 -- The block of some entries.
 
--- where a block is left, the journal of the opened image has whole blocks, and those of the writes stand on them
-pub whole_opening : (s : Session) → IsAsOpened s → s.sizes.opened + 1 < s.sizes.geometry.journal → HasWholeBlocks s
-whole_opening s opened left = by opened.journal
-  where
-    by : HasWholeBlocks s ⊎ HasNoneLeft s → HasWholeBlocks s
-    by (inl whole) = whole
-    by (inr none) = let full = none.full in absurd (omega (arith, full, left))
-
-pub blocks_rest : (s : Session) (t : Trace) (blocks : List (List Logged)) → s.sizes.opened + 1 < s.sizes.geometry.journal → HasBlocks s t blocks
-    → HasWholeBlocks s × IsAtRest s.blocks (log s t) s.sizes.geometry s.sizes.start (blocks_of s blocks)
-blocks_rest s t blocks left (inl rest) = rest
-blocks_rest s t blocks left (inr k) = let full = k.opening.full in absurd (omega (arith, full, left))
-
 logical_small : (height : ℕ) → logical_limit height ≤ 4000000000
 logical_small height = elim (eqb_tells height 2) [ inl same ↦ rw same.0 (omega arith) | inr other ↦ rw other.0 (omega arith) ]
 
--- a mapping to a free block is one that an entry can hold, to a data block
+-- a mapping to a data block is one that an entry can hold
+pub data_held : (g : Geometry) → IsGeometry g → (m : Mapping) → OnBlock (λ x. IsDataBlock g x.0) m → HoldsMapping m
+data_held g sizes Unmapped inside = tt
+data_held g sizes Zero inside = tt
+data_held g sizes (At x) inside =
+    let high = data_block_high g x.0 inside in
+    let low = data_block_inside g x.0 inside in
+    let fits = blocks_fit g sizes in
+    (omega (arith, high), omega (arith, low, fits))
+
 pub fresh_held : (s : Session) → IsGeometry s.sizes.geometry → (m : Mapping) → OnBlock (IsFresh s) m → HoldsMapping m
-fresh_held s sizes Unmapped fresh = tt
-fresh_held s sizes Zero fresh = tt
-fresh_held s sizes (At x) fresh =
-    let high = data_block_high s.sizes.geometry x.0 fresh.is_data in
-    let fits = blocks_fit s.sizes.geometry sizes in
-    let inside = fresh.inside in
-    (omega (arith, high), omega (arith, inside, fits))
+fresh_held s sizes m fresh = data_held s.sizes.geometry sizes m (on_each m (λ x to free. free.is_data) fresh)
 
 data_led : (g : Geometry) (m : Mapping) → OnBlock (λ x. IsDataBlock g x.0) m → LeadsToData g m
 data_led g Unmapped inside = tt
 data_led g Zero inside = tt
 data_led g (At x) inside = inside
 
--- what the entries map an address to leads to a data block, or to none
-pub old_data : (s : Session) (es : List Logged) (a : ℕ) (m : Mapping) → IsSession s → AreData s (remappings es) → mapping_of (entries_of s.window es) a ≡ m → LeadsToData s.sizes.geometry m
-old_data s es a Unmapped session to_data is = tt
-old_data s es a Zero session to_data is = tt
-old_data s es a (At x) session to_data is = mapped_is_data s es a x session to_data is
-
 -- what the form of the journal needs of an entry
 pub record IsSpelled (s : Session) (e : Remapping) : Type 0 where
   pub below : e.at.0 < s.sizes.geometry.logical
-  pub old_held : HoldsMapping e.old
-  pub old_led : LeadsToData s.sizes.geometry e.old
+  pub old_data : OnBlock (λ x. IsDataBlock s.sizes.geometry x.0) e.old
   pub fresh : OnBlock (IsFresh s) e.new
 
 -- and that of a new page
@@ -332,25 +307,24 @@ module _ (s : Session) (session : IsSession s) where
       let small = logical_small s.sizes.geometry.height in
       let limit = session.sizes.logical.1 in
       let below = is.below in
-      (omega (arith, below, limit, small), is.old_held, fresh_held s session.sizes e.new is.fresh)
+      (omega (arith, below, limit, small), data_held s.sizes.geometry session.sizes e.old is.old_data, fresh_held s session.sizes e.new is.fresh)
 
   spelled_of_image : (e : Logged) → CanStand s e → IsOfImage s.sizes.geometry (entry_of e)
   spelled_of_image (Makes p) is = (is.below, is.fresh.is_data)
-  spelled_of_image (Remaps e) is = (is.below, is.old_led, data_led s.sizes.geometry e.new (on_each e.new (λ x to fresh. fresh.is_data) is.fresh))
+  spelled_of_image (Remaps e) is = (is.below, data_led s.sizes.geometry e.old is.old_data, data_led s.sizes.geometry e.new (on_each e.new (λ x to fresh. fresh.is_data) is.fresh))
 
   -- their block can be sealed behind these
-  pub spelled_sealed : (older : List (List Logged)) (es : List Logged) → HasWholeBlocks s → AllByRecursion (CanStand s) es → length es ≤ 192 → s.sizes.opened + length older + 1 < s.sizes.geometry.journal
+  pub spelled_sealed : (older : List (List Logged)) (es : List Logged) → AllByRecursion (CanStand s) es → length es ≤ 192 → length older + 1 < s.sizes.geometry.journal
       → IsSealed s.sizes.geometry s.sizes.start (blocks_of s older) (sealed_with s es)
-  spelled_sealed older es whole each few left =
+  spelled_sealed older es each few left =
       let some = session.start.0 in
       let low = session.start.1 in
       let most = session.sizes.journal.1 in
-      let opened = whole.opened in
       let count = blocks_length s older in
-      let head = heads_start s older whole in
+      let head = heads_start s older in
       record {
         holds = record {
-          named = (omega (arith, some), omega (arith, low, left, most, count, opened));
+          named = (omega (arith, some), omega (arith, low, left, most, count));
           head_below = omega arith;
           few = omega (arith, few, block_length s es);
           each = All-from_recursion HoldsEntry (sealed_with s es).entries (block_has s HoldsEntry es (every-map {P = CanStand s} {Q = λ e. HoldsEntry (entry_of e)} spelled_entry es each));
@@ -358,8 +332,8 @@ module _ (s : Session) (session : IsSession s) where
         each = All-from_recursion (IsOfImage s.sizes.geometry) (sealed_with s es).entries
             (block_has s (IsOfImage s.sizes.geometry) es (every-map {P = CanStand s} {Q = λ e. IsOfImage s.sizes.geometry (entry_of e)} spelled_of_image es each));
         rises = omega (arith, head);
-        ring = omega (arith, left, count, opened);
-        reach = omega (arith, left, most, count, opened);
+        ring = omega (arith, left, count);
+        reach = omega (arith, left, most, count);
       }
 
 -- The slot of the next block is written.
@@ -367,7 +341,7 @@ module _ (s : Session) (t : Trace) (older : List (List Logged)) (es : List Logge
     (can_seal : IsSealed s.sizes.geometry s.sizes.start (blocks_of s older) (sealed_with s es))
     (place : slot.0 ≡ place_of s.sizes.geometry (next_of s.sizes.start (blocks_of s older)))
     (says : IsWhole s.sizes.geometry (next_of s.sizes.start (blocks_of s older)) (sealed_with s es) bytes)
-    (right : RightTrace s t) (left : s.sizes.opened + 1 < s.sizes.geometry.journal) (sealed_is : sealed t ≡ es ∷ older) (rest : AtRest s t older) (keeps : NewStands s t es) where
+    (right : RightTrace s t) (opened : IsAsOpened s) (sealed_is : sealed t ≡ es ∷ older) (rest : AtRest s t older) (keeps : NewStands s t es) where
   -- it is no data block
   misses : (x : ℕ) → IsDataBlock s.sizes.geometry x → slot.0 ≢ x
   misses x held = let some = session.sizes.journal.0 in slot_misses s.sizes.geometry (next_of s.sizes.start (blocks_of s older)) slot.0 x (omega (arith, some)) place held
@@ -376,8 +350,13 @@ module _ (s : Session) (t : Trace) (older : List (List Logged)) (es : List Logge
   data_spared h ok is [] to_data = tt
   data_spared h ok is (f ∷ fs) to_data = (on_each (new_of f) (λ x to inside. block_spared is x.0 (misses x.0 inside)) to_data.0, data_spared h ok is fs to_data.1)
 
-  window_spared : (a : ℕ) (x : Pbn) → mapping_of s.window a ≡ At x → slot.0 ≢ x.0
-  window_spared a x named = misses x.0 (window_data s a x session named)
+  -- nor one that the session leaves as it was
+  left_apart : (x : ℕ) → IsKept s x → slot.0 ≢ x
+  left_apart x left same =
+      let some = session.sizes.journal.0 in
+      let below : journal_slot_of s.sizes.geometry (next_of s.sizes.start (blocks_of s older)) < s.sizes.geometry.journal = mod-lt (next_of s.sizes.start (blocks_of s older)) (omega (arith, some)) in
+      let behind = left.behind in
+      omega (arith, same, place, below, behind)
 
   -- the entries, those of the block being filled, and those of the older blocks
   abbrev parts : AllByRecursion (HasBlock s) (filled t) × AllByRecursion (HasBlock s) (es ++ all_of older)
@@ -388,10 +367,9 @@ module _ (s : Session) (t : Trace) (older : List (List Logged)) (es : List Logge
 
   pub slot_way : (ok : Bool) → OnItsWay s (Calls (Write slot bytes ok) ∷ t) older es
   slot_way ok =
-      let sealed_rest = blocks_rest s t older left rest.0 in
       let h = Calls (Write slot bytes ok) in (
-        (sealed_rest.0, begins s.blocks (log s t) s.sizes.geometry s.sizes.start (blocks_of s older) (sealed_with s es) slot bytes ok place can_seal says sealed_rest.1),
-        map_kept s h t (all_of older) (window_spared, data_spared h ok succeeded (all_of older) older_data) rest.1,
+        begins s.blocks (log s t) s.sizes.geometry s.sizes.start (blocks_of s older) (sealed_with s es) slot bytes ok place can_seal says rest.0,
+        map_kept s h t (all_of older) opened (left_apart, data_spared h ok succeeded (all_of older) older_data) rest.1,
         pages_kept s h t (all_of older) (data_spared h ok succeeded (all_of older) older_data) rest.2,
         new_kept s h t es (data_spared h ok succeeded es (every-map {P = λ (e : Logged). OnBlock (IsFresh s) (new_of e)} {Q = HasBlock s} (λ e has. on_each (new_of e) (λ x to free. free.is_data) has) es fresh)) keeps,
       )
@@ -402,6 +380,7 @@ module _ (s : Session) (t : Trace) (older : List (List Logged)) (es : List Logge
   pub slot_shown : (h : Happening) (ok : Bool) → IsCallOf h (Write slot bytes ok) → AtRest s (h ∷ t) older ⊎ OnItsWay s (h ∷ t) older es → durable t ≡ all_of older → Shown s t → Shown s (h ∷ t)
   slot_shown h ok is stands committed_is stood = record {
     superblock = superblock_kept s h t (block_spared is 0 (λ same. omega (arith, same, place))) stood.superblock;
+    kept = left_kept s h t (λ x left. block_spared is x (left_apart x left)) stood.kept;
     journal = inr (record { block = es; older = older; sealed_is = (call_sealed s t is).sealed_same ∙ sealed_is; committed_is = (call_sealed s t is).committed_same ∙ committed_is; stands = stands });
     filling = rw (call_filled t is) (new_reads_kept s h t (filled t) (data_spared h ok is (filled t) parts.0) stood.filling);
   }

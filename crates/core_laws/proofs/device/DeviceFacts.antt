@@ -1,35 +1,41 @@
 -- What the acts of the device zone owe: it stores, loads and flushes for requests, and flushes and writes for sealed blocks.
-use Rattle.std.proofs.Common.{◌≡◌, ℕ, zero, suc, ◌+◌, ◌<◌, ◌≤◌, Bool, true, false, Some, IsSome, List, [], ◌∷◌, ◌++◌, map, refl, ap, sym, ◌∙◌, subst, inl, inr, arith, ◌⊎◌, Option, None, ◌≢◌}
-use Rattle.core_laws.proofs.Common.{all_logged, all_of, AllByRecursion, asked, Asks, AtRest, Call, calls, Calls, DataOk, DeviceZone, each_at, ended, Entry, entry_of, eqb_tells, every-map, Fails, FailureMayFollow, fair_before, Happening, has_read_fault, has_stopped, HasAddress, HasCause, HasWholeBlocks, is_ok, is_read, IsAsOpened, IsChange, IsEarned, IsFair, IsFresh, IsMadeFor, IsOpen, IsSealed, IsSession, IsToFresh, KeptOk, Lba, log, logged, logical_zones, Mapping, MapsTo, moments, NewReads, NewStands, notified, OnBlock, OnItsWay, Pbn, place_of, places, Post, ReadsAs, ReadsBlock, request_of, RightTrace, same_self, same_Some, SealedBlock, Session, Shown, Sizes, some_is, Stage, StandsAt, Trace, value_at, value_from, Vio, VioOk, Writer, zone_count, zone_number, applied, journaled, Logged, new_of, remappings, passed, every-front, MayReply, turned, Item, ItemOk, SuperblockStage, superblock_stage}
+use Rattle.std.proofs.Common.{◌≡◌, ℕ, zero, suc, ◌+◌, ◌<◌, ◌≤◌, Bool, true, false, Some, IsNone, IsSome, slice_index_or, List, [], ◌∷◌, ◌++◌, map, refl, ap, sym, ◌∙◌, subst, inl, inr, arith, ◌⊎◌, Option, None, ◌≢◌}
+use Rattle.core_laws.proofs.Common.{all_logged, all_of, AllByRecursion, asked, Asks, AtRest, Call, calls, Calls, DataOk, DeviceZone, each_at, ended, Entry, entry_of, eqb_tells, every-map, Fails, FailureMayFollow, fair_before, Happening, has_read_fault, has_stopped, HasAddress, HasCause, is_ok, is_read, IsAsOpened, IsChange, IsEarned, IsFair, IsFresh, IsMadeFor, IsOpen, IsSealed, IsSession, IsToFresh, KeptOk, Lba, log, logged, logical_zones, Mapping, MapsTo, moments, NewReads, NewStands, notified, OnBlock, OnItsWay, Pbn, place_of, places, Post, ReadsAs, ReadsBlock, request_of, RightTrace, same_self, same_Some, SealedBlock, Session, Shown, Sizes, some_is, Stage, StandsAt, Trace, value_at, value_from, Vio, VioOk, Writer, zone_count, zone_number, applied, journaled, Logged, new_of, remappings, passed, every-front, MayReply, turned, Item, ItemOk, SuperblockStage, superblock_stage, mapped_or, opened_at, Harms, is_harmed, IsForBlock, IsPlaced, entered, logged_of}
 use Rattle.core_laws.proofs.trace.PassesOfTrace.{value_past}
-use Rattle.image_layout.specs.Values.{mapping_of}
 use Rattle.vdo_model.specs.FlushMarks.{IsMark, successes}
 use Rattle.blk_base.specs.declared.place.PageId.{PageId}
-use Rattle.image_model.specs.Pages.{IsBelowRoot}
+use Rattle.image_model.specs.Pages.{IsBelowRoot, leaf_of, slot_of_address}
 use Rattle.core_model.specs.Facts.{CarriesFor, CarriesOwn}
-use Rattle.core_model.specs.PageLinks.{MayLack}
-use Rattle.data_vio.specs.Vios.{logged_for}
+use Rattle.core_model.specs.PageLinks.{MayLack, leaf_head}
+use Rattle.core_model.specs.RightTraces.{HarmMayFollow, IsLeafFor, IsLinkedAt}
+use Rattle.core_model.specs.Trace.{first_of}
+use Rattle.core_laws.proofs.device.LeafReads.{leaf_says_it}
+use Rattle.page_codec.proofs.ReadLaws.{slots}
+use Rattle.page_codec.specs.Grammar.{HoldsMapping, IsPage}
+use Rattle.page_codec.specs.declared.fault.PageFault.{PageFault}
+use Rattle.std.proofs.Math.Nat.{mod-lt}
+use Rattle.vdo_model.specs.declared.report.Damage.TheVariants.{Page}
+use Rattle.data_vio.specs.Vios.{has_leaf, logged_for}
 use Rattle.data_vio.specs.declared.items.Asks.TheVariants.{Read, Write, Discard, Flush}
 use Rattle.core_model.specs.DeskRules.{is_marked, mark_of_vio}
-use Rattle.core_model.specs.DeviceRules.{DeviceServes, counted, page_at, stop_notices, stored, stored_for, DeviceWorks, journal_bytes, IsItsSlot, call_of, next_stage, next_zone, Announces, next_superblock, superblock_call}
-use Rattle.core_model.specs.LogicalRules.{mapped_by}
+use Rattle.core_model.specs.DeviceRules.{DeviceServes, counted, harmed, notices_after, page_at, stop_notices, stored, stored_for, DeviceWorks, journal_bytes, IsItsSlot, call_of, next_stage, next_zone, Announces, next_superblock, superblock_call}
 use Rattle.core_laws.proofs.kept.ActKept.{Known, Mine, weighed, PostOk, ActKept, act_none, act_one, vio_ok, in_bare, in_phase, carries_at, carries_own, unentered_slot, shown_with}
 use Rattle.core_laws.proofs.kept.Keys.{OfBlock, Clears, claim_one, OfJournal}
-use Rattle.core_laws.proofs.device.DeviceCalls.{CanStand, can_fresh, call_clears, data_misses, old_data, quiet_call, quiet_journal, read_value, slot_misses, slot_reads, slot_shown, slot_way, spelled_sealed, store_call, store_reads, whole_opening, call_filled, data_not_first, first_journal, first_spares}
+use Rattle.core_laws.proofs.device.DeviceCalls.{CanStand, can_fresh, call_clears, data_misses, quiet_call, quiet_journal, read_value, slot_misses, slot_reads, slot_shown, slot_way, spelled_sealed, store_call, store_reads, call_filled, data_not_first, first_journal, first_spares}
 use Rattle.core_laws.proofs.journal.SealedBlocks.{blocks_length, entries_in_order, every_logged, logged_length}
-use Rattle.image_model.specs.Windows.{LeadsToData}
 use Rattle.disk_model.specs.Log.{Misses}
-use Rattle.core_laws.proofs.kept.Carried.{by_all, looks_kept, pending_over, sealed_kept, vio_kept, item_kept}
+use Rattle.core_laws.proofs.kept.Carried.{by_all, looks_kept, pending_over, sealed_kept, turn_kept, vio_kept, item_kept}
 use Rattle.core_laws.proofs.journal.JournalFacts.{home_within, may_stop, writes_change}
 use Rattle.core_model.specs.Superblocks.{IsInOrder, stage_after}
 use Rattle.core_model.specs.Sessions.{SuperblockStands}
 use Rattle.core_model.specs.declared.zones.SuperblockStage.TheVariants.{AsOpened, Written, Durable}
-use Rattle.core_laws.proofs.kept.Spared.{mapping_by}
-use Rattle.core_laws.proofs.kept.StandsOn.{AreElsewhere, IsCallOf, block_spared, call_sealed, failed, journal_spared, map_kept, map_more, new_kept, on_each, pages_kept, pages_more, rests_kept, rests_unlogged, spares_all, succeeded, way_kept, write_spares}
+use Rattle.core_laws.proofs.kept.StandsOn.{AreElsewhere, IsCallOf, block_spared, call_sealed, failed, harmed as is_harm, journal_spared, map_kept, map_more, new_kept, on_each, pages_kept, pages_more, rests_kept, rests_unlogged, spares_all, succeeded, way_kept, write_spares}
 use Rattle.blk_base.specs.Regions.{journal_slot_of, IsDataBlock}
 use Rattle.journal_codec.specs.Spelling.{block_bytes}
 use Rattle.stop_laws.specs.Journals.{block_of_slot}
-use Rattle.blk_base.specs.declared.place.Mapping.TheVariants.{At}
+use Rattle.blk_base.specs.declared.geometry.Geometry.{Geometry}
+use Rattle.blk_base.specs.declared.place.Mapping.TheVariants.{At, Unmapped, Zero}
+use Rattle.blk_base.specs.declared.request.Answer.{Answer as Reply}
 use Rattle.blk_base.specs.declared.place.ZoneId.TheVariants as id
 use Rattle.blk_base.specs.declared.request.Answer.TheVariants as reply
 use Rattle.disk_model.specs.declared.call.Call.TheVariants as call
@@ -42,7 +48,7 @@ use Rattle.journal_stops.specs.Rings.{IsWhole, place_of as slot_place}
 use Rattle.journal_stops.specs.Sealed.{next_of}
 use Rattle.journal_stops.proofs.StepLaws.{spelled_whole, ends}
 use Rattle.core_model.specs.Sessions.{blocks_of, sealed_with}
-use Rattle.core_laws.proofs.trace.DeskOfTrace.{HasData, all_done, committed_data, shown_of}
+use Rattle.core_laws.proofs.trace.DeskOfTrace.{shown_of}
 use Rattle.journal_stops.specs.Sealed.{IsSealed as IsSealedBlock}
 
 -- the stop notices
@@ -86,7 +92,7 @@ module _ {s : Session} {t : Trace} {n : ℕ} {old : DeviceZone} (own : DataOk s 
   pub after_call_to : (c : Call) (next : SuperblockStage) → is_ok c ≡ true → next ≡ superblock_stage (Calls c ∷ t) → DataOk s (Calls c ∷ t) n (at.Device (record (counted old) { superblock = next }))
   after_call_to c next is to = record {
     number_is = own.number_is;
-    lists = record { calls_is = ap (λ m. m + 1) own.lists.calls_is ∙ sym (success c (calls t) is); stopped_is = own.lists.stopped_is; superblock_is = to };
+    lists = record { calls_is = ap (λ m. m + 1) own.lists.calls_is ∙ sym (success c (calls t) is); stopped_is = own.lists.stopped_is; superblock_is = to; damage_is = own.lists.damage_is };
     sound = tt;
     kept = tt;
     answers = tt;
@@ -98,11 +104,60 @@ module _ {s : Session} {t : Trace} {n : ℕ} {old : DeviceZone} (own : DataOk s 
   after_call c is stays = after_call_to c old.superblock is (own.lists.superblock_is ∙ sym stays)
 
   pub after_failure : (w : Writer) (c : Call) (kept : Bool) (stopped : Bool) → is_ok c ≡ false → stopped ≡ has_stopped (Fails w c kept ∷ t) → DataOk s (Fails w c kept ∷ t) n (at.Device (record old { stopped = stopped }))
-  after_failure w c kept stopped fails is = record { number_is = own.number_is; lists = record { calls_is = not_counted kept; stopped_is = is; superblock_is = own.lists.superblock_is }; sound = tt; kept = tt; answers = tt; told = tt }
+  after_failure w c kept stopped fails is = record { number_is = own.number_is; lists = record { calls_is = not_counted kept; stopped_is = is; superblock_is = own.lists.superblock_is; damage_is = own.lists.damage_is }; sound = tt; kept = tt; answers = tt; told = tt }
     where
       not_counted : (kept : Bool) → old.calls ≡ successes (calls (Fails w c kept ∷ t))
       not_counted true = own.lists.calls_is ∙ sym (no_success c (calls t) fails)
       not_counted false = own.lists.calls_is
+
+  -- and after it read a leaf that doesn't decode
+  pub after_harm : (w : Writer) (x : Pbn) (bytes : List ℕ) (fault : PageFault) → DataOk s (Harms w x bytes fault ∷ t) n (at.Device (harmed (Page x fault) (counted old)))
+  after_harm w x bytes fault = record {
+    number_is = own.number_is;
+    lists = record {
+      calls_is = ap (λ m. m + 1) own.lists.calls_is ∙ sym (success (call.Read x bytes true) (calls t) refl);
+      stopped_is = refl;
+      superblock_is = own.lists.superblock_is;
+      damage_is = ap (λ d. first_of d (Page x fault)) own.lists.damage_is;
+    };
+    sound = tt;
+    kept = tt;
+    answers = tt;
+    told = tt;
+  }
+
+-- a mapping that a page can hold is to a data block, or to none
+held_data : (g : Geometry) (level : ℕ) (m : Mapping) → HoldsMapping g level m → OnBlock (λ x. IsDataBlock g x.0) m
+held_data g level Unmapped held = tt
+held_data g level Zero held = tt
+held_data g level (At x) held = held.0
+
+-- a request whose leaf can't be read, or doesn't decode, may be answered so
+leaf_cause : (s : Session) (t : Trace) (w : Writer) (q : Asks) (at : Lba) (bytes : List ℕ) (a : Reply) → ((a ≡ reply.ReadFault) × (has_read_fault t w ≡ true)) ⊎ ((a ≡ reply.Damaged) × (is_harmed t w ≡ true)) → IsForBlock q
+    → IsSome (place_of (places t) w) → IsNone (logged_of (entered t) w) → HasCause s t w (asked q at bytes) a
+leaf_cause s t w Read at bytes a (inl (is, fault)) block placed none = rw is (placed, fault)
+leaf_cause s t w Write at bytes a (inl (is, fault)) block placed none = rw is (placed, none, fault)
+leaf_cause s t w Discard at bytes a (inl (is, fault)) block placed none = rw is (placed, none, fault)
+leaf_cause s t w Flush at bytes a (inl fault) block placed none = absurd block
+leaf_cause s t w Read at bytes a (inr (is, harm)) block placed none = rw is (placed, harm)
+leaf_cause s t w Write at bytes a (inr (is, harm)) block placed none = rw is (placed, none, harm)
+leaf_cause s t w Discard at bytes a (inr (is, harm)) block placed none = rw is (placed, none, harm)
+leaf_cause s t w Flush at bytes a (inr harm) block placed none = absurd block
+
+-- it isn't one of a flush that returned
+unmarked : (q : Asks) (a : Reply) → (a ≡ reply.ReadFault) ⊎ (a ≡ reply.Damaged) → is_marked q a ≡ false
+unmarked q a (inl is) = rw is refl
+unmarked q a (inr is) = rw is refl
+
+leaf_fault : (s : Session) (t : Trace) (v : Vio) (a : Reply) → ((a ≡ reply.ReadFault) × (has_read_fault t v.request ≡ true)) ⊎ ((a ≡ reply.Damaged) × (is_harmed t v.request ≡ true)) → IsPlaced s t v → MayReply s t v (Some a)
+leaf_fault s t v a why placed =
+    subst (IsEarned s t (mark_of_vio v) (request_of v) a) (sym (unmarked v.asks a (elim why [ inl fault ↦ inl fault.0 | inr harm ↦ inr harm.0 ])))
+    (leaf_cause s t v.request v.asks v.at v.bytes a why placed.for_block (some_is _ _ placed.placed) placed.not_entered)
+
+-- the notices after it
+notices_after_ok : (s : Session) (t : Trace) (stopped : Bool) → has_stopped t ≡ true → AllByRecursion (PostOk s t) (notices_after stopped s.sizes)
+notices_after_ok s t true stops = tt
+notices_after_ok s t false stops = notices_ok s t stops
 
 -- what the superblock's call is, and how far it brings it
 announcing : (sizes : Sizes) (now : SuperblockStage) (c : Call) (success : Bool) → superblock_call sizes success now ≡ Some c → (is_ok c ≡ success) × (is_read c ≡ false) × IsInOrder sizes now c × ((x : ℕ) → x ≢ 0 → Misses c x)
@@ -211,7 +266,7 @@ module _ {s : Session} {t : Trace} {n : ℕ} {old : DeviceZone} {v : Vio} (known
         | inl same ↦ inl (subst (λ (z : ℕ). Mine s t (at.Device old) (item.Request v ∷ []) (OfBlock z)) same.1 (weighed (omega (arith, claim_one v x (rw store refl) to))))
         | inr other ↦ inr (λ inside. block_spared is y other.1)
       ])
-      (inr (call_sealed s t is, journal_spared s is (data_misses s.sizes.geometry x bytes success fresh.is_data), ((λ a y named. block_spared is y.0 (λ same. fresh.unnamed a y named (sym same))), write_spares is (journaled t) (unnamed x store to))))
+      (inr (call_sealed s t is, journal_spared s is (data_misses s.sizes.geometry x bytes success fresh.is_data), ((λ y left. block_spared is y (left.taken x fresh.is_free)), write_spares is (journaled t) (unnamed x store to))))
 
   -- its block is a fresh one, whatever it stores
   store_fresh : (x : Pbn) (o : Option PageId) → CarriesFor s t v phase.Store o → v.new ≡ At x → IsFresh s x
@@ -229,7 +284,7 @@ module _ {s : Session} {t : Trace} {n : ℕ} {old : DeviceZone} {v : Vio} (known
   -- and to the zone of its claim, where the session is stopped
   refused_carries : (u : Trace) (o : Option PageId) → RightTrace s u → has_stopped u ≡ true → CarriesFor s u v phase.Store o → CarriesFor s u (ended phase.AbortClaim reply.Stopped v) phase.AbortClaim o
   refused_carries u None right stopped k =
-      let placed = k.0.turn.is_placed in (k.0, may_stop s u v (writes_change v.asks k.1) stopped placed.placed (unentered_slot s u v.request right placed.not_entered))
+      let placed = k.0.turn.is_placed in (k.0.turn, may_stop s u v (writes_change v.asks k.1) stopped placed.placed (unentered_slot s u v.request right placed.not_entered))
   refused_carries u (Some page) right stopped k =
       let placed = k.0.turn.is_placed in (k.0, k.1, may_stop s u v (writes_change v.asks k.0.is_write) stopped placed.placed (unentered_slot s u v.request right placed.not_entered))
 
@@ -240,6 +295,7 @@ module _ {s : Session} {t : Trace} {n : ℕ} {old : DeviceZone} {v : Vio} (known
   store_over : {h : Happening} {c : Call} → IsCallOf h c → CarriesFor s t v phase.Store v.page → CarriesFor s (h ∷ t) v phase.Store v.page
   store_over {h} succeeded k = by_all s h t v phase.Store v.page tt (λ held. tt) (λ page is. tt) (λ enters. absurd cc) k
   store_over {h} failed k = by_all s h t v phase.Store v.page tt (λ held. tt) (λ page is. tt) (λ enters. absurd cc) k
+  store_over {h} is_harm k = by_all s h t v phase.Store v.page tt (λ held. tt) (λ page is. tt) (λ enters. absurd cc) k
 
   -- it comes once the superblock is durable, and writes another block
   in_order : (x : Pbn) (bytes : List ℕ) (success : Bool) → IsFresh s x → old.superblock ≡ Durable → IsInOrder s.sizes (superblock_stage t) (call.Write x bytes success)
@@ -255,14 +311,50 @@ module _ {s : Session} {t : Trace} {n : ℕ} {old : DeviceZone} {v : Vio} (known
   made_for : (x : Pbn) (bytes : List ℕ) (success : Bool) → v.phase ≡ phase.Load → v.old ≡ At x → IsMadeFor s t v.request (call.Read x bytes success)
   made_for x bytes success is from =
       let carries = (looks_at is).1 in
-      (v.at, (vio_ok known).asked ∙ ap (λ q. Some (asked q v.at v.bytes)) carries.0.is_read, sym carries.0.held.old_is ∙ from)
+      inr (v.at, (vio_ok known).asked ∙ ap (λ q. Some (asked q v.at v.bytes)) carries.0.is_read, λ fair. sym (carries.0.held.old_is fair) ∙ from)
+
+  -- a request that needs its leaf
+  needs_at : v.phase ≡ phase.LoadLeaf → (v.page ≡ None) × CarriesOwn s t v phase.LoadLeaf
+  needs_at is = in_bare known phase.LoadLeaf is (λ page none. none)
+
+  leaf_stands : (x : Pbn) → v.phase ≡ phase.LoadLeaf → v.leaf ≡ Some x → IsLinkedAt s t (leaf_of v.at.0) x
+  leaf_stands x is at =
+      let needs = (needs_at is).1.2 in
+      subst (IsLinkedAt s t (leaf_of v.at.0)) (same_Some _ _ (sym needs.block_is ∙ at)) needs.stands
+
+  abbrev leaf_for : (x : Pbn) → v.phase ≡ phase.LoadLeaf → v.leaf ≡ Some x → IsLeafFor s t v.request x
+  leaf_for x is at = record { asks = v.asks; at = v.at; bytes = v.bytes; asked = (vio_ok known).asked; stands = leaf_stands x is at; unset = (needs_at is).1.2.unset }
+
+  -- it is said what its address is mapped to
+  leaf_carried : (x : Pbn) (bytes : List ℕ) (mappings : List Mapping) → v.phase ≡ phase.LoadLeaf → v.leaf ≡ Some x → IsPage (leaf_head s.sizes.geometry v.at.0 x) bytes mappings
+      → CarriesOwn s (Calls (call.Read x bytes true) ∷ t) (has_leaf (slice_index_or mappings (slot_of_address v.at.0) Unmapped) v) phase.LoadedLeaf
+  leaf_carried x bytes mappings is at page =
+      let h = Calls (call.Read x bytes true) in
+      let k = (needs_at is).1 in
+      let old = slice_index_or mappings (slot_of_address v.at.0) Unmapped in
+      let slot = slots (leaf_head s.sizes.geometry v.at.0 x) bytes mappings (slot_of_address v.at.0) page (mod-lt v.at.0 (omega arith)) in (
+        record {
+          held = record {
+            turn = turn_kept s h t v tt tt k.0;
+            old_data = held_data s.sizes.geometry 0 old slot.held;
+            old_is = λ fair.
+                let before = fair_before s h t fair in
+                leaf_says_it s t known.session known.right before v.at.0 x bytes mappings (leaf_stands x is at) k.2.unset fair.honest.0 page;
+          };
+          leaf = k.2.leaf;
+          unset = k.2.unset;
+          latest = k.2.latest;
+        },
+        k.1,
+      )
 
   load_value : (x : Pbn) (bytes : List ℕ) → v.phase ≡ phase.Load → v.old ≡ At x → IsFair s (Calls (call.Read x bytes true) ∷ t) → bytes ≡ value_at s t v.at.0
   load_value x bytes is from fair =
       let carries = (looks_at is).1 in
-      let maps = ap (λ o. mapped_by o (mapping_of s.window v.at.0)) carries.0.latest ∙ sym (mapping_by s.window (applied t) v.at.0) ∙ sym carries.0.held.old_is ∙ from in
-      read_value s t known.session known.right (fair_before s (Calls (call.Read x bytes true)) t fair) v.at.0 v.latest x bytes carries.0.held.turn.quiet carries.0.latest maps fair.honest.0 fair.honest.1 ∙ ap (value_from s v.at.0) carries.0.latest
-      ∙ sym (value_past s t v.at.0 known.right (remappings (applied t)))
+      let before = fair_before s (Calls (call.Read x bytes true)) t fair in
+      let maps = ap (λ o. mapped_or o (opened_at s v.at.0)) carries.0.latest ∙ sym (carries.0.held.old_is before) ∙ from in
+      read_value s t known.session known.right before v.at.0 v.latest x bytes carries.0.held.turn.quiet carries.0.latest maps fair.honest.0.0 fair.honest.0.1 ∙ ap (value_from s v.at.0) carries.0.latest
+      ∙ sym (value_past s t v.at.0 known.right before.opened (remappings (applied t)))
 
   pub device_serves : (new : DeviceZone) (made : Trace) (posts : List Post) → DeviceServes s.sizes old v new made posts → ActKept s t n (at.Device old) (item.Request v ∷ []) (at.Device new) made posts
   device_serves new made posts (device.announces there act) = device_announces known v.request (vio_ok known).is_open new made posts act
@@ -309,10 +401,35 @@ module _ {s : Session} {t : Trace} {n : ℕ} {old : DeviceZone} {v : Vio} (known
       let h = Fails v.request c kept in
       let k = looks_kept s h t v tt tt (looks_at is).1.0 in
       let aborted : CarriesOwn s (h ∷ t) (ended phase.Abort reply.ReadFault v) phase.Abort
-      = (k.held, cause_fault s (h ∷ t) v.request v.asks v.at v.bytes k.is_read (some_is _ _ k.held.turn.is_placed.placed) (rw (same_self v.request) refl)) in
+      = (k.held.turn, cause_fault s (h ∷ t) v.request v.asks v.at v.bytes k.is_read (some_is _ _ k.held.turn.is_placed.placed) (rw (same_self v.request) refl)) in
       let may : FailureMayFollow s v.request c t = record { is_open = (vio_ok known).is_open; fails = refl; goes_on = λ (writes : true ≡ false). absurd cc; made_for = made_for x bytes false is from; in_order = tt } in
       rw (e, m, p) (act_one known h (quiet c failed (λ x. tt)) (λ g fair. g (fair_before s h t fair)) (quiet_call s t c failed may (λ x. tt) known.right) (after_failure known.own v.request c kept old.stopped refl known.own.lists.stopped_is)
       ((home, (vio_kept s h t v tt (vio_ok known), carries_own s (h ∷ t) (ended phase.Abort reply.ReadFault v) phase.Abort (looks_at is).0 aborted, refl)), tt))
+  device_serves new made posts (device.loads_leaf x bytes mappings is at ready inside page e m p) =
+      let c = call.Read x bytes true in
+      let here = vio_kept s (Calls c) t v tt (vio_ok known) in
+      let found = has_leaf (slice_index_or mappings (slot_of_address v.at.0) Unmapped) v in
+      rw (e, m, p) (act_one known (Calls c) (quiet c succeeded (λ y. tt)) (λ g fair. g (fair_before s (Calls c) t fair))
+      (quiet_call s t c succeeded (record { succeeds = refl; goes_on = λ (writes : true ≡ false). absurd cc; in_order = tt }) (λ x. tt) known.right) (after_call known.own c refl refl)
+      ((home, (here, carries_own s (Calls c ∷ t) found phase.LoadedLeaf (needs_at is).0 (leaf_carried x bytes mappings is at page), refl)), tt))
+  device_serves new made posts (device.leaf_fails x bytes kept is at ready inside e m p) =
+      let c = call.Read x bytes false in
+      let h = Fails v.request c kept in
+      let needs = (needs_at is).1 in
+      let may : FailureMayFollow s v.request c t = record { is_open = (vio_ok known).is_open; fails = refl; goes_on = λ (writes : true ≡ false). absurd cc; made_for = inl (leaf_for x is at); in_order = tt } in
+      let aborted : CarriesOwn s (h ∷ t) (ended phase.Abort reply.ReadFault v) phase.Abort
+      = (turn_kept s h t v tt tt needs.0, leaf_fault s (h ∷ t) v reply.ReadFault (inl (refl, rw (same_self v.request) refl)) (turn_kept s h t v tt tt needs.0).is_placed) in
+      rw (e, m, p) (act_one known h (quiet c failed (λ x. tt)) (λ g fair. g (fair_before s h t fair)) (quiet_call s t c failed may (λ x. tt) known.right) (after_failure known.own v.request c kept old.stopped refl known.own.lists.stopped_is)
+      ((home, (vio_kept s h t v tt (vio_ok known), carries_own s (h ∷ t) (ended phase.Abort reply.ReadFault v) phase.Abort (needs_at is).0 aborted, refl)), tt))
+  device_serves new made posts (device.harms x bytes fault is at ready inside damaged e m p) =
+      let c = call.Read x bytes true in
+      let h = Harms v.request x bytes fault in
+      let needs = (needs_at is).1 in
+      let may : HarmMayFollow s v.request x bytes fault t = record { is_open = (vio_ok known).is_open; leaf = leaf_for x is at; damaged = damaged } in
+      let aborted : CarriesOwn s (h ∷ t) (ended phase.Abort reply.Damaged v) phase.Abort
+      = (turn_kept s h t v tt tt needs.0, leaf_fault s (h ∷ t) v reply.Damaged (inr (refl, rw (same_self v.request) refl)) (turn_kept s h t v tt tt needs.0).is_placed) in
+      rw (e, m, p) (act_one known h (quiet c is_harm (λ x. tt)) (λ g fair. g (fair_before s h t fair)) (quiet_call s t c is_harm may (λ x. tt) known.right) (after_harm known.own v.request x bytes fault)
+      ((home, (vio_kept s h t v tt (vio_ok known), carries_own s (h ∷ t) (ended phase.Abort reply.Damaged v) phase.Abort (needs_at is).0 aborted, refl)), notices_after_ok s (h ∷ t) old.stopped refl))
   device_serves new made posts (device.flushes is runs durable e m p) =
       let c = call.Flush true in
       let h = Calls c in
@@ -339,16 +456,17 @@ vios_over s t {h} is vs all = every-map {P = KeptOk s t phase.Pending} {Q = Kept
     over : {h : Happening} {c : Call} → IsCallOf h c → (v : Vio) → KeptOk s t phase.Pending v → KeptOk s (h ∷ t) phase.Pending v
     over {h} succeeded v k = pending_over s h t v tt tt (λ page is. tt) k
     over {h} failed v k = pending_over s h t v tt tt (λ page is. tt) k
+    over {h} is_harm v k = pending_over s h t v tt tt (λ page is. tt) k
 
 abbrev sealed_over : (s : Session) (t : Trace) {h : Happening} {c : Call} → IsCallOf h c → (vs : List Vio) (n : ℕ) → IsSealed s t vs n → IsSealed s (h ∷ t) vs n
 sealed_over s t {h} is vs n k = sealed_kept s h t vs n (call_sealed s t is) k
 
 -- a flush keeps what stands, whether it fails or not
-flush_rest : (s : Session) (t : Trace) {h : Happening} {ok : Bool} (blocks : List (List Logged)) → IsCallOf h (call.Flush ok) → AtRest s t blocks → AtRest s (h ∷ t) blocks
-flush_rest s t {h} blocks is k = rests_kept s h t blocks (journal_spared s is (λ slot below. tt)) ((λ a x named. block_spared is x.0 tt), spares_all h (λ x. block_spared is x tt) (all_of blocks)) k
+flush_rest : (s : Session) (t : Trace) {h : Happening} {ok : Bool} (blocks : List (List Logged)) → IsAsOpened s → IsCallOf h (call.Flush ok) → AtRest s t blocks → AtRest s (h ∷ t) blocks
+flush_rest s t {h} blocks opened is k = rests_kept s h t blocks opened (journal_spared s is (λ slot below. tt)) ((λ x left. block_spared is x tt), spares_all h (λ x. block_spared is x tt) (all_of blocks)) k
 
-flush_way : (s : Session) (t : Trace) {h : Happening} {ok : Bool} (older : List (List Logged)) (es : List Logged) → IsCallOf h (call.Flush ok) → OnItsWay s t older es → OnItsWay s (h ∷ t) older es
-flush_way s t {h} older es is k = way_kept s h t older es (journal_spared s is (λ slot below. tt)) ((λ a x named. block_spared is x.0 tt), spares_all h (λ x. block_spared is x tt) (es ++ all_of older)) k
+flush_way : (s : Session) (t : Trace) {h : Happening} {ok : Bool} (older : List (List Logged)) (es : List Logged) → IsAsOpened s → IsCallOf h (call.Flush ok) → OnItsWay s t older es → OnItsWay s (h ∷ t) older es
+flush_way s t {h} older es opened is k = way_kept s h t older es opened (journal_spared s is (λ slot below. tt)) ((λ x left. block_spared is x tt), spares_all h (λ x. block_spared is x tt) (es ++ all_of older)) k
 
 -- one that returns makes what reads give stand
 flushed : (s : Session) (t : Trace) (es : List Logged) → NewReads s t es → NewStands s (Calls (call.Flush true) ∷ t) es
@@ -367,14 +485,13 @@ below_root s Write at bytes page is lacked below = record { address = at.0; insi
 below_root s other at bytes page is lacked below = absurd cc
 
 -- what the form of the journal needs of the entry of a request in a block
-spelled : (s : Session) (t : Trace) (v : Vio) → IsSession s → RightTrace s t → KeptOk s t phase.Pending v → CanStand s (logged v)
-spelled s t v session right k = by v.page v.new refl (carries_at s t v phase.Pending k.2 k.1)
+spelled : (s : Session) (t : Trace) (v : Vio) → KeptOk s t phase.Pending v → CanStand s (logged v)
+spelled s t v k = by v.page v.new refl (carries_at s t v phase.Pending k.2 k.1)
   where
     by : (o : Option PageId) (m : Mapping) → v.new ≡ m → CarriesFor s t v phase.Pending o → CanStand s (logged_for v o m)
     by None m to has = record {
       below = below_logical s v v.asks has.is_entered.is_change k.0.address;
-      old_held = has.old_held;
-      old_led = subst (LeadsToData s.sizes.geometry) (sym has.old_is) (old_data s (applied t) v.at.0 _ session (every-front (HasData s) (remappings (applied t)) (passed t) (all_done (HasData s) s t right (committed_data s t right))).0 refl);
+      old_data = has.old_data;
       fresh = has.fresh;
     }
     by (Some page) (At x) to has = record {
@@ -384,28 +501,22 @@ spelled s t v session right k = by v.page v.new refl (carries_at s t v phase.Pen
     by (Some page) other to has = absurd (subst (IsToFresh s) to has.1)
 
 module _ (s : Session) (t : Trace) (b : SealedBlock) (session : IsSession s) (vios : AllByRecursion (KeptOk s t phase.Pending) b.vios) (right : RightTrace s t) (k : IsSealed s t b.vios b.sequence)
-    (head : b.head ≡ s.sizes.start) (as_opened : IsAsOpened s) where
+    (head : b.head ≡ s.sizes.start) where
   abbrev es : List Logged
   es = all_logged b.vios
 
-  left_before : s.sizes.opened + 1 < s.sizes.geometry.journal
-  left_before = let left = k.left in omega (arith, left)
-
-  whole : HasWholeBlocks s
-  whole = whole_opening s as_opened left_before
-
   sequence_is : b.sequence ≡ next_of s.sizes.start (blocks_of s k.older)
-  sequence_is = let opened = whole.opened in let at = k.sequence in omega (arith, at, opened, blocks_length s k.older)
+  sequence_is = let at = k.sequence in omega (arith, at, blocks_length s k.older)
 
   all_spelled : AllByRecursion (CanStand s) es
-  all_spelled = every_logged (CanStand s) b.vios (every-map {P = KeptOk s t phase.Pending} {Q = λ v. CanStand s (logged v)} (λ v ok. spelled s t v session right ok) b.vios vios)
+  all_spelled = every_logged (CanStand s) b.vios (every-map {P = KeptOk s t phase.Pending} {Q = λ v. CanStand s (logged v)} (λ v ok. spelled s t v ok) b.vios vios)
 
   all_fresh : AllByRecursion (λ (e : Logged). OnBlock (IsFresh s) (new_of e)) es
   all_fresh = every-map {P = CanStand s} {Q = λ (e : Logged). OnBlock (IsFresh s) (new_of e)} (can_fresh s) es all_spelled
 
   -- its block can be sealed behind those that are committed
   can_seal : IsSealedBlock s.sizes.geometry s.sizes.start (blocks_of s k.older) (sealed_with s es)
-  can_seal = let few = k.few in let left = k.left in spelled_sealed s session k.older es whole all_spelled (omega (arith, few, logged_length b.vios)) left
+  can_seal = let few = k.few in let left = k.left in spelled_sealed s session k.older es all_spelled (omega (arith, few, logged_length b.vios)) left
 
   says : IsWhole s.sizes.geometry (next_of s.sizes.start (blocks_of s k.older)) (sealed_with s es) (journal_bytes s.sizes b)
   says =
@@ -426,16 +537,16 @@ module _ (s : Session) (t : Trace) (b : SealedBlock) (session : IsSession s) (vi
   -- the slot is written, where the session is fair
   module _ (right : RightTrace s t) (k : IsSealed s t b.vios b.sequence) (slot : Pbn) (place : IsItsSlot s.sizes b slot) (fair : IsFair s t) (rest : AtRest s t k.older) (new : NewStands s t (all_logged b.vios)) where
     way_on : (ok : Bool) → OnItsWay s (Calls (call.Write slot (journal_bytes s.sizes b) ok) ∷ t) k.older (all_logged b.vios)
-    way_on ok = slot_way s t k.older (all_logged b.vios) slot (journal_bytes s.sizes b) session (all_fresh s t b session vios right k head fair.opened) (can_seal s t b session vios right k head fair.opened)
-        (place_is s t b session vios right k head fair.opened slot place) (says s t b session vios right k head fair.opened) right (left_before s t b session vios right k head fair.opened) k.sealed_is rest new ok
+    way_on ok = slot_way s t k.older (all_logged b.vios) slot (journal_bytes s.sizes b) session (all_fresh s t b session vios right k head) (can_seal s t b session vios right k head)
+        (place_is s t b session vios right k head slot place) (says s t b session vios right k head) right fair.opened k.sealed_is rest new ok
 
     reads_on : ReadsBlock s (Calls (call.Write slot (journal_bytes s.sizes b) true) ∷ t) k.older (all_logged b.vios)
-    reads_on = slot_reads s t k.older (all_logged b.vios) slot (journal_bytes s.sizes b) session (all_fresh s t b session vios right k head fair.opened) (can_seal s t b session vios right k head fair.opened)
-        (place_is s t b session vios right k head fair.opened slot place) (says s t b session vios right k head fair.opened) right (left_before s t b session vios right k head fair.opened) k.sealed_is rest new
+    reads_on = slot_reads s t k.older (all_logged b.vios) slot (journal_bytes s.sizes b) session (all_fresh s t b session vios right k head) (can_seal s t b session vios right k head)
+        (place_is s t b session vios right k head slot place) (says s t b session vios right k head) right fair.opened k.sealed_is rest new
 
     shown_on : (h : Happening) (ok : Bool) → IsCallOf h (call.Write slot (journal_bytes s.sizes b) ok) → AtRest s (h ∷ t) k.older ⊎ OnItsWay s (h ∷ t) k.older (all_logged b.vios) → Shown s (h ∷ t)
-    shown_on h ok is stands = slot_shown s t k.older (all_logged b.vios) slot (journal_bytes s.sizes b) session (all_fresh s t b session vios right k head fair.opened) (can_seal s t b session vios right k head fair.opened)
-        (place_is s t b session vios right k head fair.opened slot place) (says s t b session vios right k head fair.opened) right (left_before s t b session vios right k head fair.opened) k.sealed_is rest new h ok is stands
+    shown_on h ok is stands = slot_shown s t k.older (all_logged b.vios) slot (journal_bytes s.sizes b) session (all_fresh s t b session vios right k head) (can_seal s t b session vios right k head)
+        (place_is s t b session vios right k head slot place) (says s t b session vios right k head) right fair.opened k.sealed_is rest new h ok is stands
         k.committed_is (shown_of s t right fair)
 
   module _ (goes : has_stopped t ≡ false) (durable : superblock_stage t ≡ Durable) where
@@ -450,7 +561,7 @@ module _ (s : Session) (t : Trace) (b : SealedBlock) (session : IsSession s) (vi
           right = quiet_call s t (call.Flush true) succeeded (record { succeeds = refl; goes_on = λ writes. goes; in_order = tt }) (λ x. tt) right;
           stands = (
             sealed_over s t succeeded b.vios b.sequence k,
-            λ fair. let before = stands (fair_before s h t fair) in (flush_rest s t k.older succeeded before.0, flushed s t (all_logged b.vios) before.1),
+            λ fair. let before = stands (fair_before s h t fair) in (flush_rest s t k.older fair.opened succeeded before.0, flushed s t (all_logged b.vios) before.1),
           );
         })
     makes_by stage.Write c slot place is right (k, stands) =
@@ -478,8 +589,8 @@ module _ (s : Session) (t : Trace) (b : SealedBlock) (session : IsSession s) (vi
         let before = stands (fair_before s h t fair) in
         let way = before.0 in
         let new = new_kept s h t (all_logged b.vios) (spares_all h (λ x. tt) (all_logged b.vios)) way.3 in (
-          inl (way.0.0, ends s.blocks (log s t) s.sizes.geometry s.sizes.start (blocks_of s k.older) (sealed_with s (all_logged b.vios)) before.1 way.0.1),
-          map_more s (h ∷ t) (all_logged b.vios) (all_of k.older) (map_kept s h t (all_of k.older) ((λ a x named. tt), spares_all h (λ x. tt) (all_of k.older)) way.1) new,
+          ends s.blocks (log s t) s.sizes.geometry s.sizes.start (blocks_of s k.older) (sealed_with s (all_logged b.vios)) before.1 way.0,
+          map_more s (h ∷ t) (all_logged b.vios) (all_of k.older) (map_kept s h t (all_of k.older) fair.opened ((λ x left. tt), spares_all h (λ x. tt) (all_of k.older)) way.1) new,
           pages_more s (h ∷ t) (all_logged b.vios) (all_of k.older) (pages_kept s h t (all_of k.older) (spares_all h (λ x. tt) (all_of k.older)) way.2) new,
         )) in
         rw (sym (same_Some _ _ is)) (record {
@@ -495,7 +606,7 @@ module _ (s : Session) (t : Trace) (b : SealedBlock) (session : IsSession s) (vi
         let h = Fails w (call.Flush false) kept in
         rw (sym (same_Some _ _ is)) (record {
           right = quiet_call s t {h = h} (call.Flush false) failed (record { is_open = is_open; fails = refl; goes_on = λ writes. goes; made_for = tt; in_order = tt }) (λ x. tt) right;
-          stands = (sealed_over s t {h = h} failed b.vios b.sequence k, (λ fair. inl (flush_rest s t {h = h} k.older failed (stands (fair_before s h t fair)).0)), refl);
+          stands = (sealed_over s t {h = h} failed b.vios b.sequence k, (λ fair. inl (flush_rest s t {h = h} k.older fair.opened failed (stands (fair_before s h t fair)).0)), refl);
         })
     fails_by stage.Write c slot kept w is_open place is right (k, stands) =
         let h = Fails w (call.Write slot (journal_bytes s.sizes b) false) kept in
@@ -519,7 +630,7 @@ module _ (s : Session) (t : Trace) (b : SealedBlock) (session : IsSession s) (vi
         let h = Fails w (call.Flush false) kept in
         rw (sym (same_Some _ _ is)) (record {
           right = quiet_call s t {h = h} (call.Flush false) failed (record { is_open = is_open; fails = refl; goes_on = λ writes. goes; made_for = tt; in_order = tt }) (λ x. tt) right;
-          stands = (sealed_over s t {h = h} failed b.vios b.sequence k, (λ fair. inr (flush_way s t {h = h} k.older (all_logged b.vios) failed (stands (fair_before s h t fair)).0)), refl);
+          stands = (sealed_over s t {h = h} failed b.vios b.sequence k, (λ fair. inr (flush_way s t {h = h} k.older (all_logged b.vios) fair.opened failed (stands (fair_before s h t fair)).0)), refl);
         })
     fails_by other c slot kept w is_open place is right stands = absurd cc
 

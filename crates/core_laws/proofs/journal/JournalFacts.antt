@@ -15,7 +15,7 @@ use Rattle.core_laws.proofs.journal.LogLaws.{filling_length, log_committed, log_
 use Rattle.core_laws.proofs.journal.SealedBlocks.{logged_length}
 use Rattle.core_laws.proofs.kept.Spared.{OffNumber, below_kept, leafy_kept, mapping_same, of_same, quiet_kept}
 use Rattle.core_laws.proofs.kept.BlockNames.{entries_apart}
-use Rattle.core_laws.proofs.kept.StandsOn.{AreElsewhere, SparesBlock, SparesMap, journal_kept, new_reads_kept, on_each, reads_kept, rests_kept, spares_all, superblock_kept}
+use Rattle.core_laws.proofs.kept.StandsOn.{AreElsewhere, SparesBlock, SparesMap, journal_kept, left_kept, new_reads_kept, on_each, reads_kept, rests_kept, spares_all, superblock_kept}
 use Rattle.core_laws.proofs.kept.Carried.{logged_request, pending_over}
 use Rattle.blk_base.specs.declared.place.Mapping.TheVariants.{At, Unmapped, Zero}
 use Rattle.blk_base.specs.declared.place.PageId.{PageId}
@@ -77,7 +77,7 @@ module _ (s : Session) (t : Trace) where
   refused_carries v a carries may = by v.page carries
     where
       by : (o : Option PageId) → CarriesFor s t v phase.Enter o → CarriesFor s t (ended phase.AbortClaim a v) phase.AbortClaim o
-      by None k = (k.0, may k.0.turn.is_placed (maps_change v.asks v.bytes v.new k.1))
+      by None k = (k.0.turn, may k.0.turn.is_placed (maps_change v.asks v.bytes v.new k.1))
       by (Some page) k = (k.0, k.1, may k.0.turn.is_placed (writes_change v.asks k.0.is_write))
 
   pub stopped_post : (v : Vio) → RightTrace s t → has_stopped t ≡ true → VioOk s t v → Carries s t v phase.Enter → PostOk s t (refused s.sizes reply.Stopped v)
@@ -95,7 +95,7 @@ module _ (s : Session) (t : Trace) where
 -- The block being filled.
 
 -- where it has entries, a block of the journal is left for it, and it has no more than it may
-pub filled_left : (s : Session) (t : Trace) → RightTrace s t → 0 < length (filled t) → s.sizes.opened + length (sealed t) + 1 < s.sizes.geometry.journal
+pub filled_left : (s : Session) (t : Trace) → RightTrace s t → 0 < length (filled t) → length (sealed t) + 1 < s.sizes.geometry.journal
 filled_left s [] right some = absurd (omega (arith, some))
 filled_left s (Enters (Remaps e) ∷ t) right some = right.0.left
 filled_left s (Enters (Makes p) ∷ t) right some = right.0.left
@@ -123,7 +123,7 @@ logged_last (u ∷ vs) v = ap (λ (es : List Logged). es ++ logged u ∷ []) (lo
 
 -- a happening that is about none of the blocks of the device
 silent : (s : Session) (t : Trace) (h : Happening) → ((x : ℕ) → SparesBlock h x) → (es : List Logged) → SparesMap s h es
-silent s t h none es = ((λ a x named. none x.0), spares_all h none es)
+silent s t h none es = ((λ x left. none x), spares_all h none es)
 
 -- what a request writes is read, by the script
 reads_now : (s : Session) (t : Trace) (q : Asks) (place : Lba) (bytes : List ℕ) (m : Mapping) → MapsTo q bytes m → OnBlock (λ x. ReadsAs s t x.0 bytes) m
@@ -137,7 +137,7 @@ reads_now s t Flush place bytes m maps reads = absurd maps
 
 -- The entry of a write or a discard is handed in, of its own address.
 module _ (s : Session) (t : Trace) (v : Vio) (right : RightTrace s t) (ok : VioOk s t v) (bare : v.page ≡ None) (carries : CarriesOwn s t v phase.Enter) (unused : OnBlock (λ x. AreElsewhere x.0 (journaled t)) v.new)
-    (left : s.sizes.opened + length (sealed t) + 1 < s.sizes.geometry.journal) (room : length (filled t) < 192) where
+    (left : length (sealed t) + 1 < s.sizes.geometry.journal) (room : length (filled t) < 192) where
   abbrev enters : Happening
   enters = Enters (Remaps (remapping v))
 
@@ -147,7 +147,8 @@ module _ (s : Session) (t : Trace) (v : Vio) (right : RightTrace s t) (ok : VioO
       let stood = shown_of s t right before in
       record {
         superblock = superblock_kept s enters t tt stood.superblock;
-        journal = journal_kept s enters t (record { sealed_same = refl; committed_same = refl }) tt (silent s t enters (λ x. tt) (all_of (sealed t))) stood.journal;
+        kept = left_kept s enters t (λ x left. tt) stood.kept;
+        journal = journal_kept s enters t fair.opened (record { sealed_same = refl; committed_same = refl }) tt (silent s t enters (λ x. tt) (all_of (sealed t))) stood.journal;
         filling = (
           on_each v.new (λ x to reads. reads_kept s enters t x.0 _ tt reads)
               (subst (λ (r : Option Request). OnBlock (λ x. ReadsAs s t x.0 (value_written r)) v.new) (sym ok.asked) (reads_now s t v.asks v.at v.bytes v.new carries.1 (carries.3 before))),
@@ -168,7 +169,8 @@ module _ (s : Session) (t : Trace) (v : Vio) (right : RightTrace s t) (ok : VioO
       new_data = on_each v.new (λ x to fresh. fresh.is_data) carries.2;
       unused = unused;
       leaf = carries.4;
-      old_is = carries.0.old_is ∙ mapping_same s.window (applied t) (durable t) v.at.0 (sym (cut_passed v.at.0 (remappings (durable t)) (remappings (applied t)) (passed t) carries.0.turn.quiet.all_done));
+      old_data = carries.0.old_data;
+      old_is = λ fair. carries.0.old_is fair ∙ mapping_same s (applied t) (durable t) v.at.0 (sym (cut_passed v.at.0 (remappings (durable t)) (remappings (applied t)) (passed t) carries.0.turn.quiet.all_done));
     },
     shown_on,
     right,
@@ -190,15 +192,15 @@ module _ (s : Session) (t : Trace) (v : Vio) (right : RightTrace s t) (ok : VioO
       maps = carries.1;
       fresh = carries.2;
       leaf = carries.4;
-      old_held = carries.0.old_held;
-      old_is = carries.0.old_is;
+      old_data = carries.0.old_data;
+      old_is = λ fair. carries.0.old_is (fair_before s enters t fair);
     }),
     refl,
   )
 
 -- or of the page that it makes
 module _ (s : Session) (t : Trace) (v : Vio) (right : RightTrace s t) (ok : VioOk s t v) (carries : Carries s t v phase.Enter) (unused : OnBlock (λ x. AreElsewhere x.0 (journaled t)) v.new)
-    (left : s.sizes.opened + length (sealed t) + 1 < s.sizes.geometry.journal) (room : length (filled t) < 192) where
+    (left : length (sealed t) + 1 < s.sizes.geometry.journal) (room : length (filled t) < 192) where
   abbrev Handed : Logged → Type 0
   Handed e = RightTrace s (Enters e ∷ t) × KeptOk s (Enters e ∷ t) phase.Pending (turned phase.Pending v)
 
@@ -245,7 +247,7 @@ module _ {s : Session} {t : Trace} {n : ℕ} {old : JournalZone} {v : Vio} (know
     sound : old.broken ≡ false
     sound = (or_parts old.notified old.broken closed).1
 
-    block_left : s.sizes.opened + length (sealed t) + 1 < s.sizes.geometry.journal
+    block_left : length (sealed t) + 1 < s.sizes.geometry.journal
     block_left =
         let less = ltb-true (old.log.sequence + 1) (head_of old.log + old.log.size) block in
         let sequence = known.own.lists.log_is.sequence_is in
@@ -339,7 +341,7 @@ module _ {s : Session} {t : Trace} {n : ℕ} {old : JournalZone} {v : Vio} (know
       let rest = rests_idle s t old.busy old.broken idle (sound is closed block room) known.own.answers in
       rw (e, m, p) (act_one known h (entry_clears is closed block room) (λ g fair. g (fair_before s (Enters (logged v)) t fair)) (entry_right is closed block room)
       (entry_data is closed block room true refl (sound is closed block room))
-      ((omega arith, ((tt, (rest.0, λ fair. rests_kept s h t (sealed t) tt (silent s t h (λ x. tt) (all_of (sealed t))) (rest.1 (fair_before s h t fair))), known.own.lists.log_is.head_is), refl)), tt))
+      ((omega arith, ((tt, (rest.0, λ fair. rests_kept s h t (sealed t) fair.opened tt (silent s t h (λ x. tt) (all_of (sealed t))) (rest.1 (fair_before s h t fair))), known.own.lists.log_is.head_is), refl)), tt))
 
 -- The journal hears that the session is stopped.
 pub journal_notified : {s : Session} {t : Trace} {n : ℕ} {old : JournalZone} → Known s t n (at.Journal old) (item.StopNotice ∷ [])
@@ -441,13 +443,14 @@ module _ {s : Session} {t : Trace} {n : ℕ} {old : JournalZone} {b : SealedBloc
     next = stands.0 ∙ ap (λ (us : List Vio). all_logged us ++ durable t) vios ∙ append_assoc (all_logged vs) (logged v ∷ []) (durable t)
 
     rest_on : IsFair s (commits ∷ t) → AtRest s (commits ∷ t) (sealed t)
-    rest_on fair = rests_kept s commits t (sealed t) tt (silent s t commits (λ x. tt) (all_of (sealed t))) (stands.1 (fair_before s commits t fair))
+    rest_on fair = rests_kept s commits t (sealed t) fair.opened tt (silent s t commits (λ x. tt) (all_of (sealed t))) (stands.1 (fair_before s commits t fair))
 
     commit_shown : IsFair s (commits ∷ t) → Shown s (commits ∷ t)
     commit_shown fair =
         let stood = shown_of s t known.right (fair_before s commits t fair) in
         record {
           superblock = superblock_kept s commits t tt stood.superblock;
+          kept = left_kept s commits t (λ x left. tt) stood.kept;
           journal = inl (record { rest = all_logged vs; all = next; stands = rest_on fair });
           filling = new_reads_kept s commits t (filled t) (spares_all commits (λ x. tt) (filled t)) stood.filling;
         }
@@ -524,15 +527,16 @@ module _ {s : Session} {t : Trace} {n : ℕ} {old : JournalZone} {b : SealedBloc
     count : length (filled t) ≡ suc (length vs)
     count = ap length filled_is ∙ logged_length (v ∷ vs)
 
-    left : s.sizes.opened + length (sealed t) + 1 < s.sizes.geometry.journal
+    left : length (sealed t) + 1 < s.sizes.geometry.journal
     left = filled_left s t known.right (omega (arith, count))
 
     rest_sealed : IsFair s (Seals ∷ t) → AtRest s (Seals ∷ t) (sealed t)
-    rest_sealed fair = rests_kept s Seals t (sealed t) tt (silent s t Seals (λ x. tt) (all_of (sealed t))) (all_there.1 (fair_before s Seals t fair))
+    rest_sealed fair = rests_kept s Seals t (sealed t) fair.opened tt (silent s t Seals (λ x. tt) (all_of (sealed t))) (all_there.1 (fair_before s Seals t fair))
 
     seal_shown : IsFair s (Seals ∷ t) → Shown s (Seals ∷ t)
     seal_shown fair = record {
       superblock = superblock_kept s Seals t tt (shown_of s t known.right (fair_before s Seals t fair)).superblock;
+      kept = left_kept s Seals t (λ x left. tt) (shown_of s t known.right (fair_before s Seals t fair)).kept;
       journal = inr (record { block = filled t; older = sealed t; sealed_is = refl; committed_is = sym all_there.0; stands = inl (rest_sealed fair) });
       filling = tt;
     }

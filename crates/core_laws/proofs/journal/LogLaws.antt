@@ -8,8 +8,8 @@ use Rattle.core_laws.proofs.trace.DeskOfTrace.{committed_sealed}
 use Rattle.core_laws.proofs.journal.SealedBlocks.{block_length, logged_length, map_both, map_length, reverse_more}
 use Rattle.core_model.specs.JournalRules.{HasNext, IsSealable, appended, handed_out, sealed_log}
 use Rattle.core_model.specs.Sessions.{said_by}
-use Rattle.core_model.specs.Start.{earlier_from, first_log}
-use Rattle.recovery_journal.specs.Log.{Log, first_needed, first_sequence, head_of, placed}
+use Rattle.core_model.specs.Start.{first_log}
+use Rattle.recovery_journal.specs.Log.{Log, first_sequence, head_of, placed}
 
 -- The entries of a block are those that stood in it.
 
@@ -27,7 +27,7 @@ first_stays [] sequence [] some = absurd (omega (arith, some))
 first_stays [] sequence (e ∷ entries) some = omega arith
 
 head_stays : (log : Log) → 0 < length log.filling → head_of (sealed_log log) ≡ head_of log
-head_stays log some = ap (first_needed log.earlier) (first_stays log.entries log.sequence log.filling some)
+head_stays log some = first_stays log.entries log.sequence log.filling some
 
 -- how many entries it has
 pub filling_length : (s : Session) (t : Trace) (log : Log) → IsLogOf s t log → length log.filling ≡ length (filled t)
@@ -37,16 +37,12 @@ entries_length : (s : Session) (t : Trace) (log : Log) → IsLogOf s t log → l
 entries_length s t log k = sym (map_length (λ (c : CommittedEntry). c.entry) log.entries) ∙ ap length k.entries_are ∙ block_length s (all_of (sealed t))
 
 -- At the start of a session.
-head_at_start : (start opened : ℕ) → first_needed (earlier_from start opened) (start + opened) ≡ start
-head_at_start start zero = omega arith
-head_at_start start (suc opened) = refl
-
 pub log_at_start : (s : Session) (log : Log) → log ≡ first_log s.sizes → IsLogOf s [] log
 log_at_start s log is =
     rw is (record {
       size_is = refl;
       sequence_is = omega arith;
-      head_is = head_at_start s.sizes.start s.sizes.opened;
+      head_is = refl;
       filling_is = refl;
       entries_are = refl;
       handed_is = refl;
@@ -57,7 +53,7 @@ log_at_start s log is =
 pub log_over : (s : Session) (t u : Trace) (log : Log) → filled u ≡ filled t → sealed u ≡ sealed t → durable u ≡ durable t → IsLogOf s t log → IsLogOf s u log
 log_over s t u log same_filled same_sealed same_committed k = record {
   size_is = k.size_is;
-  sequence_is = k.sequence_is ∙ ap (λ (blocks : List (List Logged)). s.sizes.start + (s.sizes.opened + length blocks)) (sym same_sealed);
+  sequence_is = k.sequence_is ∙ ap (λ (blocks : List (List Logged)). s.sizes.start + (length blocks)) (sym same_sealed);
   head_is = k.head_is;
   filling_is = k.filling_is ∙ ap (λ (es : List Logged). reverse (map entry_of es)) (sym same_filled);
   entries_are = k.entries_are ∙ ap (λ (blocks : List (List Logged)). reverse (map entry_of (all_of blocks))) (sym same_sealed);

@@ -1,6 +1,6 @@
 -- The entry of a page is handed in: it is the first that puts the page anywhere.
 use Rattle.std.proofs.Common.{◌≡◌, ◌+◌, ◌<◌, Some, ◌∷◌, length, refl, sym, subst, arith}
-use Rattle.core_laws.proofs.Common.{Enters, Happening, IsFair, IsFresh, IsToFresh, KeptOk, Logged, Makes, Mapping, NewPage, OnBlock, Pbn, ReadsAs, RightTrace, Session, Shown, Trace, Vio, VioOk, all_of, asked, fair_before, filled, journaled, sealed, turned}
+use Rattle.core_laws.proofs.Common.{Enters, Happening, IsFair, IsFresh, IsToFresh, KeptOk, Logged, Makes, Mapping, NewPage, OnBlock, Pbn, ReadsAs, RightTrace, Session, Shown, Trace, Vio, VioOk, all_of, asked, fair_before, filled, journaled, sealed, turned, some_is}
 use Rattle.blk_base.specs.declared.place.Mapping.TheVariants.{At}
 use Rattle.blk_base.specs.declared.place.PageId.{PageId}
 use Rattle.data_vio.specs.declared.items.Phase.TheVariants as phase
@@ -10,7 +10,7 @@ use Rattle.core_model.specs.DeviceRules.{page_at}
 use Rattle.core_laws.proofs.journal.LoggedEntries.{logged_makes}
 use Rattle.core_laws.proofs.kept.ActKept.{carries_page, vio_over}
 use Rattle.core_laws.proofs.kept.Spared.{below_kept, quiet_kept}
-use Rattle.core_laws.proofs.kept.StandsOn.{AreElsewhere, SparesMap, journal_kept, new_reads_kept, reads_kept, spares_all, superblock_kept}
+use Rattle.core_laws.proofs.kept.StandsOn.{AreElsewhere, SparesMap, journal_kept, left_kept, new_reads_kept, reads_kept, spares_all, superblock_kept}
 use Rattle.core_laws.proofs.trace.DeskOfTrace.{shown_of}
 use Rattle.core_laws.proofs.trace.PagesOfTrace.{dropped_entered, put_there, unlinked_still}
 
@@ -20,7 +20,7 @@ unfolding empty_page
 page_bytes_are s p = refl
 
 module _ (s : Session) (t : Trace) (v : Vio) (page : PageId) (x : Pbn) (right : RightTrace s t) (ok : VioOk s t v) (some : v.page ≡ Some page) (to : v.new ≡ At x) (carries : CarriesPage s t v page phase.Enter) (unused : AreElsewhere x.0 (journaled t))
-    (left : s.sizes.opened + length (sealed t) + 1 < s.sizes.geometry.journal) (room : length (filled t) < 192) where
+    (left : length (sealed t) + 1 < s.sizes.geometry.journal) (room : length (filled t) < 192) where
   abbrev made : NewPage
   made = record { request = v.request; page = page; at = x }
 
@@ -28,7 +28,7 @@ module _ (s : Session) (t : Trace) (v : Vio) (page : PageId) (x : Pbn) (right : 
   enters = Enters (Makes made)
 
   spared : SparesMap s enters (all_of (sealed t))
-  spared = ((λ a y named. tt), spares_all enters (λ y. tt) (all_of (sealed t)))
+  spared = ((λ y left. tt), spares_all enters (λ y. tt) (all_of (sealed t)))
 
   read_now : IsFair s t → ReadsAs s t x.0 (empty_page s.sizes.geometry made)
   read_now fair = subst (ReadsAs s t x.0) (page_bytes_are s made) (at_block v.new to (carries.3 fair))
@@ -42,7 +42,8 @@ module _ (s : Session) (t : Trace) (v : Vio) (page : PageId) (x : Pbn) (right : 
       let stood = shown_of s t right before in
       record {
         superblock = superblock_kept s enters t tt stood.superblock;
-        journal = journal_kept s enters t (record { sealed_same = refl; committed_same = refl }) tt spared stood.journal;
+        kept = left_kept s enters t (λ x left. tt) stood.kept;
+        journal = journal_kept s enters t fair.opened (record { sealed_same = refl; committed_same = refl }) tt spared stood.journal;
         filling = (reads_kept s enters t x.0 _ tt (read_now before), new_reads_kept s enters t (filled t) (spares_all enters (λ y. tt) (filled t)) stood.filling);
       }
 
@@ -50,6 +51,7 @@ module _ (s : Session) (t : Trace) (v : Vio) (page : PageId) (x : Pbn) (right : 
   page_right = (
     record {
       is_open = ok.is_open;
+      placed = some_is _ _ carries.0.turn.is_placed.placed;
       lacked = (asked v.asks v.at v.bytes, ok.asked, carries.0.lacked);
       above = carries.0.up;
       once = carries.1;
@@ -83,8 +85,8 @@ module _ (s : Session) (t : Trace) (v : Vio) (page : PageId) (x : Pbn) (right : 
   own_entry : HasPageEntry s (enters ∷ t) (Makes made) page
   own_entry = record {
     handed_in = (0, omega arith, refl);
-    unlinked = unlinked_still s.sizes.geometry.height s.window s t page right carries.1;
-    undropped = λ has. put_there s.sizes.geometry.height s.window (journaled t) made (dropped_entered s t made right has) carries.1;
+    unlinked = unlinked_still s.sizes.geometry.height s.links s t page right carries.1;
+    undropped = λ has. put_there s.sizes.geometry.height s.links (journaled t) made (dropped_entered s t made right has) carries.1;
   }
 
   pub page_pending : KeptOk s (enters ∷ t) phase.Pending (turned phase.Pending v)

@@ -3,7 +3,7 @@ use Rattle.std.proofs.Common.{ℕ, zero, suc, ◌+◌, ◌-◌, ◌*◌, ◌≤�
 use Rattle.std.proofs.lemmas.List.{length-reverse, reverse-append, reverse-reverse, take_all}
 use Rattle.std.proofs.Math.Seq.{take-append_seam}
 use Rattle.blk_base.specs.declared.journal_entry.CommittedEntry.{CommittedEntry}
-use Rattle.core_laws.proofs.Common.{AllByRecursion, Entry, HasWholeBlocks, Logged, Session, Vio, all_logged, all_of, cases_lt, entries_of, entry_of, every-append, logged}
+use Rattle.core_laws.proofs.Common.{AllByRecursion, Entry, Logged, Session, Vio, all_logged, all_of, cases_lt, entry_of, every-append, logged}
 use Rattle.core_model.specs.Sessions.{blocks_of, said_by, sealed_with}
 use Rattle.image_model.specs.Windows.{with_points}
 use Rattle.journal_stops.specs.Sealed.{front_of, head_of}
@@ -69,15 +69,15 @@ every_logged P [] all = tt
 every_logged P (v ∷ vs) all = every-append P (all_logged vs) (logged v ∷ []) (every_logged P vs all.1) (all.0, tt)
 
 -- how many blocks the journal has; each names the first sequence as its head
-pub blocks_length : (s : Session) (older : List (List Logged)) → length (blocks_of s older) ≡ length s.sealed + length older
-blocks_length s [] = omega arith
-blocks_length s (es ∷ older) = omega (arith, blocks_length s older)
+pub blocks_length : (s : Session) (older : List (List Logged)) → length (blocks_of s older) ≡ length older
+blocks_length s [] = refl
+blocks_length s (es ∷ older) = ap suc (blocks_length s older)
 
-pub heads_start : (s : Session) (older : List (List Logged)) → HasWholeBlocks s → head_of s.sizes.start (blocks_of s older) ≡ s.sizes.start
-heads_start s [] whole = whole.all_needed
-heads_start s (es ∷ older) whole = refl
+pub heads_start : (s : Session) (older : List (List Logged)) → head_of s.sizes.start (blocks_of s older) ≡ s.sizes.start
+heads_start s [] = refl
+heads_start s (es ∷ older) = refl
 
--- The entries of blocks are those of the writes, on those of the window.
+-- The entries of blocks are those of the writes.
 
 said_reversed : (sequence number : ℕ) (es : List Entry) → said_by (reverse (with_points sequence number es)) ≡ reverse es
 said_reversed sequence number [] = refl
@@ -85,14 +85,10 @@ said_reversed sequence number (e ∷ es) =
     ap said_by (reverse_more _ (with_points sequence (suc number) es)) ∙ map_both (λ (c : CommittedEntry). c.entry) (reverse (with_points sequence (suc number) es)) _
     ∙ ap (λ (xs : List Entry). xs ++ e ∷ []) (said_reversed sequence (suc number) es) ∙ sym (reverse_more e es)
 
-entries_both : (window : List Entry) (es older : List Logged) → entries_of window (es ++ older) ≡ map entry_of es ++ entries_of window older
-entries_both window [] older = refl
-entries_both window (e ∷ es) older = ap (λ (xs : List Entry). entry_of e ∷ xs) (entries_both window es older)
-
-pub said_by_blocks : (s : Session) (older : List (List Logged)) → HasWholeBlocks s → entries_of s.window (all_of older) ≡ said_by (blocks.entries_of s.sizes.start (blocks_of s older))
-said_by_blocks s [] whole = whole.window_is
-said_by_blocks s (es ∷ older) whole =
-    entries_both s.window es (all_of older) ∙ ap (λ (rest : List Entry). map entry_of es ++ rest) (said_by_blocks s older whole)
+pub said_by_blocks : (s : Session) (older : List (List Logged)) → map entry_of (all_of older) ≡ said_by (blocks.entries_of s.sizes.start (blocks_of s older))
+said_by_blocks s [] = refl
+said_by_blocks s (es ∷ older) =
+    map_both entry_of es (all_of older) ∙ ap (λ (rest : List Entry). map entry_of es ++ rest) (said_by_blocks s older)
     ∙ ap (λ (xs : List Entry). xs ++ said_by (blocks.entries_of s.sizes.start (blocks_of s older))) (sym (said_reversed _ 0 (sealed_with s es).entries ∙ reverse-reverse (map entry_of es)))
     ∙ sym (map_both (λ (c : CommittedEntry). c.entry) (reverse (with_points _ 0 (sealed_with s es).entries)) (blocks.entries_of s.sizes.start (blocks_of s older)))
 

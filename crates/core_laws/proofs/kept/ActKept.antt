@@ -1,6 +1,6 @@
 -- What each act may use and what it owes.
 use Rattle.std.proofs.Common.{◌≡◌, ℕ, ◌+◌, ◌<◌, ◌≤◌, true, Option, None, Some, IsNone, List, [], ◌∷◌, ◌++◌, refl, sym, subst, inl, inr, arith, false}
-use Rattle.core_laws.proofs.Common.{all_of, AllByRecursion, begun, Calls, Carries, claims, Commits, DataOk, DeviceZone, done, entered, Enters, Fails, fair_before, filled, GivesRight, Happening, holds, IsFair, IsSession, IsWrite, Item, ItemOk, kept_by, KeptEach, KeptOk, lines, logged_of, LogicalZone, none_is, not_both, option_cases, Pbn, Phase, place_of, Placed, places, Post, RightTrace, same_Some, same_tells, sealed, Seals, Session, Shown, total, Trace, Vio, VioOk, Writer, zone_count, zone_number, ZoneData, cases_Bool, has_taken, Says, Flushes, Takes, journaled, superblock_stage}
+use Rattle.core_laws.proofs.Common.{all_of, AllByRecursion, begun, Calls, Carries, claims, Commits, DataOk, DeviceZone, done, entered, Enters, Fails, fair_before, filled, GivesRight, Happening, holds, IsFair, IsSession, IsWrite, Item, ItemOk, kept_by, KeptEach, KeptOk, lines, logged_of, LogicalZone, none_is, not_both, option_cases, Pbn, Phase, place_of, Placed, places, Post, RightTrace, same_Some, same_tells, sealed, Seals, Session, Shown, total, Trace, Vio, VioOk, Writer, zone_count, zone_number, ZoneData, cases_Bool, has_taken, Harms, Says, Flushes, Takes, journaled, superblock_stage}
 use Rattle.blk_base.specs.declared.place.Mapping.TheVariants.{At}
 use Rattle.data_vio.specs.declared.items.Item.TheVariants as item
 use Rattle.data_vio.specs.declared.items.Phase.TheVariants as phase
@@ -16,7 +16,7 @@ use Rattle.core_laws.proofs.kept.Frame.{kept_each}
 use Rattle.core_laws.proofs.kept.Keys.{Key, OfRequest, OfAddress, OfJournal, OfPage, token_of, Spares, happens_in, IfAny, Clears, clears_with, mine_or_spared, own_name, holder_one, maker_one}
 use Rattle.core_laws.proofs.kept.Spared.{about}
 use Rattle.core_laws.proofs.tokens.Known.{LeasedIn}
-use Rattle.core_laws.proofs.kept.StandsOn.{AreElsewhere, SparesBlock, SparesBlocks, SparesJournal, SparesMap, SparesSealed, entered_parts, journal_kept, new_reads_kept, spares_all, spares_parts, superblock_kept}
+use Rattle.core_laws.proofs.kept.StandsOn.{AreElsewhere, SparesBlock, SparesBlocks, SparesJournal, SparesMap, SparesSealed, entered_parts, journal_kept, left_kept, new_reads_kept, spares_all, spares_parts, superblock_kept}
 
 -- In the hands of an act is what the front of the inbox weighs for, and what the zone's own data does. A request that isn't
 -- begun is in nobody's.
@@ -72,6 +72,7 @@ IsPlain (Commits e) = ⊥
 IsPlain Seals = ⊥
 IsPlain (Calls c) = ⊥
 IsPlain (Fails w c kept) = ⊥
+IsPlain (Harms w x bytes fault) = ⊥
 IsPlain other = Unit {0}
 
 pub plain_journal : (s : Session) (t : Trace) (h : Happening) → IsPlain h → Spares s t h OfJournal
@@ -80,7 +81,8 @@ plain_journal s t (Commits e) is = absurd is
 plain_journal s t Seals is = absurd is
 plain_journal s t (Calls c) is = absurd is
 plain_journal s t (Fails w c kept) is = absurd is
-plain_journal s t other is = (record { sealed_same = refl; committed_same = refl }, tt, ((λ a x named. tt), spares_all other (λ x. tt) (journaled t)))
+plain_journal s t (Harms w x bytes fault) is = absurd is
+plain_journal s t other is = (record { sealed_same = refl; committed_same = refl }, tt, ((λ x is. tt), spares_all other (λ x. tt) (journaled t)))
 
 -- What stands where the session is fair stands after a happening that writes no block of it, and adds nothing to the journal.
 pub shown_with : (s : Session) (h : Happening) (t : Trace) → SparesSealed s h t → filled (h ∷ t) ≡ filled t → SparesJournal s h → SparesMap s h (journaled t)
@@ -90,7 +92,8 @@ shown_with s h t same filling journal blocks superblock before fair =
     let entries = spares_parts h (filled t) (all_of (sealed t)) (subst (SparesBlocks h) (entered_parts t) blocks.1) in
     record {
       superblock = superblock k.superblock;
-      journal = journal_kept s h t same journal (blocks.0, entries.1) k.journal;
+      kept = left_kept s h t blocks.0 k.kept;
+      journal = journal_kept s h t fair.opened same journal (blocks.0, entries.1) k.journal;
       filling = rw filling (new_reads_kept s h t (filled t) entries.0 k.filling);
     }
 
@@ -104,6 +107,7 @@ shown_plain s t (Commits e) is k = absurd is
 shown_plain s t Seals is k = absurd is
 shown_plain s t (Calls c) is k = absurd is
 shown_plain s t (Fails w c kept) is k = absurd is
+shown_plain s t (Harms w x bytes fault) is k = absurd is
 shown_plain s t other is k = let same = plain_journal s t other tt in shown_kept s other t same.0 refl same.1 same.2 tt k
 
 -- a request whose line of the desk log is none of these is the same one
@@ -158,6 +162,7 @@ module _ {s : Session} {t : Trace} {n : ℕ} {d : ZoneData} {front : List Item} 
       no_block : (g : Happening) → IsPlain g → (x : ℕ) → SparesBlock g x
       no_block (Calls c) is x = absurd is
       no_block (Fails w c logged) is x = absurd is
+      no_block (Harms w y bytes fault) is x = absurd is
       no_block other is x = tt
 
 -- the request in front: what it carries, and it is its own
@@ -208,6 +213,7 @@ taken_begun s (Says line ∷ t) w right some = begun_stays s (Says line) t w rig
 taken_begun s (Flushes m ∷ t) w right some = begun_stays s (Flushes m) t w right.0 (taken_begun s t w right.2 some)
 taken_begun s (Calls c ∷ t) w right some = begun_stays s (Calls c) t w right.0 (taken_begun s t w right.2 some)
 taken_begun s (Fails v c kept ∷ t) w right some = begun_stays s (Fails v c kept) t w right.0 (taken_begun s t w right.2 some)
+taken_begun s (Harms v x bytes fault ∷ t) w right some = begun_stays s (Harms v x bytes fault) t w right.0 (taken_begun s t w right.2 some)
 taken_begun s (other ∷ t) w right some = taken_begun s t w right.2 some
 
 -- A request that isn't begun has no place, took no block, and its entry wasn't handed in nor done.

@@ -13,14 +13,14 @@ use Rattle.core_model.specs.Arrivals.{arrivals_at, drew_in, only_of, sent_to_zon
 use Rattle.core_model.specs.DeskRules as desk
 use Rattle.core_model.specs.DeskRules.{DeskBegins, DeskServes, first_zone, is_marked, vio_of, woken, mark_of_vio}
 use Rattle.core_model.specs.DeviceRules as device
-use Rattle.core_model.specs.DeviceRules.{Announces, DeviceServes, DeviceWorks, stop_notices}
+use Rattle.core_model.specs.DeviceRules.{Announces, DeviceServes, DeviceWorks, notices_after, stop_notices}
 use Rattle.data_vio.specs.Phases.{AtDevice, row}
 use Rattle.core_model.specs.JournalRules as journal
 use Rattle.core_model.specs.PhysicalRules as physical
 use Rattle.core_model.specs.PhysicalRules.{PhysicalServes}
 use Rattle.core_model.specs.JournalRules.{JournalServes, JournalEnds, all_again, all_dropped, all_refused}
 use Rattle.core_model.specs.LogicalRules as logical
-use Rattle.core_model.specs.LogicalRules.{LogicalServes, goes_on, passes_on, read_next, looked, mapping_at, first_for, all_for, all_stopped, placed, place_of_vio}
+use Rattle.core_model.specs.LogicalRules.{LogicalServes, goes_on, passes_on, read_next, looked, first_for, all_for, all_stopped, placed, place_of_vio}
 use Rattle.core_model.specs.Legal.{ComesAfter}
 use Rattle.core_model.specs.Steps.{Act}
 use Rattle.core_model.specs.Steps as steps
@@ -46,10 +46,10 @@ past v p = ap (λ (q : Phase). arriving q v.request ++ []) p
 
 -- the posts of each row that are lists
 
-goes_still : (sizes : Sizes) (l : LogicalZone) (v : Vio) (post : Post) → goes_on sizes l v ≡ Some post → Still post
-goes_still sizes l v post goes = goes_by Still sizes l v post goes (λ reads. read (mapping_at l v.at.0)) (λ writes zeros. refl) (λ writes others. refl) (λ discards. refl)
+goes_still : (v : Vio) (post : Post) → goes_on v ≡ Some post → Still post
+goes_still v post goes = goes_by Still v post goes (λ reads. read v.old) (λ writes zeros. refl) (λ writes others. refl) (λ discards. refl)
   where
-    read : (m : Mapping) → Still (read_next sizes l (looked l v) m)
+    read : (m : Mapping) → Still (read_next v m)
     read Unmapped = refl
     read Zero = refl
     read (At x) = refl
@@ -69,6 +69,10 @@ refused_still sizes answer (v ∷ vs) = (refl, refused_still sizes answer vs)
 notices_still : (ids : List ZoneId) → AllByRecursion Still (stop_notices ids)
 notices_still [] = tt
 notices_still (to ∷ ids) = (refl, notices_still ids)
+
+after_still : (sizes : Sizes) (stopped : Bool) → AllByRecursion Still (notices_after stopped sizes)
+after_still sizes true = tt
+after_still sizes false = notices_still (notified sizes)
 
 dropped_still : (vs : List Vio) → AllByRecursion Still (all_dropped vs)
 dropped_still [] = tt
@@ -123,7 +127,9 @@ module _ (s : Session) (t : Trace) where
   logical_course old v new made posts kept (logical.arrives_retired p d n m q) = draws old v refl refl p (rw q (refl, tt)) (rw m refl) (λ zone. rw m refl)
   logical_course old v new made posts kept (logical.arrives_free p d f n m q) = draws old v refl refl p (rw q (refl, tt)) (rw m refl) (λ zone. rw m refl)
   logical_course old v new made posts kept (logical.arrives_held p d f n m q) = draws old v refl refl p (rw q tt) (rw m refl) (λ zone. rw m refl)
-  logical_course old v new made posts kept (logical.looks post p path stays leaf goes n m q) = still (past v p) (rw q (goes_still s.sizes old v post goes, tt)) (rw m refl) (λ zone. rw m refl)
+  logical_course old v new made posts kept (logical.looks mapping post p path stays leaf knows goes n m q) = still (past v p) (rw q (goes_still (looked old mapping v) post goes, tt)) (rw m refl) (λ zone. rw m refl)
+  logical_course old v new made posts kept (logical.needs_leaf x p path stays leaf unknown there n m q) = still (past v p) (rw q (refl, tt)) (rw m refl) (λ zone. rw m refl)
+  logical_course old v new made posts kept (logical.leafed post p goes n m q) = still (past v p) (rw q (goes_still v post goes, tt)) (rw m refl) (λ zone. rw m refl)
   logical_course old v new made posts kept (logical.passes p path passes n m q) = still (past v p) (rw q (refl, passes_still (first_for v.at.0 old.waiting))) (rw m refl) (λ zone. rw m refl)
   logical_course old v new made posts kept (logical.settles p bare n m q) = still (past v p) (rw q (refl, passes_still (first_for v.at.0 old.waiting))) (rw m refl) (λ zone. rw m refl)
   logical_course old v new made posts kept (logical.gives p n m q) = still (past v p) (rw q (refl, passes_still (first_for v.at.0 old.waiting))) (rw m refl) (λ zone. rw m refl)
@@ -177,6 +183,9 @@ module _ (s : Session) (t : Trace) where
   device_course old v new made posts (device.store_unmade p s n m q) = still (past v p) (rw q (refl, tt)) (rw m refl) (λ zone. rw m refl)
   device_course old v new made posts (device.loads x bytes p from ready inside n m q) = still (past v p) (rw q (refl, tt)) (rw m refl) (λ zone. rw m refl)
   device_course old v new made posts (device.load_fails x bytes kept p from ready inside n m q) = still (past v p) (rw q (refl, tt)) (rw m refl) (λ zone. rw m refl)
+  device_course old v new made posts (device.loads_leaf x bytes mappings p there ready inside page n m q) = still (past v p) (rw q (refl, tt)) (rw m refl) (λ zone. rw m refl)
+  device_course old v new made posts (device.leaf_fails x bytes kept p there ready inside n m q) = still (past v p) (rw q (refl, tt)) (rw m refl) (λ zone. rw m refl)
+  device_course old v new made posts (device.harms x bytes fault p there ready inside damaged n m q) = still (past v p) (rw q (refl, after_still s.sizes old.stopped)) (rw m refl) (λ zone. rw m refl)
   device_course old v new made posts (device.flushes p s durable n m q) = still (past v p) (rw q (refl, tt)) (rw m refl) (λ zone. rw m refl)
   device_course old v new made posts (device.flush_fails kept p up durable n m q) = still (past v p) (rw q (refl, notices_still (notified s.sizes))) (rw m refl) (λ zone. rw m refl)
   device_course old v new made posts (device.flush_unmade p s n m q) = still (past v p) (rw q (refl, tt)) (rw m refl) (λ zone. rw m refl)

@@ -4,7 +4,6 @@ use Rattle.core_laws.proofs.Common.{AllByRecursion, Answer, BlockOk, Carries, Ha
 use Rattle.blk_base.specs.declared.place.Mapping.TheVariants.{At}
 use Rattle.blk_base.specs.declared.request.Answer.TheVariants as reply
 use Rattle.blk_base.specs.declared.request.Request.TheVariants as request
-use Rattle.image_layout.specs.Values.{mapping_of}
 use Rattle.data_vio.specs.declared.items.Item.TheVariants as item
 use Rattle.data_vio.specs.declared.items.Phase.TheVariants as phase
 use Rattle.data_vio.specs.declared.items.Stage.TheVariants as stage
@@ -13,10 +12,11 @@ use Rattle.blk_base.specs.declared.place.PageId.{PageId}
 use Rattle.data_vio.specs.Vios.{logged_for}
 use Rattle.core_model.specs.DeskRules.{is_marked, mark_of_vio}
 use Rattle.core_model.specs.DeviceRules.{page_at}
-use Rattle.core_model.specs.Facts.{CarriesFor, CarriesOwn, CarriesPage, HasPageEntry, IsUnmade, MakesPage}
+use Rattle.core_model.specs.Facts.{CarriesFor, CarriesOwn, CarriesPage, HasLeaf, HasPageEntry, IsUnmade, MakesPage, NeedsLeaf}
+use Rattle.image_model.specs.Pages.{leaf_of}
 use Rattle.core_laws.proofs.kept.Keys.{Key, OfRequest, OfAddress, OfBlock, OfJournal, OfPage, token_of, Spares, own_name, holder_one, claim_one, maker_one}
-use Rattle.core_laws.proofs.kept.Spared.{applied_at, SparesRequest, SparesAddress, SparesPage, open_kept, durable_has, leafy_kept, journaled_has, link_same, put_same, there_kept, undropped_kept, place_same, entry_same, slot_same, abort_same, gift_same, take_same, stop_kept, fault_kept, abort_kept, full_kept, needs_kept, journal_full_kept, mapping_same, quiet_kept, committed_kept, below_kept, pending_kept, mark_kept, value_same}
-use Rattle.core_laws.proofs.kept.StandsOn.{SparesBlock, SparesBlocks, SparesJournal, SparesMap, SparesSealed, block_reads_kept, comes_stands, new_kept, new_reads_kept, on_both, reads_kept, rests_kept, sealed_spared, spares_parts, way_kept}
+use Rattle.core_laws.proofs.kept.Spared.{applied_at, SparesRequest, SparesAddress, SparesPage, open_kept, durable_has, leafy_kept, journaled_has, link_same, put_same, there_kept, undropped_kept, place_same, entry_same, slot_same, abort_same, gift_same, take_same, stop_kept, fault_kept, harm_kept, linked_at_kept, abort_kept, full_kept, needs_kept, journal_full_kept, mapping_same, quiet_kept, committed_kept, below_kept, pending_kept, mark_kept, value_same}
+use Rattle.core_laws.proofs.kept.StandsOn.{SparesBlocks, SparesJournal, SparesKept, SparesMap, SparesSealed, block_reads_kept, comes_stands, new_kept, new_reads_kept, on_both, reads_kept, rests_kept, sealed_spared, spares_parts, way_kept}
 
 none_weigh : (vs : List Vio) → total (λ v. 0) vs ≡ 0
 none_weigh [] = refl
@@ -27,7 +27,7 @@ last_spared : (s : Session) (h : Happening) (t : Trace) (vs : List Vio) (n : ℕ
 last_spared s h t vs n k map = subst (λ (blocks : List (List Logged)). SparesMap s h (all_of blocks)) k.sealed_is map
 
 blocks_spared : (s : Session) (h : Happening) (t : Trace) (vs : List Vio) (n : ℕ) (k : IsSealed s t vs n) → SparesMap s h (all_of (sealed t))
-    → ((a : ℕ) (x : Pbn) → mapping_of s.window a ≡ At x → SparesBlock h x.0) × (SparesBlocks h (all_logged vs) × SparesBlocks h (all_of k.older))
+    → SparesKept s h × (SparesBlocks h (all_logged vs) × SparesBlocks h (all_of k.older))
 blocks_spared s h t vs n k map = let last = last_spared s h t vs n k map in (last.0, spares_parts h (all_logged vs) (all_of k.older) last.1)
 
 -- the entry that a request hands in is its own
@@ -75,16 +75,21 @@ module _ (s : Session) (h : Happening) (t : Trace) where
   cause_kept w (request.Read at) reply.Stopped same k =
       (stop_kept h t k.0, record { place = k.1.place; placed = same.of_place ∙ k.1.placed; behind = abort_kept h t at.0 k.1.place k.1.behind })
   cause_kept w (request.Read at) reply.ReadFault same k = (rw (same.of_place) k.0, fault_kept h t w k.1)
+  cause_kept w (request.Read at) reply.Damaged same k = (rw (same.of_place) k.0, harm_kept h t w k.1)
   cause_kept w (request.Read at) other same k = absurd k
   cause_kept w (request.Write at bytes fua) reply.Ok same k = rw (same.of_slot) k
   cause_kept w (request.Write at bytes fua) reply.Range same k = k
   cause_kept w (request.Write at bytes fua) reply.Stopped same k = (stop_kept h t k.0, rw (same.of_place) k.1, rw (same.of_slot) k.2)
   cause_kept w (request.Write at bytes fua) reply.Full same k = (rw (same.of_place) k.0, rw (same.of_entry) k.1, full_kept s h t w at.0 bytes same.of_take k.2)
+  cause_kept w (request.Write at bytes fua) reply.ReadFault same k = (rw (same.of_place) k.0, rw (same.of_entry) k.1, fault_kept h t w k.2)
+  cause_kept w (request.Write at bytes fua) reply.Damaged same k = (rw (same.of_place) k.0, rw (same.of_entry) k.1, harm_kept h t w k.2)
   cause_kept w (request.Write at bytes fua) other same k = absurd k
   cause_kept w (request.Discard at) reply.Ok same k = rw (same.of_slot) k
   cause_kept w (request.Discard at) reply.Range same k = k
   cause_kept w (request.Discard at) reply.Stopped same k = (stop_kept h t k.0, rw (same.of_place) k.1, rw (same.of_slot) k.2)
   cause_kept w (request.Discard at) reply.Full same k = (rw (same.of_place) k.0, rw (same.of_entry) k.1, journal_full_kept s h t k.2)
+  cause_kept w (request.Discard at) reply.ReadFault same k = (rw (same.of_place) k.0, rw (same.of_entry) k.1, fault_kept h t w k.2)
+  cause_kept w (request.Discard at) reply.Damaged same k = (rw (same.of_place) k.0, rw (same.of_entry) k.1, harm_kept h t w k.2)
   cause_kept w (request.Discard at) other same k = absurd k
   cause_kept w request.Flush reply.Stopped same k = stop_kept h t k
   cause_kept w request.Flush other same k = absurd k
@@ -118,7 +123,7 @@ module _ (s : Session) (h : Happening) (t : Trace) where
     not_entered = rw (entry_same h t v.request apart) k.not_entered;
   }
 
-  turn_kept : (v : Vio) → SparesRequest h v.request → SparesAddress h v.at.0 → IsInTurn s t v → IsInTurn s (h ∷ t) v
+  pub turn_kept : (v : Vio) → SparesRequest h v.request → SparesAddress h v.at.0 → IsInTurn s t v → IsInTurn s (h ∷ t) v
   turn_kept v apart off k = record {
     is_placed = placed_kept v apart k.is_placed;
     quiet = quiet_kept h t v.at.0 off k.quiet;
@@ -128,8 +133,8 @@ module _ (s : Session) (h : Happening) (t : Trace) where
   pub holds_kept : (v : Vio) → SparesRequest h v.request → SparesAddress h v.at.0 → Holds s t v → Holds s (h ∷ t) v
   holds_kept v apart off k = record {
     turn = turn_kept v apart off k.turn;
-    old_held = k.old_held;
-    old_is = k.old_is ∙ sym (mapping_same s.window (applied (h ∷ t)) (applied t) v.at.0 (applied_at h t v.at.0 off));
+    old_data = k.old_data;
+    old_is = λ fair. k.old_is (fair_before s h t fair) ∙ sym (mapping_same s (applied (h ∷ t)) (applied t) v.at.0 (applied_at h t v.at.0 off));
   }
 
   pub looks_kept : (v : Vio) → SparesRequest h v.request → SparesAddress h v.at.0 → Looks s t v → Looks s (h ∷ t) v
@@ -138,6 +143,20 @@ module _ (s : Session) (h : Happening) (t : Trace) where
     is_read = k.is_read;
     latest = k.latest ∙ ap newest (sym (applied_at h t v.at.0 off));
   }
+
+  needs_leaf_kept : (v : Vio) → SparesAddress h v.at.0 → NeedsLeaf s t v.at.0 v.leaf v.latest → NeedsLeaf s (h ∷ t) v.at.0 v.leaf v.latest
+  needs_leaf_kept v off k = record {
+    at = k.at;
+    block_is = k.block_is;
+    stands = linked_at_kept s h t (leaf_of v.at.0) k.at k.stands;
+    leaf = leafy_kept s h t v.at.0 k.leaf;
+    inside = k.inside;
+    unset = applied_at h t v.at.0 off ∙ k.unset;
+    latest = k.latest;
+  }
+
+  has_leaf_kept : (v : Vio) → SparesRequest h v.request → SparesAddress h v.at.0 → HasLeaf s t v.request v.asks v.at.0 v.place v.old v.latest → HasLeaf s (h ∷ t) v.request v.asks v.at.0 v.place v.old v.latest
+  has_leaf_kept v apart off k = record { held = holds_kept v apart off k.held; leaf = leafy_kept s h t v.at.0 k.leaf; unset = applied_at h t v.at.0 off ∙ k.unset; latest = k.latest }
 
   pub entered_kept : (v : Vio) → SparesRequest h v.request → IsEntered s t v → IsEntered s (h ∷ t) v
   entered_kept v apart k = record {
@@ -154,6 +173,8 @@ module _ (s : Session) (h : Happening) (t : Trace) where
   by_phase v phase.Arrive r a b k = unplaced_kept v r k
   by_phase v phase.Wait r a b k = (placed_kept v r k.0, take_same h t v.request r ∙ k.1)
   by_phase v phase.Look r a b k = (turn_kept v r (a refl) k.0, take_same h t v.request r ∙ k.1)
+  by_phase v phase.LoadLeaf r a b k = (turn_kept v r (a refl) k.0, take_same h t v.request r ∙ k.1, needs_leaf_kept v (a refl) k.2)
+  by_phase v phase.LoadedLeaf r a b k = (has_leaf_kept v r (a refl) k.0, take_same h t v.request r ∙ k.1)
   by_phase v phase.Claim r a b k = (holds_kept v r (a refl) k.0, k.1, needs_kept h t v.request v.bytes (take_same h t v.request r) k.2, leafy_kept s h t v.at.0 k.3)
   by_phase v phase.Store r a b k = (holds_kept v r (a refl) k.0, k.1, k.2, leafy_kept s h t v.at.0 k.3)
   by_phase v phase.Enter r a b k = (
@@ -170,14 +191,14 @@ module _ (s : Session) (h : Happening) (t : Trace) where
     maps = k.maps;
     fresh = k.fresh;
     leaf = leafy_kept s h t v.at.0 k.leaf;
-    old_held = k.old_held;
-    old_is = k.old_is ∙ sym (mapping_same s.window (applied (h ∷ t)) (applied t) v.at.0 (applied_at h t v.at.0 (a refl)));
+    old_data = k.old_data;
+    old_is = λ fair. k.old_is (fair_before s h t fair) ∙ sym (mapping_same s (applied (h ∷ t)) (applied t) v.at.0 (applied_at h t v.at.0 (a refl)));
   }
   by_phase v phase.Settle r a b k = (entered_kept v r k.0, committed_kept h t (remapping v) (a refl) k.1, below_kept h t v.at.0 v.place (a refl) k.2, k.3, leafy_kept s h t v.at.0 k.4)
   by_phase v phase.Load r a b k = (looks_kept v r (a refl) k.0, k.1)
   by_phase v phase.Loaded r a b k = (looks_kept v r (a refl) k.0, λ fair. k.1 (fair_before s h t fair) ∙ sym (value_same s h t v.at.0 (a refl)))
-  by_phase v phase.AbortClaim r a b k = (holds_kept v r (a refl) k.0, reply_kept v v.answer r k.1)
-  by_phase v phase.Abort r a b k = (holds_kept v r (a refl) k.0, reply_kept v v.answer r k.1)
+  by_phase v phase.AbortClaim r a b k = (turn_kept v r (a refl) k.0, reply_kept v v.answer r k.1)
+  by_phase v phase.Abort r a b k = (turn_kept v r (a refl) k.0, reply_kept v v.answer r k.1)
   by_phase v phase.AbortEnteredClaim r a b k = (entered_kept v r k.0, reply_kept v v.answer r k.1, stop_kept h t k.2)
   by_phase v phase.AbortEntered r a b k = (entered_kept v r k.0, reply_kept v v.answer r k.1, stop_kept h t k.2)
   by_phase v phase.Flush r a b k = k
@@ -191,16 +212,16 @@ module _ (s : Session) (h : Happening) (t : Trace) where
       is_write = k.is_write;
       none_taken = take_same h t v.request r ∙ k.none_taken;
       lacked = k.lacked;
-      up = there_kept s.sizes.geometry.height s.window h t (above page) k.up;
+      up = there_kept s.sizes.geometry.height s.links h t (above page) k.up;
     }
 
     unmade_kept : IsUnmade s t page → IsUnmade s (h ∷ t) page
-    unmade_kept k = put_same s.sizes.geometry.height s.window h t page p ∙ k
+    unmade_kept k = put_same s.sizes.geometry.height s.links h t page p ∙ k
 
     page_entry_kept : HasPageEntry s t (logged v) page → HasPageEntry s (h ∷ t) (logged v) page
     page_entry_kept k = record {
       handed_in = journaled_has h t (logged v) k.handed_in;
-      unlinked = link_same s.sizes.geometry.height s.window h t page p ∙ k.unlinked;
+      unlinked = link_same s.sizes.geometry.height s.links h t page p ∙ k.unlinked;
       undropped = undropped_kept h t (logged v) (subst (SparesRequest h) (sym (logged_request v)) r) k.undropped;
     }
 
@@ -273,28 +294,28 @@ module _ (s : Session) (h : Happening) (t : Trace) where
     λ fair.
         let apart = blocks_spared s h t vs n k map in
         let before = stands (fair_before s h t fair) in
-        (rests_kept s h t k.older journal (apart.0, apart.1.1) before.0, new_reads_kept s h t (all_logged vs) apart.1.0 before.1),
+        (rests_kept s h t k.older fair.opened journal (apart.0, apart.1.1) before.0, new_reads_kept s h t (all_logged vs) apart.1.0 before.1),
   )
   by_stage vs n stage.Write same journal map (k, stands) = (
     sealed_kept vs n same k,
     λ fair.
         let apart = blocks_spared s h t vs n k map in
         let before = stands (fair_before s h t fair) in
-        (rests_kept s h t k.older journal (apart.0, apart.1.1) before.0, new_kept s h t (all_logged vs) apart.1.0 before.1),
+        (rests_kept s h t k.older fair.opened journal (apart.0, apart.1.1) before.0, new_kept s h t (all_logged vs) apart.1.0 before.1),
   )
   by_stage vs n stage.Harden same journal map (k, stands) = (
     sealed_kept vs n same k,
     λ fair.
         let before = stands (fair_before s h t fair) in
-        (way_kept s h t k.older (all_logged vs) journal (last_spared s h t vs n k map) before.0, block_reads_kept s h t k.older (all_logged vs) journal before.0 before.1),
+        (way_kept s h t k.older (all_logged vs) fair.opened journal (last_spared s h t vs n k map) before.0, block_reads_kept s h t k.older (all_logged vs) journal before.0 before.1),
   )
   by_stage vs n stage.Commit same journal map (all, stands) = (
     ap all_of same.sealed_same ∙ all ∙ ap (λ es. all_logged vs ++ es) (sym same.committed_same),
-    λ fair. rw same.sealed_same (rests_kept s h t (sealed t) journal map (stands (fair_before s h t fair))),
+    λ fair. rw same.sealed_same (rests_kept s h t (sealed t) fair.opened journal map (stands (fair_before s h t fair))),
   )
   by_stage vs n stage.Fail same journal map (k, stands, stopped) = (
     sealed_kept vs n same k,
-    λ fair. comes_stands s h t k.older (all_logged vs) journal (last_spared s h t vs n k map) (stands (fair_before s h t fair)),
+    λ fair. comes_stands s h t k.older (all_logged vs) fair.opened journal (last_spared s h t vs n k map) (stands (fair_before s h t fair)),
     stop_kept h t stopped,
   )
 

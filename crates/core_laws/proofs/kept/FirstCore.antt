@@ -1,11 +1,12 @@
 -- One session that can be served, over a new image, and the core at its start: so that there is a legal core, and a fair
 -- session.
-use Rattle.std.proofs.Common.{◌≡◌, ℕ, zero, suc, ◌+◌, ◌<◌, ◌≤◌, false, List, [], ◌∷◌, replicate, refl, sym, subst, inl, inr, arith}
+use Rattle.std.proofs.Common.{◌≡◌, ℕ, zero, suc, ◌+◌, ◌<◌, ◌≤◌, false, Contains, None, List, [], ◌∷◌, length, replicate, slice_index_or, refl, sym, subst, ap, ◌∙◌, inl, inr, arith}
 use Rattle.core_laws.proofs.Common.{AllByRecursion, AreDistinct, Desk, DeviceZone, Each, Geometry, IsFair, IsFresh, IsSession, Item, JournalZone, LogicalZone, Pbn, PhysicalZone, Request, Session, Sizes, Zone, ZoneData, eqb_tells, is_block, same_Some, total, zone_count}
-use Rattle.blk_base.specs.Limits.{IsGeometry}
 use Rattle.blk_base.specs.Sectors.{zero_block}
 use Rattle.blk_base.specs.declared.request.Request.TheVariants as request
-use Rattle.image_layout.specs.FirstImage.{first_blocks}
+use Rattle.disk_model.specs.Log.{block_at}
+use Rattle.image_model.proofs.Example.{small, small_is}
+use Rattle.image_model.proofs.WholeRows.{empty_image, empty_is, empty_size, empty_whole}
 use Rattle.core_model.specs.declared.zones.SuperblockStage.TheVariants.{AsOpened}
 use Rattle.core_model.specs.declared.zones.ZoneData.TheVariants as at
 use Rattle.core_model.specs.Legal.{Legal}
@@ -16,13 +17,10 @@ use Rattle.core_laws.proofs.kept.NewImages.{new_fair}
 use Rattle.core_laws.proofs.lists.Zeros.{zeros_length}
 use Rattle.core_laws.proofs.logical.BareTrees.{bare, bare_is}
 
--- the sizes of the default image with a small slab, two logical zones, and a script of one stream
-
-abbrev geometry : Geometry
-geometry = record { logical = 1000; slabs = 1; slab_blocks = 64; journal = 8; index = 16; slab_journal = 4; height = 2; nonce = 1 }
+-- two logical zones over the default sizes, and a script of one stream
 
 abbrev sizes : Sizes
-sizes = record { geometry = geometry; start = 1; opened = 0; zones = 2; depth = 2 }
+sizes = record { geometry = small; start = 1; zones = 2; depth = 2 }
 
 abbrev script : List (List Request)
 script = (request.Write (record { 0 = 5 }) zero_block false ∷ request.Read (record { 0 = 5 }) ∷ request.Flush ∷ []) ∷ []
@@ -32,20 +30,21 @@ abbrev run : ℕ → ℕ → List Pbn
 run first zero = []
 run first (suc n) = record { 0 = first } ∷ run (suc first) n
 
-abbrev pub small_session : Session
-small_session = record { sizes = sizes; script = script; blocks = first_blocks geometry; before = []; image = first_blocks geometry; sealed = []; window = []; free = run 85 64 }
+run_length : (first n : ℕ) → length (run first n) ≡ n
+run_length first zero = refl
+run_length first (suc n) = ap suc (run_length (suc first) n)
 
-geometry_ok : IsGeometry geometry
-geometry_ok = record {
-  height = (omega arith, omega arith);
-  nonce = omega arith;
-  logical = (omega arith, omega arith);
-  slabs = (omega arith, omega arith);
-  slab_blocks = (omega arith, omega arith);
-  journal = (omega arith, omega arith);
-  index = (omega arith, omega arith, refl);
-  slab_journal = (omega arith, omega arith);
-}
+run_at : (first n k : ℕ) (d : Pbn) → k < n → slice_index_or (run first n) k d ≡ record { 0 = first + k }
+run_at first zero k d below = absurd (omega (arith, below))
+run_at first (suc n) zero d below = ap (λ (x : ℕ). record { 0 = x }) (omega arith)
+run_at first (suc n) (suc k) d below = run_at (suc first) n k d (omega (arith, below)) ∙ ap (λ (x : ℕ). record { 0 = x }) (omega arith)
+
+run_has : (first n k : ℕ) → k < n → Contains (run first n) (record { 0 = first + k })
+run_has first n k below = (k, (let size = run_length first n in omega (arith, size, below)), run_at first n k (record { 0 = first + k }) below)
+
+-- over the empty image of these sizes
+abbrev pub small_session : Session
+small_session = record { sizes = sizes; script = script; links = λ page. None; free = run 85 64; blocks = empty_image; before = []; image = empty_image }
 
 run_above : (x first n : ℕ) → x < first → total (is_block x) (run first n) ≡ 0
 run_above x first zero above = refl
@@ -66,7 +65,7 @@ run_fresh offset first zero at_offset inside = tt
 run_fresh offset first (suc n) at_offset inside = (
   record {
     is_data = record { slab = 0; offset = offset; inside = (omega arith, omega arith); stands = sym at_offset };
-    unnamed = λ a y e. absurd (cc);
+    is_free = subst (λ (x : ℕ). Contains (run 85 64) (record { 0 = x })) (sym at_offset) (run_has 85 64 offset (omega (arith, inside)));
     inside = omega arith;
   },
   run_fresh (suc offset) (suc first) n (omega arith) (omega arith),
@@ -74,20 +73,21 @@ run_fresh offset first (suc n) at_offset inside = (
 
 pub small_served : IsSession small_session
 small_served = record {
-  sizes = geometry_ok;
+  sizes = small_is;
   start = (omega arith, omega arith);
   used = omega arith;
   zones = omega arith;
   limits = record { streams = omega arith; depth = omega arith; requests = omega arith; zones = omega arith };
   served = (((zeros_length, refl), (tt, (tt, tt))), tt);
-  of_image = tt;
+  linked = λ page x none. absurd cc;
+  rooted = λ page none. absurd cc;
   free = run_fresh 0 85 64 (omega arith) (omega arith);
   distinct = run_distinct 85 64;
 }
 
 -- and it is fair when it begins
 pub small_fair : IsFair small_session []
-small_fair = new_fair small_session small_served (record { blocks = refl; unwritten = refl; image = refl; unsealed = refl; no_window = refl; unused = refl })
+small_fair = new_fair small_session small_served (record { empty = empty_is; room = omega (arith, empty_size); whole = λ b below. empty_whole b (omega (arith, below, empty_size)); blocks = refl; unwritten = refl; links = λ page. refl })
 
 -- the core
 
@@ -102,7 +102,7 @@ abbrev empty_zone : ℕ → ZoneData → Zone
 empty_zone number keeps = record { number = number; steps = 0; keeps = keeps; ports = record { inbox = []; outboxes = no_lanes } }
 
 abbrev logical : ℕ → LogicalZone
-logical zone = record { zone = zone; notified = false; next = 0; places = []; held = []; waiting = []; retired = []; tree = bare geometry zone 2; making = []; lacking = []; unlinkable = []; window = []; slots = [] }
+logical zone = record { zone = zone; notified = false; next = 0; places = []; held = []; waiting = []; retired = []; tree = bare small zone 2; making = []; lacking = []; unlinkable = []; slots = [] }
 
 abbrev small_desk : Desk
 small_desk = record { requests = script; log = []; marks = []; notices = 0; parked = [] }
@@ -114,7 +114,7 @@ abbrev small_journal : JournalZone
 small_journal = record { notified = false; busy = false; broken = false; log = first_log sizes; filling = []; waiting = []; entered = []; committed = [] }
 
 abbrev small_device : DeviceZone
-small_device = record { stopped = false; calls = 0; superblock = AsOpened }
+small_device = record { stopped = false; calls = 0; superblock = AsOpened; damage = None }
 
 abbrev pub small_core : Core
 small_core = record {
@@ -143,7 +143,7 @@ empty_first : (number : ℕ) (keeps : ZoneData) → IsFirstData small_session nu
 empty_first number keeps own = record { number_is = refl; steps = refl; lanes = refl; inbox = refl; outboxes = all_empty (zone_count sizes); own = own }
 
 logical_first : (zone : ℕ) → zone < 2 → IsFirstLogical small_session (1 + zone) (logical zone)
-logical_first zone below = record { number_is = refl; among = below; notified = refl; next = refl; places = refl; held = refl; waiting = refl; retired = refl; tree = bare_is geometry zone 2 geometry_ok below (omega arith) refl; making = refl; lacking = refl; unlinkable = refl; window = refl; slots = refl }
+logical_first zone below = record { number_is = refl; among = below; notified = refl; next = refl; places = refl; held = refl; waiting = refl; retired = refl; tree = bare_is small zone 2 small_is below (omega arith) refl; making = refl; lacking = refl; unlinkable = refl; slots = refl }
 
 -- The core of this session at its start ..
 pub small_first : IsFirst small_session small_core
@@ -159,7 +159,7 @@ small_first = record {
           empty_first 3 (at.Physical small_physical) (record { number_is = refl; notified = refl; free = refl }),
           (
             empty_first 4 (at.Journal small_journal) (record { number_is = refl; notified = refl; busy = refl; broken = refl; log = refl; filling = refl; waiting = refl; entered = refl; committed = refl }),
-            (empty_first 5 (at.Device small_device) (record { number_is = refl; stopped = refl; calls = refl; superblock = refl }), tt),
+            (empty_first 5 (at.Device small_device) (record { number_is = refl; stopped = refl; calls = refl; superblock = refl; damage = refl }), tt),
           ),
         ),
       ),

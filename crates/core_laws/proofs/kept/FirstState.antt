@@ -1,9 +1,8 @@
 -- A core at its start is legal, with an empty trace.
 use Rattle.std.proofs.Common.{◌≡◌, ℕ, suc, ◌⊎◌, ◌≤◌, Bool, false, not, List, [], ◌∷◌, ◌++◌, length, refl, sym, ◌∙◌, ap, subst, inl, inr, arith}
 use Rattle.core_laws.proofs.journal.LogLaws.{log_at_start}
-use Rattle.core_laws.proofs.Common.{all_logged, AllByRecursion, answers_of, arrival, as_items, AtMost, AtRest, Balanced, begins_of, bit, block_token, blocks_at, DataOk, desk_number, DeskLine, Each, entry_token, every-get, given, HasBlocks, HasWholeBlocks, holder_token, in_log, is_answer, is_begin, is_block, is_entry, IsAsOpened, IsFresh, IsSession, Item, ItemOk, journal_token, KeptEach, KeptOk, Lba, lease_token, Lock, lock_weight, LocksOk, Remapping, logical_number, LogicalZone, made_by, MapOk, Mapping, newest, notice_token, notified_by, of_address, OnBlock, one_physical, Pbn, queued, request_token, RestsAt, room_token, Session, Shown, Stands, Token, total, Trace, Vio, weight, Zone, zone_count, ZoneData, ZoneOk, Logged, remappings}
+use Rattle.core_laws.proofs.Common.{all_logged, AllByRecursion, answers_of, arrival, as_items, AtMost, AtRest, Balanced, begins_of, bit, block_token, blocks_at, DataOk, desk_number, DeskLine, Each, entry_token, every-get, given, HasBlocks, holder_token, in_log, is_answer, is_begin, is_block, is_entry, IsAsOpened, IsFresh, IsSession, Item, ItemOk, journal_token, KeptEach, KeptOk, Lba, lease_token, Lock, lock_weight, LocksOk, Remapping, logical_number, LogicalZone, made_by, MapOk, Mapping, newest, notice_token, notified_by, of_address, OnBlock, one_physical, Pbn, queued, request_token, RestsAt, room_token, Session, Shown, Stands, Token, total, Trace, Vio, weight, Zone, zone_count, ZoneData, ZoneOk, Logged, remappings, opened_at, KeptStands}
 use Rattle.blk_base.specs.declared.place.Mapping.TheVariants.{Unmapped, Zero, At}
-use Rattle.image_layout.specs.Values.{mapping_of, value_in}
 use Rattle.journal_stops.proofs.StepLaws.{opened}
 use Rattle.core_model.specs.declared.zones.ZoneData.TheVariants as at
 use Rattle.blk_base.specs.declared.place.PageId.{PageId}
@@ -12,20 +11,17 @@ use Rattle.core_model.specs.Arrivals.{arrivals_at}
 use Rattle.core_model.specs.Facts.{PagesOk}
 use Rattle.core_model.specs.Tokens.{making_at, making_token, page_entry_token}
 use Rattle.core_model.specs.Legal.{Legal}
-use Rattle.core_model.specs.Sessions.{HasNoneLeft, IsSuperblock}
+use Rattle.core_model.specs.Sessions.{IsSuperblock}
 use Rattle.disk_model.specs.Log.{block_at, contents}
 use Rattle.disk_model.proofs.ImageLaws.{all_weaker}
-use Rattle.stop_laws.specs.Journals.{block_of_slot}
 use Rattle.core_model.specs.Streams.{Flows, counted}
 use Rattle.core_model.specs.Start.{IsFirstData, IsFirstZone, IsFirst}
 use Rattle.core_model.specs.Steps.{Core}
-use Rattle.core_model.specs.DeviceRules.{IsInside}
 use Rattle.core_model.specs.JournalRules.{is_closed}
-use Rattle.core_model.specs.LogicalRules.{is_among, mapped_by, mapping_at}
-use Rattle.byte_fields.specs.Mappings.{HoldsMapping}
-use Rattle.blk_base.proofs.RegionLaws.{data_block_high, data_block_inside}
-use Rattle.core_laws.proofs.device.DeviceCalls.{blocks_fit, window_data}
-use Rattle.image_model.proofs.LookedLaws.{looked_high, looked_low}
+use Rattle.core_model.specs.LogicalRules.{is_among}
+use Rattle.core_laws.proofs.kept.OpenedBlocks.{opened_block}
+use Rattle.image_model.proofs.LookedLaws.{looked_low}
+use Rattle.image_model.specs.Maps.{value_with}
 
 -- sums of what each thing has, as the one is at most the other
 pub total_at_most : {X : Type 0} (f g : X → ℕ) (xs : List X) → Each (λ i x. f x ≤ g x) xs → total f xs ≤ total g xs
@@ -106,26 +102,23 @@ no_words s n other h = refl
 -- what the device has, where the image is as it was opened
 
 module _ (s : Session) (session : IsSession s) (as_opened : IsAsOpened s) where
-  -- the block that the window maps an address to has its value
-  first_stands : (a : ℕ) (m : Mapping) → mapping_of s.window a ≡ m → OnBlock (λ x. Stands s [] x.0 (value_in s.image m)) m
+  -- what the session leaves as it was, and the block that an address is mapped to
+  kept_at_start : KeptStands s []
+  kept_at_start x is = as_opened.one_image.only x (let inside = is.inside in let room = as_opened.room in omega (arith, inside, room)) is.looked
+
+  first_stands : (a : ℕ) (m : Mapping) → opened_at s a ≡ m → OnBlock (λ x. Stands s [] x.0 (value_with s.image m)) m
   first_stands a Unmapped e = tt
   first_stands a Zero e = tt
-  first_stands a (At y) e =
-      let is_data = window_data s a y session e in
-      as_opened.one_image.only y.0 (omega (arith, as_opened.room, data_block_inside s.sizes.geometry y.0 is_data))
-      (looked_high s.sizes.geometry y.0 (data_block_high s.sizes.geometry y.0 is_data))
-
-  first_blocks : HasWholeBlocks s ⊎ HasNoneLeft s → HasBlocks s [] []
-  first_blocks (inl whole) = inl (whole, opened s.blocks s.before s.sizes.geometry s.sizes.start s.image s.sealed (omega (arith, as_opened.room)) as_opened.one_image whole.at_rest)
-  first_blocks (inr none) = inr (record { none = refl; opening = none; same = λ slot below. as_opened.one_image.only (block_of_slot slot) (omega (arith, as_opened.room, below)) (looked_low s.sizes.geometry (block_of_slot slot) (omega (arith, below))) })
+  first_stands a (At y) e = kept_at_start y.0 (opened_block s as_opened a y e)
 
   at_rest : AtRest s [] []
-  at_rest = (first_blocks as_opened.journal, (λ a. first_stands a (mapping_of s.window a) refl), tt)
+  at_rest = (opened s.blocks s.before s.sizes.geometry s.sizes.start s.image [] (let room = as_opened.room in omega (arith, room)) as_opened.one_image as_opened.journal, (λ a. first_stands a (opened_at s a) refl), tt)
 
   pub shown_at_start : Shown s []
   shown_at_start = record {
     superblock = all_weaker (λ content. content ≡ block_at s.image 0) (IsSuperblock s) (contents s.blocks s.before 0) (λ content is. inl is)
         (as_opened.one_image.only 0 (omega (arith, as_opened.room)) (looked_low s.sizes.geometry 0 (omega arith)));
+    kept = kept_at_start;
     journal = inl (record { rest = []; all = refl; stands = at_rest });
     filling = tt;
   }
@@ -133,30 +126,8 @@ module _ (s : Session) (session : IsSession s) (as_opened : IsAsOpened s) where
 -- what each zone has
 
 module _ (s : Session) (session : IsSession s) where
-  -- an address is mapped to a block of the window
-  held_at_start : (a : ℕ) (m : Mapping) → mapping_of s.window a ≡ m → HoldsMapping m
-  held_at_start a Unmapped e = tt
-  held_at_start a Zero e = tt
-  held_at_start a (At y) e =
-      let is = window_data s a y session e in
-      let high = data_block_high s.sizes.geometry y.0 is in
-      let low = data_block_inside s.sizes.geometry y.0 is in
-      let few = blocks_fit s.sizes.geometry session.sizes in
-      (omega (arith, high), omega (arith, low, few))
-
-  mapped_at_start : (l : LogicalZone) (a : ℕ) → l.slots ≡ [] → l.window ≡ s.window → HoldsMapping (mapping_at l a)
-  mapped_at_start l a none is =
-      let here : mapping_at l a ≡ mapping_of s.window a = ap (λ es. mapped_by (newest (of_address a es)) (mapping_of l.window a)) none ∙ ap (λ w. mapping_of w a) is in
-      rw here (held_at_start a (mapping_of s.window a) refl)
-
-  inside_at_start : (l : LogicalZone) (a : ℕ) (x : Pbn) → l.slots ≡ [] → l.window ≡ s.window → mapping_at l a ≡ At x → IsInside s.sizes x
-  inside_at_start l a x none is at =
-      let here : mapping_at l a ≡ mapping_of s.window a = ap (λ es. mapped_by (newest (of_address a es)) (mapping_of l.window a)) none ∙ ap (λ w. mapping_of w a) is in
-      data_block_inside s.sizes.geometry x.0 (window_data s a x session (sym here ∙ at))
-
-  -- what each zone keeps
-  map_at_start : (l : LogicalZone) → l.slots ≡ [] → l.window ≡ s.window → MapOk s l.window l.slots
-  map_at_start l none is = record { window_is = is; mapped = λ a. mapped_at_start l a none is; inside = λ a x at. inside_at_start l a x none is at }
+  map_at_start : (slots : List Remapping) → slots ≡ [] → MapOk s slots
+  map_at_start slots none = subst (MapOk s) (sym none) tt
 
   locks_at_start : (zone next : ℕ) (held : List Lock) (waiting : List Vio) → held ≡ [] → waiting ≡ [] → LocksOk s zone next held waiting
   locks_at_start zone next held waiting none nobody = rw (none, nobody) (record { locks_are = tt; once = λ a. omega arith; waits = tt; in_line = tt; in_order = tt })
@@ -190,7 +161,7 @@ module _ (s : Session) (session : IsSession s) where
   data_at_start n (at.Logical l) h = record {
     number_is = h.number_is;
     lists = record { places_is = h.places; next_is = h.next; slots_are = λ a e. ap (of_address a) h.slots; below = λ a e. record { writes = tt; reads = tt }; tree_is = h.tree };
-    sound = record { among = h.among; map = map_at_start l h.slots h.window; locks = locks_at_start l.zone l.next l.held l.waiting h.held h.waiting; pages = pages_at_start l.zone l.tree l.making l.lacking h.making h.lacking };
+    sound = record { among = h.among; map = map_at_start l.slots h.slots; locks = locks_at_start l.zone l.next l.held l.waiting h.held h.waiting; pages = pages_at_start l.zone l.tree l.making l.lacking h.making h.lacking };
     kept = nobody_at_start n (at.Logical l) h;
     answers = ((λ a e free living. record { all_committed = refl; all_done = refl }), λ page linkable unlinked unmade yet. sym (h.tree.linked page linkable) ∙ unlinked);
     told = ((λ a retired. absurd (let none = ap (is_among a) h.retired in cc)), λ some. let none = ap (λ (pages : List PageId). length pages) h.unlinkable in absurd (omega (arith, some, none)));
@@ -211,7 +182,7 @@ module _ (s : Session) (session : IsSession s) where
     answers = subst (λ (b : Bool). RestsAt s [] b j.broken) (sym h.busy) (subst (λ (b : Bool). RestsAt s [] false b) (sym h.broken) (refl, λ fair. at_rest s session fair.opened));
     told = λ closed. absurd (let notified = h.notified in let broken = h.broken in let opened : is_closed j ≡ false = rw (notified, broken) refl in cc);
   }
-  data_at_start n (at.Device d) h = record { number_is = h.number_is; lists = record { calls_is = h.calls; stopped_is = h.stopped; superblock_is = h.superblock }; sound = tt; kept = tt; answers = tt; told = tt }
+  data_at_start n (at.Device d) h = record { number_is = h.number_is; lists = record { calls_is = h.calls; stopped_is = h.stopped; superblock_is = h.superblock; damage_is = h.damage }; sound = tt; kept = tt; answers = tt; told = tt }
 
   zone_at_start : (n : ℕ) (z : Zone) → IsFirstZone s n z → ZoneOk s [] n z
   zone_at_start n z f = record {

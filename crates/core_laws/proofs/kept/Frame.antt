@@ -1,6 +1,7 @@
 -- A zone that weighs nothing for what a happening is about keeps all its facts. Paid once for all kinds of zone and item.
 use Rattle.std.proofs.Common.{◌≡◌, ◌≢◌, ◌⊎◌, ℕ, ◌≤◌, ◌==◌, Bool, true, false, Some, is_some, List, [], ◌∷◌, ◌++◌, slice_get, refl, ap, sym, ◌∙◌, subst, inl, inr, arith, ◌<◌}
-use Rattle.core_laws.proofs.Common.{all_of, AllBelow, AllByRecursion, Answers, calls, Calls, Commits, durable, desk_number, device_number, drawn, Draws, Each, journaled, Enters, eq-eqb, eqb_tells, every-front, Fails, fair_before, filled, Flushes, Gives, Happening, has_stopped, HasLists, Item, ItemOk, journal_number, kept_by, KeptEach, KeptOk, lines, logical_number, marks, name_of, of_address, Phase, physical_number, places, RestsAt, Says, sealed, Seals, Session, Remaps, Sets, Sizes, taken, Takes, Token, total, total-append, total-get, Trace, Vio, WasTold, weight, Zone, zone_number, zone_of, ZoneData, ZoneOk, Passes, applied, passed, remappings, Remapping, superblock_stage}
+use Rattle.core_model.specs.Trace.{damage_in}
+use Rattle.core_laws.proofs.Common.{all_of, AllBelow, AllByRecursion, Answers, calls, Calls, Commits, durable, desk_number, device_number, drawn, Draws, Each, journaled, Enters, eq-eqb, eqb_tells, every-front, Fails, fair_before, filled, Flushes, Gives, Happening, has_stopped, HasLists, Item, ItemOk, journal_number, kept_by, KeptEach, KeptOk, lines, logical_number, marks, name_of, of_address, Phase, physical_number, places, RestsAt, Says, sealed, Seals, Session, Remaps, Sets, Sizes, taken, Takes, Token, total, total-append, total-get, Trace, Vio, WasTold, weight, Zone, zone_number, zone_of, ZoneData, ZoneOk, Passes, applied, passed, remappings, Remapping, superblock_stage, Harms}
 use Rattle.core_laws.proofs.lists.Between.{every_between}
 use Rattle.vdo_model.specs.FlushMarks.{successes}
 use Rattle.vdo_model.specs.ZoneOrder.{places_in}
@@ -59,10 +60,11 @@ module _ (sizes : Sizes) where
   entries_same Seals t off = absurd (off refl)
   entries_same other t off = (refl, refl, refl, refl)
 
-  device_same : (h : Happening) (t : Trace) → device_number sizes ≢ happens_in sizes h → (calls (h ∷ t) ≡ calls t) × (has_stopped (h ∷ t) ≡ has_stopped t) × (superblock_stage (h ∷ t) ≡ superblock_stage t)
+  device_same : (h : Happening) (t : Trace) → device_number sizes ≢ happens_in sizes h → (calls (h ∷ t) ≡ calls t) × (has_stopped (h ∷ t) ≡ has_stopped t) × (superblock_stage (h ∷ t) ≡ superblock_stage t) × (damage_in (h ∷ t) ≡ damage_in t)
   device_same (Calls c) t off = absurd (off refl)
   device_same (Fails w c kept) t off = absurd (off refl)
-  device_same other t off = (refl, refl, refl)
+  device_same (Harms w x bytes fault) t off = absurd (off refl)
+  device_same other t off = (refl, refl, refl, refl)
 
 module _ (s : Session) (h : Happening) (t : Trace) where
   lists_kept : (d : ZoneData) → zone_number s.sizes (name_of d) ≢ happens_in s.sizes h → HasLists s t d → HasLists s (h ∷ t) d
@@ -85,7 +87,7 @@ module _ (s : Session) (h : Happening) (t : Trace) where
     filling_few = k.filling_few;
     log_is = log_over s t (h ∷ t) j.log same.2 same.3 same.1 k.log_is;
   }
-  lists_kept (at.Device d) off k = let same = device_same s.sizes h t off in record { calls_is = k.calls_is ∙ ap successes (sym same.0); stopped_is = k.stopped_is ∙ sym same.1; superblock_is = k.superblock_is ∙ sym same.2 }
+  lists_kept (at.Device d) off k = let same = device_same s.sizes h t off in record { calls_is = k.calls_is ∙ ap successes (sym same.0); stopped_is = k.stopped_is ∙ sym same.1; superblock_is = k.superblock_is ∙ sym same.2; damage_is = k.damage_is ∙ sym same.3 }
 
   -- What it was told stays over everything.
   pub told_kept : (d : ZoneData) → WasTold t d → WasTold (h ∷ t) d
@@ -100,13 +102,13 @@ module _ (s : Session) (h : Happening) (t : Trace) where
   rests_on false false spares k =
       let same = spares refl in
       let blocks = sealed_spared s h t same.2 in
-      (ap all_of same.0.sealed_same ∙ k.0 ∙ sym same.0.committed_same, λ fair. rw same.0.sealed_same (rests_kept s h t (sealed t) same.1 blocks (k.1 (fair_before s h t fair))))
+      (ap all_of same.0.sealed_same ∙ k.0 ∙ sym same.0.committed_same, λ fair. rw same.0.sealed_same (rests_kept s h t (sealed t) fair.opened same.1 blocks (k.1 (fair_before s h t fair))))
   rests_on false true spares k = tt
 
   pub answers_kept : (d : ZoneData) → HasLists s t d → ((k : Key) → 1 ≤ (token_of s.sizes k).own d → Spares s t h k) → Answers s t d → Answers s (h ∷ t) d
   answers_kept (at.Logical l) lists spares k = (
     λ a zone free alive. quiet_kept h t a (spares (OfAddress a) (free_one _ _ _ (eq-eqb _ _ zone) free alive)) (k.0 a zone free alive),
-    λ page linkable unlinked unmade linkable_yet. put_same s.sizes.geometry.height s.window h t page
+    λ page linkable unlinked unmade linkable_yet. put_same s.sizes.geometry.height s.links h t page
         (spares (OfPage page) (unmade_one _ _ _ _ (eq-eqb _ _ (tree_home s l.zone l.tree t page lists.tree_is linkable)) (ap is_some unlinked) unmade linkable_yet)) ∙ k.1 page linkable unlinked unmade linkable_yet,
   )
   answers_kept (at.Journal j) lists spares k = rests_on j.busy j.broken (λ idle. spares OfJournal (rw idle (omega arith))) k

@@ -1,7 +1,7 @@
 -- The keys that facts are on: a request, an address, a data block, a page of the block map, the journal. Whoever weighs for a key has facts on it,
 -- and of each key at most one is held in the whole core. Each happening is about some keys, and spares the others.
 use Rattle.std.proofs.Common.{◌≡◌, ◌⊎◌, ℕ, ◌≤◌, ◌==◌, ◌%◌, ◌&&◌, Bool, true, false, not, Option, None, Some, is_some, refl, ap, subst, inl, inr, arith}
-use Rattle.core_laws.proofs.Common.{Aborts, Calls, Commits, Draws, Enters, Fails, Flushes, Gives, Logged, Makes, Happening, Says, Seals, Session, Remaps, Sets, Sizes, Takes, Token, Trace, Vio, Writer, ZoneData, bit, block_token, cases_Bool, claims, desk_number, device_number, journaled, eqb_tells, holder_weight, holds, journal_token, journal_number, logical_number, of_vio, physical_number, request_token, same_self, same_tells, zone_of, Pbn, Passes}
+use Rattle.core_laws.proofs.Common.{Aborts, Calls, Commits, Draws, Enters, Fails, Flushes, Gives, Logged, Makes, Happening, Says, Seals, Session, Remaps, Sets, Sizes, Takes, Token, Trace, Vio, Writer, ZoneData, bit, block_token, cases_Bool, claims, desk_number, device_number, journaled, eqb_tells, holder_weight, holds, journal_token, journal_number, logical_number, of_vio, physical_number, request_token, same_self, same_tells, zone_of, Pbn, Passes, Harms}
 use Rattle.blk_base.specs.Regions.{IsDataBlock}
 use Rattle.data_vio.specs.declared.items.Item.TheVariants.{Request}
 use Rattle.core_model.specs.declared.zones.ZoneData.TheVariants as at
@@ -112,6 +112,7 @@ happens_in sizes (Takes w page x) = physical_number sizes
 happens_in sizes (Aborts e) = logical_number (zone_in sizes.zones e)
 happens_in sizes (Calls c) = device_number sizes
 happens_in sizes (Fails w c kept) = device_number sizes
+happens_in sizes (Harms w x bytes fault) = device_number sizes
 
 -- What it is about is in the hands of the zone where it happens.
 abbrev pub IfAny : {X : Type 0} → (X → Type 0) → Option X → Type 0

@@ -1,7 +1,7 @@
 -- What a zone does with an item, and the desk with none, is fixed, and at the device by how it answered: two acts on the
 -- same keep, make and post the same.
-use Rattle.std.proofs.Common.{ℕ, ◌+◌, ◌≡◌, Bool, true, false, not, ◌&&◌, Option, None, Some, List, [], ◌∷◌, ◌++◌, refl, sym, ap, ◌∙◌, inl, inr}
-use Rattle.core_laws.proofs.Common.{Aborts, Answer, Calls, Commits, Desk, DeviceZone, Draws, Enters, Flushes, Gives, Item, JournalZone, LogicalZone, Passes, Pbn, Phase, PhysicalZone, Post, Says, Request, SealedBlock, Seals, Sets, Sizes, Stage, Takes, Trace, Vio, Writer, ZoneData, ended, gift, logged, notified, request_at, staged, turned, Call, Fails, SuperblockStage}
+use Rattle.std.proofs.Common.{ℕ, ◌+◌, ◌≡◌, Bool, true, false, not, ◌&&◌, Option, None, Some, List, [], ◌∷◌, ◌++◌, slice_index_or, refl, sym, ap, ◌∙◌, inl, inr, arith}
+use Rattle.core_laws.proofs.Common.{Aborts, Answer, Calls, Commits, Desk, DeviceZone, Draws, Enters, Flushes, Gives, Item, JournalZone, LogicalZone, Passes, Pbn, Phase, PhysicalZone, Post, Says, Request, SealedBlock, Seals, Sets, Sizes, Stage, Takes, Trace, Vio, Writer, ZoneData, ended, gift, logged, notified, request_at, staged, turned, Call, Fails, SuperblockStage, Harms}
 use Rattle.blk_base.specs.declared.place.ZoneId.TheVariants as id
 use Rattle.blk_base.specs.declared.request.Answer.TheVariants as reply
 use Rattle.disk_model.specs.declared.call.Call.TheVariants.{Read}
@@ -11,7 +11,7 @@ use Rattle.data_vio.specs.declared.items.Phase.TheVariants as phase
 use Rattle.data_vio.specs.declared.items.Stage.TheVariants as stage
 use Rattle.core_model.specs.declared.zones.ZoneData.TheVariants as at
 use Rattle.core_model.specs.DeskRules.{BeginsNext, DeskBegins, DeskServes, parks, answers, marks, at_once, first_zone, vio_of, is_notified, is_stopped, is_marked, mark_of_vio}
-use Rattle.core_model.specs.DeviceRules.{Announces, DeviceServes, DeviceWorks, IsReady, counted, halted, stop_notices, next_stage, next_superblock, next_zone, superblock_call}
+use Rattle.core_model.specs.DeviceRules.{Announces, DeviceServes, DeviceWorks, IsReady, counted, halted, harmed, notices_after, stop_notices, next_stage, next_superblock, next_zone, superblock_call}
 use Rattle.core_model.specs.declared.zones.SuperblockStage.TheVariants.{AsOpened, Written, Durable}
 use Rattle.core_model.specs.PhysicalRules.{PhysicalServes}
 use Rattle.core_model.specs.JournalRules.{JournalServes, JournalEnds, is_closed, has_block, has_room, next_block, refused, all_refused, all_again, all_dropped, entered_by, committed_by, sealed_by, hands_out}
@@ -21,15 +21,23 @@ use Rattle.block_map_tree.specs.Tree.{Tree}
 use Rattle.data_vio.specs.declared.items.Asks.{Asks}
 use Rattle.data_vio.specs.declared.items.Asks.TheVariants.{Write}
 use Rattle.data_vio.specs.Vios as vios
-use Rattle.data_vio.specs.Vios.{makes}
+use Rattle.data_vio.specs.Vios.{has_leaf, makes, reads_leaf}
 use Rattle.core_model.specs.LogicalRules as logical
-use Rattle.core_model.specs.LogicalRules.{LogicalServes, is_among, is_discard, is_held, lacks, lacks_for, lock_of, all_for, placed, place_of_vio, drawn_by, goes_on, granted, pass_of, passes_by, looks_up, released, retire, all_stopped, unmade, with_slot, woken}
-use Rattle.core_model.specs.PageTrees.{but_page, is_listed}
+use Rattle.core_model.specs.LogicalRules.{LogicalServes, is_among, is_discard, is_held, lacks, lacks_for, lock_of, all_for, placed, place_of_vio, drawn_by, goes_on, granted, known_at, looked, pass_of, passes_by, looks_up, released, retire, all_stopped, unmade, with_slot, woken}
+use Rattle.core_model.specs.PageTrees.{but_page, is_listed, leaf_at}
+use Rattle.image_model.proofs.MapLaws.{slot_says_its_mapping}
+use Rattle.image_model.specs.Maps.{mapping_in}
+use Rattle.image_model.specs.Pages.{slot_of_address}
+use Rattle.page_codec.proofs.ReadLaws.{slots}
+use Rattle.page_codec.specs.Grammar.{IsPage}
+use Rattle.page_codec.specs.declared.forms.PageHead.{PageHead}
+use Rattle.std.proofs.Math.Nat.{mod-lt}
+use Rattle.vdo_model.specs.declared.report.Damage.TheVariants.{Page}
 use Rattle.core_laws.proofs.logical.PageFacts.{linked_tree}
 use Rattle.core_model.specs.Steps.{Act, CallsDevice}
 use Rattle.core_laws.proofs.desk.BeginLaws.{begins_one}
 use Rattle.core_model.specs.Steps as steps
-use Rattle.blk_base.specs.declared.place.Mapping.TheVariants.{At}
+use Rattle.blk_base.specs.declared.place.Mapping.TheVariants.{At, Unmapped}
 
 -- what a zone keeps, what happens, and what is posted
 abbrev Result : Type 0 → Type 0
@@ -117,8 +125,14 @@ lack_at l v page true made = passes l v.at.0 [] (id.Desk, item.Request (ended ph
 lack_at l v page false true = (record l { lacking = l.lacking ++ v ∷ [] }, [], [])
 lack_at l v page false false = (record l { making = l.making ++ page ∷ [] }, [], (id.Physical 0, item.Request (makes page v)) ∷ [])
 
+-- it goes on with what is known, or reads its leaf first
+abbrev known_to : LogicalZone → Vio → Option Mapping → Option Pbn → Result LogicalZone
+known_to l v (Some mapping) leaf = onward_at l (goes_on (looked l mapping v))
+known_to l v None (Some x) = (l, [], (id.Device, item.Request (reads_leaf x v)) ∷ [])
+known_to l v None None = (l, [], [])
+
 abbrev stay_at : Sizes → LogicalZone → Vio → Option PageId → Result LogicalZone
-stay_at sizes l v None = onward_at l (goes_on sizes l v)
+stay_at sizes l v None = known_to l v (known_at l v.at.0) (leaf_at l.tree v.at.0)
 stay_at sizes l v (Some page) = lack_at l v page (is_listed page l.unlinkable) (is_listed page l.making)
 
 abbrev look_at : Sizes → LogicalZone → Vio → Bool → Result LogicalZone
@@ -146,6 +160,7 @@ drop_at l v (Some page) = (woken (logical.dropped page (released v.at.0 l)), Abo
 abbrev logical_at : Sizes → LogicalZone → Vio → Phase → Result LogicalZone
 logical_at sizes l v phase.Arrive = arrival_at l v (is_among v.at.0 l.retired) (is_held v.at.0 l.held)
 logical_at sizes l v phase.Look = look_at sizes l v (passes_by l v)
+logical_at sizes l v phase.LoadedLeaf = onward_at l (goes_on v)
 logical_at sizes l v phase.Settle = settle_at l v v.page v.new
 logical_at sizes l v phase.Loaded = passes l v.at.0 (Gives (gift v) ∷ []) (id.Desk, item.Request (ended phase.Reply (reply.Bytes v.bytes) v))
 logical_at sizes l v phase.Abort = abort_at l v v.page
@@ -165,7 +180,9 @@ logical_is : (sizes : Sizes) (l : LogicalZone) (v : Vio) (new : LogicalZone) (ma
 logical_is sizes l v new made posts (LogicalServes.arrives_retired is retired n m q) = rw (n, m, q, is, retired) refl
 logical_is sizes l v new made posts (LogicalServes.arrives_free is alive free n m q) = rw (n, m, q, is, alive, free) refl
 logical_is sizes l v new made posts (LogicalServes.arrives_held is alive held n m q) = rw (n, m, q, is, alive, held) refl
-logical_is sizes l v new made posts (LogicalServes.looks post is path stays leaf next n m q) = rw (n, m, q, is, stays, leaf, next) refl
+logical_is sizes l v new made posts (LogicalServes.looks mapping post is path stays leaf knows next n m q) = rw (n, m, q, is, stays, leaf, knows, next) refl
+logical_is sizes l v new made posts (LogicalServes.needs_leaf x is path stays leaf unknown there n m q) = rw (n, m, q, is, stays, leaf, unknown, there) refl
+logical_is sizes l v new made posts (LogicalServes.leafed post is next n m q) = rw (n, m, q, is, next) refl
 logical_is sizes l v new made posts (LogicalServes.passes is path past n m q) = rw (n, m, q, is, past) refl
 logical_is sizes l v new made posts (LogicalServes.is_dropped page is path lack dropped n m q) = rw (n, m, q, is, stays_by l v.at.0 v.asks page _ lack, lack, dropped) refl
 logical_is sizes l v new made posts (LogicalServes.waits page is path lack linkable made_yet n m q) = rw (n, m, q, is, stays_by l v.at.0 v.asks page _ lack, lack, linkable, made_yet) refl
@@ -270,6 +287,15 @@ abbrev load_at : DeviceZone → Vio → Trace → Behind
 load_at d v (Calls (Read x bytes ok) ∷ []) = (counted d, (v.home, item.Request (record v { phase = phase.Loaded; bytes = bytes })) ∷ [])
 load_at d v other = (d, (v.home, item.Request (ended phase.Abort reply.ReadFault v)) ∷ [])
 
+abbrev read_leaf_at : Sizes → DeviceZone → Vio → Trace → Behind
+read_leaf_at sizes d v (Calls (Read x bytes ok) ∷ []) = (counted d, (v.home, item.Request (has_leaf (mapping_in bytes (slot_of_address v.at.0)) v)) ∷ [])
+read_leaf_at sizes d v (Harms w x bytes fault ∷ []) = (harmed (Page x fault) (counted d), (v.home, item.Request (ended phase.Abort reply.Damaged v)) ∷ notices_after d.stopped sizes)
+read_leaf_at sizes d v other = (d, (v.home, item.Request (ended phase.Abort reply.ReadFault v)) ∷ [])
+
+-- what a leaf says in a slot is what its bytes say there
+leaf_mapping : (head : PageHead) (bytes : List ℕ) (mappings : List Mapping) (a : ℕ) → IsPage head bytes mappings → slice_index_or mappings (slot_of_address a) Unmapped ≡ mapping_in bytes (slot_of_address a)
+leaf_mapping head bytes mappings a page = sym (slot_says_its_mapping head bytes (slot_of_address a) _ (slots head bytes mappings (slot_of_address a) page (mod-lt a (omega arith))))
+
 abbrev flush_at : Sizes → DeviceZone → Vio → Bool → Trace → Behind
 flush_at sizes d v true made = (d, (id.Desk, item.Request (ended phase.Reply reply.Stopped v)) ∷ [])
 flush_at sizes d v false (Calls call ∷ []) = (counted d, (id.Desk, item.Request (record v { phase = phase.Reply; answer = Some reply.Ok; calls = d.calls + 1 })) ∷ [])
@@ -278,6 +304,7 @@ flush_at sizes d v false other = (halted d, (id.Desk, item.Request (ended phase.
 abbrev device_at : Sizes → DeviceZone → Vio → Trace → Phase → Behind
 device_at sizes d v made phase.Store = store_at sizes d v d.stopped made
 device_at sizes d v made phase.Load = load_at d v made
+device_at sizes d v made phase.LoadLeaf = read_leaf_at sizes d v made
 device_at sizes d v made phase.Flush = flush_at sizes d v d.stopped made
 device_at sizes d v made other = (d, [])
 
@@ -292,6 +319,10 @@ device_is sizes d v new made posts (DeviceServes.store_fails x kept is to goes d
 device_is sizes d v new made posts (DeviceServes.store_unmade is stops n m q) = rw (n, m, q, is, stops) refl
 device_is sizes d v new made posts (DeviceServes.loads x bytes is from ready inside n m q) = rw (ready_is sizes d (item.Request v) made (device_at sizes d v made v.phase) ready, n, m, q, is) refl
 device_is sizes d v new made posts (DeviceServes.load_fails x bytes kept is from ready inside n m q) = rw (ready_is sizes d (item.Request v) made (device_at sizes d v made v.phase) ready, n, m, q, is) refl
+device_is sizes d v new made posts (DeviceServes.loads_leaf x bytes mappings is there ready inside page n m q) =
+    rw (ready_is sizes d (item.Request v) made (device_at sizes d v made v.phase) ready, n, m, q, is, leaf_mapping _ bytes mappings v.at.0 page) refl
+device_is sizes d v new made posts (DeviceServes.leaf_fails x bytes kept is there ready inside n m q) = rw (ready_is sizes d (item.Request v) made (device_at sizes d v made v.phase) ready, n, m, q, is) refl
+device_is sizes d v new made posts (DeviceServes.harms x bytes fault is there ready inside damaged n m q) = rw (ready_is sizes d (item.Request v) made (device_at sizes d v made v.phase) ready, n, m, q, is) refl
 device_is sizes d v new made posts (DeviceServes.flushes is goes durable n m q) = rw (n, m, q, is, goes, durable) refl
 device_is sizes d v new made posts (DeviceServes.flush_fails kept is goes durable n m q) = rw (n, m, q, is, goes, durable) refl
 device_is sizes d v new made posts (DeviceServes.flush_unmade is stops n m q) = rw (n, m, q, is, stops) refl

@@ -1,8 +1,8 @@
 -- In a legal core a rule applies to the item in front of each inbox, and each post of a rule has a lane.
-use Rattle.std.proofs.Common.{◌≡◌, ℕ, ◌<◌, ◌≤◌, true, false, None, Some, Option, List, [], ◌∷◌, ◌++◌, length, slice_get, refl, ap, sym, ◌∙◌, subst, inl, inr, arith}
+use Rattle.std.proofs.Common.{◌⊎◌, ◌≡◌, ℕ, ◌<◌, ◌≤◌, true, false, None, Some, Option, List, [], ◌∷◌, ◌++◌, length, slice_get, refl, ap, sym, ◌∙◌, subst, inl, inr, arith}
 use Rattle.std.proofs.lemmas.Option.{slice_get_within}
 use Rattle.core_laws.proofs.journal.LogLaws.{has_next, is_sealable}
-use Rattle.core_laws.proofs.Common.{HasAddress, all_logged, all_of, AllByRecursion, Answer, Asks, Call, cases_Bool, DataOk, Desk, desk_number, device_number, DeviceZone, IsForBlock, IsFresh, IsServed, IsSession, IsToFresh, IsToInside, Item, ItemOk, journal_number, JournalLists, JournalZone, logical_number, LogicalZone, Mapping, MayReply, notified_zones, option_cases, Pbn, Phase, physical_number, PhysicalZone, Post, Request, request_at, Script, sealed, SealedBlock, Session, some_of, Stage, StandsAt, Trace, Vio, VioOk, Writer, Zone, zone_at, zone_count, zone_number, zone_of, zone_of_stage, ZoneData, applied, durable, SuperblockStage}
+use Rattle.core_laws.proofs.Common.{HasAddress, all_logged, all_of, AllByRecursion, Answer, Asks, Call, cases_Bool, DataOk, Desk, desk_number, device_number, DeviceZone, IsForBlock, IsFresh, IsServed, IsSession, IsToFresh, IsToInside, Item, ItemOk, journal_number, JournalLists, JournalZone, logical_number, LogicalZone, Mapping, MayReply, notified_zones, option_cases, Pbn, Phase, physical_number, PhysicalZone, Post, Request, request_at, Script, sealed, SealedBlock, Session, some_of, Stage, StandsAt, Trace, Vio, VioOk, Writer, Zone, zone_at, zone_count, zone_number, zone_of, zone_of_stage, ZoneData, applied, durable, SuperblockStage, Remapping}
 use Rattle.blk_base.specs.Regions.{journal_slot_of}
 use Rattle.blk_base.specs.declared.request.Answer.TheVariants as reply
 use Rattle.blk_base.specs.declared.request.Request.TheVariants as request
@@ -21,7 +21,8 @@ use Rattle.core_model.specs.declared.zones.SuperblockStage.TheVariants.{AsOpened
 use Rattle.core_model.specs.PhysicalRules.{PhysicalServes}
 use Rattle.core_model.specs.JournalRules.{JournalServes, JournalEnds, is_closed, has_block, has_room}
 use Rattle.core_model.specs.Legal.{Legal}
-use Rattle.core_model.specs.LogicalRules.{LogicalServes, is_among, is_held, lacks, next_for, goes_on, passes_by}
+use Rattle.core_model.specs.LogicalRules.{LogicalServes, is_among, is_held, known_at, known_by, lacks, latest_at, looked, next_for, goes_on, passes_by}
+use Rattle.core_model.specs.PageTrees.{leaf_at}
 use Rattle.blk_base.specs.declared.place.PageId.{PageId}
 use Rattle.core_model.specs.Facts.{CarriesFor, CarriesOwn, CarriesPage}
 use Rattle.core_model.specs.PageTrees.{HasPath, but_page, is_listed}
@@ -80,10 +81,10 @@ module _ (s : Session) (session : IsSession s) (t : Trace) where
       ]
 
   -- a logical zone: whoever looks asks for a block
-  goes_some : (l : LogicalZone) (v : Vio) → IsForBlock v.asks → (post : Post) × (goes_on s.sizes l v ≡ Some post)
-  goes_some l v block = by v.asks block
+  goes_some : (v : Vio) → IsForBlock v.asks → (post : Post) × (goes_on v ≡ Some post)
+  goes_some v block = by v.asks block
     where
-      by : (q : Asks) → IsForBlock q → (post : Post) × (next_for s.sizes l v q ≡ Some post)
+      by : (q : Asks) → IsForBlock q → (post : Post) × (next_for v q ≡ Some post)
       by Read block = (_, refl)
       by Write block = (_, refl)
       by Discard block = (_, refl)
@@ -98,11 +99,24 @@ module _ (s : Session) (session : IsSession s) (t : Trace) where
     ]
   ]
 
+  known_leads : (o : Option Remapping) (leaf : Option Pbn) → known_by o leaf ≡ None → (x : Pbn) × (leaf ≡ Some x)
+  known_leads (Some e) leaf none = absurd cc
+  known_leads None None none = absurd cc
+  known_leads None (Some x) none = (x, refl)
+
+  known_or : (l : LogicalZone) (v : Vio) → v.phase ≡ phase.Look → IsForBlock v.asks → HasPath l.tree v.at.0 → passes_by l v ≡ false → lacks l v ≡ None → (known_at l v.at.0 ≡ None) ⊎ ((m : Mapping) × (known_at l v.at.0 ≡ Some m))
+      → HasAct s.sizes (at.Logical l) (item.Request v ∷ [])
+  known_or l v is block path stays leaf (inl unknown) =
+      let there = known_leads (latest_at l v.at.0) (leaf_at l.tree v.at.0) unknown in
+      (_, _, _, steps.serves (LogicalServes.needs_leaf there.0 is path stays leaf unknown there.1 refl refl refl))
+  known_or l v is block path stays leaf (inr (mapping, knows)) =
+      let goes = goes_some (looked l mapping v) block in (_, _, _, steps.serves (LogicalServes.looks mapping goes.0 is path stays leaf knows goes.1 refl refl refl))
+
   looks : (l : LogicalZone) (v : Vio) → v.phase ≡ phase.Look → IsForBlock v.asks → HasPath l.tree v.at.0 → HasAct s.sizes (at.Logical l) (item.Request v ∷ [])
   looks l v is block path = elim (cases_Bool (passes_by l v)) [
     | inl passes ↦ (_, _, _, steps.serves (LogicalServes.passes is path passes refl refl refl))
     | inr stays ↦ elim (option_cases (lacks l v)) [
-      | inl leaf ↦ let goes = goes_some l v block in (_, _, _, steps.serves (LogicalServes.looks goes.0 is path stays leaf goes.1 refl refl refl))
+      | inl leaf ↦ known_or l v is block path stays leaf (option_cases (known_at l v.at.0))
       | inr page ↦ elim (cases_Bool (is_listed page.0 l.unlinkable)) [
         | inl dropped ↦ (_, _, _, steps.serves (LogicalServes.is_dropped page.0 is path page.1 dropped refl refl refl))
         | inr linkable ↦ elim (cases_Bool (is_listed page.0 l.making)) [
@@ -132,7 +146,7 @@ module _ (s : Session) (session : IsSession s) (t : Trace) where
       let lacked = lacked_path s.sizes.geometry.height v.asks v.at v.bytes page carries.0.is_write carries.0.lacked in
       let path = path_of l v ok carries.0.turn.is_placed.for_block here in
       let fresh : IsFresh s block.0 = subst (IsToFresh s) block.1 carries.1 in
-      let may = may_link s.sizes.geometry l.zone s.sizes.zones s.window (applied t) l.tree v.at.0 here.lists.tree_is path page lacked.0 lacked.1 carries.0.up block.0 fresh.is_data in
+      let may = may_link s.sizes.geometry l.zone s.sizes.zones s.links (applied t) l.tree v.at.0 here.lists.tree_is path page lacked.0 lacked.1 carries.0.up block.0 fresh.is_data in
       let between : LogicalZone = record l { tree = linked_tree l.tree page block.0; making = but_page page l.making } in
       (_, _, _, steps.serves (LogicalServes.links page block.0 between is some block.1 may (record { links = link_made l.tree page block.0 here.lists.tree_is.form may; rest = refl }) refl refl refl))
 
@@ -197,6 +211,12 @@ module _ (s : Session) (session : IsSession s) (t : Trace) where
       (announces d v (ap (λ q. (row q).zone) is))
   loads_by d v Unmapped is from inside = absurd inside
   loads_by d v Zero is from inside = absurd inside
+
+  loads_leaf : (d : DeviceZone) (v : Vio) (x : Pbn) → v.phase ≡ phase.LoadLeaf → v.leaf ≡ Some x → IsInside s.sizes x → HasAct s.sizes (at.Device d) (item.Request v ∷ [])
+  loads_leaf d v x is there inside = when_ready d
+      (λ stopped. (_, _, _, steps.calls (DeviceServes.leaf_fails x [] true is there (inl stopped) inside refl refl refl)))
+      (λ goes durable. (_, _, _, steps.calls (DeviceServes.leaf_fails x [] true is there (inr durable) inside refl refl refl)))
+      (announces d v (ap (λ q. (row q).zone) is))
 
   flushes : (d : DeviceZone) (v : Vio) → v.phase ≡ phase.Flush → HasAct s.sizes (at.Device d) (item.Request v ∷ [])
   flushes d v is = when_ready d
@@ -266,6 +286,8 @@ module _ (s : Session) (session : IsSession s) (t : Trace) where
     by_phase : (v : Vio) (q : Phase) → v.phase ≡ q → v.page ≡ None → VioOk s t v → CarriesOwn s t v q → n ≡ zone_at s.sizes v.home q → Has (item.Request v)
     by_phase v phase.Arrive is bare ok carries to = in_home v ok to (λ l here. arrives l v is)
     by_phase v phase.Look is bare ok carries to = in_home v ok to (λ l here. looks l v is carries.0.is_placed.for_block (path_of l v ok carries.0.is_placed.for_block here))
+    by_phase v phase.LoadLeaf is bare ok carries to = in_device _ to (λ dev. loads_leaf dev v carries.2.at is carries.2.block_is carries.2.inside)
+    by_phase v phase.LoadedLeaf is bare ok carries to = in_home v ok to (λ l here. let goes = goes_some v carries.0.held.turn.is_placed.for_block in (_, _, _, steps.serves (LogicalServes.leafed goes.0 is goes.1 refl refl refl)))
     by_phase v phase.Claim is bare ok carries to = in_physical _ to (λ p. claims p v p.free refl is)
     by_phase v phase.Store is bare ok carries to = in_device _ to (λ dev. stores_by dev v v.new is refl carries.2)
     by_phase v phase.Enter is bare ok carries to = in_journal _ to (λ j lists. enters j v is)

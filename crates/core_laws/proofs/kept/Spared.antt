@@ -1,15 +1,14 @@
 -- Facts on the trace stay where the next happening is about something else.
 use Rattle.std.proofs.Common.{◌≡◌, ◌≢◌, ◌⊎◌, ℕ, zero, suc, ◌+◌, ◌<◌, ◌==◌, Bool, true, false, not, ◌&&◌, ◌||◌, if◌then◌else◌, Option, None, Some, IsSome, List, [], ◌∷◌, ◌≤◌, length, Contains, refl, ap, sym, ◌∙◌, inl, inr, arith}
-use Rattle.core_laws.proofs.Common.{Aborts, AllBelow, Calls, Commits, DeskLine, Draws, Enters, Entry, Fails, Flushes, FlushMark, Gives, Happening, HasBelow, IsCommitted, HasFullJournal, IsFull, IsOpen, IsPending, Logged, Makes, Pbn, Remapping, Remaps, NeedsBlock, Quiet, Says, Seals, Session, Sets, Takes, Trace, Writer, aborted, begun, committed, done, dropped, entered, entries_of, eqb_tells, gift_of, gifts, has_read_fault, has_stopped, has_taken, is_read, lines, logged_of, moments, newest, of_address, place_of, places, remappings, request_in, same_self, same_writer, taken, value_at, Passes, applied, durable, journaled, passed}
+use Rattle.disk_model.specs.declared.call.Call.TheVariants.{Read}
+use Rattle.core_laws.proofs.Common.{Aborts, AllBelow, Calls, Commits, DeskLine, Draws, Enters, Fails, Flushes, FlushMark, Gives, Happening, HasBelow, IsCommitted, HasFullJournal, IsFull, IsOpen, IsPending, Logged, Makes, Pbn, Remapping, Remaps, NeedsBlock, Quiet, Says, Seals, Session, Sets, Takes, Trace, Writer, aborted, begun, committed, done, dropped, entered, eqb_tells, gift_of, gifts, has_read_fault, has_stopped, has_taken, is_read, lines, logged_of, moments, newest, of_address, place_of, places, remappings, request_in, same_self, same_writer, taken, value_at, Passes, applied, durable, journaled, passed, mapped_or, mapping_by, opened_at, Harms, is_harmed}
 use Rattle.core_laws.proofs.lists.Between.{address_between, every_between, logged_between}
 use Rattle.blk_base.specs.declared.request.Answer.TheVariants as reply
-use Rattle.image_layout.specs.Values.{mapping_of}
 use Rattle.vdo_model.specs.FlushMarks.{Moment, Desk, Device, IsMark}
 use Rattle.vdo_model.specs.declared.report.DeskLine.TheVariants.{Begin, Answer}
 use Rattle.blk_base.specs.declared.place.PageId.{PageId}
 use Rattle.image_model.specs.Pages.{is_page, leaf_of}
-use Rattle.core_model.specs.RightTraces.{IsLeafy}
-use Rattle.core_model.specs.LogicalRules.{mapped_by}
+use Rattle.core_model.specs.RightTraces.{IsLeafy, IsLinkedAt}
 use Rattle.core_model.specs.PageLinks.{IsThere, page_in}
 
 -- What a happening is about: a request, an address, a page of the block map.
@@ -161,12 +160,12 @@ below_kept (Gives g) t a place apart b = record { writes = b.writes; reads = ((�
 below_kept other t a place apart b = record { writes = b.writes; reads = b.reads }
 
 -- What they say of a page: where an entry puts it, where it is linked, whether it is dropped. A page that is there stays there.
-module _ (height : ℕ) (window : List Entry) where
-  pub put_same : (h : Happening) (t : Trace) (page : PageId) → SparesPage h page → page_in height window (journaled (h ∷ t)) page ≡ page_in height window (journaled t) page
+module _ (height : ℕ) (links : PageId → Option Pbn) where
+  pub put_same : (h : Happening) (t : Trace) (page : PageId) → SparesPage h page → page_in links (journaled (h ∷ t)) page ≡ page_in links (journaled t) page
   put_same (Enters (Makes p)) t page apart = rw apart refl
   put_same other t page apart = refl
 
-  pub link_same : (h : Happening) (t : Trace) (page : PageId) → SparesPage h page → page_in height window (applied (h ∷ t)) page ≡ page_in height window (applied t) page
+  pub link_same : (h : Happening) (t : Trace) (page : PageId) → SparesPage h page → page_in links (applied (h ∷ t)) page ≡ page_in links (applied t) page
   link_same (Sets (Makes p)) t page apart = rw apart refl
   link_same other t page apart = refl
 
@@ -174,14 +173,13 @@ module _ (height : ℕ) (window : List Entry) where
   some_more true x o some = refl
   some_more false x o some = some
 
-  pub there_kept : (h : Happening) (t : Trace) (page : PageId) → IsThere height window (applied t) page → IsThere height window (applied (h ∷ t)) page
+  pub there_kept : (h : Happening) (t : Trace) (page : PageId) → IsThere height links (applied t) page → IsThere height links (applied (h ∷ t)) page
   there_kept h t page (inl root) = inl root
-  there_kept (Sets (Makes p)) t page (inr some) = inr (some_more (is_page p.page page) p.at (page_in height window (applied t) page) some)
+  there_kept (Sets (Makes p)) t page (inr some) = inr (some_more (is_page p.page page) p.at (page_in links (applied t) page) some)
   there_kept other t page (inr some) = inr some
 
 pub leafy_kept : (s : Session) (h : Happening) (t : Trace) (a : ℕ) → IsLeafy s t a → IsLeafy s (h ∷ t) a
-leafy_kept s h t a (inl leaf) = inl (there_kept s.sizes.geometry.height s.window h t (leaf_of a) leaf)
-leafy_kept s h t a (inr mapped) = inr mapped
+leafy_kept s h t a leaf = there_kept s.sizes.geometry.height s.links h t (leaf_of a) leaf
 
 -- an element of a list with one more in front
 pub contains_more : {X : Type 0} (y : X) (xs : List X) (x : X) → Contains xs x → Contains (y ∷ xs) x
@@ -190,6 +188,12 @@ contains_more y xs x (k, low, is) = (suc k, omega (arith, low), is)
 pub contains_cut : {X : Type 0} (y : X) (xs : List X) (x : X) → Contains (y ∷ xs) x → (y ≡ x) ⊎ Contains xs x
 contains_cut y xs x (zero, low, is) = inl is
 contains_cut y xs x (suc k, low, is) = inr (k, omega (arith, low), is)
+
+-- a page that stands at a block stands there from then on
+pub linked_at_kept : (s : Session) (h : Happening) (t : Trace) (page : PageId) (x : Pbn) → IsLinkedAt s t page x → IsLinkedAt s (h ∷ t) page x
+linked_at_kept s h t page x (inl opened) = inl opened
+linked_at_kept s (Sets e) t page x (inr made) = inr (made.0, contains_more e (applied t) (Makes (record { request = made.0; page = page; at = x })) made.1)
+linked_at_kept s other t page x (inr made) = inr made
 
 -- an entry that was handed in or committed is so from then on
 pub journaled_has : (h : Happening) (t : Trace) (e : Logged) → Contains (journaled t) e → Contains (journaled (h ∷ t)) e
@@ -224,6 +228,7 @@ mark_kept (Says line) t m k = mark_later (Desk line) (moments t) m k
 mark_kept (Flushes f) t m k = mark_later (Desk (Answer f.request reply.Ok)) (moments t) m k
 mark_kept (Calls c) t m k = mark_later (Device c) (moments t) m k
 mark_kept (Fails w c true) t m k = mark_later (Device c) (moments t) m k
+mark_kept (Harms w x bytes fault) t m k = mark_later (Device (Read x bytes true)) (moments t) m k
 mark_kept other t m k = k
 
 -- What was there once is there from then on: a stop, a read that failed, an abort, blocks that are taken.
@@ -233,11 +238,16 @@ either false = refl
 
 pub stop_kept : (h : Happening) (t : Trace) → has_stopped t ≡ true → has_stopped (h ∷ t) ≡ true
 stop_kept (Fails w c kept) t is = rw is (either (not (is_read c)))
+stop_kept (Harms w x bytes fault) t is = refl
 stop_kept other t is = is
 
 pub fault_kept : (h : Happening) (t : Trace) (w : Writer) → has_read_fault t w ≡ true → has_read_fault (h ∷ t) w ≡ true
 fault_kept (Fails v c kept) t w is = rw is (either (is_read c && same_writer v w))
 fault_kept other t w is = is
+
+pub harm_kept : (h : Happening) (t : Trace) (w : Writer) → is_harmed t w ≡ true → is_harmed (h ∷ t) w ≡ true
+harm_kept (Harms v x bytes fault) t w is = rw is (either (same_writer v w))
+harm_kept other t w is = is
 
 pub abort_kept : (h : Happening) (t : Trace) (a place : ℕ) → HasBelow a place (aborted t) → HasBelow a place (aborted (h ∷ t))
 abort_kept (Aborts (Remaps e)) t a place is = inr is
@@ -262,13 +272,8 @@ full_kept s h t w a bytes same (inr (inr page)) =
     inr (inr (record { newer = h ∷ page.newer; older = page.older; moment = ap (λ (u : Trace). h ∷ u) page.moment; placed = page.placed; lacking = page.lacking; all_taken = page.all_taken }))
 
 -- what an address is mapped to, by the writes of it
-pub mapping_by : (window : List Entry) (es : List Logged) (a : ℕ) → mapping_of (entries_of window es) a ≡ mapped_by (newest (of_address a (remappings es))) (mapping_of window a)
-mapping_by window [] a = refl
-mapping_by window (Makes p ∷ es) a = mapping_by window es a
-mapping_by window (Remaps e ∷ es) a = elim (eqb_tells e.at.0 a) [ inl same ↦ rw same.0 refl | inr other ↦ rw other.0 (mapping_by window es a) ]
-
-pub mapping_same : (window : List Entry) (es fs : List Logged) (a : ℕ) → of_address a (remappings es) ≡ of_address a (remappings fs) → mapping_of (entries_of window es) a ≡ mapping_of (entries_of window fs) a
-mapping_same window es fs a same = mapping_by window es a ∙ ap (λ xs. mapped_by (newest xs) (mapping_of window a)) same ∙ sym (mapping_by window fs a)
+pub mapping_same : (s : Session) (es fs : List Logged) (a : ℕ) → of_address a (remappings es) ≡ of_address a (remappings fs) → mapping_by s es a ≡ mapping_by s fs a
+mapping_same s es fs a same = ap (λ xs. mapped_or (newest xs) (opened_at s a)) same
 
 pub value_same : (s : Session) (h : Happening) (t : Trace) (a : ℕ) → SparesAddress h a → value_at s (h ∷ t) a ≡ value_at s t a
 value_same s h t a apart = rw (done_at h t a apart) refl

@@ -1,5 +1,5 @@
 -- Trees of two levels in which no page is linked.
-use Rattle.std.specs.Prelude.{ℕ, ◌≡◌, ◌<◌, ◌≤◌, ◌+◌, List, [], length, replicate, slice_index_or, refl}
+use Rattle.std.specs.Prelude.{None, ℕ, ◌≡◌, ◌<◌, ◌≤◌, ◌+◌, List, [], length, replicate, slice_index_or, refl}
 use Rattle.std.proofs.Common.{sym, ◌∙◌, ap, subst, inl, inr, arith}
 use Rattle.std.proofs.lemmas.Bool.{eq-eqb}
 use Rattle.std.proofs.lemmas.Bool.Decides.{leb_tells}
@@ -20,7 +20,8 @@ use Rattle.block_map_tree.proofs.PageLaws.{in_row}
 use Rattle.block_map_tree.specs.Pages.{IsForest}
 use Rattle.block_map_tree.specs.Tree.{Tree, trees_of, row_of}
 use Rattle.block_map_tree.specs.declared.forms.Forest.{Forest}
-use Rattle.core_model.specs.PageTrees.{IsMapTree, block_in}
+use Rattle.core_model.specs.PageLinks.{block_in}
+use Rattle.core_model.specs.PageTrees.{IsMapTree}
 
 abbrev forest : Geometry → ℕ → ℕ → Forest
 forest g zone zones = record { geometry = g; zone = zone; zones = zones }
@@ -46,7 +47,7 @@ blank_slot count n slot = elim (leb_tells count n) [
 row_none : (f : Forest) (page : PageId) → page.level + 1 ≡ f.geometry.height → row_of f page ≡ 0
 row_none f page top = rw (eq-eqb (page.level + 1) f.geometry.height top) refl
 
-pub bare_is : (g : Geometry) (zone zones : ℕ) → IsGeometry g → zone < zones → zones ≤ 60 → g.height ≡ 2 → IsMapTree g zone zones [] [] (bare g zone zones)
+pub bare_is : (g : Geometry) (zone zones : ℕ) → IsGeometry g → zone < zones → zones ≤ 60 → g.height ≡ 2 → IsMapTree g zone zones (λ page. None) [] (bare g zone zones)
 unfolding bare
 bare_is g zone zones sizes below few height =
     let f = forest g zone zones in

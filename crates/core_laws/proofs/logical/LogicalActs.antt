@@ -5,10 +5,10 @@ use Rattle.blk_base.specs.declared.place.ZoneId.TheVariants as id
 use Rattle.data_vio.specs.declared.items.Item.TheVariants as item
 use Rattle.data_vio.specs.declared.items.Phase.TheVariants as phase
 use Rattle.core_model.specs.declared.zones.ZoneData.TheVariants as at
-use Rattle.core_model.specs.LogicalRules.{LogicalServes, arrives_retired, arrives_free, arrives_held, looks, passes, is_dropped, waits, makes_page, links, settles, gives, aborts, unmakes, drops, aborts_entered}
+use Rattle.core_model.specs.LogicalRules.{LogicalServes, arrives_retired, arrives_free, arrives_held, leafed, looks, needs_leaf, passes, is_dropped, waits, makes_page, links, settles, gives, aborts, unmakes, drops, aborts_entered}
 use Rattle.core_laws.proofs.journal.LoggedEntries.{fresh_at, logged_makes, logged_own}
 use Rattle.core_laws.proofs.kept.ActKept.{ActKept, Known, act_none, in_page}
-use Rattle.core_laws.proofs.logical.LogicalFacts.{After, retired_kept, free_kept, held_kept, looks_kept, passes_kept, settles_kept, gives_kept, aborts_kept, aborts_entered_kept}
+use Rattle.core_laws.proofs.logical.LogicalFacts.{After, retired_kept, free_kept, held_kept, leafed_kept, looks_kept, needs_kept, passes_kept, settles_kept, gives_kept, aborts_kept, aborts_entered_kept}
 use Rattle.core_laws.proofs.logical.PageActs.{dropped_kept, drops_kept, links_kept, makes_kept, unmakes_kept, waits_kept}
 
 -- what happens with an entry, by that entry
@@ -20,7 +20,9 @@ module _ {s : Session} {t : Trace} {n : ℕ} {l : LogicalZone} {v : Vio} (known 
   logical_serves new made posts (arrives_retired p d i m q) = rw (i, m, q) (retired_kept known p d)
   logical_serves new made posts (arrives_free p d f i m q) = rw (i, m, q) (free_kept known p d f)
   logical_serves new made posts (arrives_held p d f i m q) = rw (i, m, q) (held_kept known p f)
-  logical_serves new made posts (looks post p path stays has_leaf goes i m q) = rw (i, m, q) (looks_kept known p post path stays has_leaf goes)
+  logical_serves new made posts (looks mapping post p path stays leaf knows goes i m q) = rw (i, m, q) (looks_kept known p mapping post path stays leaf knows goes)
+  logical_serves new made posts (needs_leaf x p path stays leaf unknown there i m q) = rw (i, m, q) (needs_kept known p x path unknown there)
+  logical_serves new made posts (leafed post p goes i m q) = rw (i, m, q) (leafed_kept known p post goes)
   logical_serves new made posts (passes p path past i m q) = rw (i, m, q) (passes_kept known p path past)
   logical_serves new made posts (is_dropped page p path lack listed i m q) = rw (i, m, q) (dropped_kept known p page path lack listed)
   logical_serves new made posts (waits page p path lack yet making i m q) = rw (i, m, q) (waits_kept known p page path lack making)

@@ -1,33 +1,37 @@
 -- What the acts of a logical zone owe: a request draws its place, and is done with its lock.
 use Rattle.std.proofs.Common.{◌≡◌, ℕ, ◌+◌, ◌==◌, ◌≢◌, ◌⊎◌, ◌&&◌, Bool, true, false, not, if◌then◌else◌, Option, None, Some, is_some, length, length-append, IsNone, List, [], ◌∷◌, ◌++◌, refl, ap, sym, ◌∙◌, inl, inr, arith, ◌<◌, IsSome, subst}
 use Rattle.std.proofs.lemmas.Bool.{and_parts, cases_Bool}
-use Rattle.core_laws.proofs.Common.{Aborts, Entry, IsInTurn, Mapping, Passes, applied, durable, has_taken, journaled, newest, of_address, option_cases, passed, remappings, AllBelow, AllByRecursion, Asks, DataOk, DeskLine, Draws, FlushMark, Follows, Gives, GivesRight, Happening, HasAddress, HasEarned, IsChange, IsCommitted, IsEntered, IsFair, IsForBlock, IsFresh, IsOfZone, IsPlaced, IsUndrawn, KeptEach, KeptOk, Lba, Lock, LocksOk, Remapping, LogicalZone, Looks, MayReply, OnBlock, Pbn, Phase, Placed, PlaceMayFollow, Post, Quiet, RightTrace, Session, Sets, Trace, Vio, VioOk, Writer, aborted, answer_of, asked, before_begin, done, ended, eq-eqb, eqb_tells, every-append, every-map, fair_before, gift, gift_of, gifts, has_stopped, holds, lines, logged_of, logical_number, mapping_in, places, request_at, same_self, same_writer, some_is, turned, value_at, zone_number, zone_of, Remaps, remapping}
+use Rattle.core_laws.proofs.Common.{Aborts, Entry, IsInTurn, Mapping, Passes, applied, durable, has_taken, journaled, newest, of_address, option_cases, passed, remappings, AllBelow, AllByRecursion, Asks, DataOk, DeskLine, Draws, FlushMark, Follows, Gives, GivesRight, Happening, HasAddress, HasEarned, IsChange, IsCommitted, IsEntered, IsFair, IsForBlock, IsFresh, IsOfZone, IsPlaced, IsUndrawn, KeptEach, KeptOk, Lba, Lock, LocksOk, Remapping, LogicalZone, Looks, MayReply, OnBlock, Pbn, Phase, Placed, PlaceMayFollow, Post, Quiet, RightTrace, Session, Sets, Trace, Vio, VioOk, Writer, aborted, answer_of, asked, before_begin, done, ended, eq-eqb, eqb_tells, every-append, every-map, fair_before, gift, gift_of, gifts, has_stopped, holds, lines, logged_of, logical_number, places, request_at, same_self, same_writer, some_is, turned, value_at, zone_number, zone_of, Remaps, remapping, mapped_or, mapping_by, opened_at, IsToData, zone_count, same_Some, Holds, each_both}
 use Rattle.data_vio.specs.declared.items.Asks.TheVariants.{Read, Write, Discard, Flush}
 use Rattle.core_model.specs.Legal.{ComesAfter}
-use Rattle.core_model.specs.LogicalRules.{is_among, is_held, lock_of, placed, place_of_vio, drawn_by, goes_on, is_discard, lacks, is_unknown, is_unmapped, latest_at, pass_of, passes_by, looks_up, released, granted, retire, all_stopped, all_for, with_slot}
-use Rattle.core_laws.proofs.trace.DeskOfTrace.{of_address_append, shown_of}
+use Rattle.core_model.specs.LogicalRules.{is_among, is_held, lock_of, placed, place_of_vio, drawn_by, goes_on, is_discard, known_at, known_by, lacks, latest_at, looked, pass_of, passes_by, looks_up, released, granted, retire, all_stopped, all_for, with_slot}
+use Rattle.core_laws.proofs.trace.DeskOfTrace.{each_of_address, of_address_append, shown_of}
 use Rattle.core_laws.proofs.kept.ActKept.{Known, Mine, ActKept, act_one, own_request, plain_clears, line_kept, shown_plain, vio_over, IsPlain, act_none, own_address, vio_ok, in_bare, in_own, carries_own}
 use Rattle.core_laws.proofs.kept.Keys.{Clears, OfRequest, OfAddress, OfPage, IfAny, happens_in}
 use Rattle.core_laws.proofs.kept.Spared.{quiet_kept, below_kept, about, of_same}
 use Rattle.core_laws.proofs.logical.LockLaws.{more_drawn, one_waits, one_takes}
 use Rattle.core_laws.proofs.tokens.Owners.{at_home}
 use Rattle.data_vio.specs.Phases.{row}
-use Rattle.core_laws.proofs.lists.CoreLists.{or_none}
+use Rattle.core_laws.proofs.lists.CoreLists.{newest_has, or_none}
 use Rattle.core_laws.proofs.logical.Releases.{below_more, has_below_more, goes_ok, looks_ok, stopped_ok, release_ok, retire_ok, drawn_before}
-use Rattle.core_model.specs.PageTrees.{HasPath, missing_at}
-use Rattle.image_layout.specs.Values.{mapping_of}
+use Rattle.core_model.specs.PageTrees.{HasPath, leaf_at, missing_at}
+use Rattle.core_model.specs.Facts.{NeedsLeaf}
+use Rattle.data_vio.specs.Vios.{reads_leaf}
+use Rattle.image_model.specs.Pages.{leaf_of}
+use Rattle.core_laws.proofs.device.LeafReads.{stands_at_data}
+use Rattle.core_laws.proofs.journal.JournalFacts.{home_within}
+use Rattle.core_laws.proofs.kept.OpenedBlocks.{lacks_unmapped}
+use Rattle.core_laws.proofs.kept.StandsOn.{on_each}
+use Rattle.blk_base.proofs.RegionLaws.{data_block_inside}
 use Rattle.core_laws.proofs.lists.Between.{every_between}
-use Rattle.core_laws.proofs.logical.PageFacts.{has_leaf, lacks_some, same_tree}
-use Rattle.core_laws.proofs.trace.PagesOfTrace.{applied_leafy, newest_leafy}
+use Rattle.core_laws.proofs.logical.PageFacts.{has_leaf, lacks_some, leaf_lacks, leaf_linked, same_tree}
+use Rattle.core_laws.proofs.trace.PagesOfTrace.{applied_leafy, linked_stands, newest_leafy}
 use Rattle.blk_base.specs.declared.place.PageId.{PageId}
 use Rattle.core_model.specs.RightTraces.{IsLeafy}
 use Rattle.blk_base.specs.declared.place.Mapping.TheVariants.{Unmapped, Zero, At}
-use Rattle.byte_fields.specs.Mappings.{HoldsMapping}
 use Rattle.core_model.specs.DeskRules.{mark_of_vio}
-use Rattle.core_model.specs.DeviceRules.{IsInside}
 use Rattle.core_laws.proofs.kept.Frame.{told_kept}
 use Rattle.core_laws.proofs.kept.Carried.{reply_said}
-use Rattle.core_laws.proofs.device.DeviceCalls.{fresh_held}
 use Rattle.core_laws.proofs.tokens.Known.{Leased}
 use Rattle.blk_base.specs.declared.place.ZoneId.TheVariants as id
 use Rattle.blk_base.specs.declared.request.Answer.TheVariants as reply
@@ -186,11 +190,6 @@ none_known : (o : Option Remapping) → not (is_some o) ≡ true → o ≡ None
 none_known None is = refl
 none_known (Some e) is = absurd cc
 
-unmapped_is : (m : Mapping) → is_unmapped m ≡ true → m ≡ Unmapped
-unmapped_is Unmapped is = refl
-unmapped_is Zero is = absurd cc
-unmapped_is (At x) is = absurd cc
-
 newest_none : (es : List Remapping) → newest es ≡ None → es ≡ []
 newest_none [] is = refl
 newest_none (e ∷ es) is = absurd cc
@@ -232,42 +231,85 @@ module _ {s : Session} {t : Trace} {n : ℕ} {l : LogicalZone} {v : Vio} (known 
   drawn_here : (q : Phase) → v.phase ≡ q → holds q ≡ true → v.place < l.next
   drawn_here q is held = drawn_before s t n l known.session known.right known.own v (leased q is held) home
 
-  -- whoever changes its address and goes on has its leaf, or its address is known
+  -- whoever changes its address and goes on has its leaf
   known_leafy : (q : Asks) → v.asks ≡ q → IsChange q → HasPath l.tree v.at.0 → passes_by l v ≡ false → lacks l v ≡ None → IsLeafy s t v.at.0
   known_leafy Write is change path stays leaf =
       let none : missing_at l.tree v.at.0 ≡ None = rw is at leaf in
-      inl (has_leaf s.sizes.geometry l.zone s.sizes.zones s.window (applied t) l.tree v.at.0 known.own.lists.tree_is path none)
-  known_leafy Discard is change path stays leaf =
-      let here : (is_unknown l v.at.0 && is_some (missing_at l.tree v.at.0)) ≡ false = rw is at stays in
-      elim (cases_Bool (is_unknown l v.at.0)) [
-        | inl unknown ↦
-            let lacking : is_some (missing_at l.tree v.at.0) ≡ false = rw unknown at here in
-            inl (has_leaf s.sizes.geometry l.zone s.sizes.zones s.window (applied t) l.tree v.at.0 known.own.lists.tree_is path (no_page (missing_at l.tree v.at.0) lacking))
-        | inr seen ↦ by_slot (option_cases (latest_at l v.at.0)) seen
-      ]
+      has_leaf s.sizes.geometry l.zone s.sizes.zones s.links (applied t) l.tree v.at.0 known.own.lists.tree_is path none
+  known_leafy Discard is change path stays leaf = by_slot (option_cases (latest_at l v.at.0))
     where
       no_page : (o : Option PageId) → is_some o ≡ false → o ≡ None
       no_page None none = refl
       no_page (Some page) none = absurd cc
 
-      mapped : (m : Mapping) → is_unmapped m ≡ false → m ≢ Unmapped
-      mapped m is same = let no : true ≡ false = rw same at is in absurd cc
-
-      by_slot : (latest_at l v.at.0 ≡ None) ⊎ ((e : Remapping) × (latest_at l v.at.0 ≡ Some e)) → is_unknown l v.at.0 ≡ false → IsLeafy s t v.at.0
-      by_slot (inr slot) seen = newest_leafy s t v.at.0 (remappings (applied t)) slot.0 (applied_leafy s t known.right) (ap newest (sym (known.own.lists.slots_are v.at.0 home)) ∙ slot.1)
-      by_slot (inl none) seen =
-          let unmapped : is_unmapped (mapping_of l.window v.at.0) ≡ false = rw none at seen in
-          inr (subst (λ (w : List Entry). mapping_of w v.at.0 ≢ Unmapped) known.own.sound.map.window_is (mapped (mapping_of l.window v.at.0) unmapped))
+      by_slot : (latest_at l v.at.0 ≡ None) ⊎ ((e : Remapping) × (latest_at l v.at.0 ≡ Some e)) → IsLeafy s t v.at.0
+      by_slot (inr slot) = newest_leafy s t v.at.0 (remappings (applied t)) slot.0 (applied_leafy s t known.right) (ap newest (sym (known.own.lists.slots_are v.at.0 home)) ∙ slot.1)
+      by_slot (inl none) =
+          let lacking : is_some (missing_at l.tree v.at.0) ≡ false = rw (is, none) at stays in
+          has_leaf s.sizes.geometry l.zone s.sizes.zones s.links (applied t) l.tree v.at.0 known.own.lists.tree_is path (no_page (missing_at l.tree v.at.0) lacking)
   known_leafy Read is change path stays leaf = absurd change
   known_leafy Flush is change path stays leaf = absurd change
 
-  -- It goes where the map says.
-  pub looks_kept : v.phase ≡ phase.Look → (post : Post) → HasPath l.tree v.at.0 → passes_by l v ≡ false → lacks l v ≡ None → goes_on s.sizes l v ≡ Some post → After l [] (post ∷ [])
-  looks_kept is post path stays leaf goes =
-      let carries = in_bare known phase.Look is (λ page no. no) in
-      act_none known known.own (goes_ok s t n l known.session known.right known.own v (vio_ok known) carries.0 carries.1.0 carries.1.1 (λ change. known_leafy v.asks refl change path stays leaf) (home_is known) post goes, tt)
+  within : zone_number s.sizes v.home < zone_count s.sizes
+  within = home_within s t v known.session (vio_ok known)
 
-  -- Or it passes, a discard of an address of which nothing is known.
+  -- The last write of its address, by the zone's slots and by the trace.
+  latest_is : latest_at l v.at.0 ≡ newest (of_address v.at.0 (remappings (applied t)))
+  latest_is = ap newest (known.own.lists.slots_are v.at.0 home)
+
+  -- What is known of its mapping is right.
+  known_data : (o : Option Remapping) (leaf : Option Pbn) (m : Mapping) → latest_at l v.at.0 ≡ o → known_by o leaf ≡ Some m → IsToData s m
+  known_data (Some e) leaf m is knows = subst (IsToData s) (same_Some _ _ knows) (newest_has (λ (f : Remapping). IsToData s f.new) (of_address v.at.0 l.slots) e is (each_of_address (λ (f : Remapping). IsToData s f.new) v.at.0 l.slots known.own.sound.map))
+  known_data None None m is knows = subst (IsToData s) (same_Some _ _ knows) tt
+  known_data None (Some x) m is knows = absurd cc
+
+  known_right : (o : Option Remapping) (leaf : Option Pbn) (m : Mapping) → HasPath l.tree v.at.0 → latest_at l v.at.0 ≡ o → leaf_at l.tree v.at.0 ≡ leaf → known_by o leaf ≡ Some m → IsFair s t → m ≡ mapping_by s (applied t) v.at.0
+  known_right (Some e) leaf m path is there knows fair = sym (same_Some _ _ knows) ∙ sym (ap (λ o. mapped_or o (opened_at s v.at.0)) (sym latest_is ∙ is))
+  known_right None None m path is there knows fair =
+      sym (same_Some _ _ knows) ∙ sym (lacks_unmapped s fair.opened (applied t) v.at.0 (leaf_lacks s.sizes.geometry l.zone s.sizes.zones s.links (applied t) l.tree v.at.0 known.own.lists.tree_is path there))
+      ∙ sym (ap (λ o. mapped_or o (opened_at s v.at.0)) (sym latest_is ∙ is))
+  known_right None (Some x) m path is there knows fair = absurd cc
+
+  -- It goes where the map says.
+  pub looks_kept : v.phase ≡ phase.Look → (mapping : Mapping) (post : Post) → HasPath l.tree v.at.0 → passes_by l v ≡ false → lacks l v ≡ None → known_at l v.at.0 ≡ Some mapping → goes_on (looked l mapping v) ≡ Some post → After l [] (post ∷ [])
+  looks_kept is mapping post path stays leaf knows goes =
+      let carries = in_bare known phase.Look is (λ page no. no) in
+      let held : Holds s t (looked l mapping v) = record {
+        turn = carries.1.0;
+        old_data = known_data (latest_at l v.at.0) (leaf_at l.tree v.at.0) mapping refl knows;
+        old_is = known_right (latest_at l v.at.0) (leaf_at l.tree v.at.0) mapping path refl refl knows;
+      } in
+      act_none known known.own (goes_ok s t known.session known.right (looked l mapping v) (vio_ok known) carries.0 carries.1.1 held latest_is (λ change. known_leafy v.asks refl change path stays leaf) within post goes, tt)
+
+  -- Or its leaf is read first.
+  unknown_unset : (o : Option Remapping) (leaf : Option Pbn) → known_by o leaf ≡ None → o ≡ None
+  unknown_unset (Some e) leaf none = absurd cc
+  unknown_unset None leaf none = refl
+
+  pub needs_kept : v.phase ≡ phase.Look → (x : Pbn) → HasPath l.tree v.at.0 → known_at l v.at.0 ≡ None → leaf_at l.tree v.at.0 ≡ Some x → After l [] ((id.Device, item.Request (reads_leaf x v)) ∷ [])
+  needs_kept is x path unknown there =
+      let carries = in_bare known phase.Look is (λ page no. no) in
+      let linked = leaf_linked s.sizes.geometry l.zone s.sizes.zones s.links (applied t) l.tree v.at.0 known.own.lists.tree_is path x there in
+      let stands = linked_stands s.links (applied t) (leaf_of v.at.0) x linked in
+      let needs : NeedsLeaf s t v.at.0 (Some x) None = record {
+        at = x;
+        block_is = refl;
+        stands = stands;
+        leaf = inr (rw linked refl);
+        inside = data_block_inside s.sizes.geometry x.0 (stands_at_data s t (leaf_of v.at.0) x known.session known.right stands);
+        unset = newest_none _ (sym latest_is ∙ unknown_unset (latest_at l v.at.0) (leaf_at l.tree v.at.0) unknown);
+        latest = refl;
+      } in
+      act_none known known.own ((omega arith, (vio_ok known, carries_own s t (reads_leaf x v) phase.LoadLeaf carries.0 (carries.1.0, carries.1.1, needs), refl)), tt)
+
+  -- Its leaf said it.
+  pub leafed_kept : v.phase ≡ phase.LoadedLeaf → (post : Post) → goes_on v ≡ Some post → After l [] (post ∷ [])
+  leafed_kept is post goes =
+      let carries = in_bare known phase.LoadedLeaf is (λ page no. no) in
+      let has = carries.1.0 in
+      act_none known known.own (goes_ok s t known.session known.right v (vio_ok known) carries.0 carries.1.1 has.held (has.latest ∙ sym (ap newest has.unset)) (λ change. has.leaf) within post goes, tt)
+
+  -- Or it passes, a discard of an address of which no slot was set.
   module _ (is : v.phase ≡ phase.Look) (path : HasPath l.tree v.at.0) (passes_it : passes_by l v ≡ true) where
     abbrev gap : Remapping
     gap = pass_of v
@@ -281,15 +323,15 @@ module _ {s : Session} {t : Trace} {n : ℕ} {l : LogicalZone} {v : Vio} (known 
     turn : IsInTurn s t v × (has_taken t v.request ≡ false)
     turn = looking.1
 
-    parts : (is_discard v.asks ≡ true) × (is_unknown l v.at.0 ≡ true) × (is_some (missing_at l.tree v.at.0) ≡ true)
-    parts = let first = and_parts (is_discard v.asks) _ passes_it in let rest = and_parts (is_unknown l v.at.0) _ first.1 in (first.0, rest.0, rest.1)
+    parts : (is_discard v.asks ≡ true) × (not (is_some (latest_at l v.at.0)) ≡ true) × (is_some (missing_at l.tree v.at.0) ≡ true)
+    parts = let first = and_parts (is_discard v.asks) _ passes_it in let rest = and_parts (not (is_some (latest_at l v.at.0))) _ first.1 in (first.0, rest.0, rest.1)
 
-    unknown : (latest_at l v.at.0 ≡ None) × (mapping_of l.window v.at.0 ≡ Unmapped)
-    unknown = let both = and_parts (not (is_some (latest_at l v.at.0))) _ parts.1 in (none_known (latest_at l v.at.0) both.0, unmapped_is (mapping_of l.window v.at.0) both.1)
+    unknown : latest_at l v.at.0 ≡ None
+    unknown = none_known (latest_at l v.at.0) parts.1
 
     -- no entry of its address was handed in
     none_set : of_address v.at.0 (remappings (applied t)) ≡ []
-    none_set = newest_none _ (ap newest (sym (known.own.lists.slots_are v.at.0 home)) ∙ unknown.0)
+    none_set = newest_none _ (ap newest (sym (known.own.lists.slots_are v.at.0 home)) ∙ unknown)
 
     first_there : of_address v.at.0 (remappings (journaled t)) ≡ []
     first_there = nothing_before _ (of_address v.at.0 (passed t)) (
@@ -308,9 +350,8 @@ module _ {s : Session} {t : Trace} {n : ℕ} {l : LogicalZone} {v : Vio} (known 
         maps = (refl, refl);
         once = turn.0.is_placed.not_entered;
         below = turn.0.below;
-        lacking = lacks_some s.sizes.geometry l.zone s.sizes.zones s.window (applied t) l.tree v.at.0 known.own.lists.tree_is path parts.2;
+        lacking = lacks_some s.sizes.geometry l.zone s.sizes.zones s.links (applied t) l.tree v.at.0 known.own.lists.tree_is path parts.2;
         first = first_there;
-        unmapped = ap (λ (w : List Entry). mapping_of w v.at.0) (sym known.own.sound.map.window_is) ∙ unknown.1;
       },
       shown_plain s t (Passes gap) tt (shown_of s t known.right),
       known.right,
@@ -396,17 +437,8 @@ module _ {s : Session} {t : Trace} {n : ℕ} {l : LogicalZone} {v : Vio} (known 
         let more = below_more t v.at.0 v.place (v.place + 1) (omega arith) facts.2 in
         record { writes = ((λ same. omega arith), more.writes); reads = more.reads }
 
-    mapped_set : (a : ℕ) → HoldsMapping (mapping_in l.window (e ∷ l.slots) a)
-    mapped_set a = elim (eqb_tells v.at.0 a) [
-      | inl same ↦ rw same.0 (fresh_held s known.session.sizes v.new facts.3)
-      | inr other ↦ rw other.0 (known.own.sound.map.mapped a)
-    ]
-
-    inside_set : (a : ℕ) (x : Pbn) → mapping_in l.window (e ∷ l.slots) a ≡ At x → IsInside s.sizes x
-    inside_set a x at = elim (eqb_tells v.at.0 a) [
-      | inl same ↦ let here : v.new ≡ At x = rw same.0 at at in let fresh : IsFresh s x = subst (OnBlock (IsFresh s)) here facts.3 in fresh.inside
-      | inr other ↦ known.own.sound.map.inside a x (rw other.0 at at)
-    ]
+    data_set : IsToData s v.new
+    data_set = on_each v.new (λ x to fresh. fresh.is_data) facts.3
 
     -- the zone with the slot set, and its lock still held
     slot_ok : DataOk s set_t n (at.Logical (with_slot l v))
@@ -421,7 +453,7 @@ module _ {s : Session} {t : Trace} {n : ℕ} {l : LogicalZone} {v : Vio} (known 
             below = λ a zone. let old = k.lists.below a zone in record { writes = ((λ same. drawn_here phase.Settle is refl), old.writes); reads = old.reads };
             tree_is = same_tree s l.zone l.tree t set_t (λ page. refl) k.lists.tree_is;
           };
-          sound = record { among = k.sound.among; map = record { window_is = k.sound.map.window_is; mapped = mapped_set; inside = inside_set }; locks = k.sound.locks; pages = k.sound.pages };
+          sound = record { among = k.sound.among; map = (data_set, k.sound.map); locks = k.sound.locks; pages = k.sound.pages };
           kept = line_kept known (Sets (Remaps e)) t clears_set k.kept;
           answers = (
             λ a zone free alive. elim (eqb_tells v.at.0 a) [
@@ -444,16 +476,16 @@ module _ {s : Session} {t : Trace} {n : ℕ} {l : LogicalZone} {v : Vio} (known 
     abbrev u : Trace
     u = Gives (gift v) ∷ t
 
-    looked : Looks s t v × (IsFair s t → v.bytes ≡ value_at s t v.at.0)
-    looked = (in_bare known phase.Loaded is (λ page no. no)).1
+    given_it : Looks s t v × (IsFair s t → v.bytes ≡ value_at s t v.at.0)
+    given_it = (in_bare known phase.Loaded is (λ page no. no)).1
 
     clears_give : Clears s n (Mine s t (at.Logical l) (item.Request v ∷ [])) (Gives (gift v)) t
     clears_give = own_clears (Gives (gift v)) tt refl (own_request known) (own_address known phase.Loaded is refl) tt
 
     right_give : RightTrace s u
     right_give =
-        let held = looked.0.held.turn in (
-          record { is_open = (vio_ok known).is_open; asked = (vio_ok known).asked ∙ ap (λ (asks : Asks). Some (asked asks v.at v.bytes)) looked.0.is_read; placed = held.is_placed.placed; quiet = held.quiet; below = held.below },
+        let held = given_it.0.held.turn in (
+          record { is_open = (vio_ok known).is_open; asked = (vio_ok known).asked ∙ ap (λ (asks : Asks). Some (asked asks v.at v.bytes)) given_it.0.is_read; placed = held.is_placed.placed; quiet = held.quiet; below = held.below },
           shown_plain s t (Gives (gift v)) tt (shown_of s t known.right),
           known.right,
         )
@@ -463,7 +495,7 @@ module _ {s : Session} {t : Trace} {n : ℕ} {l : LogicalZone} {v : Vio} (known 
 
     below_give : AllBelow u v.at.0 (v.place + 1)
     below_give =
-        let more = below_more t v.at.0 v.place (v.place + 1) (omega arith) looked.0.held.turn.below in
+        let more = below_more t v.at.0 v.place (v.place + 1) (omega arith) given_it.0.held.turn.below in
         record { writes = more.writes; reads = ((λ same. omega arith), more.reads) }
 
     given_ok : DataOk s u n (at.Logical l)
@@ -487,15 +519,15 @@ module _ {s : Session} {t : Trace} {n : ℕ} {l : LogicalZone} {v : Vio} (known 
     pub gives_kept : After (released v.at.0 l) (Gives (gift v) ∷ []) ((id.Desk, item.Request (ended phase.Reply (reply.Bytes v.bytes) v)) ∷ granted v.at.0 l)
     gives_kept =
         let bare = (in_bare known phase.Loaded is (λ page no. no)).0 in
-        let both = release_ok s u n l known.session right_give given_ok v (leased phase.Loaded is refl) home (quiet_same v.at.0 looked.0.held.turn.quiet) below_give in
-        act_one known (Gives (gift v)) clears_give (λ f fair. let before = fair_before s (Gives (gift v)) t fair in (looked.1 before, f before)) right_give both.0
-        ((omega arith, (vio_over s (Gives (gift v)) t v refl (vio_ok known), carries_own s u (ended phase.Reply (reply.Bytes v.bytes) v) phase.Reply bare (given_earned s u (mark_of_vio v) v.asks v.at v.bytes v.place looked.0.is_read (rw (same_self v.request) refl)), refl)), both.1)
+        let both = release_ok s u n l known.session right_give given_ok v (leased phase.Loaded is refl) home (quiet_same v.at.0 given_it.0.held.turn.quiet) below_give in
+        act_one known (Gives (gift v)) clears_give (λ f fair. let before = fair_before s (Gives (gift v)) t fair in (given_it.1 before, f before)) right_give both.0
+        ((omega arith, (vio_over s (Gives (gift v)) t v refl (vio_ok known), carries_own s u (ended phase.Reply (reply.Bytes v.bytes) v) phase.Reply bare (given_earned s u (mark_of_vio v) v.asks v.at v.bytes v.place given_it.0.is_read (rw (same_self v.request) refl)), refl)), both.1)
 
   -- It is aborted, before its entry was handed in ..
   pub aborts_kept : v.phase ≡ phase.Abort → v.page ≡ None → After (released v.at.0 l) [] ((id.Desk, item.Request (turned phase.Reply v)) ∷ granted v.at.0 l)
   aborts_kept is bare =
       let facts = in_own known phase.Abort is bare in
-      let both = release_ok s t n l known.session known.right known.own v (leased phase.Abort is refl) home facts.0.turn.quiet (below_more t v.at.0 v.place (v.place + 1) (omega arith) facts.0.turn.below) in
+      let both = release_ok s t n l known.session known.right known.own v (leased phase.Abort is refl) home facts.0.quiet (below_more t v.at.0 v.place (v.place + 1) (omega arith) facts.0.below) in
       act_none known both.0 ((omega arith, ((vio_ok known), carries_own s t (turned phase.Reply v) phase.Reply bare facts.1, refl)), both.1)
 
   -- .. or after.

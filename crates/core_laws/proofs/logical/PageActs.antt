@@ -133,7 +133,7 @@ module _ {s : Session} {t : Trace} {n : ℕ} {l : LogicalZone} {v : Vio} (known 
     makes_kept may_yet unmade_yet =
         let k = known.own in
         let pages = k.sound.pages in
-        let lacking = lacking_page s.sizes.geometry l.zone s.sizes.zones s.window (applied t) l.tree v.at.0 k.lists.tree_is path page missing.1 in
+        let lacking = lacking_page s.sizes.geometry l.zone s.sizes.zones s.links (applied t) l.tree v.at.0 k.lists.tree_is path page missing.1 in
         let making : MakesPage s t (makes page v) page = record {
           turn = carries.1.0;
           is_write = missing.0;
@@ -210,7 +210,7 @@ module _ {s : Session} {t : Trace} {n : ℕ} {l : LogicalZone} {v : Vio} (known 
     link_now : (p : PageId) → IsLinkable l.tree p → link_at between.tree p ≡ (if is_page page p then Some x else link_at l.tree p)
     link_now p linkable = link_over l.tree between.tree page x least_point p known.own.lists.tree_is.form may.linkable linked.links linkable
 
-    tree_now : IsMapTree s.sizes.geometry l.zone s.sizes.zones s.window (applied (link ∷ t)) between.tree
+    tree_now : IsMapTree s.sizes.geometry l.zone s.sizes.zones s.links (applied (link ∷ t)) between.tree
     tree_now =
         let tree = known.own.lists.tree_is in
         record {

@@ -1,13 +1,12 @@
 -- The trees of a logical zone: a page that isn't linked there isn't there.
 use Rattle.std.proofs.Common.{ℕ, zero, suc, ◌+◌, ◌-◌, ◌<◌, ◌≡◌, ◌≢◌, ◌/◌, ◌%◌, ◌^◌, ◌⊎◌, true, false, Option, None, Some, IsSome, is_some, List, ◌∷◌, refl, ap, sym, ◌∙◌, subst, inl, inr, arith}
 use Rattle.std.proofs.lemmas.Bool.{cases_Bool}
-use native.Mathlib.Nat.{div-div-eq-div-mul, pow-suc}
+use Rattle.core_laws.proofs.logical.PagePaths.{above_path}
 use Rattle.data_vio.specs.declared.items.Asks.TheVariants.{Write}
 use Rattle.blk_base.specs.declared.place.Lba.{Lba}
 use Rattle.core_laws.proofs.Common.{Asks, asked, Logged, Makes, NewPage, Remaps, Session, Trace, Sets, Happening, applied, eqb_tells, logical_number, option_cases, same_Some, zone_of}
 use Rattle.core_laws.proofs.kept.Keys.{happens_in}
 use Rattle.blk_base.specs.declared.geometry.Geometry.{Geometry}
-use Rattle.blk_base.specs.declared.journal_entry.Entry.{Entry}
 use Rattle.blk_base.specs.declared.place.PageId.{PageId}
 use Rattle.blk_base.specs.declared.place.Pbn.{Pbn}
 use Rattle.blk_base.specs.declared.sizes.TheConstants.{PAGE_SLOTS, TREES}
@@ -24,14 +23,7 @@ use Rattle.core_model.proofs.TreeLinks as walks
 use Rattle.image_model.specs.Pages.{is_page, leaf_of, page_above}
 use Rattle.blk_base.specs.Pages.{above, slot_of}
 use Rattle.core_model.specs.PageLinks.{IsThere, Lacks, MayLack, page_in}
-use Rattle.core_model.specs.PageTrees.{HasPath, IsMapTree, MayLink, least_point, link_at, missing_at, missing_from}
-
--- the page above one of the path of an address is of that path
-above_path : (level a : ℕ) → above (page_above level a) ≡ page_above (suc level) a
-above_path level a =
-    let leaf = a / PAGE_SLOTS / TREES in
-    ap {B = PageId} (λ n. record { tree = a / PAGE_SLOTS % TREES; level = level + 1; index = n }) (div-div-eq-div-mul leaf (PAGE_SLOTS ^ level) PAGE_SLOTS ∙ ap (λ m. leaf / m) (sym (pow-suc PAGE_SLOTS level)))
-    ∙ ap {B = PageId} (λ n. record { tree = a / PAGE_SLOTS % TREES; level = n; index = leaf / PAGE_SLOTS ^ (suc level) }) (omega arith)
+use Rattle.core_model.specs.PageTrees.{HasPath, IsMapTree, MayLink, leaf_at, least_point, link_at, missing_at, missing_from}
 
 -- The first page that isn't linked, of so many levels: whatever is above it is.
 pub record IsFirst (n : ℕ) (tree : Tree) (a : ℕ) (page : PageId) : Type 0 where
@@ -73,7 +65,7 @@ nothing_there (Some x) p none same some = absurd cc
 nothing_there None (Some x) none same some = absurd cc
 
 -- the path of a request leads through a tree of its home
-pub has_path : (s : Session) (zone : ℕ) (t : Trace) (tree : Tree) (a : ℕ) → IsMapTree s.sizes.geometry zone s.sizes.zones s.window (applied t) tree → a < s.sizes.geometry.logical → zone_of s.sizes.zones a ≡ zone
+pub has_path : (s : Session) (zone : ℕ) (t : Trace) (tree : Tree) (a : ℕ) → IsMapTree s.sizes.geometry zone s.sizes.zones s.links (applied t) tree → a < s.sizes.geometry.logical → zone_of s.sizes.zones a ≡ zone
     → HasPath tree a
 has_path s zone t tree a is low home =
     let below : a / PAGE_SLOTS % TREES < 60 = omega arith in
@@ -87,12 +79,12 @@ pub lacked_path : (height : ℕ) (q : Asks) (at : Lba) (bytes : List ℕ) (page 
 lacked_path height q at bytes page is k = rw is at k
 
 -- A page that a path lacks, in the trees of a zone: it may be linked, no entry links it, and the page above it is there.
-pub record IsLacking (height : ℕ) (window : List Entry) (es : List Logged) (tree : Tree) (a : ℕ) (page : PageId) : Type 0 where
+pub record IsLacking (height : ℕ) (links : PageId → Option Pbn) (es : List Logged) (tree : Tree) (a : ℕ) (page : PageId) : Type 0 where
   pub on_path : page ≡ page_above page.level a
   pub lower : page.level + 1 < height
   pub linkable : IsLinkable tree page
   pub unlinked : link_at tree page ≡ None
-  pub up : IsThere height window es (above page)
+  pub up : IsThere height links es (above page)
 
 none_is_not : (o : Option Pbn) → is_some o ≡ false → o ≡ None
 none_is_not None none = refl
@@ -108,11 +100,11 @@ some_linked (Some x) p same some = refl
 some_linked None None same some = absurd cc
 some_linked None (Some y) same some = absurd cc
 
-module _ (g : Geometry) (zone zones : ℕ) (window : List Entry) (es : List Logged) (tree : Tree) (a : ℕ) (is : IsMapTree g zone zones window es tree) (path : HasPath tree a) where
+module _ (g : Geometry) (zone zones : ℕ) (links : PageId → Option Pbn) (es : List Logged) (tree : Tree) (a : ℕ) (is : IsMapTree g zone zones links es tree) (path : HasPath tree a) where
   height_is : tree.forest.geometry.height ≡ g.height
   height_is = ap (λ f. f.geometry.height) is.forest_is
 
-  pub lacking_page : (page : PageId) → missing_at tree a ≡ Some page → IsLacking g.height window es tree a page
+  pub lacking_page : (page : PageId) → missing_at tree a ≡ Some page → IsLacking g.height links es tree a page
   lacking_page page missing =
       let first = first_missing (tree.forest.geometry.height - 1) tree a page missing in
       let height = height_is in
@@ -129,56 +121,74 @@ module _ (g : Geometry) (zone zones : ℕ) (window : List Entry) (es : List Logg
           | inr linked ↦
               let higher = linked.0 in
               let upper : suc first.level + 1 < tree.forest.geometry.height = omega (arith, higher) in
-              let there = some_is_some (link_at tree (page_above (suc first.level) a)) (page_in g.height window es (page_above (suc first.level) a)) linked.1
+              let there = some_is_some (link_at tree (page_above (suc first.level) a)) (page_in links es (page_above (suc first.level) a)) linked.1
               (is.linked (page_above (suc first.level) a) (path_linkable tree a (suc first.level) path upper)) in
-              inr (subst (λ (p : PageId). IsSome (page_in g.height window es p)) (sym (ap above first.page_is ∙ above_path first.level a)) there)
+              inr (subst (λ (p : PageId). IsSome (page_in links es p)) (sym (ap above first.page_is ∙ above_path first.level a)) there)
         ];
       }
 
   -- so the page isn't there
-  pub lacks_page : (page : PageId) → missing_at tree a ≡ Some page → IsThere g.height window es page → ⊥
+  pub lacks_page : (page : PageId) → missing_at tree a ≡ Some page → IsThere g.height links es page → ⊥
   lacks_page page missing there =
       let lacking = lacking_page page missing in
       elim there [
         | inl root ↦ let lower = lacking.lower in absurd (omega (arith, root, lower))
-        | inr linked ↦ nothing_there (link_at tree page) (page_in g.height window es page) (ap is_some lacking.unlinked) (is.linked page lacking.linkable) linked
+        | inr linked ↦ nothing_there (link_at tree page) (page_in links es page) (ap is_some lacking.unlinked) (is.linked page lacking.linkable) linked
       ]
 
   -- a path that lacks no page has its leaf
-  pub has_leaf : missing_at tree a ≡ None → IsThere g.height window es (leaf_of a)
+  leaf_linkable : IsLinkable tree (leaf_of a)
+  leaf_linkable = let low = is.form.forest.sizes.height in let height = height_is in path_linkable tree a 0 path (omega (arith, low))
+
+  all_linked : (n level : ℕ) → level < n → missing_from n tree a ≡ None → is_some (link_at tree (page_above level a)) ≡ true
+  all_linked zero level below none = absurd (omega (arith, below))
+  all_linked (suc n) level below none = elim (cases_Bool (is_some (link_at tree (page_above n a)))) [
+    | inl there ↦ elim (eqb_tells level n) [
+      | inl same ↦ subst (λ (k : ℕ). is_some (link_at tree (page_above k a)) ≡ true) (sym same.1) there
+      | inr other ↦ let apart = other.1 in all_linked n level (omega (arith, below, apart)) (rw there at none)
+    ]
+    | inr lacking ↦ absurd (let some : Some (page_above n a) ≡ None = rw lacking at none in cc)
+  ]
+
+  pub has_leaf : missing_at tree a ≡ None → IsThere g.height links es (leaf_of a)
   has_leaf none =
       let low = is.form.forest.sizes.height in
-      let height = height_is in
-      let linkable = path_linkable tree a 0 path (omega (arith, low)) in
-      inr (some_is_some (link_at tree (leaf_of a)) (page_in g.height window es (leaf_of a)) (all_linked (tree.forest.geometry.height - 1) 0 (omega (arith, low)) none) (is.linked (leaf_of a) linkable))
-    where
-      all_linked : (n level : ℕ) → level < n → missing_from n tree a ≡ None → is_some (link_at tree (page_above level a)) ≡ true
-      all_linked zero level below none = absurd (omega (arith, below))
-      all_linked (suc n) level below none = elim (cases_Bool (is_some (link_at tree (page_above n a)))) [
-        | inl there ↦ elim (eqb_tells level n) [
-          | inl same ↦ subst (λ (k : ℕ). is_some (link_at tree (page_above k a)) ≡ true) (sym same.1) there
-          | inr other ↦ let apart = other.1 in all_linked n level (omega (arith, below, apart)) (rw there at none)
-        ]
-        | inr lacking ↦ absurd (let some : Some (page_above n a) ≡ None = rw lacking at none in cc)
-      ]
+      inr (some_is_some (link_at tree (leaf_of a)) (page_in links es (leaf_of a)) (all_linked (tree.forest.geometry.height - 1) 0 (omega (arith, low)) none) (is.linked (leaf_of a) leaf_linkable))
 
-  pub lacks_some : is_some (missing_at tree a) ≡ true → Lacks g.height window es a
+  pub lacks_some : is_some (missing_at tree a) ≡ true → Lacks g.height links es a
   lacks_some some = elim (option_cases (missing_at tree a)) [
     | inl none ↦ absurd (let no : false ≡ true = rw none at some in cc)
     | inr page ↦
         let lacking = lacking_page page.0 page.1 in
-        (page.0.level, lacking.lower, λ there. lacks_page page.0 page.1 (subst (IsThere g.height window es) (sym lacking.on_path) there))
+        (page.0.level, lacking.lower, λ there. lacks_page page.0 page.1 (subst (IsThere g.height links es) (sym lacking.on_path) there))
   ]
 
+  -- the leaf of its path, where it has all pages, or a page that it lacks
+  none_leads : (o : Option PageId) → missing_at tree a ≡ o → leaf_at tree a ≡ None → Lacks g.height links es a
+  none_leads (Some page) lacked none = lacks_some (ap is_some lacked)
+  none_leads None all none =
+      let there = all_linked (tree.forest.geometry.height - 1) 0 (let tall = is.form.forest.sizes.height in omega (arith, tall)) all in
+      let nothing : link_at tree (leaf_of a) ≡ None = rw all at none in absurd (let no = ap is_some nothing in cc)
+
+  pub leaf_lacks : leaf_at tree a ≡ None → Lacks g.height links es a
+  leaf_lacks none = none_leads (missing_at tree a) refl none
+
+  some_leads : (o : Option PageId) (x : Pbn) → missing_at tree a ≡ o → leaf_at tree a ≡ Some x → link_at tree (leaf_of a) ≡ Some x
+  some_leads None x all found = rw all at found
+  some_leads (Some page) x lacked found = absurd (let no : None ≡ Some x = rw lacked at found in cc)
+
+  pub leaf_linked : (x : Pbn) → leaf_at tree a ≡ Some x → page_in links es (leaf_of a) ≡ Some x
+  leaf_linked x found = sym (is.linked (leaf_of a) leaf_linkable) ∙ some_leads (missing_at tree a) x refl found
+
   -- A page of the path may be linked, where the one above it is there.
-  there_above : (page : PageId) → page ≡ page_above page.level a → page.level + 1 < g.height → IsThere g.height window es (above page) → trees.IsThere tree (above page)
+  there_above : (page : PageId) → page ≡ page_above page.level a → page.level + 1 < g.height → IsThere g.height links es (above page) → trees.IsThere tree (above page)
   there_above page on_path lower up =
       let height = height_is in
       let upper : above page ≡ page_above (suc page.level) a = ap above on_path ∙ above_path page.level a in
       let low : suc page.level < tree.forest.geometry.height = omega (arith, lower, height) in
       subst (trees.IsThere tree) (sym upper) (elim (root_or_lower tree.forest (page_above (suc page.level) a) is.form.forest (on_path_at low)) [
         | inl root ↦ record { at = _; stands = trees.as_root root refl }
-        | inr under ↦ elim (subst (IsThere g.height window es) upper up) [
+        | inr under ↦ elim (subst (IsThere g.height links es) upper up) [
           | inl top ↦ let level = under.level in absurd (omega (arith, top, level, height))
           | inr some ↦
               let below = under.level in
@@ -190,7 +200,7 @@ module _ (g : Geometry) (zone zones : ℕ) (window : List Entry) (es : List Logg
       on_path_at : suc page.level < tree.forest.geometry.height → IsOnPath tree.forest (page_above (suc page.level) a)
       on_path_at low = walks.on_path tree a (suc page.level) path low
 
-  pub may_link : (page : PageId) → page ≡ page_above page.level a → page.level + 1 < g.height → IsThere g.height window es (above page) → (x : Pbn) → IsDataBlock g x.0 → MayLink tree page x
+  pub may_link : (page : PageId) → page ≡ page_above page.level a → page.level + 1 < g.height → IsThere g.height links es (above page) → (x : Pbn) → IsDataBlock g x.0 → MayLink tree page x
   may_link page on_path lower up x is_data =
       let height = height_is in record {
         linkable = subst (IsLinkable tree) (sym on_path) (path_linkable tree a page.level path (omega (arith, lower, height)));
@@ -208,9 +218,9 @@ link_made tree page x form may = links tree page x least_point form may.linkable
 -- Over what happens in another zone a page of this one's trees stays where it is.
 module _ (s : Session) (zone : ℕ) (tree : Tree) where
   abbrev Is : Trace → Type 0
-  Is t = IsMapTree s.sizes.geometry zone s.sizes.zones s.window (applied t) tree
+  Is t = IsMapTree s.sizes.geometry zone s.sizes.zones s.links (applied t) tree
 
-  pub same_tree : (t u : Trace) → ((page : PageId) → page_in s.sizes.geometry.height s.window (applied t) page ≡ page_in s.sizes.geometry.height s.window (applied u) page) → Is t → Is u
+  pub same_tree : (t u : Trace) → ((page : PageId) → page_in s.links (applied t) page ≡ page_in s.links (applied u) page) → Is t → Is u
   same_tree t u same is = record { forest_is = is.forest_is; form = is.form; linked = λ page linkable. is.linked page linkable ∙ same page }
 
   -- a page that may be linked in the zone's trees is of these

@@ -1,20 +1,19 @@
 -- A lock is passed on to the first that waits for it, or released, or never released.
 use Rattle.std.proofs.Common.{◌≡◌, ◌≢◌, ℕ, ◌+◌, ◌<◌, ◌≤◌, ◌==◌, true, false, Option, None, Some, List, [], ◌∷◌, refl, ap, sym, ◌∙◌, subst, inl, inr, arith}
-use Rattle.core_laws.proofs.Common.{AllBelow, AllByRecursion, Asks, DataOk, Gift, HasBelow, HasCause, Holds, IsForBlock, IsInTurn, IsPlaced, IsSession, IsToInside, KeptOk, Remapping, LogicalZone, Looks, Mapping, MapsTo, Pbn, Post, Quiet, Request, RightTrace, Session, Trace, Vio, VioOk, WaitsOk, aborted, turned, asked, done, each_both, ended, eqb_tells, every-map, gifts, has_stopped, newest, of_address, request_at, some_is, value_at, zone_count, zone_number, zone_of, has_taken, applied, remappings}
+use Rattle.core_laws.proofs.Common.{AllBelow, AllByRecursion, Asks, DataOk, Gift, HasBelow, HasCause, Holds, IsForBlock, IsInTurn, IsPlaced, IsSession, IsFair, IsToInside, KeptOk, Remapping, LogicalZone, Looks, Mapping, MapsTo, Pbn, Post, Quiet, Request, RightTrace, Session, Trace, Vio, VioOk, WaitsOk, aborted, turned, asked, done, each_both, ended, eqb_tells, every-map, gifts, has_stopped, newest, of_address, request_at, some_is, value_at, zone_count, zone_number, zone_of, has_taken, applied, remappings, IsToData}
 use Rattle.core_laws.proofs.trace.PassesOfTrace.{mapped_past}
 use Rattle.blk_base.specs.Sectors.{zero_block}
 use Rattle.blk_base.specs.declared.place.Mapping.TheVariants.{Unmapped, Zero, At}
 use Rattle.blk_base.specs.declared.place.ZoneId.TheVariants as id
 use Rattle.blk_base.specs.declared.request.Answer.TheVariants as reply
 use Rattle.blk_base.specs.declared.request.Request.TheVariants as request
-use Rattle.image_layout.specs.Values.{mapping_of, value_in}
 use Rattle.data_vio.specs.declared.items.Asks.TheVariants.{Read, Write, Discard, Flush}
 use Rattle.data_vio.specs.declared.items.Item.TheVariants as item
 use Rattle.data_vio.specs.declared.items.Phase.TheVariants as phase
 use Rattle.core_model.specs.declared.zones.ZoneData.TheVariants as at
 use Rattle.core_model.specs.Facts.{CarriesOwn, IsChange}
 use Rattle.core_model.specs.RightTraces.{IsLeafy}
-use Rattle.core_model.specs.LogicalRules.{are_zeros, is_among, is_held, without, first_for, all_for, none_for, latest_at, mapped_by, mapping_at, looked, looks_up, passes_on, read_next, goes_on, passed_to, released, granted, retire, all_stopped}
+use Rattle.core_model.specs.LogicalRules.{are_zeros, is_among, is_held, without, first_for, all_for, none_for, looks_up, passes_on, read_next, goes_on, passed_to, released, granted, retire, all_stopped}
 use Rattle.core_laws.proofs.kept.ActKept.{PostOk, bare_of, carries_at, carries_own, unentered_slot}
 use Rattle.core_laws.proofs.logical.LockLaws.{place_drawn, waits_behind, one_back, one_passed, one_retired}
 use Rattle.core_laws.proofs.tokens.Known.{Leased}
@@ -23,8 +22,9 @@ use Rattle.core_laws.proofs.tokens.Posts.{goes_by}
 use Rattle.core_laws.proofs.device.DeviceCalls.{write_whole}
 use Rattle.core_laws.proofs.trace.ZeroWrites.{zeros_by}
 use Rattle.core_laws.proofs.lists.Zeros.{others_are, zeros_of}
-use Rattle.core_laws.proofs.kept.Spared.{mapping_by}
 use Rattle.core_laws.proofs.trace.DeskOfTrace.{done_writes}
+use Rattle.blk_base.proofs.RegionLaws.{data_block_inside}
+use Rattle.image_model.specs.Maps.{value_with}
 
 -- below a greater place
 pub below_more : (t : Trace) (a m n : ℕ) → m ≤ n → AllBelow t a m → AllBelow t a n
@@ -43,50 +43,36 @@ looks_ok s t zone among u ok home bare turn none_taken =
     let here = ap (zone_number s.sizes) home in
     (omega (arith, among, here), (record { asked = ok.asked; is_open = ok.is_open; address = ok.address; home = ok.home }, carries_own s t (turned phase.Look u) phase.Look bare (turn, none_taken), refl))
 
--- Whoever has looked goes where the map says.
-module _ (s : Session) (t : Trace) (n : ℕ) (l : LogicalZone) (session : IsSession s) (right : RightTrace s t) (k : DataOk s t n (at.Logical l)) (u : Vio) (ok : VioOk s t u) (bare : u.page ≡ None) (turn : IsInTurn s t u) (none_taken : has_taken t u.request ≡ false)
-    (leafy : IsChange u.asks → IsLeafy s t u.at.0) (home : u.home ≡ id.Logical l.zone) where
-  among : 1 + l.zone < zone_count s.sizes
-  among = let a = k.sound.among in omega (arith, a)
-
-  zone_is : zone_of s.sizes.zones u.at.0 ≡ l.zone
-  zone_is = let a = ap (zone_number s.sizes) ok.home in let b = ap (zone_number s.sizes) home in omega (arith, a, b)
-
-  latest_is : latest_at l u.at.0 ≡ newest (of_address u.at.0 (remappings (applied t)))
-  latest_is = ap newest (k.lists.slots_are u.at.0 zone_is)
-
-  mapping_is : mapping_at l u.at.0 ≡ mapped_by (latest_at l u.at.0) (mapping_of s.window u.at.0)
-  mapping_is = ap (λ w. mapped_by (latest_at l u.at.0) (mapping_of w u.at.0)) k.sound.map.window_is
-
-  holds : Holds s t (looked l u)
-  holds = record {
-    turn = turn;
-    old_held = k.sound.map.mapped u.at.0;
-    old_is = mapping_is ∙ ap (λ o. mapped_by o (mapping_of s.window u.at.0)) latest_is ∙ sym (mapping_by s.window (applied t) u.at.0);
-  }
-
-  -- a read of zeros: what was done there last maps the address to no block, or the window does
-  zeros : (m : Mapping) → ((x : Pbn) → m ≢ At x) → value_in s.image m ≡ zero_block → mapping_at l u.at.0 ≡ m → zero_block ≡ value_at s t u.at.0
-  zeros m off zero is =
-      let maps = mapped_past s t u.at.0 right (remappings (applied t)) ∙ sym (ap (λ o. mapped_by o (mapping_of s.window u.at.0)) latest_is) ∙ sym mapping_is ∙ is in
+-- Whoever knows what its address is mapped to goes where that says.
+module _ (s : Session) (t : Trace) (session : IsSession s) (right : RightTrace s t) (u : Vio) (ok : VioOk s t u) (bare : u.page ≡ None) (none_taken : has_taken t u.request ≡ false) (held : Holds s t u)
+    (latest_is : u.latest ≡ newest (of_address u.at.0 (remappings (applied t)))) (leafy : IsChange u.asks → IsLeafy s t u.at.0) (within : zone_number s.sizes u.home < zone_count s.sizes) where
+  -- a read of zeros: what was done there last maps the address to no block, or the opened image does
+  zeros : (m : Mapping) → ((x : Pbn) → m ≢ At x) → value_with s.image m ≡ zero_block → u.old ≡ m → IsFair s t → zero_block ≡ value_at s t u.at.0
+  zeros m off zero is fair =
+      let maps = mapped_past s t u.at.0 right fair.opened (remappings (applied t)) ∙ sym (held.old_is fair) ∙ is in
       sym (zeros_by s t (done t) u.at.0 (newest (of_address u.at.0 (done t))) m off zero refl (done_writes s t right) maps)
 
   module _ (is_read : u.asks ≡ Read) where
-    looks : Looks s t (looked l u)
-    looks = record { held = holds; is_read = is_read; latest = latest_is }
+    looks : Looks s t u
+    looks = record { held = held; is_read = is_read; latest = latest_is }
 
-    zero_ok : zero_block ≡ value_at s t u.at.0 → PostOk s t (id.Logical l.zone, item.Request (record (looked l u) { phase = phase.Loaded; bytes = zero_block }))
+    zero_ok : (IsFair s t → zero_block ≡ value_at s t u.at.0) → PostOk s t (u.home, item.Request (record u { phase = phase.Loaded; bytes = zero_block }))
     zero_ok is = (
-      among,
+      within,
       (
         record { asked = ok.asked ∙ ap (λ (r : Request). Some r) (asked_read u.asks u zero_block is_read); is_open = ok.is_open; address = ok.address; home = ok.home },
-        carries_own s t (record (looked l u) { phase = phase.Loaded; bytes = zero_block }) phase.Loaded bare (looks, λ fair. is),
-        ap (zone_number s.sizes) (sym home),
+        carries_own s t (record u { phase = phase.Loaded; bytes = zero_block }) phase.Loaded bare (looks, is),
+        refl,
       ),
     )
 
-    read_ok : (m : Mapping) → mapping_at l u.at.0 ≡ m → PostOk s t (read_next s.sizes l (looked l u) m)
-    read_ok (At x) is = (omega arith, (ok, carries_own s t (turned phase.Load (looked l u)) phase.Load bare (looks, subst (IsToInside s) (sym is) (k.sound.map.inside u.at.0 x is)), refl))
+    inside_of : (m : Mapping) → IsToData s m → (x : Pbn) → m ≡ At x → IsToInside s m
+    inside_of (At y) held_data x is = data_block_inside s.sizes.geometry y.0 held_data
+    inside_of Unmapped held_data x is = absurd cc
+    inside_of Zero held_data x is = absurd cc
+
+    read_ok : (m : Mapping) → u.old ≡ m → PostOk s t (read_next u m)
+    read_ok (At x) is = (omega arith, (ok, carries_own s t (turned phase.Load u) phase.Load bare (looks, inside_of u.old held.old_data x is), refl))
     read_ok Unmapped is = zero_ok (zeros Unmapped (λ x is_at. cc) refl is)
     read_ok Zero is = zero_ok (zeros Zero (λ x is_at. cc) refl is)
 
@@ -102,12 +88,11 @@ module _ (s : Session) (t : Trace) (n : ℕ) (l : LogicalZone) (session : IsSess
   discard_mapped : (q : Asks) → q ≡ Discard → MapsTo q u.bytes Unmapped
   discard_mapped q is = rw is tt
 
-  -- whoever has the lock goes on
-  pub goes_ok : (post : Post) → goes_on s.sizes l u ≡ Some post → PostOk s t post
-  goes_ok post goes = goes_by (PostOk s t) s.sizes l u post goes (λ reads. read_ok reads (mapping_at l u.at.0) refl)
-      (λ writes zero. (omega arith, (ok, carries_own s t (record (looked l u) { phase = phase.Enter; new = Zero }) phase.Enter bare (holds, zeros_mapped u.asks writes (zero_bytes u.asks writes ok.asked zero), tt, (λ fair. tt), leafy (rw writes tt)), refl)))
-      (λ writes others. (omega arith, (ok, carries_own s t (turned phase.Claim (looked l u)) phase.Claim bare (holds, writes, record { not_zeros = others_are u.bytes others; none_taken = none_taken }, leafy (rw writes tt)), refl)))
-      (λ discards. (omega arith, (ok, carries_own s t (record (looked l u) { phase = phase.Enter; new = Unmapped }) phase.Enter bare (holds, discard_mapped u.asks discards, tt, (λ fair. tt), leafy (rw discards tt)), refl)))
+  pub goes_ok : (post : Post) → goes_on u ≡ Some post → PostOk s t post
+  goes_ok post goes = goes_by (PostOk s t) u post goes (λ reads. read_ok reads u.old refl)
+      (λ writes zero. (omega arith, (ok, carries_own s t (record u { phase = phase.Enter; new = Zero }) phase.Enter bare (held, zeros_mapped u.asks writes (zero_bytes u.asks writes ok.asked zero), tt, (λ fair. tt), leafy (rw writes tt)), refl)))
+      (λ writes others. (omega arith, (ok, carries_own s t (turned phase.Claim u) phase.Claim bare (held, writes, record { not_zeros = others_are u.bytes others; none_taken = none_taken }, leafy (rw writes tt)), refl)))
+      (λ discards. (omega arith, (ok, carries_own s t (record u { phase = phase.Enter; new = Unmapped }) phase.Enter bare (held, discard_mapped u.asks discards, tt, (λ fair. tt), leafy (rw discards tt)), refl)))
 
 -- A greater place has a lower one still.
 pub has_below_more : (a m n : ℕ) (es : List Remapping) → m ≤ n → HasBelow a m es → HasBelow a n es

@@ -76,7 +76,7 @@ module _ {s : Session} {t : Trace} {n : ℕ} {old : PhysicalZone} {v : Vio} (kno
     takes_for : (o : Option PageId) → v.page ≡ o → CarriesFor s t v phase.Claim o → After (record old { free = others }) (Takes v.request o x ∷ []) ((id.Device, item.Request stored) ∷ [])
     takes_for None bare k =
         takes None (v.at, v.bytes, (vio_ok known).asked ∙ ap (λ q. Some (asked q v.at v.bytes)) k.1, k.2)
-        (carries_own s (Takes v.request None x ∷ t) stored phase.Store bare (record { turn = still_turn s t v None x k.0.turn; old_held = k.0.old_held; old_is = k.0.old_is }, k.1, free.0, k.3))
+        (carries_own s (Takes v.request None x ∷ t) stored phase.Store bare (record { turn = still_turn s t v None x k.0.turn; old_data = k.0.old_data; old_is = λ fair. k.0.old_is (fair_before s (Takes v.request None x) t fair) }, k.1, free.0, k.3))
     takes_for (Some page) some k =
         takes (Some page) (record { lacked = (asked v.asks v.at v.bytes, (vio_ok known).asked, k.0.lacked); up = k.0.up; unmade = k.1 })
         (carries_page s (Takes v.request (Some page) x ∷ t) stored page phase.Store some (
@@ -91,15 +91,15 @@ module _ {s : Session} {t : Trace} {n : ℕ} {old : PhysicalZone} {v : Vio} (kno
     all_taken = none_left s.free (taken t) (sym free_is ∙ known.own.lists.left)
 
     -- the page isn't there
-    lacks_now : (page : PageId) → MakesPage s t v page → IsUnmade s t page → Lacks s.sizes.geometry.height s.window (applied t) v.at.0
+    lacks_now : (page : PageId) → MakesPage s t v page → IsUnmade s t page → Lacks s.sizes.geometry.height s.links (applied t) v.at.0
     lacks_now page making unmade =
         let path = lacked_path s.sizes.geometry.height v.asks v.at v.bytes page making.is_write making.lacked in
-        let none = unlinked_still s.sizes.geometry.height s.window s t page known.right unmade in (
+        let none = unlinked_still s.sizes.geometry.height s.links s t page known.right unmade in (
           page.level,
           path.1,
-          λ there. elim (subst (IsThere s.sizes.geometry.height s.window (applied t)) (sym path.0) there) [
+          λ there. elim (subst (IsThere s.sizes.geometry.height s.links (applied t)) (sym path.0) there) [
             | inl root ↦ let lower = path.1 in absurd (omega (arith, root, lower))
-            | inr some ↦ absurd (none_there (page_in s.sizes.geometry.height s.window (applied t) page) none some)
+            | inr some ↦ absurd (none_there (page_in s.links (applied t) page) none some)
           ],
         )
       where
@@ -108,7 +108,7 @@ module _ {s : Session} {t : Trace} {n : ℕ} {old : PhysicalZone} {v : Vio} (kno
         none_there (Some y) none some = absurd cc
 
     full_for : (o : Option PageId) → CarriesFor s t v phase.Claim o → CarriesFor s t (ended phase.Abort reply.Full v) phase.Abort o
-    full_for None k = (k.0, write_full s t v k.1 k.0.turn.is_placed (inr (inl (k.2, all_taken))))
+    full_for None k = (k.0.turn, write_full s t v k.1 k.0.turn.is_placed (inr (inl (k.2, all_taken))))
     full_for (Some page) k = (
       k.0,
       k.1,

@@ -9,7 +9,8 @@ use Rattle.data_vio.specs.declared.items.Phase.TheVariants as phase
 use Rattle.data_vio.specs.declared.items.Stage.TheVariants as stage
 use Rattle.core_model.specs.declared.zones.ZoneData.TheVariants as at
 use Rattle.core_model.specs.DeskRules.{with_notice}
-use Rattle.core_model.specs.DeviceRules.{announced, counted, halted}
+use Rattle.core_model.specs.DeviceRules.{announced, counted, halted, harmed}
+use Rattle.vdo_model.specs.declared.report.Damage.{Damage}
 use Rattle.core_model.specs.JournalRules.{committed_by, entered_by, next_block, sealed_by}
 use Rattle.core_model.specs.LogicalRules.{drawn_by, placed, lock_of, without, all_for, none_for, retire}
 use Rattle.core_model.specs.PageTrees.{but_page}
@@ -40,6 +41,7 @@ kept_of j f = all_there j.filling f + all_there j.waiting f
 -- how a request goes on that has looked
 pub record Onward : Type 0 where
   pub phase : Phase
+  pub leaf : Option Pbn
   pub old : Mapping
   pub latest : Option Remapping
   pub new : Mapping
@@ -49,7 +51,7 @@ pub record Onward : Type 0 where
   pub unentered : has_entry phase ≡ false
 
 abbrev pub onward : Onward → Vio → Vio
-onward on v = record v { phase = on.phase; old = on.old; latest = on.latest; new = on.new; bytes = on.bytes }
+onward on v = record v { phase = on.phase; leaf = on.leaf; old = on.old; latest = on.latest; new = on.new; bytes = on.bytes }
 
 -- a request with its answer
 abbrev pub replied : Option Answer → Vio → Vio
@@ -93,6 +95,8 @@ pub data Row (sizes : Sizes) : ZoneData → ZoneData → Sum → Sum → Type 0 
       → Row sizes (at.Logical l) (at.Logical (record (drawn_by l v) { waiting = waiting })) (λ f. f (Request (turned phase.Arrive v)) + all_in phase.Wait l.waiting f) (λ f. f (Request (turned phase.Wait (placed l v))) + all_in phase.Wait l.waiting f)
   looks : (l : LogicalZone) (v : Vio) (on : Onward)
       → Row sizes (at.Logical l) (at.Logical l) (λ f. f (Request (turned phase.Look v)) + all_in phase.Wait l.waiting f) (λ f. f (Request (onward on v)) + all_in phase.Wait l.waiting f)
+  leafed : (l : LogicalZone) (v : Vio) (on : Onward)
+      → Row sizes (at.Logical l) (at.Logical l) (λ f. f (Request (turned phase.LoadedLeaf v)) + all_in phase.Wait l.waiting f) (λ f. f (Request (onward on v)) + all_in phase.Wait l.waiting f)
   -- a request leaves its lock, and nobody waits for it, or one does
   leaves : (l : LogicalZone) (slots : List Remapping) (v : Vio) (q : Phase) (a : Option Answer) → holds q ≡ true → IsSetBy l v q slots → Leased l v
       → Row sizes (at.Logical l) (at.Logical (record l { slots = slots; held = without v.at.0 l.held })) (λ f. f (Request (turned q v)) + all_in phase.Wait l.waiting f) (λ f. f (Request (replied a v)) + all_in phase.Wait l.waiting f)
@@ -151,6 +155,12 @@ pub data Row (sizes : Sizes) : ZoneData → ZoneData → Sum → Sum → Type 0 
   store_unmade : (d : DeviceZone) (v : Vio) → Row sizes (at.Device d) (at.Device d) (λ f. f (Request (turned phase.Store v))) (λ f. f (Request (ended phase.AbortClaim reply.Stopped v)))
   loads : (d : DeviceZone) (v : Vio) (bytes : List ℕ) → Row sizes (at.Device d) (at.Device (counted d)) (λ f. f (Request (turned phase.Load v))) (λ f. f (Request (record v { phase = phase.Loaded; bytes = bytes })))
   load_fails : (d : DeviceZone) (v : Vio) → Row sizes (at.Device d) (at.Device d) (λ f. f (Request (turned phase.Load v))) (λ f. f (Request (ended phase.Abort reply.ReadFault v)))
+  loads_leaf : (d : DeviceZone) (v : Vio) (mapping : Mapping) → Row sizes (at.Device d) (at.Device (counted d)) (λ f. f (Request (turned phase.LoadLeaf v))) (λ f. f (Request (vios.has_leaf mapping v)))
+  leaf_fails : (d : DeviceZone) (v : Vio) → Row sizes (at.Device d) (at.Device d) (λ f. f (Request (turned phase.LoadLeaf v))) (λ f. f (Request (ended phase.Abort reply.ReadFault v)))
+  harms : (d : DeviceZone) (v : Vio) (damage : Damage)
+      → Row sizes (at.Device (record d { stopped = false })) (at.Device (harmed damage (counted d))) (λ f. f (Request (turned phase.LoadLeaf v))) (λ f. f (Request (ended phase.Abort reply.Damaged v)) + notified_zones sizes * f StopNotice)
+  harms_again : (d : DeviceZone) (v : Vio) (damage : Damage)
+      → Row sizes (at.Device (record d { stopped = true })) (at.Device (harmed damage (counted d))) (λ f. f (Request (turned phase.LoadLeaf v))) (λ f. f (Request (ended phase.Abort reply.Damaged v)))
   flushes : (d : DeviceZone) (v : Vio) → Row sizes (at.Device d) (at.Device (counted d)) (λ f. f (Request (turned phase.Flush v))) (λ f. f (Request (record v { phase = phase.Reply; answer = Some reply.Ok; calls = d.calls + 1 })))
   flush_fails : (d : DeviceZone) (v : Vio)
       → Row sizes (at.Device (record d { stopped = false })) (at.Device (halted d)) (λ f. f (Request (turned phase.Flush v))) (λ f. f (Request (ended phase.Reply reply.Stopped v)) + notified_zones sizes * f StopNotice)

@@ -1,6 +1,7 @@
 -- Each act is one of the rows that the tokens see.
-use Rattle.std.proofs.Common.{◌≡◌, ℕ, suc, ◌+◌, ◌*◌, true, false, not, Option, None, Some, is_some, List, [], ◌∷◌, ◌++◌, length, length-append, map, refl, ap, sym, ◌∙◌, subst, inl, inr, arith, ◌&&◌}
-use Rattle.core_laws.proofs.Common.{AllByRecursion, Answer, Desk, DeviceZone, Item, JournalZone, Remapping, LogicalZone, Mapping, Pbn, Phase, PhysicalZone, Post, SealedBlock, Sizes, Trace, Vio, ZoneData, ZoneId, as_items, bit, claims, eqb_tells, every-map, has_entry, holds, notified, notified_zones, queued, same_Some, total, turned, names, Writer}
+use Rattle.std.proofs.Common.{◌≡◌, ℕ, suc, ◌+◌, ◌*◌, true, false, not, Option, None, Some, is_some, List, [], ◌∷◌, ◌++◌, length, length-append, map, slice_index_or, refl, ap, sym, ◌∙◌, subst, inl, inr, arith, ◌&&◌}
+use Rattle.core_laws.proofs.Common.{AllByRecursion, Answer, Desk, DeviceZone, Item, JournalZone, Remapping, LogicalZone, Mapping, Pbn, Phase, PhysicalZone, Post, SealedBlock, Sizes, Trace, Vio, ZoneData, ZoneId, as_items, bit, claims, eqb_tells, every-map, has_entry, holds, notified, notified_zones, queued, same_Some, total, turned, names, Writer, cases_Bool, ended}
+use Rattle.std.proofs.Common.{Bool}
 use Rattle.blk_base.specs.Sectors.{zero_block}
 use Rattle.blk_base.specs.declared.place.Mapping.TheVariants.{Unmapped, Zero, At}
 use Rattle.blk_base.specs.declared.place.ZoneId.TheVariants as id
@@ -12,13 +13,15 @@ use Rattle.core_model.specs.declared.zones.ZoneData.TheVariants as at
 use Rattle.core_model.specs.DeskRules as desk
 use Rattle.core_model.specs.DeskRules.{DeskBegins, DeskServes, woken}
 use Rattle.core_model.specs.DeviceRules as device
-use Rattle.core_model.specs.DeviceRules.{Announces, DeviceServes, DeviceWorks, stop_notices}
+use Rattle.core_model.specs.DeviceRules.{Announces, DeviceServes, DeviceWorks, counted, harmed, notices_after, stop_notices}
+use Rattle.vdo_model.specs.declared.report.Damage.TheVariants.{Page}
+use Rattle.image_model.specs.Pages.{slot_of_address}
 use Rattle.core_model.specs.JournalRules as journal
 use Rattle.core_model.specs.PhysicalRules as physical
 use Rattle.core_model.specs.PhysicalRules.{PhysicalServes}
 use Rattle.core_model.specs.JournalRules.{JournalServes, JournalEnds, all_again, all_dropped, all_refused}
 use Rattle.core_model.specs.LogicalRules as logical
-use Rattle.core_model.specs.LogicalRules.{IsLinked, LogicalServes, placed, with_slot, first_for, but_first_for, all_for, none_for, looked, read_next, latest_at, mapping_at, goes_on, granted, passed_to, passes_on, released, all_stopped}
+use Rattle.core_model.specs.LogicalRules.{IsLinked, LogicalServes, placed, with_slot, first_for, but_first_for, all_for, none_for, looked, read_next, goes_on, granted, passed_to, passes_on, released, all_stopped}
 use Rattle.blk_base.specs.declared.place.PageId.{PageId}
 use Rattle.data_vio.specs.Vios as vios
 use Rattle.data_vio.specs.Vios.{gives_up}
@@ -138,18 +141,22 @@ module _ (sizes : Sizes) where
       rw (n, q) (is_row (row.answers old v reply.Ok _ (none v refl (inr p))) (λ f. omega (arith, in_phase f v phase.Reply p, all_are f phase.Reply old.parked kept)) (λ f. omega (arith, all_are f phase.Reply old.parked kept)))
 
   -- a logical zone: who goes on with a lock, and who gets it
-  abbrev looked_on : (l : LogicalZone) (v : Vio) (q : Phase) (new : Mapping) → List ℕ → holds q ≡ true → ((x : ℕ) → (claims q && names x new) ≡ false) → has_entry q ≡ false → Onward
-  looked_on l v q new bytes locks unclaimed unentered = record { phase = q; old = mapping_at l v.at.0; latest = latest_at l v.at.0; new = new; bytes = bytes; locks = locks; unclaimed = unclaimed; unentered = unentered }
+  abbrev goes_to : (v : Vio) (q : Phase) (new : Mapping) → List ℕ → holds q ≡ true → ((x : ℕ) → (claims q && names x new) ≡ false) → has_entry q ≡ false → Onward
+  goes_to v q new bytes locks unclaimed unentered = record { phase = q; leaf = v.leaf; old = v.old; latest = v.latest; new = new; bytes = bytes; locks = locks; unclaimed = unclaimed; unentered = unentered }
 
-  went_on : (l : LogicalZone) (v : Vio) (post : Post) → goes_on sizes l v ≡ Some post → (on : Onward) × (post.1 ≡ Request (onward on v))
-  went_on l v post goes = goes_by (λ p. (on : Onward) × (p.1 ≡ Request (onward on v))) sizes l v post goes (λ reads. read (mapping_at l v.at.0))
-      (λ writes zeros. (looked_on l v phase.Enter Zero v.bytes refl (λ x. refl) refl, refl)) (λ writes others. (looked_on l v phase.Claim v.new v.bytes refl (λ x. refl) refl, refl))
-      (λ discards. (looked_on l v phase.Enter Unmapped v.bytes refl (λ x. refl) refl, refl))
+  went_on : (v : Vio) (post : Post) → goes_on v ≡ Some post → (on : Onward) × (post.1 ≡ Request (onward on v))
+  went_on v post goes = goes_by (λ p. (on : Onward) × (p.1 ≡ Request (onward on v))) v post goes (λ reads. read v.old)
+      (λ writes zeros. (goes_to v phase.Enter Zero v.bytes refl (λ x. refl) refl, refl)) (λ writes others. (goes_to v phase.Claim v.new v.bytes refl (λ x. refl) refl, refl))
+      (λ discards. (goes_to v phase.Enter Unmapped v.bytes refl (λ x. refl) refl, refl))
     where
-      read : (m : Mapping) → (on : Onward) × ((read_next sizes l (looked l v) m).1 ≡ Request (onward on v))
-      read (At x) = (looked_on l v phase.Load v.new v.bytes refl (λ y. refl) refl, refl)
-      read Unmapped = (looked_on l v phase.Loaded v.new zero_block refl (λ x. refl) refl, refl)
-      read Zero = (looked_on l v phase.Loaded v.new zero_block refl (λ x. refl) refl, refl)
+      read : (m : Mapping) → (on : Onward) × ((read_next v m).1 ≡ Request (onward on v))
+      read (At x) = (goes_to v phase.Load v.new v.bytes refl (λ y. refl) refl, refl)
+      read Unmapped = (goes_to v phase.Loaded v.new zero_block refl (λ x. refl) refl, refl)
+      read Zero = (goes_to v phase.Loaded v.new zero_block refl (λ x. refl) refl, refl)
+
+  -- or reads its leaf first
+  abbrev to_leaf : Pbn → Vio → Onward
+  to_leaf x v = record { phase = phase.LoadLeaf; leaf = Some x; old = v.old; latest = None; new = v.new; bytes = v.bytes; locks = refl; unclaimed = λ y. refl; unentered = refl }
 
   first_taken : (a : ℕ) (f : Vio → ℕ) (vs : List Vio) (w : Vio) → first_for a vs ≡ Some w → total f vs ≡ f w + total f (but_first_for a vs)
   first_taken a f [] w is = absurd cc
@@ -249,9 +256,14 @@ module _ (sizes : Sizes) where
         let behind = turned phase.Wait (placed old v) in
         rw (n, q) (beside (all_there old.lacking) (row.arrives_held old v (old.waiting ++ behind ∷ [])) (was_kept phase.Arrive p)
         (λ f. omega (arith, there_more f old.waiting behind, there_sum f (old.waiting ++ behind ∷ []) old.lacking, there_in f phase.Wait old.waiting kept.0)))
-    logical_row new happened posts (logical.looks post p path stays there goes n m q) =
-        let on = went_on old v post goes in
+    logical_row new happened posts (logical.looks mapping post p path stays there known goes n m q) =
+        let on = went_on (looked old mapping v) post goes in
         rw (n, q) (beside (all_there old.lacking) (row.looks old v on.0) (was_kept phase.Look p) (λ f. omega (arith, ap f on.1, stays_kept f)))
+    logical_row new happened posts (logical.needs_leaf x p path stays there unknown stands n m q) =
+        rw (n, q) (beside (all_there old.lacking) (row.looks old v (to_leaf x v)) (was_kept phase.Look p) (λ f. omega (arith, stays_kept f)))
+    logical_row new happened posts (logical.leafed post p goes n m q) =
+        let on = went_on v post goes in
+        rw (n, q) (beside (all_there old.lacking) (row.leafed old v on.0) (was_kept phase.LoadedLeaf p) (λ f. omega (arith, ap f on.1, stays_kept f)))
     logical_row new happened posts (logical.passes p path past n m q) =
         rw (n, q) (leaves_row old v (leased (ap holds p)) kept old.slots phase.Look p refl (omega arith) (Some reply.Ok))
     logical_row new happened posts (logical.is_dropped page p path lacked never n m q) =
@@ -356,6 +368,13 @@ module _ (sizes : Sizes) where
       let is : record old { stopped = false } ≡ old = rw (← going) refl in
       subst (λ (o : DeviceZone). IsRow sizes (at.Device o) front (at.Device new) posts) is is_one
 
+  -- the device, which has stopped, or goes on as it is
+  halts : (old : DeviceZone) (front : List Item) (new : DeviceZone) (posts : List Post) → old.stopped ≡ true
+      → IsRow sizes (at.Device (record old { stopped = true })) front (at.Device new) posts → IsRow sizes (at.Device old) front (at.Device new) posts
+  halts old front new posts stopped is_one =
+      let is : record old { stopped = true } ≡ old = rw (← stopped) refl in
+      subst (λ (o : DeviceZone). IsRow sizes (at.Device o) front (at.Device new) posts) is is_one
+
   announce_row : (old : DeviceZone) (front : Item) (w : Writer) (new : DeviceZone) (made : Trace) (posts : List Post) → Announces sizes old front w new made posts → IsRow sizes (at.Device old) (front ∷ []) (at.Device new) posts
   announce_row old front w new made posts (device.succeeds call is going n m q) = rw (n, q) (is_row (row.announces old front) (λ f. omega arith) (λ f. omega arith))
   announce_row old front w new made posts (device.fails call known is going n m q) = rw (n, q) (runs old _ _ _ going (is_row (row.announce_fails old front) (λ f. omega arith) (λ f. omega (arith, all_notices f))))
@@ -368,6 +387,16 @@ module _ (sizes : Sizes) where
   device_row old v new made posts (device.store_unmade p stopped n m q) = rw (n, q) (is_row (row.store_unmade old v) (λ f. omega (arith, in_phase f v phase.Store p)) (λ f. omega arith))
   device_row old v new made posts (device.loads x bytes p from ready inside n m q) = rw (n, q) (is_row (row.loads old v bytes) (λ f. omega (arith, in_phase f v phase.Load p)) (λ f. omega arith))
   device_row old v new made posts (device.load_fails x bytes known p from ready inside n m q) = rw (n, q) (is_row (row.load_fails old v) (λ f. omega (arith, in_phase f v phase.Load p)) (λ f. omega arith))
+  device_row old v new made posts (device.loads_leaf x bytes mappings p stands ready inside page n m q) = rw (n, q) (is_row (row.loads_leaf old v (slice_index_or mappings (slot_of_address v.at.0) Unmapped)) (λ f. omega (arith, in_phase f v phase.LoadLeaf p)) (λ f. omega arith))
+  device_row old v new made posts (device.leaf_fails x bytes known p stands ready inside n m q) = rw (n, q) (is_row (row.leaf_fails old v) (λ f. omega (arith, in_phase f v phase.LoadLeaf p)) (λ f. omega arith))
+  device_row old v new made posts (device.harms x bytes fault p stands ready inside damaged n m q) = elim (cases_Bool old.stopped) [
+    | inl stopped ↦
+        let posts_is : posts ≡ (v.home, Request (ended phase.Abort reply.Damaged v)) ∷ [] = q ∙ ap (λ (b : Bool). (v.home, Request (ended phase.Abort reply.Damaged v)) ∷ notices_after b sizes) stopped in
+        rw (n, posts_is) (halts old _ _ _ stopped (is_row (row.harms_again old v (Page x fault)) (λ f. omega (arith, in_phase f v phase.LoadLeaf p)) (λ f. omega arith)))
+    | inr going ↦
+        let posts_is : posts ≡ (v.home, Request (ended phase.Abort reply.Damaged v)) ∷ stop_notices (notified sizes) = q ∙ ap (λ (b : Bool). (v.home, Request (ended phase.Abort reply.Damaged v)) ∷ notices_after b sizes) going in
+        rw (n, posts_is) (runs old _ _ _ going (is_row (row.harms old v (Page x fault)) (λ f. omega (arith, in_phase f v phase.LoadLeaf p)) (λ f. omega (arith, all_notices f))))
+  ]
   device_row old v new made posts (device.flushes p going durable n m q) = rw (n, q) (is_row (row.flushes old v) (λ f. omega (arith, in_phase f v phase.Flush p)) (λ f. omega arith))
   device_row old v new made posts (device.flush_fails known p going durable n m q) =
       rw (n, q) (runs old _ _ _ going (is_row (row.flush_fails old v) (λ f. omega (arith, in_phase f v phase.Flush p)) (λ f. omega (arith, all_notices f))))

@@ -1,6 +1,6 @@
 -- What is posted for a request that is begun, and for one that gets the lock of its address.
 use Rattle.std.proofs.Common.{◌≡◌, ◌⊎◌, true, false, None, Some, inl, inr, refl, ap, sym, subst}
-use Rattle.core_laws.proofs.Common.{Asks, LogicalZone, Post, Request, Sizes, Vio, Writer, cases_Bool, same_Some, turned}
+use Rattle.core_laws.proofs.Common.{Asks, Post, Request, Sizes, Vio, Writer, cases_Bool, same_Some, turned}
 use Rattle.blk_base.specs.declared.place.Mapping.TheVariants.{Unmapped, Zero}
 use Rattle.blk_base.specs.declared.place.ZoneId.TheVariants as id
 use Rattle.blk_base.specs.declared.request.Request.TheVariants as request
@@ -8,7 +8,7 @@ use Rattle.data_vio.specs.declared.items.Asks.TheVariants.{Read, Write, Discard,
 use Rattle.data_vio.specs.declared.items.Item.TheVariants as item
 use Rattle.data_vio.specs.declared.items.Phase.TheVariants as phase
 use Rattle.core_model.specs.DeskRules.{vio_of}
-use Rattle.core_model.specs.LogicalRules.{are_zeros, enters_with, looked, read_next, next_for, mapping_at, goes_on}
+use Rattle.core_model.specs.LogicalRules.{are_zeros, enters_with, read_next, next_for, goes_on}
 
 -- a request that is begun has its name, and arrives or flushes
 pub begun_request : (sizes : Sizes) (w : Writer) (r : Request) (v : Vio) → vio_of sizes w r ≡ Some v → v.request ≡ w
@@ -34,13 +34,11 @@ begun_page sizes w request.Flush v is = ap (λ (u : Vio). u.page) (sym (same_Som
 begun_page sizes w other v is = absurd cc
 
 -- what is posted for a request that goes on with the lock of its address, by a fact of each post that it may be
-pub goes_by : (P : Post → Type 0) (sizes : Sizes) (l : LogicalZone) (v : Vio) (post : Post) → goes_on sizes l v ≡ Some post
-    → (v.asks ≡ Read → P (read_next sizes l (looked l v) (mapping_at l v.at.0)))
-    → (v.asks ≡ Write → are_zeros v.bytes ≡ true → P (enters_with Zero (looked l v))) → (v.asks ≡ Write → are_zeros v.bytes ≡ false → P (id.Physical 0, item.Request (turned phase.Claim (looked l v))))
-    → (v.asks ≡ Discard → P (enters_with Unmapped (looked l v))) → P post
-goes_by P sizes l v post is reads zeros others discards = by v.asks refl is
+pub goes_by : (P : Post → Type 0) (v : Vio) (post : Post) → goes_on v ≡ Some post → (v.asks ≡ Read → P (read_next v v.old)) → (v.asks ≡ Write → are_zeros v.bytes ≡ true → P (enters_with Zero v))
+    → (v.asks ≡ Write → are_zeros v.bytes ≡ false → P (id.Physical 0, item.Request (turned phase.Claim v))) → (v.asks ≡ Discard → P (enters_with Unmapped v)) → P post
+goes_by P v post is reads zeros others discards = by v.asks refl is
   where
-    by : (asks : Asks) → v.asks ≡ asks → next_for sizes l v asks ≡ Some post → P post
+    by : (asks : Asks) → v.asks ≡ asks → next_for v asks ≡ Some post → P post
     by Read asks next = subst P (same_Some _ _ next) (reads asks)
     by Write asks next = elim (cases_Bool (are_zeros v.bytes)) [
       | inl all ↦ subst P (rw all at (same_Some _ _ next)) (zeros asks all)

@@ -106,6 +106,7 @@ module _ (sizes : Sizes) where
   pub leases_law : (a : ℕ) (test : ℕ → Bool) {old new : ZoneData} {before after : Sum} → Row sizes old new before after → Conserves (lease_token a test) old new before after
   leases_law a test (row.both first same second) = omega (arith, leases_law a test first, same (lease_token a test).item, leases_law a test second)
   leases_law a test (row.looks l v on) = omega (arith, ap (λ b. bit (b && (v.at.0 == a && test v.place))) on.locks)
+  leases_law a test (row.leafed l v on) = omega (arith, ap (λ b. bit (b && (v.at.0 == a && test v.place))) on.locks)
   leases_law a test (row.leaves l slots v q answer locks is_set leased) = omega (arith, ap (λ b. bit (b && (v.at.0 == a && test v.place))) locks, freed a test l v leased)
   leases_law a test (row.hands_on l slots v q answer w others locks is_set leased) = omega (arith, ap (λ b. bit (b && (v.at.0 == a && test v.place))) locks, freed a test l v leased)
   leases_law a test (row.retires l v pageless leased) = omega (arith, freed a test l v leased)
@@ -117,6 +118,7 @@ module _ (sizes : Sizes) where
   pub holders_law : {old new : ZoneData} {before after : Sum} → Row sizes old new before after → Conserves holder_token old new before after
   holders_law (row.both first same second) = omega (arith, holders_law first, same holder_token.item, holders_law second)
   holders_law (row.looks l v on) = omega (arith, ap bit on.locks)
+  holders_law (row.leafed l v on) = omega (arith, ap bit on.locks)
   holders_law (row.leaves l slots v q answer locks is_set leased) = omega (arith, ap bit locks, one_freed l v leased)
   holders_law (row.hands_on l slots v q answer w others locks is_set leased) = omega (arith, ap bit locks, one_freed l v leased)
   holders_law (row.retires l v pageless leased) = omega (arith, one_freed l v leased)
@@ -128,6 +130,7 @@ module _ (sizes : Sizes) where
   pub entries_law : {old new : ZoneData} {before after : Sum} → Row sizes old new before after → Conserves entry_token old new before after
   entries_law (row.both first same second) = omega (arith, entries_law first, same entry_token.item, entries_law second)
   entries_law (row.looks l v on) = omega (arith, ap (λ b. bit (b && not (is_some v.page))) on.unentered)
+  entries_law (row.leafed l v on) = omega (arith, ap (λ b. bit (b && not (is_some v.page))) on.unentered)
   entries_law (row.leaves l slots v q answer locks is_set leased) = omega (arith, is_set)
   entries_law (row.hands_on l slots v q answer w others locks is_set leased) = omega (arith, is_set)
   entries_law (row.retires l v pageless leased) = omega (arith, nothing, own_entry v pageless)
@@ -142,6 +145,7 @@ module _ (sizes : Sizes) where
   pub page_entries_law : {old new : ZoneData} {before after : Sum} → Row sizes old new before after → Shrinks page_entry_token old new before after
   page_entries_law (row.both first same second) = omega (arith, page_entries_law first, same page_entry_token.item, page_entries_law second)
   page_entries_law (row.looks l v on) = omega (arith, ap (λ b. bit (b && is_some v.page)) on.unentered)
+  page_entries_law (row.leafed l v on) = omega (arith, ap (λ b. bit (b && is_some v.page)) on.unentered)
   page_entries_law (row.forgets l unlinkable v q page locks is_dropped is_page made) = omega (arith, is_dropped, with_page (has_entry q) v page is_page)
   page_entries_law (row.enters j v counted) = omega (arith, page_entry (logged v) j.entered, one_kind (logged v), either_bit (is_some v.page), counted)
   page_entries_law (row.enters_first j v counted) = omega (arith, nothing, page_entry (logged v) j.entered, one_kind (logged v), either_bit (is_some v.page), counted)

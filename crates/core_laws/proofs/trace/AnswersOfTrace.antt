@@ -22,8 +22,8 @@ AnswerSays is_set handed (Some reply.Full) = handed ≡ false
 AnswerSays is_set handed (Some reply.Range) = ⊥
 AnswerSays is_set handed (Some (reply.Bytes bytes)) = ⊥
 AnswerSays is_set handed (Some reply.NoSpace) = ⊥
-AnswerSays is_set handed (Some reply.ReadFault) = ⊥
-AnswerSays is_set handed (Some reply.Damaged) = ⊥
+AnswerSays is_set handed (Some reply.ReadFault) = handed ≡ false
+AnswerSays is_set handed (Some reply.Damaged) = handed ≡ false
 
 there_true : (o : Option Remapping) → IsSome o → is_there o ≡ true
 there_true (Some e) some = refl
@@ -45,12 +45,16 @@ cause_says s t w (request.Write at bytes fua) a reply.Range change has below cau
 cause_says s t w (request.Write at bytes fua) a reply.Stopped change has below (inl cause) = there_false (logged_of (done t) w) cause.2
 cause_says s t w (request.Write at bytes fua) a reply.Stopped change has below (inr at_once) = there_false (logged_of (done t) w) at_once.1.unset
 cause_says s t w (request.Write at bytes fua) a reply.Full change has below cause = there_false (logged_of (entered t) w) cause.1
+cause_says s t w (request.Write at bytes fua) a reply.ReadFault change has below cause = there_false (logged_of (entered t) w) cause.1
+cause_says s t w (request.Write at bytes fua) a reply.Damaged change has below cause = there_false (logged_of (entered t) w) cause.1
 cause_says s t w (request.Write at bytes fua) a other change has below cause = absurd cause
 cause_says s t w (request.Discard at) a reply.Ok change has below cause = there_true (logged_of (done t) w) cause
 cause_says s t w (request.Discard at) a reply.Range change has below cause = let here : at.0 ≡ a = same_Some _ _ has in absurd (omega (arith, here, below, cause))
 cause_says s t w (request.Discard at) a reply.Stopped change has below (inl cause) = there_false (logged_of (done t) w) cause.2
 cause_says s t w (request.Discard at) a reply.Stopped change has below (inr at_once) = there_false (logged_of (done t) w) at_once.1.unset
 cause_says s t w (request.Discard at) a reply.Full change has below cause = there_false (logged_of (entered t) w) cause.1
+cause_says s t w (request.Discard at) a reply.ReadFault change has below cause = there_false (logged_of (entered t) w) cause.1
+cause_says s t w (request.Discard at) a reply.Damaged change has below cause = there_false (logged_of (entered t) w) cause.1
 cause_says s t w (request.Discard at) a other change has below cause = absurd cause
 cause_says s t w (request.Read at) a answer change has below cause = absurd change
 cause_says s t w request.Flush a answer change has below cause = absurd change
@@ -111,8 +115,10 @@ mark_said false handed (Some reply.Full) both says = rw says refl
 mark_said is_set handed (Some reply.Range) both says = absurd says
 mark_said is_set handed (Some (reply.Bytes bytes)) both says = absurd says
 mark_said is_set handed (Some reply.NoSpace) both says = absurd says
-mark_said is_set handed (Some reply.ReadFault) both says = absurd says
-mark_said is_set handed (Some reply.Damaged) both says = absurd says
+mark_said true handed (Some reply.ReadFault) both says = let there = both refl in absurd cc
+mark_said false handed (Some reply.ReadFault) both says = rw says refl
+mark_said true handed (Some reply.Damaged) both says = let there = both refl in absurd cc
+mark_said false handed (Some reply.Damaged) both says = rw says refl
 
 -- the mark of a write or a discard in its history, without its answer
 mark_without : (s : Session) (t : Trace) (w : Writer) (r : Request) (a : ℕ) → RightTrace s t → request_at s.script w ≡ Some r → Changes r → address_of r ≡ Some a → a < s.sizes.geometry.logical

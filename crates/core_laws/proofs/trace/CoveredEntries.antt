@@ -42,8 +42,8 @@ set_ok handed reply.Full there says = absurd cc
 set_ok handed reply.Range there says = absurd says
 set_ok handed (reply.Bytes bytes) there says = absurd says
 set_ok handed reply.NoSpace there says = absurd says
-set_ok handed reply.ReadFault there says = absurd says
-set_ok handed reply.Damaged there says = absurd says
+set_ok handed reply.ReadFault there says = absurd cc
+set_ok handed reply.Damaged there says = absurd cc
 
 -- a settled entry lasts
 settled_lasts : (mark : Mark) → is_settled mark ≡ true → is_lasting true mark ≡ false → ⊥

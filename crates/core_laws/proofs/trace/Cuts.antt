@@ -1,9 +1,9 @@
 -- Where a stop cuts a trace, and what stood at a mark's call then.
 use Rattle.std.proofs.Common.{◌≡◌, ◌⊎◌, true, List, [], ◌∷◌, ◌++◌, refl, sym, ap, inl, inr, suc, ◌+◌, ◌≤◌, length, ◌∙◌, arith, length-append}
-use Rattle.core_laws.proofs.Common.{Call, Calls, DeskLine, Enters, Fails, Flushes, FlushMark, Happening, RightTrace, Says, Session, Trace, append-nil, calls, lines, Logged, journaled}
+use Rattle.core_laws.proofs.Common.{Call, Calls, DeskLine, Enters, Fails, Flushes, FlushMark, Happening, RightTrace, Says, Session, Trace, append-nil, calls, lines, Logged, journaled, Harms}
 use Rattle.blk_base.specs.declared.request.Answer.TheVariants.{Ok}
 use Rattle.vdo_model.specs.declared.report.DeskLine.TheVariants.{Answer}
-use Rattle.disk_model.specs.declared.call.Call.TheVariants.{Flush}
+use Rattle.disk_model.specs.declared.call.Call.TheVariants.{Flush, Read}
 use Rattle.stop_laws.proofs.HistoryLaws.{length_at_later, length_at_next}
 use Rattle.vdo_model.specs.FlushMarks.{successes}
 use Rattle.vdo_model.specs.Stops.{length_at}
@@ -17,6 +17,7 @@ lines_append [] older = refl
 lines_append (Says line ∷ t) older = ap (λ (xs : List DeskLine). line ∷ xs) (lines_append t older)
 lines_append (Flushes mark ∷ t) older = ap (λ (xs : List DeskLine). Answer mark.request Ok ∷ xs) (lines_append t older)
 lines_append (Fails w c true ∷ t) older = lines_append t older
+lines_append (Harms w x bytes fault ∷ t) older = lines_append t older
 lines_append (other ∷ t) older = lines_append t older
 
 -- The calls of the device.
@@ -24,6 +25,7 @@ pub calls_append : (newer older : Trace) → calls (newer ++ older) ≡ calls ne
 calls_append [] older = refl
 calls_append (Calls call ∷ t) older = ap (λ (xs : List Call). call ∷ xs) (calls_append t older)
 calls_append (Fails w call true ∷ t) older = ap (λ (xs : List Call). call ∷ xs) (calls_append t older)
+calls_append (Harms w x bytes fault ∷ t) older = ap (λ (xs : List Call). Read x bytes true ∷ xs) (calls_append t older)
 calls_append (other ∷ t) older = calls_append t older
 
 -- The entries that were handed in.
@@ -63,6 +65,8 @@ cut_at (Calls other ∷ t) [] call prefix is = record { newer = []; older = Call
 cut_at (Calls other ∷ t) (c ∷ later) call prefix is = one_more (Calls other) t (call ∷ prefix) (cut_at t later call prefix cc)
 cut_at (Fails w other true ∷ t) [] call prefix is = record { newer = []; older = Fails w other true ∷ t; parts = refl; calls_are = is; short = inr (other, Fails w other true, t, refl, refl) }
 cut_at (Fails w other true ∷ t) (c ∷ later) call prefix is = one_more (Fails w other true) t (call ∷ prefix) (cut_at t later call prefix cc)
+cut_at (Harms w x bytes fault ∷ t) [] call prefix is = record { newer = []; older = Harms w x bytes fault ∷ t; parts = refl; calls_are = is; short = inr (Read x bytes true, Harms w x bytes fault, t, refl, refl) }
+cut_at (Harms w x bytes fault ∷ t) (c ∷ later) call prefix is = one_more (Harms w x bytes fault) t (call ∷ prefix) (cut_at t later call prefix cc)
 cut_at (other ∷ t) later call prefix is = one_more (other) t (call ∷ prefix) (cut_at t later call prefix is)
 
 -- Each prefix of the calls is that of a cut.

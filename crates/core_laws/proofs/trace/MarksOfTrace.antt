@@ -1,12 +1,12 @@
 -- The flush marks of a right trace are right, and each has its call in it.
 use Rattle.std.proofs.Common.{◌≡◌, true, List, [], ◌∷◌, Some, IsSome, IsNone, refl, sym, subst, inl, inr, ◌+◌, ◌<◌, false, ◌++◌, ap}
-use Rattle.core_laws.proofs.Common.{AllByRecursion, Call, Calls, Fails, Flushes, FlushMark, Happening, HasCause, IsSession, MayFollow, RightTrace, Says, Session, Trace, Writer, answer_of, begun, calls, each_both, every-map, is_ok, lines, marks, moments, none_is, not_both, option_cases, request_at, same_self, same_Some, same_tells, some_is}
+use Rattle.core_laws.proofs.Common.{AllByRecursion, Call, Calls, Fails, Flushes, FlushMark, Happening, HasCause, IsSession, MayFollow, RightTrace, Says, Session, Trace, Writer, answer_of, begun, calls, each_both, every-map, is_ok, is_read, lines, marks, moments, none_is, not_both, option_cases, request_at, same_self, same_Some, same_tells, some_is, Harms}
 use Rattle.vdo_model.specs.FlushMarks.{Moment, Desk, Device, IsMark, mark_of_flush, AreApart, AreFlushMarks, successes, lines_of, calls_of}
 use Rattle.vdo_model.specs.declared.report.DeskLine.TheVariants.{Begin, Answer}
 use Rattle.core_laws.proofs.trace.Growth.{answer_stays}
 use Rattle.core_laws.proofs.kept.Spared.{mark_later}
 use Rattle.blk_base.specs.declared.request.Answer.TheVariants.{Ok}
-use Rattle.disk_model.specs.declared.call.Call.TheVariants.{Flush}
+use Rattle.disk_model.specs.declared.call.Call.TheVariants.{Flush, Read}
 use Rattle.blk_base.specs.declared.request.Answer.TheVariants as reply
 use Rattle.blk_base.specs.declared.request.Request.TheVariants as request
 
@@ -25,6 +25,7 @@ each_mark s (Flushes mark ∷ t) right = (
 )
 each_mark s (Calls call ∷ t) right = each_later (Device call) (moments t) (marks t) (each_mark s t right.2)
 each_mark s (Fails w call true ∷ t) right = each_later (Device call) (moments t) (marks t) (each_mark s t right.2)
+each_mark s (Harms w x bytes fault ∷ t) right = each_later (Device (Read x bytes true)) (moments t) (marks t) (each_mark s t right.2)
 each_mark s (other ∷ t) right = each_mark s t right.2
 
 -- a mark is of a flush that was answered Ok
@@ -110,20 +111,22 @@ one_more : (h : Happening) (t : Trace) (call : Call) (ms : List Moment) → HasC
 one_more h t call ms has = record { later = h ∷ has.later; older = has.older; parts = ap (λ (u : Trace). h ∷ u) has.parts; moments_are = has.moments_are }
 
 -- A call that succeeded, among the moments of a right trace, is one of the trace.
-pub call_there : (s : Session) (t : Trace) (newer : List Moment) (call : Call) (older : List Moment) → RightTrace s t → is_ok call ≡ true → moments t ≡ newer ++ (Device call ∷ older) → HasCall t call older
-call_there s [] [] call older right ok is = absurd cc
-call_there s [] (m ∷ newer) call older right ok is = absurd cc
-call_there s (Says line ∷ t) [] call older right ok is = absurd cc
-call_there s (Says line ∷ t) (m ∷ newer) call older right ok is = one_more (Says line) t call older (call_there s t newer call older right.2 ok cc)
-call_there s (Flushes mark ∷ t) [] call older right ok is = absurd cc
-call_there s (Flushes mark ∷ t) (m ∷ newer) call older right ok is = one_more (Flushes mark) t call older (call_there s t newer call older right.2 ok cc)
-call_there s (Calls other ∷ t) [] call older right ok is =
+pub call_there : (s : Session) (t : Trace) (newer : List Moment) (call : Call) (older : List Moment) → RightTrace s t → is_ok call ≡ true → is_read call ≡ false → moments t ≡ newer ++ (Device call ∷ older) → HasCall t call older
+call_there s [] [] call older right ok writes is = absurd cc
+call_there s [] (m ∷ newer) call older right ok writes is = absurd cc
+call_there s (Says line ∷ t) [] call older right ok writes is = absurd cc
+call_there s (Says line ∷ t) (m ∷ newer) call older right ok writes is = one_more (Says line) t call older (call_there s t newer call older right.2 ok writes cc)
+call_there s (Flushes mark ∷ t) [] call older right ok writes is = absurd cc
+call_there s (Flushes mark ∷ t) (m ∷ newer) call older right ok writes is = one_more (Flushes mark) t call older (call_there s t newer call older right.2 ok writes cc)
+call_there s (Calls other ∷ t) [] call older right ok writes is =
     let same : other ≡ call = cc in record { later = []; older = t; parts = ap (λ (c : Call). Calls c ∷ t) same; moments_are = cc }
-call_there s (Calls other ∷ t) (m ∷ newer) call older right ok is = one_more (Calls other) t call older (call_there s t newer call older right.2 ok cc)
-call_there s (Fails w other true ∷ t) [] call older right ok is =
+call_there s (Calls other ∷ t) (m ∷ newer) call older right ok writes is = one_more (Calls other) t call older (call_there s t newer call older right.2 ok writes cc)
+call_there s (Fails w other true ∷ t) [] call older right ok writes is =
     let failed : is_ok other ≡ false = right.0.fails in let same : other ≡ call = cc in let both = ap is_ok same in absurd cc
-call_there s (Fails w other true ∷ t) (m ∷ newer) call older right ok is = one_more (Fails w other true) t call older (call_there s t newer call older right.2 ok cc)
-call_there s (other ∷ t) newer call older right ok is = one_more (other) t call older (call_there s t newer call older right.2 ok is)
+call_there s (Fails w other true ∷ t) (m ∷ newer) call older right ok writes is = one_more (Fails w other true) t call older (call_there s t newer call older right.2 ok writes cc)
+call_there s (Harms w x bytes fault ∷ t) [] call older right ok writes is = let same : Read x bytes true ≡ call = cc in let both = ap is_read same in absurd cc
+call_there s (Harms w x bytes fault ∷ t) (m ∷ newer) call older right ok writes is = one_more (Harms w x bytes fault) t call older (call_there s t newer call older right.2 ok writes cc)
+call_there s (other ∷ t) newer call older right ok writes is = one_more (other) t call older (call_there s t newer call older right.2 ok writes is)
 
 -- the call of a mark: it was begun by then and not answered, and has its answer
 pub record HasMark (t : Trace) (f : FlushMark) : Type 0 where
@@ -137,7 +140,7 @@ pub record HasMark (t : Trace) (f : FlushMark) : Type 0 where
 
 has_mark : (s : Session) (t : Trace) (f : FlushMark) → RightTrace s t → IsMark (moments t) f → answer_of (lines t) f.request ≡ Some Ok → HasMark t f
 has_mark s t f right is answer =
-    let has = call_there s t is.later (Flush true) is.older right refl is.at in record {
+    let has = call_there s t is.later (Flush true) is.older right refl refl is.at in record {
       later = has.later;
       older = has.older;
       parts = has.parts;

@@ -1,9 +1,7 @@
 -- The pages that the entries of a trace make: where no entry that was handed in puts a page, none is committed, linked or dropped.
-use Rattle.std.proofs.Common.{◌≡◌, ◌≢◌, ◌⊎◌, ℕ, Bool, true, false, if◌then◌else◌, Option, None, Some, IsSome, List, [], ◌∷◌, ◌++◌, Contains, refl, subst, sym, inl, inr, arith}
-use Rattle.core_laws.proofs.Common.{AllByRecursion, Happening, MayFollow, Remapping, eqb_tells, every-map, newest, of_address, option_cases, remappings, Aborts, Enters, Entry, Logged, Makes, NewPage, Pbn, Remaps, RightTrace, Session, Sets, Trace, applied, cases_Bool, dropped, durable, journaled}
+use Rattle.std.proofs.Common.{◌≡◌, ◌≢◌, ◌⊎◌, ℕ, Bool, true, false, if◌then◌else◌, Option, None, Some, IsSome, List, [], ◌∷◌, ◌++◌, Contains, refl, subst, sym, ap, ◌∙◌, inl, inr, arith}
+use Rattle.core_laws.proofs.Common.{AllByRecursion, Happening, MayFollow, Remapping, eqb_tells, every-map, newest, of_address, option_cases, remappings, Aborts, Enters, Logged, Makes, NewPage, Pbn, Remaps, RightTrace, Session, Sets, Trace, applied, cases_Bool, dropped, durable, journaled, Writer, same_Some}
 use Rattle.blk_base.specs.declared.place.PageId.{PageId}
-use Rattle.image_layout.specs.Values.{mapping_of}
-use Rattle.blk_base.specs.declared.place.Mapping.TheVariants.{Unmapped}
 use Rattle.image_model.specs.Pages.{is_page, leaf_of}
 use Rattle.core_model.specs.PageLinks.{IsThere, page_in}
 use Rattle.core_model.specs.RightTraces.{IsLeafy}
@@ -23,20 +21,20 @@ abbrev IsOf : PageId → Logged → Type 0
 IsOf page (Makes r) = is_page page r.page ≡ true
 IsOf page (Remaps e) = ⊥
 
-module _ (height : ℕ) (window : List Entry) where
+module _ (height : ℕ) (links : PageId → Option Pbn) where
   -- an entry puts its page somewhere, and so do those behind it
   not_put : (b : Bool) (x : Pbn) (o : Option Pbn) → (if b then Some x else o) ≡ None → (b ≡ false) × (o ≡ None)
   not_put true x o none = absurd cc
   not_put false x o none = (refl, none)
 
-  pub put_there : (es : List Logged) (p : NewPage) → Contains es (Makes p) → page_in height window es p.page ≡ None → ⊥
+  pub put_there : (es : List Logged) (p : NewPage) → Contains es (Makes p) → page_in links es p.page ≡ None → ⊥
   put_there [] p (k, low, is) none = absurd (omega (arith, low))
   put_there (Remaps e ∷ es) p has none = elim (contains_cut (Remaps e) es (Makes p) has) [
     | inl same ↦ absurd cc
     | inr rest ↦ put_there es p rest none
   ]
   put_there (Makes q ∷ es) p has none =
-      let cut = not_put (is_page q.page p.page) q.at (page_in height window es p.page) none in
+      let cut = not_put (is_page q.page p.page) q.at (page_in links es p.page) none in
       elim (contains_cut (Makes q) es (Makes p) has) [
         | inl same ↦ own_page q p same cut.0
         | inr rest ↦ put_there es p rest cut.1
@@ -46,14 +44,14 @@ module _ (height : ℕ) (window : List Entry) where
       own_page q p same off = let own : is_page q.page p.page ≡ true = subst (IsOf q.page) same (page_itself q.page) in absurd cc
 
   -- a page that no entry puts anywhere isn't linked
-  pub unlinked_still : (s : Session) (t : Trace) (page : PageId) → RightTrace s t → page_in height window (journaled t) page ≡ None → page_in height window (applied t) page ≡ None
+  pub unlinked_still : (s : Session) (t : Trace) (page : PageId) → RightTrace s t → page_in links (journaled t) page ≡ None → page_in links (applied t) page ≡ None
   unlinked_still s [] page right none = none
-  unlinked_still s (Enters (Makes p) ∷ t) page right none = unlinked_still s t page right.2 (not_put (is_page p.page page) p.at (page_in height window (journaled t) page) none).1
+  unlinked_still s (Enters (Makes p) ∷ t) page right none = unlinked_still s t page right.2 (not_put (is_page p.page page) p.at (page_in links (journaled t) page) none).1
   unlinked_still s (Enters (Remaps e) ∷ t) page right none = unlinked_still s t page right.2 none
   unlinked_still s (Sets (Makes p) ∷ t) page right none = elim (cases_Bool (is_page p.page page)) [
     | inl here ↦
         let has = committed_entered s t (Makes p) right.2 right.0.is_committed in
-        absurd (put_there (journaled t) p has (subst (λ (q : PageId). page_in height window (journaled t) q ≡ None) (sym (page_is p.page page here)) none))
+        absurd (put_there (journaled t) p has (subst (λ (q : PageId). page_in links (journaled t) q ≡ None) (sym (page_is p.page page here)) none))
     | inr there ↦ rw there (unlinked_still s t page right.2 none)
   ]
   unlinked_still s (Sets (Remaps e) ∷ t) page right none = unlinked_still s t page right.2 none
@@ -94,18 +92,35 @@ newest_leafy s t a (f ∷ es) e all is = elim (eqb_tells f.at.0 a) [
 ]
 
 -- a page that is linked is one that an entry puts there
-pub linked_entered : (s : Session) (t : Trace) (page : PageId) → RightTrace s t → IsThere s.sizes.geometry.height s.window (applied t) page → IsThere s.sizes.geometry.height s.window (journaled t) page
+pub linked_entered : (s : Session) (t : Trace) (page : PageId) → RightTrace s t → IsThere s.sizes.geometry.height s.links (applied t) page → IsThere s.sizes.geometry.height s.links (journaled t) page
 linked_entered s t page right (inl root) = inl root
-linked_entered s t page right (inr some) = elim (option_cases (page_in s.sizes.geometry.height s.window (journaled t) page)) [
-  | inl none ↦ none_some _ (unlinked_still s.sizes.geometry.height s.window s t page right none) some
+linked_entered s t page right (inr some) = elim (option_cases (page_in s.links (journaled t) page)) [
+  | inl none ↦ none_some _ (unlinked_still s.sizes.geometry.height s.links s t page right none) some
   | inr there ↦ inr (rw there.1 refl)
 ]
   where
-    none_some : (o : Option Pbn) → o ≡ None → IsSome o → IsThere s.sizes.geometry.height s.window (journaled t) page
+    none_some : (o : Option Pbn) → o ≡ None → IsSome o → IsThere s.sizes.geometry.height s.links (journaled t) page
     none_some None is some = absurd cc
     none_some (Some x) is some = absurd cc
 
 -- so is the leaf of an address that one changes
-pub leafy_entered : (s : Session) (t : Trace) (a : ℕ) → RightTrace s t → IsLeafy s t a → IsThere s.sizes.geometry.height s.window (journaled t) (leaf_of a) ⊎ (mapping_of s.window a ≢ Unmapped)
-leafy_entered s t a right (inl leaf) = inl (linked_entered s t (leaf_of a) right leaf)
-leafy_entered s t a right (inr mapped) = inr mapped
+pub leafy_entered : (s : Session) (t : Trace) (a : ℕ) → RightTrace s t → IsLeafy s t a → IsThere s.sizes.geometry.height s.links (journaled t) (leaf_of a)
+leafy_entered s t a right leaf = linked_entered s t (leaf_of a) right leaf
+
+-- a page that is linked stands where these links or an entry put it
+pub linked_stands : (links : PageId → Option Pbn) (es : List Logged) (page : PageId) (x : Pbn) → page_in links es page ≡ Some x → (links page ≡ Some x) ⊎ ((w : Writer) × Contains es (Makes (record { request = w; page = page; at = x })))
+linked_stands links [] page x is = inl is
+linked_stands links (Remaps e ∷ es) page x is = elim (linked_stands links es page x is) [
+  | inl opened ↦ inl opened
+  | inr made ↦ inr (made.0, contains_more (Remaps e) es (Makes (record { request = made.0; page = page; at = x })) made.1)
+]
+linked_stands links (Makes p ∷ es) page x is = elim (cases_Bool (is_page p.page page)) [
+  | inl here ↦
+      let named : p.page ≡ page = page_is p.page page here in
+      let stands : p.at ≡ x = same_Some p.at x (rw here at is) in
+      inr (p.request, (0, omega arith, ap {B = Logged} (λ (q : PageId). Makes (record { request = p.request; page = q; at = p.at })) named ∙ ap {B = Logged} (λ (y : Pbn). Makes (record { request = p.request; page = page; at = y })) stands))
+  | inr there ↦ elim (linked_stands links es page x (rw there at is)) [
+    | inl opened ↦ inl opened
+    | inr made ↦ inr (made.0, contains_more (Makes p) es (Makes (record { request = made.0; page = page; at = x })) made.1)
+  ]
+]

@@ -1,46 +1,47 @@
 -- The discards that passed: they say nothing of what an address is mapped to, nor of its value.
 use Rattle.std.proofs.Common.{ℕ, ◌≡◌, None, Some, List, [], ◌∷◌, ◌++◌, refl, ap, sym, ◌∙◌, subst, ◌⊎◌, ◌==◌, false, IsNone, inl, inr}
-use Rattle.core_laws.proofs.Common.{AllByRecursion, Remapping, RightTrace, Session, Trace, each_both, newest, of_address, passed, request_at, value_from, value_written, Enters, Logged, Passes, Remaps, Writer, cases_Bool, entered, eqb_tells, journaled, logged_of, not_both, remappings, same_tells, same_writer}
+use Rattle.core_laws.proofs.Common.{AllByRecursion, Remapping, RightTrace, Session, Trace, each_both, newest, of_address, passed, request_at, value_from, value_written, Enters, Logged, Passes, Remaps, Writer, cases_Bool, entered, eqb_tells, journaled, logged_of, not_both, remappings, same_tells, same_writer, mapped_or, opened_at, IsAsOpened, applied}
 use Rattle.core_laws.proofs.lists.CoreLists.{Has, has_it}
 use Rattle.core_laws.proofs.trace.AnswersOfTrace.{there_some}
 use Rattle.core_laws.proofs.trace.Cuts.{journaled_append}
 use Rattle.blk_base.specs.declared.place.Mapping.TheVariants.{Unmapped}
+use Rattle.core_laws.proofs.kept.OpenedBlocks.{lacks_unmapped}
+use Rattle.core_model.specs.PageLinks.{Lacks}
+use Rattle.image_model.specs.Maps.{value_with}
 use Rattle.blk_base.specs.declared.request.Request.TheVariants as request
-use Rattle.image_layout.specs.Values.{mapping_of, value_in}
-use Rattle.core_model.specs.LogicalRules.{mapped_by}
 use Rattle.core_laws.proofs.lists.Between.{same_before, address_behind, address_between, address_there}
 use Rattle.core_laws.proofs.trace.DeskOfTrace.{are_of_address, each_of_address, of_address_append, changes_append}
 use Rattle.core_laws.proofs.trace.Growth.{passed_grows, entered_stays}
 
--- a discard of an address that the window maps to nothing
+-- a discard of an address that lacked a page of its path
 pub record IsPass (s : Session) (e : Remapping) : Type 0 where
   pub asked : request_at s.script e.request ≡ Some (request.Discard e.at)
   pub new_is : e.new ≡ Unmapped
-  pub unmapped : mapping_of s.window e.at.0 ≡ Unmapped
+  pub lacks : (es : List Logged) × Lacks s.sizes.geometry.height s.links es e.at.0
 
 pub passes_are : (s : Session) (t : Trace) → RightTrace s t → AllByRecursion (IsPass s) (passed t)
 passes_are s [] right = tt
 passes_are s (h ∷ t) right =
     let rest = passes_are s t right.2 in
-    passed_grows (AllByRecursion (IsPass s)) s h t right.0 rest (λ e came next. (record { asked = next.asked; new_is = next.maps.1; unmapped = next.unmapped }, rest))
+    passed_grows (AllByRecursion (IsPass s)) s h t right.0 rest (λ e came next. (record { asked = next.asked; new_is = next.maps.1; lacks = (applied t, next.lacking) }, rest))
 
-module _ (s : Session) (t : Trace) (a : ℕ) (right : RightTrace s t) where
+module _ (s : Session) (t : Trace) (a : ℕ) (right : RightTrace s t) (opened : IsAsOpened s) where
   abbrev IsHere : Remapping → Type 0
   IsHere e = IsPass s e × (e.at.0 ≡ a)
 
   all_here : AllByRecursion IsHere (of_address a (passed t))
   all_here = each_both (IsPass s) (λ (e : Remapping). e.at.0 ≡ a) (of_address a (passed t)) (each_of_address (IsPass s) a (passed t) (passes_are s t right)) (are_of_address a (passed t))
 
-  window_is : (e : Remapping) → IsHere e → mapping_of s.window a ≡ Unmapped
-  window_is e here = subst (λ (b : ℕ). mapping_of s.window b ≡ Unmapped) here.1 here.0.unmapped
+  opened_none : (e : Remapping) → IsHere e → opened_at s a ≡ Unmapped
+  opened_none e here = subst (λ (b : ℕ). opened_at s b ≡ Unmapped) here.1 (lacks_unmapped s opened here.0.lacks.0 e.at.0 here.0.lacks.1)
 
   past_value : (es : List Remapping) → AllByRecursion IsHere es → value_from s a (newest es) ≡ value_from s a None
   past_value [] all = refl
-  past_value (e ∷ es) all = ap value_written all.0.0.asked ∙ sym (ap (value_in s.image) (window_is e all.0))
+  past_value (e ∷ es) all = ap value_written all.0.0.asked ∙ sym (ap (value_with s.image) (opened_none e all.0))
 
-  past_mapping : (es : List Remapping) → AllByRecursion IsHere es → mapped_by (newest es) (mapping_of s.window a) ≡ mapping_of s.window a
+  past_mapping : (es : List Remapping) → AllByRecursion IsHere es → mapped_or (newest es) (opened_at s a) ≡ opened_at s a
   past_mapping [] all = refl
-  past_mapping (e ∷ es) all = all.0.0.new_is ∙ sym (window_is e all.0)
+  past_mapping (e ∷ es) all = all.0.0.new_is ∙ sym (opened_none e all.0)
 
   -- the value of an address, and what it is mapped to, by its entries alone
   pub value_past : (xs : List Remapping) → value_from s a (newest (of_address a (xs ++ passed t))) ≡ value_from s a (newest (of_address a xs))
@@ -50,10 +51,10 @@ module _ (s : Session) (t : Trace) (a : ℕ) (right : RightTrace s t) where
       by [] = past_value (of_address a (passed t)) all_here
       by (y ∷ ys) = refl
 
-  pub mapped_past : (xs : List Remapping) → mapped_by (newest (of_address a (xs ++ passed t))) (mapping_of s.window a) ≡ mapped_by (newest (of_address a xs)) (mapping_of s.window a)
-  mapped_past xs = ap (λ (es : List Remapping). mapped_by (newest es) (mapping_of s.window a)) (of_address_append a xs (passed t)) ∙ by (of_address a xs)
+  pub mapped_past : (xs : List Remapping) → mapped_or (newest (of_address a (xs ++ passed t))) (opened_at s a) ≡ mapped_or (newest (of_address a xs)) (opened_at s a)
+  mapped_past xs = ap (λ (es : List Remapping). mapped_or (newest es) (opened_at s a)) (of_address_append a xs (passed t)) ∙ by (of_address a xs)
     where
-      by : (ys : List Remapping) → mapped_by (newest (ys ++ of_address a (passed t))) (mapping_of s.window a) ≡ mapped_by (newest ys) (mapping_of s.window a)
+      by : (ys : List Remapping) → mapped_or (newest (ys ++ of_address a (passed t))) (opened_at s a) ≡ mapped_or (newest ys) (opened_at s a)
       by [] = past_mapping (of_address a (passed t)) all_here
       by (y ∷ ys) = refl
 

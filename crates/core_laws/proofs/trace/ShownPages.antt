@@ -25,7 +25,7 @@ spelled_length : (head : PageHead) (ms : List Mapping) → length (page_bytes he
 unfolding page_bytes
 spelled_length head ms = omega (arith, length-append (head_bytes head) (flat_map mapping_bytes ms), length-head head, mappings_length ms)
 
-page_length : (g : Geometry) (p : NewPage) → length (empty_page g p) ≡ 4096
+pub page_length : (g : Geometry) (p : NewPage) → length (empty_page g p) ≡ 4096
 unfolding empty_page
 page_length g p = spelled_length _ (replicate PAGE_SLOTS Unmapped) ∙ ap (λ n. 36 + 5 * n) (length-replicate PAGE_SLOTS Unmapped)
 
@@ -34,7 +34,7 @@ module _ (s : Session) (u : Trace) (image : Blocks) (fair : IsFair s u) (is : Is
   abbrev pub IsEmptyThere : NewPage → Type 0
   IsEmptyThere p = block_at image p.at.0 ≡ empty_page s.sizes.geometry p
 
-  there : (p : NewPage) → IsDataBlock s.sizes.geometry p.at.0 → Stands s u p.at.0 (empty_page s.sizes.geometry p) → IsEmptyThere p
+  pub there : (p : NewPage) → IsDataBlock s.sizes.geometry p.at.0 → Stands s u p.at.0 (empty_page s.sizes.geometry p) → IsEmptyThere p
   there p inside stands = block_of_image s.blocks (log s u) image p.at.0 (empty_page s.sizes.geometry p) (omega (arith, data_block_inside s.sizes.geometry p.at.0 inside, fair.opened.room)) (page_length s.sizes.geometry p) stands is
 
   all_there : (es : List Logged) → AllByRecursion (HasBlock s) es → PagesStand s u es → AllByRecursion IsEmptyThere (new_pages es)

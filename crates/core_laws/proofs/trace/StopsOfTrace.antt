@@ -1,12 +1,12 @@
 -- A stop before or after any call of a right trace is right.
-use Rattle.std.proofs.Common.{ℕ, min, drop, length-drop, length-take, ◌+◌, ◌-◌, ◌≡◌, ◌⊎◌, ◌≢◌, ◌<◌, IsTrue, false, List, [], ◌∷◌, ◌++◌, length, refl, ◌∙◌, ap, inl, inr, arith, ◌≤◌, Bool, true, sym, subst, append_assoc, IsSome}
-use Rattle.core_laws.proofs.Common.{all_of, AllByRecursion, answer_of, append-nil, AreAllThere, AtRest, begun, Call, calls, Calls, ComesLast, committed, DeskLine, done, each_both, entered, entries_of, every-append, every-front, every-map, fair_part, filled, FlushMark, HasBlocks, HasWholeBlocks, HistoryEntry, IsFair, IsSession, IsWrite, lines, log, Logged, Remapping, Mapping, MapStands, Mark, marks, newest, NewStands, of_address, OnBlock, OnItsWay, PagesStand, places, request_at, RightTrace, RunReport, same_self, sealed, Session, Shown, Stands, Trace, value_from, value_written, Writer, content_of, new_of, journaled, durable, remappings, passed, superblock_bytes, superblock_stage, SuperblockStage}
+use Rattle.std.proofs.Common.{ℕ, min, drop, length-drop, length-take, ◌+◌, ◌-◌, ◌≡◌, ◌⊎◌, ◌≢◌, ◌<◌, IsTrue, false, List, [], ◌∷◌, ◌++◌, length, refl, ◌∙◌, ap, map, inl, inr, arith, ◌≤◌, Bool, true, sym, subst, append_assoc, IsSome}
+use Rattle.core_laws.proofs.Common.{all_of, AllByRecursion, answer_of, append-nil, AreAllThere, AtRest, begun, Call, calls, Calls, ComesLast, committed, DeskLine, done, each_both, entered, every-append, every-front, every-map, fair_part, filled, FlushMark, HasBlocks, HistoryEntry, IsFair, IsSession, IsWrite, lines, log, Logged, Remapping, Mapping, MapStands, Mark, marks, newest, NewStands, of_address, OnBlock, OnItsWay, PagesStand, places, request_at, RightTrace, RunReport, same_self, sealed, Session, Shown, Stands, Trace, value_from, value_written, Writer, content_of, new_of, journaled, durable, remappings, passed, superblock_bytes, superblock_stage, SuperblockStage, mapping_by, entry_of}
 use Rattle.core_laws.proofs.trace.PassesOfTrace.{entered_at_both, entered_once, has_either, value_past}
 use Rattle.blk_base.specs.declared.place.Mapping.TheVariants.{Unmapped, Zero, At}
 use Rattle.disk_model.specs.Images.{IsImage}
 use Rattle.disk_model.specs.Log.{Blocks, block_at, contents}
 use Rattle.disk_model.proofs.ImageLaws.{all_weaker, block_of_image, sector_of_mix}
-use Rattle.image_layout.specs.Values.{journal_of, mapping_of, value_in, value_of}
+use Rattle.image_layout.specs.Values.{journal_of}
 use Rattle.blk_base.proofs.RegionLaws.{data_block_inside}
 use Rattle.core_laws.proofs.device.DeviceCalls.{mapped_is_data, value_whole}
 use Rattle.core_laws.proofs.journal.SealedBlocks.{front_part, heads_start, said_by_blocks}
@@ -27,7 +27,6 @@ use Rattle.core_laws.proofs.trace.DeskOfTrace.{AreApart, both_parts, entered_apa
 use Rattle.core_laws.proofs.trace.HistoriesOfTrace.{entered_walks, settled_walks}
 use Rattle.core_laws.proofs.trace.MarksOfTrace.{HasMark, all_marks}
 use Rattle.core_laws.proofs.kept.StandsOn.{entered_parts, map_more, pages_more}
-use Rattle.core_laws.proofs.kept.Spared.{mapping_by}
 use Rattle.core_laws.proofs.trace.ZeroWrites.{zeros_by}
 use Rattle.image_model.specs.Looked.{is_looked_at}
 use Rattle.image_model.specs.Windows.{IsWindow}
@@ -36,19 +35,20 @@ use Rattle.journal_stops.proofs.ShownLaws.{slot_there, window_at_rest, window_un
 use Rattle.stop_laws.specs.Journals.{Surely, block_of_slot}
 use Rattle.blk_base.specs.Sectors.{sector, zero_block}
 use Rattle.journal_stops.proofs.EntryLaws.{window_of_all}
-use Rattle.core_model.specs.Sessions.{HasSuperblock, IsSuperblock, StandsAsOpened, SuperblockStands, blocks_of, said_by, sealed_with}
+use Rattle.core_model.specs.Sessions.{HasSuperblock, IsSuperblock, SuperblockStands, blocks_of, said_by, sealed_with}
+use Rattle.core_laws.proofs.trace.ShownMaps.{shown_mapping}
+use Rattle.image_model.specs.Maps.{Image, image_with, value_of, value_with}
 use Rattle.blk_base.specs.declared.journal_entry.CommittedEntry.{CommittedEntry}
-use Rattle.std.proofs.lemmas.List.{ext_get_or}
 use Rattle.journal_stops.specs.Sealed as blocks
 
 -- What an image shows of a trace: the entries of its window, and the value of each address.
 
--- an image has a window with the entries of these writes, on those of the opened one
+-- an image has a window with the entries of these writes
 pub record HasWindow (s : Session) (image : Blocks) (es : List Logged) : Type 0 where
   pub last : ℕ
   pub shown : List CommittedEntry
   pub is_window : IsWindow s.sizes.geometry s.sizes.start (journal_of s.sizes.geometry image) last shown
-  pub said : entries_of s.window es ≡ said_by shown
+  pub said : map entry_of es ≡ said_by shown
 
 -- the entries of a window that a stop may leave: the committed ones, or those that were handed in
 pub record ImageEntries (s : Session) (u : Trace) (image : Blocks) : Type 0 where
@@ -69,12 +69,12 @@ pub record FrontOf (es : List Logged) : Type 0 where
 
 module _ (s : Session) (u : Trace) (image : Blocks) (session : IsSession s) (fair : IsFair s u) (is : IsImage s.blocks (log s u) image) where
   -- a window whose blocks all name the first sequence has the entries of all
-  all_in_window : (older : List (List Logged)) (last : ℕ) → HasWholeBlocks s → IsWindow s.sizes.geometry s.sizes.start (journal_of s.sizes.geometry image) last (window_of s.sizes.start (blocks_of s older)) → HasWindow s image (all_of older)
-  all_in_window older last whole k = record {
+  all_in_window : (older : List (List Logged)) (last : ℕ) → IsWindow s.sizes.geometry s.sizes.start (journal_of s.sizes.geometry image) last (window_of s.sizes.start (blocks_of s older)) → HasWindow s image (all_of older)
+  all_in_window older last k = record {
     last = last;
     shown = blocks.entries_of s.sizes.start (blocks_of s older);
-    is_window = subst (IsWindow s.sizes.geometry s.sizes.start (journal_of s.sizes.geometry image) last) (window_of_all s.sizes.start (blocks_of s older) (heads_start s older whole)) k;
-    said = said_by_blocks s older whole;
+    is_window = subst (IsWindow s.sizes.geometry s.sizes.start (journal_of s.sizes.geometry image) last) (window_of_all s.sizes.start (blocks_of s older) (heads_start s older)) k;
+    said = said_by_blocks s older;
   }
 
   abbrev last_of : List (List Logged) → ℕ
@@ -83,43 +83,20 @@ module _ (s : Session) (u : Trace) (image : Blocks) (session : IsSession s) (fai
   last_is : (older : List (List Logged)) → last_of older + 1 ≡ next_of s.sizes.start (blocks_of s older)
   last_is older = let some = session.start.0 in omega (arith, some)
 
-  -- where the journal is as it was opened, it is that of the opened image
-  opened_journal : (older : List (List Logged)) → StandsAsOpened s u older → journal_of s.sizes.geometry image ≡ journal_of s.sizes.geometry s.image
-  opened_journal older k =
-      let size : length image ≡ length s.image = is.size ∙ sym fair.opened.one_image.size in
-      ext_get_or zero_block (journal_of s.sizes.geometry image) (journal_of s.sizes.geometry s.image)
-      (length-take s.sizes.geometry.journal (drop 1 image) ∙ ap (min s.sizes.geometry.journal) (length-drop 1 image ∙ ap (λ (n : ℕ). n - 1) size ∙ sym (length-drop 1 s.image))
-      ∙ sym (length-take s.sizes.geometry.journal (drop 1 s.image)))
-      (λ slot below.
-      let there : slot < s.sizes.geometry.journal = omega (arith, below, length-take s.sizes.geometry.journal (drop 1 image)) in
-      let room : block_of_slot slot < length s.blocks = omega (arith, there, fair.opened.room) in
-      slot_there s.sizes.geometry image slot there
-      ∙ block_of_image s.blocks (log s u) image (block_of_slot slot) (block_at s.image (block_of_slot slot)) room (fair.opened.one_image.whole (block_of_slot slot) room) (k.same slot there) is
-      ∙ sym (slot_there s.sizes.geometry s.image slot there))
-
   rest_window : (older : List (List Logged)) → AtRest s u older → HasWindow s image (all_of older)
-  rest_window older rest = by rest.0
-    where
-      by : HasBlocks s u older → HasWindow s image (all_of older)
-      by (inl (whole, at_rest)) =
-          all_in_window older (last_of older) whole (window_at_rest s.blocks (log s u) s.sizes.geometry s.sizes.start (blocks_of s older) image (last_of older) (omega (arith, fair.opened.room)) at_rest is (last_is older))
-      by (inr k) = record {
-        last = k.opening.last;
-        shown = k.opening.committed;
-        is_window = subst (λ (journal : List (List ℕ)). IsWindow s.sizes.geometry s.sizes.start journal k.opening.last k.opening.committed) (sym (opened_journal older k)) k.opening.is_window;
-        said = ap (λ (blocks : List (List Logged)). entries_of s.window (all_of blocks)) k.none ∙ k.opening.window_is;
-      }
+  rest_window older rest =
+      all_in_window older (last_of older) (window_at_rest s.blocks (log s u) s.sizes.geometry s.sizes.start (blocks_of s older) image (last_of older) (omega (arith, fair.opened.room)) rest.0 is (last_is older))
 
   -- where the last block comes, the image has the others, or its first sectors too
   coming_window : (older : List (List Logged)) (es : List Logged) → OnItsWay s u older es → HasWindow s image (all_of older) ⊎ ((part : FrontOf es) × HasWindow s image (part.older ++ all_of older))
   coming_window older es way =
-      elim (window_under_way s.blocks (log s u) s.sizes.geometry s.sizes.start (blocks_of s older) (sealed_with s es) image (last_of older) (omega (arith, fair.opened.room)) way.0.1 is (last_is older)) [
-        | inl old ↦ inl (all_in_window older (last_of older) way.0.0 old)
+      elim (window_under_way s.blocks (log s u) s.sizes.geometry s.sizes.start (blocks_of s older) (sealed_with s es) image (last_of older) (omega (arith, fair.opened.room)) way.0 is (last_is older)) [
+        | inl old ↦ inl (all_in_window older (last_of older) old)
         | inr (n, some, few, new) ↦
             let front = front_part s n es in
             inr (
               record { newer = front.newer; older = front.older; parts = front.parts },
-              all_in_window (front.older ∷ older) (last_of older + 1) way.0.0
+              all_in_window (front.older ∷ older) (last_of older + 1)
                   (subst (λ (block : Sealed). IsWindow s.sizes.geometry s.sizes.start (journal_of s.sizes.geometry image) (last_of older + 1) (window_of s.sizes.start (block ∷ blocks_of s older))) front.front new),
             )
       ]
@@ -228,17 +205,17 @@ module _ (s : Session) (u : Trace) (image : Blocks) (session : IsSession s) (fai
     abbrev here : List Remapping
     here = of_address a (remappings es)
 
-    by_mapping : (m : Mapping) → mapping_of (entries_of s.window es) a ≡ m → value_in image m ≡ value_from s a (newest here)
+    by_mapping : (m : Mapping) → mapping_by s es a ≡ m → value_with image m ≡ value_from s a (newest here)
     by_mapping (At x) maps =
-        let inside = data_block_inside s.sizes.geometry x.0 (mapped_is_data s es a x session to_data maps) in
-        let whole = value_whole s u session right fair (remappings es) a x (newest here) writes refl (sym (mapping_by s.window es a) ∙ maps) in
+        let inside = data_block_inside s.sizes.geometry x.0 (mapped_is_data s es a x fair.opened to_data maps) in
+        let whole = value_whole s u session right fair (remappings es) a x (newest here) writes refl maps in
         let stands : Stands s u x.0 (value_from s a (newest here)) = subst (OnBlock (λ y. Stands s u y.0 (value_from s a (newest here)))) maps (stand a) in
         block_of_image s.blocks (log s u) image x.0 _ (omega (arith, inside, fair.opened.room)) whole stands is
-    by_mapping Unmapped maps = sym (zeros_by s u (remappings es) a (newest here) Unmapped (λ x off. cc) refl refl writes (sym (mapping_by s.window es a) ∙ maps))
-    by_mapping Zero maps = sym (zeros_by s u (remappings es) a (newest here) Zero (λ x off. cc) refl refl writes (sym (mapping_by s.window es a) ∙ maps))
+    by_mapping Unmapped maps = sym (zeros_by s u (remappings es) a (newest here) Unmapped (λ x off. cc) refl refl writes maps)
+    by_mapping Zero maps = sym (zeros_by s u (remappings es) a (newest here) Zero (λ x off. cc) refl refl writes maps)
 
-    pub shown_value : value_of image (entries_of s.window es) a ≡ value_from s a (newest here)
-    shown_value = by_mapping (mapping_of (entries_of s.window es) a) refl
+    pub shown_value : value_with image (mapping_by s es a) ≡ value_from s a (newest here)
+    shown_value = by_mapping (mapping_by s es a) refl
 
 -- The part of a history that a stop shows: from the entry that stands for the newest of the shown ones back.
 
@@ -435,13 +412,15 @@ stops_right s t session right fair later prefix calls_are image is =
     let stands = shown_of s u right_cut fair_cut in
     let is_cut : IsImage s.blocks (log s u) image = subst (λ (cs : List Call). IsImage s.blocks (cs ++ s.before) image) (sym c.calls_are) is in
     let entries = image_entries s u image session fair_cut is_cut stands in
+    let shown : Image = image_with s.sizes.geometry image entries.window.shown in
+    let maps = shown_mapping s u image session fair_cut is_cut right_cut stands.kept entries.more entries.es entries.of_entered entries.pages entries.window.last entries.window.shown entries.window.is_window entries.window.said in
     let es : List Remapping = remappings entries.es ++ passed u in
     let of_entered : entered u ≡ remappings entries.more ++ (remappings entries.es ++ passed u) = ap (λ (xs : List Logged). remappings xs ++ passed u) entries.of_entered ∙ both_parts entries.more entries.es (passed u) in
     let has_committed : remappings entries.es ++ passed u ≡ remappings entries.fewer ++ committed u = ap (λ (xs : List Logged). remappings xs ++ passed u) entries.has_committed ∙ both_parts entries.fewer (durable u) (passed u) in
     let writes = (every-front (IsWrite s u) (remappings entries.es) (passed u) (each_older (IsWrite s u) (remappings entries.more) es (subst (AllByRecursion (IsWrite s u)) of_entered (entered_writes s u right_cut)))).0 in
     let to_data = (every-front (HasData s) (remappings entries.es) (passed u) (each_older (HasData s) (remappings entries.more) es (subst (AreData s) of_entered (entered_data s u right_cut)))).0 in (
-      value_of image (entries_of s.window entries.es),
-      (says_superblock s u image session fair_cut is_cut right_cut stands, record { last = entries.window.last; window = entries.window.shown; is_window = entries.window.is_window; values_are = ap (value_of image) entries.window.said }),
-      λ a below. may_show s t session right prefix c es (remappings entries.more) (remappings entries.fewer) of_entered has_committed a below
-          (value_of image (entries_of s.window entries.es) a) (shown_value s u image session fair_cut is_cut right_cut entries.es a entries.stand writes to_data ∙ sym (value_past s u a right_cut (remappings entries.es))),
+      (λ a. value_of shown a),
+      (says_superblock s u image session fair_cut is_cut right_cut stands, record { last = entries.window.last; window = entries.window.shown; is_window = entries.window.is_window; values_are = λ a. refl }),
+      λ a below. may_show s t session right prefix c es (remappings entries.more) (remappings entries.fewer) of_entered has_committed a below (value_of shown a)
+          (ap (value_with image) (maps a) ∙ shown_value s u image session fair_cut is_cut right_cut entries.es a entries.stand writes to_data ∙ sym (value_past s u a right_cut fair_cut.opened (remappings entries.es))),
     )

@@ -1,6 +1,6 @@
 -- Until the superblock of a session is durable, nothing else was written.
 use Rattle.std.proofs.Common.{ℕ, ◌≡◌, ◌≢◌, ◌⊎◌, ◌++◌, true, false, List, [], ◌∷◌, ◌∙◌, sym, refl, inl, inr}
-use Rattle.core_laws.proofs.Common.{AllByRecursion, Call, calls, Calls, Fails, RightTrace, Session, Sizes, SuperblockStage, superblock_stage, Trace, eqb_tells}
+use Rattle.core_laws.proofs.Common.{AllByRecursion, Call, calls, Calls, Fails, RightTrace, Session, Sizes, SuperblockStage, superblock_stage, Trace, eqb_tells, Harms}
 use Rattle.disk_model.specs.Log.{Blocks, Misses, contents}
 use Rattle.disk_model.proofs.ImageLaws.{kept}
 use Rattle.disk_model.specs.declared.call.Call.TheVariants.{Read, Write, Flush}
@@ -35,6 +35,7 @@ writes_no_other s (Calls c ∷ t) right not_yet =
     elim (in_order s.sizes (superblock_stage t) c right.0.in_order) [ inl none ↦ (none, writes_no_other s t right.2 before) | inr durable ↦ absurd (before durable) ]
 writes_no_other s (Fails w c true ∷ t) right not_yet =
     elim (in_order s.sizes (superblock_stage t) c right.0.in_order) [ inl none ↦ (none, writes_no_other s t right.2 not_yet) | inr durable ↦ absurd (not_yet durable) ]
+writes_no_other s (Harms w x bytes fault ∷ t) right not_yet = (tt, writes_no_other s t right.2 not_yet)
 writes_no_other s (other ∷ t) right not_yet = writes_no_other s t right.2 not_yet
 
 -- so each other block stands as it did

@@ -1,25 +1,24 @@
 -- Why a request may be answered: for each answer a trace that has its cause, and for each part of the cause one that lacks it.
-use Rattle.std.proofs.Common.{ℕ, ◌≡◌, ◌+◌, ◌<◌, zero, suc, Bool, true, false, if◌then◌else◌, None, Some, IsSome, List, [], ◌∷◌, refl, ap, inl, inr, arith}
+use Rattle.std.proofs.Common.{ℕ, ◌≡◌, zero, suc, Bool, true, false, if◌then◌else◌, None, Some, IsSome, List, [], ◌∷◌, refl, ap, inl, inr, arith}
 use Rattle.std.proofs.lemmas.Option.{same_Some}
 use Rattle.blk_base.specs.Sectors.{zero_block}
 use Rattle.blk_base.specs.declared.place.Mapping.TheVariants.{Unmapped}
 use Rattle.blk_base.specs.declared.request.Answer.{Answer}
-use Rattle.blk_base.specs.declared.request.Answer.TheVariants.{Ok, Bytes, Range, Stopped, Full, ReadFault}
+use Rattle.blk_base.specs.declared.request.Answer.TheVariants.{Ok, Bytes, Range, Stopped, Full, ReadFault, Damaged}
 use Rattle.blk_base.specs.declared.request.Request.TheVariants as request
 use Rattle.blk_base.specs.declared.request.Writer.{Writer}
 use Rattle.blk_base.specs.declared.request.Request.{Request}
 use Rattle.disk_model.specs.declared.call.Call.TheVariants.{Read, Flush}
 use Rattle.vdo_model.specs.declared.report.DeskLine.TheVariants.{Begin}
-use Rattle.blk_base.specs.declared.journal_entry.Entry.TheVariants as held
-use Rattle.blk_base.specs.declared.place.Pbn.{Pbn}
 use Rattle.image_model.specs.Pages.{is_page, page_above}
 use Rattle.data_vio.specs.declared.logged.Logged.{Logged}
 use Rattle.data_vio.specs.declared.logged.Logged.TheVariants.{Remaps, Makes}
 use Rattle.core_model.specs.PageLinks.{IsThere, Lacks, page_in}
 use Rattle.core_model.specs.Sessions.{Session}
+use Rattle.page_codec.specs.declared.fault.PageFault.TheVariants.{Header}
 use Rattle.core_model.specs.RightTraces.{HasCause, HasNoPage, MayAnswer}
-use Rattle.core_model.specs.Trace.{Gift, Says, Gives, Takes, Aborts, Fails, Trace, applied}
-use Rattle.core_model.proofs.rows.WorkedTraces.{address, block, x, y, first, reader, second, other, late, flush, session, begun, took, handed_in, lasting, set, stopped, entry, of_first, of_other, given, in_block, one_not_zeros}
+use Rattle.core_model.specs.Trace.{Gift, Says, Gives, Takes, Aborts, Fails, Harms, Trace, applied}
+use Rattle.core_model.proofs.rows.WorkedTraces.{address, block, x, y, leaves, first, reader, second, other, late, flush, session, begun, took, handed_in, lasting, set, stopped, entry, of_first, of_other, given, in_block, one_not_zeros}
 
 -- a read of an address, and a write of it
 abbrev Reads : Trace → Writer → ℕ → Answer → Type 0
@@ -95,6 +94,41 @@ read_fault_of_its_own may = let is = may.1 in absurd cc
 read_fault_of_a_read : Reads (Fails reader (Flush false) true ∷ set) reader 0 ReadFault → ⊥
 read_fault_of_a_read may = let is = may.1 in absurd cc
 
+-- Or it is answered as damaged where the leaf doesn't decode that was read for it.
+damaged : Reads (Harms reader (block 79) [] Header ∷ took) reader 0 Damaged
+damaged = (refl, refl)
+
+damaged_by_its_own : Reads (Harms late (block 79) [] Header ∷ took) reader 0 Damaged → ⊥
+damaged_by_its_own may = let is = may.1 in absurd cc
+
+damaged_by_damage : Reads (Fails reader (Read (block 79) y false) true ∷ took) reader 0 Damaged → ⊥
+damaged_by_damage may = let is = may.1 in absurd cc
+
+damaged_with_a_place : Reads (Harms reader (block 79) [] Header ∷ begun) reader 0 Damaged → ⊥
+damaged_with_a_place may = let placed = may.0 in absurd cc
+
+-- A write is so, and has a read fault, before its entry was handed in.
+write_damaged : Writes (Harms first (block 79) [] Header ∷ took) first 0 Damaged
+write_damaged = (refl, refl, refl)
+
+write_damaged_by_its_own : Writes (Harms second (block 79) [] Header ∷ took) first 0 Damaged → ⊥
+write_damaged_by_its_own may = let is = may.2 in absurd cc
+
+write_damaged_with_a_place : Writes (Harms first (block 79) [] Header ∷ begun) first 0 Damaged → ⊥
+write_damaged_with_a_place may = let placed = may.0 in absurd cc
+
+write_damaged_before_it_enters : Writes (Harms first (block 79) [] Header ∷ handed_in) first 0 Damaged → ⊥
+write_damaged_before_it_enters may = let entered = may.1 in absurd cc
+
+write_fault : Writes (Fails first (Read (block 79) y false) true ∷ took) first 0 ReadFault
+write_fault = (refl, refl, refl)
+
+write_fault_of_its_own : Writes (Fails second (Read (block 79) y false) true ∷ took) first 0 ReadFault → ⊥
+write_fault_of_its_own may = let is = may.2 in absurd cc
+
+write_fault_before_it_enters : Writes (Fails first (Read (block 79) y false) true ∷ handed_in) first 0 ReadFault → ⊥
+write_fault_before_it_enters may = let entered = may.1 in absurd cc
+
 -- A write is answered Ok once its slot is set.
 ok : Writes set first 0 Ok
 ok = refl
@@ -156,24 +190,24 @@ full_blocks = (refl, refl, inr (inl (record { not_zeros = one_not_zeros; none_ta
 full_of_pages : HasNoPage session (Says (Begin flush) ∷ (Takes other None (block 86) ∷ took)) second 0
 full_of_pages = record { newer = Says (Begin flush) ∷ []; older = Takes other None (block 86) ∷ took; moment = refl; placed = refl; lacking = (0, omega arith, no_leaf); all_taken = omega arith }
   where
-    no_leaf : IsThere 2 [] [] (page_above 0 0) → ⊥
+    no_leaf : IsThere 2 (λ page. None) [] (page_above 0 0) → ⊥
     no_leaf (inl level) = omega (arith, level)
     no_leaf (inr some) = absurd cc
 
 -- the block that it took itself isn't why, nor is one for zeros, which need none: in a session where the leaves are there
 abbrev leafy : Session
-leafy = record session { window = held.NewPage (page_above 0 0) (block 79) ∷ held.NewPage (page_above 0 812) (block 80) ∷ [] }
+leafy = record session { links = leaves }
 
-has_leaf : (es : List Logged) → IsSome (page_in 2 leafy.window es (page_above 0 0))
+has_leaf : (es : List Logged) → IsSome (page_in leafy.links es (page_above 0 0))
 has_leaf [] = refl
 has_leaf (Remaps e ∷ es) = has_leaf es
 has_leaf (Makes p ∷ es) = by (is_page p.page (page_above 0 0)) (has_leaf es)
   where
-    by : (b : Bool) → IsSome (page_in 2 leafy.window es (page_above 0 0)) → IsSome (if b then Some p.at else page_in 2 leafy.window es (page_above 0 0))
+    by : (b : Bool) → IsSome (page_in leafy.links es (page_above 0 0)) → IsSome (if b then Some p.at else page_in leafy.links es (page_above 0 0))
     by true some = refl
     by false some = some
 
-lacks_nothing : (es : List Logged) → Lacks 2 leafy.window es 0 → ⊥
+lacks_nothing : (es : List Logged) → Lacks 2 leafy.links es 0 → ⊥
 lacks_nothing es (zero, low, lacks) = lacks (inr (has_leaf es))
 lacks_nothing es (suc n, low, lacks) = absurd (omega (arith, low))
 
@@ -223,6 +257,18 @@ discard_ok = refl
 
 discard_ok_once_set : Discards lasting first 0 Ok → ⊥
 discard_ok_once_set may = absurd cc
+
+discard_damaged : Discards (Harms first (block 79) [] Header ∷ took) first 0 Damaged
+discard_damaged = (refl, refl, refl)
+
+discard_damaged_before_it_enters : Discards (Harms first (block 79) [] Header ∷ handed_in) first 0 Damaged → ⊥
+discard_damaged_before_it_enters may = let entered = may.1 in absurd cc
+
+discard_fault : Discards (Fails first (Read (block 79) y false) true ∷ took) first 0 ReadFault
+discard_fault = (refl, refl, refl)
+
+discard_fault_of_its_own : Discards (Fails second (Read (block 79) y false) true ∷ took) first 0 ReadFault → ⊥
+discard_fault_of_its_own may = let is = may.2 in absurd cc
 
 discard_range : Discards begun first 1000 Range
 discard_range = omega arith

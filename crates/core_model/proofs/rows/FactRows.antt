@@ -1,6 +1,6 @@
 -- For each clause of what a zone with its lanes keeps a case that it accepts, and one that breaks it alone: in the middle of
 -- a session, where the first write has its block and is on its way to the device, and another write asks for one.
-use Rattle.std.specs.Prelude.{ℕ, zero, suc, ◌≡◌, ◌≤◌, false, List, [], ◌∷◌, length, Some, refl}
+use Rattle.std.specs.Prelude.{ℕ, zero, suc, ◌≡◌, ◌≤◌, false, Contains, List, [], ◌∷◌, length, Some, refl}
 use Rattle.std.specs.List.{AllByRecursion}
 use Rattle.std.proofs.Common.{ap, arith, inl, inr, subst}
 use Rattle.blk_base.specs.declared.place.Pbn.{Pbn}
@@ -13,26 +13,38 @@ use Rattle.data_vio.specs.declared.items.Phase.TheVariants as phase
 use Rattle.data_vio.specs.declared.items.Vio.{Vio}
 use Rattle.core_model.specs.declared.zones.Zone.{Zone}
 use Rattle.core_model.specs.Facts.{Carries, DataOk, IsInTurn, ItemOk, VioOk, ZoneOk}
-use Rattle.core_model.specs.Sessions.{IsFresh}
-use Rattle.core_model.specs.Trace.{Enters, Gives, Sets}
+use Rattle.core_model.specs.Sessions.{IsFair, IsFresh}
+use Rattle.core_model.specs.Trace.{Enters, Gives, Sets, Trace}
 use Rattle.plain_laws.specs.Sums.{Each}
 use Rattle.core_model.proofs.rows.PhaseRows.{device, physical, vio, writes}
 use Rattle.core_model.proofs.rows.WorkedTraces.{address, block, given, of_first, leafy, other, session, took, two_not_zeros, y}
+
+-- over no device it isn't fair
+unfair : (t : Trace) → ¬ IsFair leafy t
+unfair t = λ fair. omega (arith, fair.opened.room)
 
 -- of the blocks from 79 to 142
 first_fresh : IsFresh leafy (block 85)
 first_fresh = record {
   is_data = record { slab = 0; offset = 6; inside = (omega arith, omega arith); stands = refl };
-  unnamed = λ a b maps. absurd cc;
+  is_free = (0, omega arith, refl);
   inside = omega arith;
 }
 
 second_fresh : IsFresh leafy (block 86)
 second_fresh = record {
   is_data = record { slab = 0; offset = 7; inside = (omega arith, omega arith); stands = refl };
-  unnamed = λ a b maps. absurd cc;
+  is_free = (1, omega arith, refl);
   inside = omega arith;
 }
+
+not_taken_before : ¬ IsFresh leafy (block 87)
+not_taken_before = λ is. by is.is_free
+  where
+    by : Contains leafy.free (block 87) → ⊥
+    by (zero, below, same) = let e : 85 ≡ 87 = ap (λ (b : Pbn). b.0) same in omega (arith, e)
+    by (suc zero, below, same) = let e : 86 ≡ 87 = ap (λ (b : Pbn). b.0) same in omega (arith, e)
+    by (suc (suc n), below, same) = omega (arith, below)
 
 not_past_the_slab : ¬ IsFresh leafy (block 149)
 not_past_the_slab = λ is. omega (arith, is.inside)
@@ -84,17 +96,14 @@ first_may_not_look = λ is. let no = is.1 in absurd cc
 -- it knows what is mapped there, it writes, and it needs a block
 may_claim : Carries leafy took claims phase.Claim
 may_claim = (
-  record { turn = in_turn; old_held = tt; old_is = refl },
+  record { turn = in_turn; old_data = tt; old_is = λ fair. absurd (unfair _ fair) },
   refl,
   record { not_zeros = two_not_zeros; none_taken = refl },
-  inl (inr refl),
+  inr refl,
 )
 
 without_a_leaf : ¬ Carries session took claims phase.Claim
-without_a_leaf = λ is. elim is.3 [
-  | inl leaf ↦ elim leaf [ inl level ↦ absurd (omega (arith, level)) | inr some ↦ absurd cc ]
-  | inr mapped ↦ mapped refl
-]
+without_a_leaf = λ is. elim is.3 [ inl level ↦ absurd (omega (arith, level)) | inr some ↦ absurd cc ]
 
 without_a_place : ¬ Carries leafy [] claims phase.Claim
 without_a_place = λ is. let no = is.0.turn.is_placed.placed in absurd cc
@@ -111,12 +120,12 @@ may_store = (
       quiet = record { all_committed = refl; all_done = refl };
       below = record { writes = tt; reads = tt };
     };
-    old_held = tt;
-    old_is = refl;
+    old_data = tt;
+    old_is = λ fair. absurd (unfair _ fair);
   },
   refl,
   first_fresh,
-  inl (inr refl),
+  inr refl,
 )
 
 -- ItemOk: each comes to the zone where its phase is done

@@ -1,9 +1,10 @@
 -- Rows that pin what is owed of any device and what of a fair session alone: for each clause a case that it accepts, and one
 -- that breaks it alone. A session that is fair when it begins, over a new image, stands in core_laws.
-use Rattle.std.proofs.Common.{ℕ, ◌≡◌, ◌≢◌, ◌⊎◌, ◌+◌, ◌<◌, ◌≤◌, true, false, List, [], ◌∷◌, ◌++◌, length, refl, inl, inr, arith, IsTrue}
+use Rattle.std.proofs.Common.{Contains, None, Some, sym, ◌∙◌, zero, suc, ℕ, ap, ◌≡◌, ◌≢◌, ◌⊎◌, ◌<◌, ◌+◌, true, false, List, [], ◌∷◌, ◌++◌, length, refl, inl, inr, arith, IsTrue}
 use Rattle.blk_base.specs.Regions.{needed_blocks}
 use Rattle.blk_base.specs.Sectors.{sector}
-use Rattle.blk_base.specs.declared.journal_entry.Entry.{Entry}
+use Rattle.blk_base.specs.declared.place.Mapping.TheVariants.{At}
+use Rattle.blk_base.specs.declared.place.PageId.{PageId}
 use Rattle.blk_base.specs.declared.place.Pbn.{Pbn}
 use Rattle.disk_model.specs.Log.{block_at}
 use Rattle.disk_model.specs.declared.call.Call.TheVariants.{Read, Write, Flush}
@@ -13,20 +14,39 @@ use Rattle.data_vio.specs.declared.items.Vio.{Vio}
 use Rattle.core_model.specs.Facts.{CarriesOwn, Holds, IsSealed, Looks, RestsAt, StandsAt}
 use Rattle.core_model.specs.Legal.{Legal}
 use Rattle.core_model.specs.RightTraces.{IsLeafy, GivesRight, MapsTo, MayFollow, RightTrace}
-use Rattle.core_model.specs.Sessions.{AtRest, HasNoneLeft, HasWholeBlocks, IsAsOpened, IsFair, IsFresh, IsSession, NewReads, NewStands, OnBlock, OnItsWay, ReadsAs, ReadsBlock, Session, Shown, value_at}
+use Rattle.core_model.specs.Sessions.{AtRest, IsAsOpened, IsFair, IsFresh, IsKept, IsSession, KeptStands, NewReads, NewStands, OnBlock, OnItsWay, ReadsAs, ReadsBlock, Session, Shown, Stands, opened_image, value_at}
 use Rattle.core_model.specs.Steps.{Core}
-use Rattle.core_model.specs.Trace.{Calls, Happening, Trace, all_of, durable, has_stopped, sealed}
+use Rattle.core_model.specs.Trace.{Calls, Happening, Harms, Trace, all_of, durable, has_stopped, sealed}
 use Rattle.data_vio.specs.Vios.{all_logged}
 use Rattle.core_model.proofs.FairLaws.{fair_before, fair_on}
-use Rattle.core_model.proofs.rows.WorkedTraces.{session}
+use Rattle.core_model.proofs.rows.WorkedTraces.{block, leafy, session, sizes}
+use Rattle.blk_base.specs.declared.request.Writer.{Writer}
+use Rattle.image_model.specs.Maps.{ArePagesGood, mapping_of, page_at}
+use Rattle.image_model.specs.Pages.{leaf_of}
+use Rattle.journal_stops.specs.Rings.{IsAtRest}
+use Rattle.page_codec.specs.declared.fault.PageFault.{PageFault}
 use Rattle.image_model.specs.Looked.{is_looked_at}
 
--- IsSession: one block of the journal stays free
-session-not_with_all_blocks_used : (s : Session) → s.sizes.opened ≡ s.sizes.geometry.journal → IsSession s → ⊥
-session-not_with_all_blocks_used s all is = omega (arith, all, is.used)
+-- IsSession: the journal has a block
+session-not_without_a_journal : (s : Session) → s.sizes.geometry.journal ≡ 0 → IsSession s → ⊥
+session-not_without_a_journal s none is = omega (arith, none, is.used)
 
-session-with_one_block_left : (s : Session) → IsSession s → s.sizes.opened + 1 ≤ s.sizes.geometry.journal
-session-with_one_block_left s is = let used = is.used in omega (arith, used)
+-- a page that is linked stands at a data block, and the page above it is there
+session-not_with_a_page_elsewhere : IsSession (record session { links = λ page. Some (block 78) }) → ⊥
+session-not_with_a_page_elsewhere is = let there = is.linked (leaf_of 0) (block 78) refl in let stands = there.stands in omega (arith, stands)
+
+abbrev tall : Session
+tall = record leafy { sizes = record sizes { geometry = record sizes.geometry { height = 3 } } }
+
+session-not_with_a_page_below_nothing : IsSession tall → ⊥
+session-not_with_a_page_below_nothing is = elim (is.rooted (leaf_of 0) refl) [ inl level ↦ omega (arith, level) | inr some ↦ absurd cc ]
+
+-- each free block is a data block, once
+session-not_with_a_free_block_elsewhere : IsSession (record session { free = block 78 ∷ [] }) → ⊥
+session-not_with_a_free_block_elsewhere is = let stands = is.free.0.is_data.stands in omega (arith, stands)
+
+session-not_with_a_free_block_twice : IsSession (record session { free = block 85 ∷ block 85 ∷ [] }) → ⊥
+session-not_with_a_free_block_twice is = omega (arith, is.distinct 85)
 
 -- IsAsOpened: there is room for the image
 opened-not_on_a_small_device : (s : Session) → length s.blocks < needed_blocks s.sizes.geometry → IsAsOpened s → ⊥
@@ -39,13 +59,51 @@ no_device is = opened-not_on_a_small_device session (omega arith) is
 opened-not_where_a_block_differs : (s : Session) (b : ℕ) → s.before ≡ [] → b < length s.blocks → IsTrue (is_looked_at s.sizes.geometry b) → block_at s.blocks b ≢ block_at s.image b → IsAsOpened s → ⊥
 opened-not_where_a_block_differs s b none below looked differs is = let only = rw none at (is.one_image.only b below looked) in differs only.0
 
--- and the journal of the image says what the session knows: blocks that were sealed have its window
-opened-not_with_another_window : (s : Session) (e : Entry) → s.sealed ≡ [] → s.sizes.opened + 1 < s.sizes.geometry.journal → s.window ≡ e ∷ [] → IsAsOpened s → ⊥
-opened-not_with_another_window s e none left window is = by is.journal
+-- its journal has no block as late as the session
+opened-not_with_a_later_block : (s : Session) → (IsAtRest s.image [] s.sizes.geometry s.sizes.start [] → ⊥) → IsAsOpened s → ⊥
+opened-not_with_a_later_block s later is = later is.journal
+
+-- its pages can be read, and are linked as the session knows
+opened-not_with_a_bad_page : (s : Session) → (ArePagesGood (opened_image s) → ⊥) → IsAsOpened s → ⊥
+opened-not_with_a_bad_page s bad is = bad is.pages
+
+opened-not_with_another_link : (s : Session) (page : PageId) (x : Pbn) → page.level + 1 < s.sizes.geometry.height → s.links page ≡ None → page_at (opened_image s) page ≡ Some x → IsAsOpened s → ⊥
+opened-not_with_another_link s page x below none linked is = absurd (let same = sym none ∙ is.links page below ∙ linked in cc)
+
+-- and a free block has no page and no address
+opened-not_with_a_page_at_a_free_block : (s : Session) (page : PageId) (x : Pbn) → Contains s.free x → page_at (opened_image s) page ≡ Some x → IsAsOpened s → ⊥
+opened-not_with_a_page_at_a_free_block s page x free linked is = is.unpaged x x page free linked refl
+
+opened-not_with_an_address_at_a_free_block : (s : Session) (a : ℕ) (x : Pbn) → Contains s.free x → mapping_of (opened_image s) a ≡ At x → IsAsOpened s → ⊥
+opened-not_with_an_address_at_a_free_block s a x free mapped is = is.unmapped x x a free mapped refl
+
+-- IsKept: a block behind the journal that wasn't free, and none of the index, lies inside the image
+kept : IsKept session 80
+kept = record { inside = omega arith; looked = refl; behind = omega arith; taken = λ y free. by y free }
   where
-    by : HasWholeBlocks s ⊎ HasNoneLeft s → ⊥
-    by (inl whole) = let same : e ∷ [] ≡ [] = rw (window, none) at whole.window_is in absurd cc
-    by (inr full) = let all = full.full in omega (arith, all, left)
+    by : (y : Pbn) → Contains session.free y → y.0 ≡ 80 → ⊥
+    by y (zero, below, same) is = let e : 85 ≡ y.0 = ap (λ (b : Pbn). b.0) same in omega (arith, e, is)
+    by y (suc zero, below, same) is = let e : 86 ≡ y.0 = ap (λ (b : Pbn). b.0) same in omega (arith, e, is)
+    by y (suc (suc n), below, same) is = omega (arith, below)
+
+kept-not_a_free_one : IsKept session 85 → ⊥
+kept-not_a_free_one is = is.taken (block 85) (0, omega arith, refl) refl
+
+kept-not_of_the_journal : IsKept session 2 → ⊥
+kept-not_of_the_journal is = omega (arith, is.behind)
+
+kept-not_of_the_index : IsKept session 70 → ⊥
+kept-not_of_the_index is = let looked = is.looked in absurd cc
+
+kept-not_outside : IsKept session 160 → ⊥
+kept-not_outside is = omega (arith, is.inside)
+
+-- KeptStands: each of these stands as it was opened
+kept_stands-not_changed : (s : Session) (t : Trace) (x : ℕ) → IsKept s x → (Stands s t x (block_at s.image x) → ⊥) → KeptStands s t → ⊥
+kept_stands-not_changed s t x is changed stands = changed (stands x is)
+
+shown-not_with_one_changed : (s : Session) (t : Trace) → (KeptStands s t → ⊥) → Shown s t → ⊥
+shown-not_with_one_changed s t changed shown = changed shown.kept
 
 -- IsFair: of a session as it was opened, a trace without a read is, and one with a read of what the device has
 module _ (s : Session) (opened : IsAsOpened s) where
@@ -57,17 +115,24 @@ module _ (s : Session) (opened : IsAsOpened s) where
 
   fair-behind_a_read : (x : Pbn) → s.before ≡ [] → length (block_at s.blocks x.0) ≡ 4096 → IsFair s (Calls (Read x (block_at s.blocks x.0) true) ∷ [])
   fair-behind_a_read x none whole = record {
-    honest = (whole, rw none (λ i below. inl refl), tt);
+    honest = ((whole, rw none (λ i below. inl refl)), tt);
     opened = opened;
   }
 
   -- not behind one that gave another sector
   fair-not_behind_a_lie : (x : Pbn) (bytes : List ℕ) → s.before ≡ [] → sector 0 bytes ≢ sector 0 (block_at s.blocks x.0) → IsFair s (Calls (Read x bytes true) ∷ []) → ⊥
-  fair-not_behind_a_lie x bytes none differs fair = by (rw none at (fair.honest.1 0 (omega arith)))
+  fair-not_behind_a_lie x bytes none differs fair = by (rw none at (fair.honest.0.1 0 (omega arith)))
     where
       by : (sector 0 bytes ≡ sector 0 (block_at s.blocks x.0)) ⊎ ⊥ → ⊥
       by (inl same) = differs same
       by (inr nothing) = nothing
+
+  -- so of one that is found not to decode
+  fair-behind_damage : (w : Writer) (x : Pbn) (fault : PageFault) → s.before ≡ [] → length (block_at s.blocks x.0) ≡ 4096 → IsFair s (Harms w x (block_at s.blocks x.0) fault ∷ [])
+  fair-behind_damage w x fault none whole = record { honest = ((whole, rw none (λ i below. inl refl)), tt); opened = opened }
+
+  fair-not_behind_made_up_damage : (w : Writer) (x : Pbn) (bytes : List ℕ) (fault : PageFault) → length bytes ≢ 4096 → IsFair s (Harms w x bytes fault ∷ []) → ⊥
+  fair-not_behind_made_up_damage w x bytes fault short fair = short fair.honest.0.0
 
 -- nor where the image isn't as it was opened
 fair-not_without_a_device : (t : Trace) → IsFair session t → ⊥

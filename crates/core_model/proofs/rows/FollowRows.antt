@@ -11,29 +11,30 @@ use Rattle.blk_base.specs.declared.request.Request.TheVariants as request
 use Rattle.disk_model.specs.declared.call.Call.TheVariants.{Read, Write, Flush}
 use Rattle.vdo_model.specs.FlushMarks.{Moment, Desk, Device}
 use Rattle.vdo_model.specs.declared.report.DeskLine.TheVariants.{Begin, Answer}
-use Rattle.blk_base.specs.declared.journal_entry.Entry.TheVariants as held
+use Rattle.blk_base.specs.declared.place.Lba.{Lba}
 use Rattle.blk_base.specs.declared.place.PageId.{PageId}
+use Rattle.blk_base.specs.declared.place.Pbn.{Pbn}
 use Rattle.image_model.specs.Pages.{leaf_of}
 use Rattle.plain_laws.proofs.OptionLaws.{some_of}
 use Rattle.data_vio.specs.declared.logged.Logged.TheVariants.{Remaps, Makes}
 use Rattle.data_vio.specs.declared.items.Asks.{Asks}
 use Rattle.data_vio.specs.declared.items.Asks.TheVariants as asks
 use Rattle.core_model.specs.PageLinks.{MayLack, page_in}
-use Rattle.core_model.specs.RightTraces.{IsLeafy, MapsTo, MayAnswer, MayFollow, NeedsPage, StopsAtFailure}
-use Rattle.core_model.specs.Sessions.{Session}
+use Rattle.core_model.specs.RightTraces.{IsLeafFor, IsLeafy, IsLinkedAt, MapsTo, MayAnswer, MayFollow, NeedsPage, StopsAtFailure}
+use Rattle.core_model.specs.Sessions.{IsFair, Session}
 use Rattle.core_model.specs.Superblocks.{session_super, superblock_bytes}
 use Rattle.image_layout.specs.Superblock.{super_block, super_bytes}
 use Rattle.data_vio.specs.Vios.{asked}
 use Rattle.data_vio.specs.declared.logged.Logged.{Logged}
 use Rattle.core_model.specs.Trace.{applied, filled, Says, Flushes, Draws, Enters, Seals, Commits, Sets, Gives, Takes, Aborts, Calls, Fails, Trace, Happening}
-use Rattle.core_model.proofs.rows.WorkedTraces.{address, block, leafy, writer, x, y, first, reader, second, other, late, flush, sizes, session, begun, drawn, took, handed_in, in_block, lasting, set, stopped, place, entry, of_first, of_second, of_other, given, one_not_zeros, two_not_zeros}
+use Rattle.core_model.proofs.rows.WorkedTraces.{address, block, leafy, writer, x, y, first, reader, second, other, late, flush, sizes, begun, drawn, took, handed_in, in_block, lasting, set, stopped, place, entry, of_first, of_second, of_other, given, one_not_zeros, two_not_zeros}
 
 -- the session, with a journal that takes two blocks; and without leaves
 abbrev pub roomy : Session
 roomy = record leafy { sizes = record sizes { geometry = record sizes.geometry { journal = 3 } } }
 
 abbrev bare : Session
-bare = record roomy { window = [] }
+bare = record roomy { links = λ page. None }
 
 -- a session of one request
 abbrev session_of : Request → Session
@@ -194,18 +195,21 @@ enters = record {
   room = omega arith;
   new_data = record { slab = 0; offset = 6; inside = (omega arith, omega arith); stands = refl };
   unused = ((λ same. absurd (omega (arith, same))), tt);
-  leaf = inl (inr refl);
-  old_is = refl;
+  leaf = inr refl;
+  old_data = record { slab = 0; offset = 5; inside = (omega arith, omega arith); stands = refl };
+  old_is = λ fair. absurd (omega (arith, fair.opened.room));
 }
 
--- IsLeafy: the leaf is there, or the window maps the address
-mapped_leafy : IsLeafy (record bare { window = held.Remap (address 0) Unmapped Zero ∷ [] }) [] 0
-mapped_leafy = inr (λ same. absurd cc)
+-- IsLeafy: the image links the leaf, or an entry of the session that is set
+opened_leafy : IsLeafy roomy [] 0
+opened_leafy = inr refl
 
-no_leaf : (t : Trace) → page_in 2 [] (applied t) (leaf_of 0) ≡ None → IsLeafy bare t 0 → ⊥
-no_leaf t none (inl (inl level)) = absurd (omega (arith, level))
-no_leaf t none (inl (inr some)) = absurd (let is = some_of _ some in let both = sym is.1 ∙ none in cc)
-no_leaf t none (inr mapped) = mapped refl
+made_leafy : IsLeafy bare (Sets made ∷ []) 0
+made_leafy = inr refl
+
+no_leaf : (t : Trace) → page_in (λ page. None) (applied t) (leaf_of 0) ≡ None → IsLeafy bare t 0 → ⊥
+no_leaf t none (inl level) = absurd (omega (arith, level))
+no_leaf t none (inr some) = absurd (let is = some_of _ some in let both = sym is.1 ∙ none in cc)
 
 enters_below_its_leaf : MayFollow bare (Enters (Remaps of_second)) set → ⊥
 enters_below_its_leaf may = no_leaf set refl may.leaf
@@ -237,8 +241,9 @@ enters_zeros = record {
   room = omega arith;
   new_data = tt;
   unused = tt;
-  leaf = inl (inr refl);
-  old_is = refl;
+  leaf = inr refl;
+  old_data = tt;
+  old_is = λ fair. absurd (omega (arith, fair.opened.room));
 }
 
 enters_a_discard : MayFollow (session_of (request.Discard (address 0))) (Enters (Remaps (record of_first { new = Unmapped }))) drawn
@@ -252,8 +257,9 @@ enters_a_discard = record {
   room = omega arith;
   new_data = tt;
   unused = tt;
-  leaf = inl (inr refl);
-  old_is = refl;
+  leaf = inr refl;
+  old_data = tt;
+  old_is = λ fair. absurd (omega (arith, fair.opened.room));
 }
 
 -- no write of other bytes maps to zeros, no write to nothing, no discard to a block or to zeros, and a read to nothing at all
@@ -288,8 +294,9 @@ enters_beside_another = record {
   room = omega arith;
   new_data = record { slab = 0; offset = 6; inside = (omega arith, omega arith); stands = refl };
   unused = ((λ same. absurd (omega (arith, same))), tt);
-  leaf = inl (inr refl);
-  old_is = refl;
+  leaf = inr refl;
+  old_data = tt;
+  old_is = λ fair. absurd (omega (arith, fair.opened.room));
 }
 
 -- a trace with so many entries in the block being filled
@@ -319,8 +326,12 @@ enters_while_a_block_is_left may = let left = may.left in absurd (omega (arith, 
 enters_of_a_data_block : May (Enters (Remaps (record of_second { new = At (block 78) }))) set → ⊥
 enters_of_a_data_block may = let stands = may.new_data.stands in absurd (omega (arith, stands))
 
-enters_with_the_mapping : May (Enters (Remaps (entry second 0 1 Unmapped 86))) set → ⊥
-enters_with_the_mapping may = let old = may.old_is in absurd cc
+enters_from_a_data_block : May (Enters (Remaps (entry second 0 1 (At (block 78)) 86))) set → ⊥
+enters_from_a_data_block may = let stands = may.old_data.stands in absurd (omega (arith, stands))
+
+-- where the session is fair, from what its address is mapped to
+enters_with_the_mapping : (s : Session) → IsFair s set → MayFollow s (Enters (Remaps (entry second 0 1 Unmapped 86))) set → ⊥
+enters_with_the_mapping s fair may = let old = may.old_is fair in absurd cc
 
 -- The block being filled is sealed where it has an entry, all those of the others are committed, and a block of the journal is
 -- left for it.
@@ -369,7 +380,7 @@ sets = record {
   is_committed = record { all_committed = refl; last = refl };
   below = record { writes = tt; reads = tt };
   unaborted = refl;
-  leaf = inl (inr refl);
+  leaf = inr refl;
 }
 
 sets_below_its_leaf : MayFollow bare (Sets (Remaps of_first)) lasting → ⊥
@@ -497,7 +508,7 @@ fails : May (Fails first (Write (block 85) x false) true) (announced took)
 fails = record { is_open = record { is_begun = omega arith; unanswered = refl }; fails = refl; goes_on = λ is. refl; made_for = tt; in_order = inr (refl, λ is. absurd cc) }
 
 fails_to_read : May (Fails reader (Read (block 85) y false) false) set
-fails_to_read = record { is_open = record { is_begun = omega arith; unanswered = refl }; fails = refl; goes_on = λ is. absurd cc; made_for = (address 0, refl, refl); in_order = tt }
+fails_to_read = record { is_open = record { is_begun = omega arith; unanswered = refl }; fails = refl; goes_on = λ is. absurd cc; made_for = inr (address 0, refl, λ fair. absurd (omega (arith, fair.opened.room))); in_order = tt }
 
 fails_in_order : May (Fails first (Write (block 85) x false) true) took → ⊥
 fails_in_order may = elim may.in_order [ inl before ↦ let at = before.1.first in absurd (omega (arith, at)) | inr behind ↦ let no = behind.0 in absurd cc ]
@@ -511,18 +522,36 @@ fails_if_it_fails may = let fails = may.fails in absurd cc
 fails_once : May (Fails second (Write (block 86) y false) true) (stopped (announced took)) → ⊥
 fails_once may = let goes_on = may.goes_on refl in absurd cc
 
-fails_to_read_for_a_read : May (Fails second (Read (block 85) x false) true) set → ⊥
-fails_to_read_for_a_read may = let asked = may.made_for.1 in absurd cc
+-- for a write its leaf alone is read, which stands at block 79
+pub its_address : (what : Asks) (at : Lba) (bytes : List ℕ) → Some (request.Write (address 0) y false) ≡ Some (asked what at bytes) → at.0 ≡ 0
+its_address asks.Write at bytes is = sym (ap address_in (same_Some _ _ is))
+its_address asks.Read at bytes is = absurd cc
+its_address asks.Discard at bytes is = absurd cc
+its_address asks.Flush at bytes is = absurd cc
 
-fails_to_read_its_block : May (Fails reader (Read (block 86) x false) true) set → ⊥
-fails_to_read_its_block may =
-    let asked : 0 ≡ may.made_for.0.0 = ap address_in (same_Some _ _ may.made_for.1) in
-    let mapped : 85 ≡ 86 = ap block_in (rw (← asked) at (may.made_for.2)) in absurd (omega (arith, mapped))
+not_its_leaf : IsLeafFor roomy took second (block 85) → ⊥
+not_its_leaf leaf =
+    let at = its_address leaf.asks leaf.at leaf.bytes leaf.asked in
+    by (subst (λ (a : ℕ). IsLinkedAt roomy took (leaf_of a) (block 85)) at leaf.stands)
   where
-    block_in : Mapping → ℕ
-    block_in Unmapped = 0
-    block_in Zero = 0
-    block_in (At b) = b.0
+    by : IsLinkedAt roomy took (leaf_of 0) (block 85) → ⊥
+    by (inl linked) = let same : 79 ≡ 85 = ap (λ (b : Pbn). b.0) (same_Some _ _ linked) in absurd (omega (arith, same))
+    by (inr made) = omega (arith, made.1.1)
+
+fails_to_read_for_a_read : May (Fails second (Read (block 85) x false) true) took → ⊥
+fails_to_read_for_a_read may = elim may.made_for [
+  | inl leaf ↦ not_its_leaf leaf
+  | inr mapped ↦ let asked = mapped.1 in absurd cc
+]
+
+fails_to_read_a_leaf : May (Fails second (Read (block 79) x false) true) took
+fails_to_read_a_leaf = record {
+  is_open = record { is_begun = omega arith; unanswered = refl };
+  fails = refl;
+  goes_on = λ is. absurd cc;
+  made_for = inl (record { asks = asks.Write; at = address 0; bytes = y; asked = refl; stands = inl refl; unset = refl });
+  in_order = tt;
+}
 
 -- No write or flush follows one that failed, one that isn't in the log either.
 stops : StopsAtFailure (Calls (Read (block 85) x true) ∷ stopped took)

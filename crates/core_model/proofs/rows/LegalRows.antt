@@ -66,7 +66,6 @@ with_pages making unlinkable = core (zone 1 (at.Logical (record {
   making = making;
   lacking = [];
   unlinkable = unlinkable;
-  window = [];
   slots = [];
 })) ∷ []) []
 

@@ -7,10 +7,9 @@ use Rattle.blk_base.specs.declared.request.Answer.TheVariants as reply
 use Rattle.block_map_tree.specs.Tree.{Tree, Links}
 use Rattle.disk_model.specs.declared.call.Call.TheVariants.{Write}
 use Rattle.data_vio.specs.declared.items.Asks.TheVariants as asks
-use Rattle.data_vio.specs.declared.items.Item.TheVariants.{Request, Block}
+use Rattle.data_vio.specs.declared.items.Item.TheVariants.{Request}
 use Rattle.data_vio.specs.declared.items.Phase.{Phase}
 use Rattle.data_vio.specs.declared.items.Phase.TheVariants as phase
-use Rattle.data_vio.specs.declared.items.Stage.TheVariants as stage
 use Rattle.data_vio.specs.declared.items.Vio.{Vio}
 use Rattle.data_vio.specs.declared.logged.Logged.{Logged}
 use Rattle.data_vio.specs.declared.logged.Logged.TheVariants.{Makes}
@@ -44,7 +43,6 @@ zone_over tree held making lacking unlinkable = at.Logical (record {
   making = making;
   lacking = lacking;
   unlinkable = unlinkable;
-  window = [];
   slots = [];
 })
 
@@ -86,7 +84,7 @@ links : (tree linked : Tree) → MayLink tree leaf (block 85) → Links tree lin
     → Acts (zone_over tree (lock 0 ∷ []) (leaf ∷ []) (looker ∷ []) []) (Request (maker phase.Settle) ∷ []) (zone_over linked (lock 0 ∷ []) [] [] []) (Sets made ∷ [])
     ((id.Logical 0, Request (vio first asks.Write phase.Look 0)) ∷ (id.Logical 0, Request looker) ∷ [])
 links tree linked may link =
-    serves (LogicalServes.links leaf (block 85) (record { zone = 0; notified = false; next = 2; places = []; held = lock 0 ∷ []; waiting = []; retired = []; tree = linked; making = []; lacking = looker ∷ []; unlinkable = []; window = []; slots = [] })
+    serves (LogicalServes.links leaf (block 85) (record { zone = 0; notified = false; next = 2; places = []; held = lock 0 ∷ []; waiting = []; retired = []; tree = linked; making = []; lacking = looker ∷ []; unlinkable = []; slots = [] })
     refl refl refl may (record { links = link; rest = refl }) refl refl refl)
 
 -- Abort, AbortEntered: it isn't made as yet, or is never linked; its maker is answered, and who waited for it looks again

@@ -1,11 +1,12 @@
--- Pages of the block map: which are there by entries, and when one may be handed in, linked, or never linked. For each clause a
+-- Pages of the block map: which are there by the opened image and by entries, and when one may be handed in, linked, or never linked. For each clause a
 -- case that it accepts, and one that breaks it alone.
-use Rattle.std.proofs.Common.{ℕ, zero, suc, ◌+◌, ◌<◌, ◌≡◌, false, None, Some, [], ◌∷◌, refl, Contains, ap, arith, inl, inr, subst, sym}
+use Rattle.std.proofs.Common.{ℕ, zero, suc, ◌+◌, ◌<◌, ◌≡◌, false, None, Some, List, [], ◌∷◌, refl, Contains, ap, arith, inl, inr, subst, sym}
 use Rattle.std.proofs.lemmas.Option.{same_Some}
 use Rattle.blk_base.specs.declared.request.Request.{Request}
 use Rattle.data_vio.specs.declared.logged.Logged.{Logged}
-use Rattle.blk_base.specs.declared.journal_entry.Entry.TheVariants as entry
-use Rattle.blk_base.specs.declared.place.Mapping.TheVariants.{Unmapped, Zero}
+use Rattle.blk_base.specs.declared.opened.OpenedPage.{OpenedPage}
+use Rattle.blk_base.specs.declared.place.Mapping.{Mapping}
+use Rattle.blk_base.specs.declared.place.Mapping.TheVariants.{Unmapped, Zero, At}
 use Rattle.blk_base.specs.declared.place.PageId.{PageId}
 use Rattle.blk_base.specs.declared.request.Answer.TheVariants.{Stopped}
 use Rattle.blk_base.specs.declared.request.Request.TheVariants as request
@@ -13,13 +14,13 @@ use Rattle.vdo_model.specs.declared.report.DeskLine.TheVariants.{Answer}
 use Rattle.data_vio.specs.declared.logged.Logged.TheVariants.{Remaps, Makes}
 use Rattle.data_vio.specs.declared.logged.NewPage.{NewPage}
 use Rattle.image_model.specs.Pages.{page_above}
-use Rattle.core_model.specs.PageLinks.{IsThere, MayLack, opened_page, page_in}
+use Rattle.core_model.specs.PageLinks.{IsThere, MayLack, block_in, opened_page, page_in}
 use Rattle.core_model.specs.RightTraces.{MayFollow}
 use Rattle.core_model.specs.Sessions.{Session}
 use Rattle.core_model.specs.Trace.{Aborts, Commits, Enters, Gives, Happening, Passes, Says, Seals, Sets, Trace}
 use Rattle.data_vio.specs.declared.logged.Remapping.{Remapping}
 use Rattle.vdo_model.specs.declared.report.Placed.{Placed}
-use Rattle.core_model.proofs.rows.WorkedTraces.{address, block, drawn, first, given, of_first, reader, second, session, sizes, stopped, took, x}
+use Rattle.core_model.proofs.rows.WorkedTraces.{address, begun, block, drawn, first, given, leaves, of_first, reader, second, session, sizes, stopped, took, x}
 
 -- the leaf of address 0, that of address 812, and the root above the first; at height 3 the page between these
 abbrev leaf : PageId
@@ -31,43 +32,53 @@ other_leaf = record { tree = 1; level = 0; index = 0 }
 abbrev root : PageId
 root = record { tree = 0; level = 1; index = 0 }
 
--- opened_page: the newest entry of the page says where it is, and no other does; and only where the page above is there
-put : opened_page 2 (entry.NewPage leaf (block 85) ∷ []) leaf ≡ Some (block 85)
-put = refl
+abbrev other_root : PageId
+other_root = record { tree = 1; level = 1; index = 0 }
 
-put_another : opened_page 2 (entry.NewPage other_leaf (block 85) ∷ []) leaf ≡ None
-put_another = refl
+-- opened_page: the page above, where it is one of these, leads to the page by its slot
+abbrev opened : PageId → List Mapping → OpenedPage
+opened page mappings = record { page = page; at = block 9; mappings = mappings }
 
-put_above : opened_page 2 (entry.NewPage root (block 85) ∷ []) leaf ≡ None
-put_above = refl
+leads : opened_page (opened root (At (block 85) ∷ []) ∷ []) leaf ≡ Some (block 85)
+leads = refl
 
-put_behind : opened_page 2 (entry.Remap (address 0) Unmapped Zero ∷ entry.NewPage leaf (block 86) ∷ entry.NewPage leaf (block 85) ∷ []) leaf ≡ Some (block 86)
-put_behind = refl
+leads_behind_another : opened_page (opened other_root (At (block 86) ∷ []) ∷ opened root (At (block 85) ∷ []) ∷ []) leaf ≡ Some (block 85)
+leads_behind_another = refl
 
-put_below : opened_page 3 (entry.NewPage leaf (block 86) ∷ entry.NewPage root (block 85) ∷ []) leaf ≡ Some (block 86)
-put_below = refl
+leads_by_another : opened_page (opened other_root (At (block 86) ∷ []) ∷ []) leaf ≡ None
+leads_by_another = refl
 
-put_below_nothing : opened_page 3 (entry.NewPage root (block 85) ∷ entry.NewPage leaf (block 86) ∷ []) leaf ≡ None
-put_below_nothing = refl
+leads_by_its_slot : (opened_page (opened root (At (block 85) ∷ At (block 86) ∷ []) ∷ []) (record leaf { index = 1 }) ≡ Some (block 86)) × (opened_page (opened root (Unmapped ∷ At (block 86) ∷ []) ∷ []) leaf ≡ None)
+leads_by_its_slot = (refl, refl)
 
--- page_in: an entry of the session comes before those of the window
+leads_in_its_trees : opened_page (opened (record root { tree = 60 }) (At (block 85) ∷ []) ∷ []) (record leaf { tree = 60 }) ≡ None
+leads_in_its_trees = refl
+
+leads_to_no_root : opened_page (opened root (At (block 85) ∷ []) ∷ []) root ≡ None
+leads_to_no_root = refl
+
+-- block_in: only a block is one
+block_alone : (block_in (At (block 85)) ≡ Some (block 85)) × (block_in Zero ≡ None) × (block_in Unmapped ≡ None)
+block_alone = (refl, refl, refl)
+
+-- page_in: an entry of the session comes before what the image links
 abbrev made_at : PageId → ℕ → Logged
 made_at page x = Makes (record { request = first; page = page; at = block x })
 
-linked_again : page_in 2 (entry.NewPage leaf (block 85) ∷ []) (made_at other_leaf 87 ∷ made_at leaf 86 ∷ []) leaf ≡ Some (block 86)
+linked_again : page_in leaves (made_at other_leaf 87 ∷ made_at leaf 86 ∷ []) leaf ≡ Some (block 86)
 linked_again = refl
 
-linked_before : page_in 2 (entry.NewPage leaf (block 85) ∷ []) (made_at other_leaf 86 ∷ []) leaf ≡ Some (block 85)
+linked_before : page_in leaves (made_at other_leaf 86 ∷ []) leaf ≡ Some (block 79)
 linked_before = refl
 
 -- IsThere: a root, or one that is linked
-root_there : IsThere 2 [] [] root
+root_there : IsThere 2 (λ page. None) [] root
 root_there = inl refl
 
-leaf_there : IsThere 2 [] (made_at leaf 85 ∷ []) leaf
+leaf_there : IsThere 2 (λ page. None) (made_at leaf 85 ∷ []) leaf
 leaf_there = inr refl
 
-leaf_not_there : IsThere 2 [] [] leaf → ⊥
+leaf_not_there : IsThere 2 (λ page. None) [] leaf → ⊥
 leaf_not_there (inl level) = absurd (omega (arith, level))
 leaf_not_there (inr some) = absurd cc
 
@@ -104,11 +115,12 @@ new_leaf = record { request = first; page = leaf; at = block 85 }
 abbrev makes : Logged
 makes = Makes new_leaf
 
--- Its entry is handed in once, by a write that lacks it, while the page above it is there, for a data block, and where a block of
+-- Its entry is handed in once, by a write that has its place and lacks it, while the page above it is there, for a data block, and where a block of
 -- the journal is left for it, which has room.
 enters : May (Enters makes) took
 enters = record {
   is_open = record { is_begun = omega arith; unanswered = refl };
+  placed = refl;
   lacked = (request.Write (address 0) x false, refl, (refl, omega arith));
   above = inl refl;
   once = refl;
@@ -120,6 +132,9 @@ enters = record {
 
 enters_while_open : May (Enters makes) (Says (Answer first Stopped) ∷ took) → ⊥
 enters_while_open may = let no = may.is_open.unanswered in absurd cc
+
+enters_with_a_place : May (Enters makes) begun → ⊥
+enters_with_a_place may = let no = may.placed in absurd cc
 
 enters_what_is_lacked : May (Enters (Makes (record new_leaf { page = other_leaf }))) took → ⊥
 enters_what_is_lacked may =
@@ -180,7 +195,7 @@ drops_after_a_stop may = let no = may.stopped in absurd cc
 drops_what_is_unlinked : May (Aborts makes) (stopped (Sets makes ∷ lasting)) → ⊥
 drops_what_is_unlinked may = let no = may.unlinked in absurd cc
 
--- A discard passes once, at its place, where its leaf isn't there, no entry of its address was handed in, and nothing is mapped.
+-- A discard passes once, at its place, where its leaf isn't there, and no entry of its address was handed in.
 abbrev discards : Session
 discards = record roomy { script = (request.Discard (address 0) ∷ []) ∷ [] }
 
@@ -200,7 +215,6 @@ passes = record {
   below = record { writes = tt; reads = tt };
   lacking = (0, omega arith, leaf_not_there);
   first = refl;
-  unmapped = refl;
 }
 
 passes_while_open : MayPass pass (Says (Answer first Stopped) ∷ drawn) → ⊥
@@ -225,13 +239,10 @@ passes_behind_a_read : MayPass pass (Gives (given 2) ∷ drawn) → ⊥
 passes_behind_a_read may = let below = may.below.reads.0 refl in absurd (omega (arith, below))
 
 passes_without_its_leaf : MayPass pass (Sets makes ∷ drawn) → ⊥
-passes_without_its_leaf may = elim may.lacking.0 as (λ (n : ℕ). (n + 1 < 2) → (IsThere 2 [] (makes ∷ []) (page_above n 0) → ⊥) → ⊥) [
+passes_without_its_leaf may = elim may.lacking.0 as (λ (n : ℕ). (n + 1 < 2) → (IsThere 2 (λ page. None) (makes ∷ []) (page_above n 0) → ⊥) → ⊥) [
   | zero ↦ λ low lacks. lacks (inr refl)
   | suc n ↦ λ low lacks. absurd (omega (arith, low))
 ] may.lacking.1 may.lacking.2
 
 passes_before_each_entry : MayPass pass (Enters (Remaps (record pass { request = second })) ∷ drawn) → ⊥
 passes_before_each_entry may = let no = may.first in absurd cc
-
-passes_where_nothing_is_mapped : MayFollow (record discards { window = entry.Remap (address 0) Unmapped Zero ∷ [] }) (Passes pass) drawn → ⊥
-passes_where_nothing_is_mapped may = let no = may.unmapped in absurd cc

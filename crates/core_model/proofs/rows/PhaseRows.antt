@@ -1,5 +1,5 @@
 -- Each row of the table of phases at a small zone: what the zone keeps, what happens, and what it posts.
-use Rattle.std.proofs.Common.{ℕ, Bool, true, false, None, Some, List, [], ◌∷◌, refl, ap, replicate, inl, inr, arith}
+use Rattle.std.proofs.Common.{ℕ, ◌≡◌, Option, length, Bool, true, false, None, Some, List, [], ◌∷◌, refl, ap, replicate, inl, inr, arith}
 use Rattle.blk_base.specs.Sectors.{zero_block}
 use Rattle.blk_base.specs.declared.journal_entry.CommittedEntry.{CommittedEntry}
 use Rattle.blk_base.specs.declared.journal_entry.Entry.{Entry}
@@ -43,10 +43,20 @@ use Rattle.core_model.specs.declared.zones.SuperblockStage.{SuperblockStage}
 use Rattle.core_model.specs.declared.zones.SuperblockStage.TheVariants.{AsOpened, Written, Durable}
 use Rattle.core_model.specs.PhysicalRules.{PhysicalServes}
 use Rattle.core_model.specs.JournalRules.{JournalServes, JournalEnds}
-use Rattle.core_model.specs.LogicalRules.{LogicalServes}
+use Rattle.core_model.specs.LogicalRules.{LogicalServes, goes_on, known_by}
 use Rattle.core_model.specs.Steps.{Act, begins, answers, hears, serves, serves_notice, takes, takes_notice, enters, ends, enters_notice, calls, works}
-use Rattle.core_model.specs.PageTrees.{HasPath}
-use Rattle.core_model.specs.Trace.{Says, Flushes, Draws, Enters, Passes, Seals, Commits, Sets, Gives, Takes, Aborts, Calls, Fails, Trace, entry_of}
+use Rattle.core_model.specs.PageLinks.{leaf_head}
+use Rattle.core_model.specs.PageTrees.{HasPath, leaf_at}
+use Rattle.core_model.specs.Trace.{Says, Flushes, Draws, Enters, Passes, Seals, Commits, Sets, Gives, Takes, Aborts, Calls, Fails, Harms, Trace, entry_of}
+use Rattle.page_codec.proofs.HeldLaws.{held_unmapped}
+use Rattle.page_codec.proofs.ReadLaws.{no_page_fault}
+use Rattle.page_codec.proofs.SpellingLaws.{length-head}
+use Rattle.page_codec.specs.Grammar.{IsPage, IsPageFault}
+use Rattle.page_codec.specs.Spelling.{head_bytes, page_bytes}
+use Rattle.page_codec.specs.declared.fault.PageFault.{PageFault}
+use Rattle.page_codec.specs.declared.fault.PageFault.TheVariants.{Compressed, Header}
+use Rattle.vdo_model.specs.declared.report.Damage.{Damage}
+use Rattle.vdo_model.specs.declared.report.Damage.TheVariants.{Page}
 use Rattle.data_vio.specs.Vios.{Post, logged}
 use Rattle.recovery_journal.specs.Log.{Log, placed, point_at}
 use Rattle.core_model.proofs.rows.BeginRows.{one_busy, two_busy, past_one, past_two}
@@ -58,7 +68,7 @@ Acts = Act sizes
 -- a request of address 0, which is in logical zone 0
 abbrev pub vio : Writer → Asks → Phase → ℕ → Vio
 vio w what now n =
-    record { request = w; asks = what; at = address 0; home = id.Logical 0; phase = now; page = None; bytes = x; place = n; old = Unmapped; latest = None; new = Unmapped; answer = None; calls = 0 }
+    record { request = w; asks = what; at = address 0; home = id.Logical 0; phase = now; page = None; leaf = None; bytes = x; place = n; old = Unmapped; latest = None; new = Unmapped; answer = None; calls = 0 }
 
 -- the first write, once it has its block; the reader, and as it is once it knows that block
 abbrev pub writes : Phase → Vio
@@ -69,6 +79,10 @@ reads now = vio reader asks.Read now 2
 
 abbrev pub finds : Phase → Vio
 finds now = record (reads now) { old = At (block 85); latest = Some of_first }
+
+-- the reader, while the leaf of its address is read; and once it knows what that says
+abbrev pub needs : Phase → Vio
+needs now = record (reads now) { leaf = Some (block 87) }
 
 abbrev pub answered : Answer → Vio → Vio
 answered answer v = record v { answer = Some answer }
@@ -90,7 +104,7 @@ discards = (request.Discard (address 0) ∷ []) ∷ []
 -- logical zone 0: its next place and its places, its locks and who waits for one, the retired addresses, and the slots that are set
 abbrev pub logical_over : Tree → ℕ → List Placed → List Lock → List Vio → List Lba → List Remapping → ZoneData
 logical_over tree next places held waiting retired slots =
-    at.Logical (record { zone = 0; notified = false; next = next; places = places; held = held; waiting = waiting; retired = retired; tree = tree; making = []; lacking = []; unlinkable = []; window = []; slots = slots })
+    at.Logical (record { zone = 0; notified = false; next = next; places = places; held = held; waiting = waiting; retired = retired; tree = tree; making = []; lacking = []; unlinkable = []; slots = slots })
 
 -- its trees: the root of the first leads to the leaf of address 0; or to no leaf
 abbrev pub tree_with : List Mapping → Tree
@@ -131,7 +145,6 @@ log_with sequence filling entries handed durable =
       handed = handed;
       committed = durable;
       marks = record { 0 = point_at 1 0 } ∷ [];
-      earlier = None;
     }
 
 -- one that was just begun
@@ -161,11 +174,11 @@ abbrev sealed : Stage → SealedBlock
 sealed now = block_of now (writes phase.Pending ∷ [])
 
 abbrev pub device : Bool → ℕ → ZoneData
-device stopped made = at.Device (record { stopped = stopped; calls = made; superblock = Durable })
+device stopped made = at.Device (record { stopped = stopped; calls = made; superblock = Durable; damage = None })
 
 -- one whose superblock has come so far
 abbrev beginning : Bool → ℕ → SuperblockStage → ZoneData
-beginning stopped made now = at.Device (record { stopped = stopped; calls = made; superblock = now })
+beginning stopped made now = at.Device (record { stopped = stopped; calls = made; superblock = now; damage = None })
 
 -- what the device sends where the session is stopped
 abbrev notify : List Post
@@ -222,32 +235,93 @@ arrives_retired : Acts (logical 2 [] [] [] (address 0 ∷ []) []) (Request (vio 
     (Draws (place reader 0 2) ∷ []) ((id.Desk, Request (answered reply.Stopped (vio reader asks.Read phase.Reply 2))) ∷ [])
 arrives_retired = serves (LogicalServes.arrives_retired refl refl refl refl refl)
 
--- Look: a write claims a block, but for one of zeros, a discard hands in its entry, or passes where it has no leaf, a read goes to
--- the block that is mapped, or has zeros
-looks_to_write : Acts (logical 1 [] (lock 0 ∷ []) [] [] []) (Request (vio first asks.Write phase.Look 0) ∷ []) (logical 1 [] (lock 0 ∷ []) [] [] []) [] ((id.Physical 0, Request (vio first asks.Write phase.Claim 0)) ∷ [])
-looks_to_write = serves (LogicalServes.looks _ refl (has_path _) refl refl refl refl refl refl)
+-- Look: what the last write of its address set says where it goes: a write claims a block, but for one of zeros, a discard hands in its
+-- entry, a read goes to the block that is mapped, or has zeros; and so does a read whose address has no leaf
+abbrev knows : Vio → Vio
+knows v = record v { old = At (block 85); latest = Some of_first }
 
-looks_to_write_zeros : Acts (logical 1 [] (lock 0 ∷ []) [] [] []) (Request (record (vio first asks.Write phase.Look 0) { bytes = 0 ∷ 0 ∷ [] }) ∷ []) (logical 1 [] (lock 0 ∷ []) [] [] []) []
-    ((id.Journal, Request (record (vio first asks.Write phase.Enter 0) { bytes = 0 ∷ 0 ∷ []; new = Zero })) ∷ [])
-looks_to_write_zeros = serves (LogicalServes.looks _ refl (has_path _) refl refl refl refl refl refl)
+abbrev of_zeros : Remapping
+of_zeros = record of_first { new = Zero }
 
-looks_to_discard : Acts (logical 1 [] (lock 0 ∷ []) [] [] []) (Request (vio first asks.Discard phase.Look 0) ∷ []) (logical 1 [] (lock 0 ∷ []) [] [] []) [] ((id.Journal, Request (vio first asks.Discard phase.Enter 0)) ∷ [])
-looks_to_discard = serves (LogicalServes.looks _ refl (has_path _) refl refl refl refl refl refl)
+looks_to_write : Acts (logical 1 [] (lock 0 ∷ []) [] [] (of_first ∷ [])) (Request (vio first asks.Write phase.Look 0) ∷ []) (logical 1 [] (lock 0 ∷ []) [] [] (of_first ∷ [])) []
+    ((id.Physical 0, Request (knows (vio first asks.Write phase.Claim 0))) ∷ [])
+looks_to_write = serves (LogicalServes.looks (At (block 85)) _ refl (has_path _) refl refl refl refl refl refl refl)
 
+looks_to_write_zeros : Acts (logical 1 [] (lock 0 ∷ []) [] [] (of_first ∷ [])) (Request (record (vio first asks.Write phase.Look 0) { bytes = 0 ∷ 0 ∷ [] }) ∷ []) (logical 1 [] (lock 0 ∷ []) [] [] (of_first ∷ [])) []
+    ((id.Journal, Request (record (knows (vio first asks.Write phase.Enter 0)) { bytes = 0 ∷ 0 ∷ []; new = Zero })) ∷ [])
+looks_to_write_zeros = serves (LogicalServes.looks (At (block 85)) _ refl (has_path _) refl refl refl refl refl refl refl)
+
+looks_to_discard : Acts (logical 1 [] (lock 0 ∷ []) [] [] (of_first ∷ [])) (Request (vio first asks.Discard phase.Look 0) ∷ []) (logical 1 [] (lock 0 ∷ []) [] [] (of_first ∷ [])) []
+    ((id.Journal, Request (knows (vio first asks.Discard phase.Enter 0))) ∷ [])
+looks_to_discard = serves (LogicalServes.looks (At (block 85)) _ refl (has_path _) refl refl refl refl refl refl refl)
+
+looks_to_read : Acts (logical 3 [] (lock 2 ∷ []) [] [] (of_first ∷ [])) (Request (reads phase.Look) ∷ []) (logical 3 [] (lock 2 ∷ []) [] [] (of_first ∷ [])) [] ((id.Device, Request (finds phase.Load)) ∷ [])
+looks_to_read = serves (LogicalServes.looks (At (block 85)) _ refl (has_path _) refl refl refl refl refl refl refl)
+
+looks_to_read_zeros : Acts (logical 3 [] (lock 2 ∷ []) [] [] (of_zeros ∷ [])) (Request (reads phase.Look) ∷ []) (logical 3 [] (lock 2 ∷ []) [] [] (of_zeros ∷ [])) []
+    ((id.Logical 0, Request (record (reads phase.Loaded) { old = Zero; latest = Some of_zeros; bytes = zero_block })) ∷ [])
+looks_to_read_zeros = serves (LogicalServes.looks Zero _ refl (has_path _) refl refl refl refl refl refl refl)
+
+looks_to_read_without_a_leaf : Acts (logical_over (tree_with []) 3 [] (lock 2 ∷ []) [] [] []) (Request (reads phase.Look) ∷ []) (logical_over (tree_with []) 3 [] (lock 2 ∷ []) [] [] []) []
+    ((id.Logical 0, Request (record (reads phase.Loaded) { bytes = zero_block })) ∷ [])
+looks_to_read_without_a_leaf = serves (LogicalServes.looks Unmapped _ refl (has_path _) refl refl refl refl refl refl refl)
+
+-- or a discard passes where it has no leaf; but not where a slot of its address was set
 looks_past : Acts (logical_over (tree_with []) 1 [] (lock 0 ∷ []) [] [] []) (Request (vio first asks.Discard phase.Look 0) ∷ []) (logical_over (tree_with []) 1 [] [] [] [] []) (Passes pass_of_first ∷ [])
     ((id.Desk, Request (answered reply.Ok (vio first asks.Discard phase.Reply 0))) ∷ [])
 looks_past = serves (LogicalServes.passes refl (has_path _) refl refl refl refl)
 
--- but not where something is known of its address: a slot of it was set
 looks_to_discard_again : Acts (logical_over (tree_with []) 1 [] (lock 0 ∷ []) [] [] (of_first ∷ [])) (Request (vio first asks.Discard phase.Look 0) ∷ []) (logical_over (tree_with []) 1 [] (lock 0 ∷ []) [] [] (of_first ∷ [])) []
-    ((id.Journal, Request (record (vio first asks.Discard phase.Enter 0) { old = At (block 85); latest = Some of_first; new = Unmapped })) ∷ [])
-looks_to_discard_again = serves (LogicalServes.looks _ refl (has_path _) refl refl refl refl refl refl)
+    ((id.Journal, Request (knows (vio first asks.Discard phase.Enter 0))) ∷ [])
+looks_to_discard_again = serves (LogicalServes.looks (At (block 85)) _ refl (has_path _) refl refl refl refl refl refl refl)
 
-looks_to_read : Acts (logical 3 [] (lock 2 ∷ []) [] [] (of_first ∷ [])) (Request (reads phase.Look) ∷ []) (logical 3 [] (lock 2 ∷ []) [] [] (of_first ∷ [])) [] ((id.Device, Request (finds phase.Load)) ∷ [])
-looks_to_read = serves (LogicalServes.looks _ refl (has_path _) refl refl refl refl refl refl)
+-- or the leaf of its address is read first, at its block
+looks_for_its_leaf : Acts (logical 3 [] (lock 2 ∷ []) [] [] []) (Request (reads phase.Look) ∷ []) (logical 3 [] (lock 2 ∷ []) [] [] []) [] ((id.Device, Request (needs phase.LoadLeaf)) ∷ [])
+looks_for_its_leaf = serves (LogicalServes.needs_leaf (block 87) refl (has_path _) refl refl refl refl refl refl refl)
 
-looks_to_read_zeros : Acts (logical 3 [] (lock 2 ∷ []) [] [] []) (Request (reads phase.Look) ∷ []) (logical 3 [] (lock 2 ∷ []) [] [] []) [] ((id.Logical 0, Request (record (reads phase.Loaded) { bytes = zero_block })) ∷ [])
-looks_to_read_zeros = serves (LogicalServes.looks _ refl (has_path _) refl refl refl refl refl refl)
+looks_for_its_leaf_to_write : Acts (logical 1 [] (lock 0 ∷ []) [] [] []) (Request (vio first asks.Write phase.Look 0) ∷ []) (logical 1 [] (lock 0 ∷ []) [] [] []) []
+    ((id.Device, Request (record (vio first asks.Write phase.LoadLeaf 0) { leaf = Some (block 87) })) ∷ [])
+looks_for_its_leaf_to_write = serves (LogicalServes.needs_leaf (block 87) refl (has_path _) refl refl refl refl refl refl refl)
+
+-- known_by: what the last write set is known, and that nothing is mapped where there is no leaf; else nothing is
+known_by_a_write : (known_by (Some of_first) None ≡ Some (At (block 85))) × (known_by (Some of_first) (Some (block 87)) ≡ Some (At (block 85)))
+known_by_a_write = (refl, refl)
+
+known_without_a_leaf : known_by None None ≡ Some Unmapped
+known_without_a_leaf = refl
+
+not_known_without_its_leaf : known_by None (Some (block 87)) ≡ None
+not_known_without_its_leaf = refl
+
+-- leaf_at: the block to which the page above leads, where each page of the path is there
+leaf_stands : leaf_at leafy 0 ≡ Some (block 87)
+leaf_stands = refl
+
+leaf_of_another : leaf_at leafy 1 ≡ Some (block 87)
+leaf_of_another = refl
+
+no_leaf_there : (leaf_at (tree_with []) 0 ≡ None) × (leaf_at (tree_with (Zero ∷ [])) 0 ≡ None)
+no_leaf_there = (refl, refl)
+
+-- LoadedLeaf: it knows what its leaf says, and goes on as one that looked it up
+goes_to_load : Acts (logical 3 [] (lock 2 ∷ []) [] [] []) (Request (record (reads phase.LoadedLeaf) { old = At (block 85) }) ∷ []) (logical 3 [] (lock 2 ∷ []) [] [] []) []
+    ((id.Device, Request (record (reads phase.Load) { old = At (block 85) })) ∷ [])
+goes_to_load = serves (LogicalServes.leafed _ refl refl refl refl refl)
+
+goes_on_with_zeros : Acts (logical 3 [] (lock 2 ∷ []) [] [] []) (Request (reads phase.LoadedLeaf) ∷ []) (logical 3 [] (lock 2 ∷ []) [] [] []) [] ((id.Logical 0, Request (record (reads phase.Loaded) { bytes = zero_block })) ∷ [])
+goes_on_with_zeros = serves (LogicalServes.leafed _ refl refl refl refl refl)
+
+goes_to_claim : Acts (logical 1 [] (lock 0 ∷ []) [] [] []) (Request (record (vio first asks.Write phase.LoadedLeaf 0) { old = At (block 85) }) ∷ []) (logical 1 [] (lock 0 ∷ []) [] [] []) []
+    ((id.Physical 0, Request (record (vio first asks.Write phase.Claim 0) { old = At (block 85) })) ∷ [])
+goes_to_claim = serves (LogicalServes.leafed _ refl refl refl refl refl)
+
+goes_to_enter : Acts (logical 1 [] (lock 0 ∷ []) [] [] []) (Request (record (vio first asks.Discard phase.LoadedLeaf 0) { old = Zero }) ∷ []) (logical 1 [] (lock 0 ∷ []) [] [] []) []
+    ((id.Journal, Request (record (vio first asks.Discard phase.Enter 0) { old = Zero })) ∷ [])
+goes_to_enter = serves (LogicalServes.leafed _ refl refl refl refl refl)
+
+-- a flush takes no lock, and goes nowhere
+flush_goes_nowhere : goes_on (vio flush asks.Flush phase.LoadedLeaf 0) ≡ None
+flush_goes_nowhere = refl
 
 -- Claim: the next free block, or none
 claims : Acts (physical (block 85 ∷ block 86 ∷ [])) (Request (vio first asks.Write phase.Claim 0) ∷ []) (physical (block 86 ∷ [])) (Takes first None (block 85) ∷ []) ((id.Device, Request (writes phase.Store)) ∷ [])
@@ -277,6 +351,9 @@ announces_at_the_device new made posts (calls (DeviceServes.store_fails a k is b
 announces_at_the_device new made posts (calls (DeviceServes.store_unmade is b c d e)) = absurd cc
 announces_at_the_device new made posts (calls (DeviceServes.loads a b is c d e f g h)) = absurd cc
 announces_at_the_device new made posts (calls (DeviceServes.load_fails a b k is c d e f g h)) = absurd cc
+announces_at_the_device new made posts (calls (DeviceServes.loads_leaf a b m is c d e f g h i)) = absurd cc
+announces_at_the_device new made posts (calls (DeviceServes.leaf_fails a b k is c d e f g h)) = absurd cc
+announces_at_the_device new made posts (calls (DeviceServes.harms a b w is c d e f g h i)) = absurd cc
 announces_at_the_device new made posts (calls (DeviceServes.flushes is a b c d e)) = absurd cc
 announces_at_the_device new made posts (calls (DeviceServes.flush_fails k is a b c d e)) = absurd cc
 announces_at_the_device new made posts (calls (DeviceServes.flush_unmade is a b c d)) = absurd cc
@@ -290,6 +367,9 @@ stores_none_before new posts (calls (DeviceServes.store_fails a k is b c d e f g
 stores_none_before new posts (calls (DeviceServes.store_unmade is b c d e)) = absurd cc
 stores_none_before new posts (calls (DeviceServes.loads a b is c d e f g h)) = absurd cc
 stores_none_before new posts (calls (DeviceServes.load_fails a b k is c d e f g h)) = absurd cc
+stores_none_before new posts (calls (DeviceServes.loads_leaf a b m is c d e f g h i)) = absurd cc
+stores_none_before new posts (calls (DeviceServes.leaf_fails a b k is c d e f g h)) = absurd cc
+stores_none_before new posts (calls (DeviceServes.harms a b w is c d e f g h i)) = absurd cc
 stores_none_before new posts (calls (DeviceServes.flushes is a b c d e)) = absurd cc
 stores_none_before new posts (calls (DeviceServes.flush_fails k is a b c d e)) = absurd cc
 stores_none_before new posts (calls (DeviceServes.flush_unmade is a b c d)) = absurd cc
@@ -302,6 +382,9 @@ loads_none_before new posts (calls (DeviceServes.store_fails a k is b c d e f g 
 loads_none_before new posts (calls (DeviceServes.store_unmade is b c d e)) = absurd cc
 loads_none_before new posts (calls (DeviceServes.loads a b is c d e f g h)) = elim d [ inl stopped ↦ absurd cc | inr durable ↦ absurd cc ]
 loads_none_before new posts (calls (DeviceServes.load_fails a b k is c d e f g h)) = absurd cc
+loads_none_before new posts (calls (DeviceServes.loads_leaf a b m is c d e f g h i)) = absurd cc
+loads_none_before new posts (calls (DeviceServes.leaf_fails a b k is c d e f g h)) = absurd cc
+loads_none_before new posts (calls (DeviceServes.harms a b w is c d e f g h i)) = absurd cc
 loads_none_before new posts (calls (DeviceServes.flushes is a b c d e)) = absurd cc
 loads_none_before new posts (calls (DeviceServes.flush_fails k is a b c d e)) = absurd cc
 loads_none_before new posts (calls (DeviceServes.flush_unmade is a b c d)) = absurd cc
@@ -318,6 +401,9 @@ flushes_none_before new made (calls (DeviceServes.store_fails a k is b c d e f g
 flushes_none_before new made (calls (DeviceServes.store_unmade is b c d e)) = absurd cc
 flushes_none_before new made (calls (DeviceServes.loads a b is c d e f g h)) = absurd cc
 flushes_none_before new made (calls (DeviceServes.load_fails a b k is c d e f g h)) = absurd cc
+flushes_none_before new made (calls (DeviceServes.loads_leaf a b m is c d e f g h i)) = absurd cc
+flushes_none_before new made (calls (DeviceServes.leaf_fails a b k is c d e f g h)) = absurd cc
+flushes_none_before new made (calls (DeviceServes.harms a b w is c d e f g h i)) = absurd cc
 flushes_none_before new made (calls (DeviceServes.flushes is a b c d e)) = absurd cc
 flushes_none_before new made (calls (DeviceServes.flush_fails k is a b c d e)) = absurd cc
 flushes_none_before new made (calls (DeviceServes.flush_unmade is a b c d)) = absurd cc
@@ -399,6 +485,47 @@ loads = calls (DeviceServes.loads (block 85) y refl refl (inl refl) (omega arith
 loads_in_vain : Acts (device false 6) (Request (finds phase.Load) ∷ []) (device false 6) (Fails reader (Read (block 85) y false) true ∷ []) ((id.Logical 0, Request (answered reply.ReadFault (finds phase.Abort))) ∷ [])
 loads_in_vain = calls (DeviceServes.load_fails (block 85) y true refl refl (inr refl) (omega arith) refl refl refl)
 
+-- LoadLeaf: the leaf is read, and says what is mapped; or that fails; or it doesn't decode, and the session is stopped, once
+abbrev empty_leaf : List ℕ
+empty_leaf = page_bytes (leaf_head sizes.geometry 0 (block 87)) (replicate 812 Unmapped)
+
+loads_a_leaf : Acts (device false 6) (Request (needs phase.LoadLeaf) ∷ []) (device false 7) (Calls (Read (block 87) empty_leaf true) ∷ []) ((id.Logical 0, Request (reads phase.LoadedLeaf)) ∷ [])
+loads_a_leaf = calls (DeviceServes.loads_leaf (block 87) empty_leaf (replicate 812 Unmapped) refl refl (inr refl) (omega arith) (record { spelled = refl; held = held_unmapped sizes.geometry 0 }) refl refl refl)
+
+loads_a_leaf_in_vain : Acts (device false 6) (Request (needs phase.LoadLeaf) ∷ []) (device false 6) (Fails reader (Read (block 87) y false) true ∷ [])
+    ((id.Logical 0, Request (answered reply.ReadFault (needs phase.Abort))) ∷ [])
+loads_a_leaf_in_vain = calls (DeviceServes.leaf_fails (block 87) y true refl refl (inr refl) (omega arith) refl refl refl)
+
+-- a block that begins otherwise isn't the leaf
+pub no_leaf_bytes : IsPageFault (leaf_head sizes.geometry 0 (block 87)) [] Header
+no_leaf_bytes = record {
+  slot = 0;
+  inside = omega arith;
+  before = λ i below. absurd (omega (arith, below));
+  of_slot = λ headed.
+      let none : 0 ≡ length (head_bytes (leaf_head sizes.geometry 0 (block 87))) = ap (λ (bytes : List ℕ). length bytes) headed in
+      let all = length-head (leaf_head sizes.geometry 0 (block 87)) in
+      omega (arith, none, all);
+}
+
+abbrev damaged : Bool → ℕ → Option Damage → ZoneData
+damaged stopped made damage = at.Device (record { stopped = stopped; calls = made; superblock = Durable; damage = damage })
+
+finds_damage : Acts (device false 6) (Request (needs phase.LoadLeaf) ∷ []) (damaged true 7 (Some (Page (block 87) Header))) (Harms reader (block 87) [] Header ∷ [])
+    ((id.Logical 0, Request (answered reply.Damaged (needs phase.Abort))) ∷ notify)
+finds_damage = calls (DeviceServes.harms (block 87) [] Header refl refl (inr refl) (omega arith) no_leaf_bytes refl refl refl)
+
+finds_more_damage : Acts (damaged true 6 (Some (Page (block 79) (Compressed 3)))) (Request (needs phase.LoadLeaf) ∷ []) (damaged true 7 (Some (Page (block 79) (Compressed 3)))) (Harms reader (block 87) [] Header ∷ [])
+    ((id.Logical 0, Request (answered reply.Damaged (needs phase.Abort))) ∷ [])
+finds_more_damage = calls (DeviceServes.harms (block 87) [] Header refl refl (inl refl) (omega arith) no_leaf_bytes refl refl refl)
+
+-- what decodes is no damage, and what doesn't is no leaf
+no_damage_of_a_leaf : (mappings : List Mapping) (fault : PageFault) → IsPage (leaf_head sizes.geometry 0 (block 87)) empty_leaf mappings → IsPageFault (leaf_head sizes.geometry 0 (block 87)) empty_leaf fault → ⊥
+no_damage_of_a_leaf mappings fault is harm = no_page_fault (leaf_head sizes.geometry 0 (block 87)) empty_leaf mappings fault is harm
+
+no_leaf_of_damage : (mappings : List Mapping) → IsPage (leaf_head sizes.geometry 0 (block 87)) [] mappings → ⊥
+no_leaf_of_damage mappings is = no_page_fault (leaf_head sizes.geometry 0 (block 87)) [] mappings Header is no_leaf_bytes
+
 -- Loaded: it is given its bytes, and the lock is free
 gives : Acts (logical 3 [] (lock 2 ∷ []) [] [] []) (Request (reads phase.Loaded) ∷ []) (logical 3 [] [] [] [] []) (Gives (given 2) ∷ []) ((id.Desk, Request (answered (reply.Bytes x) (reads phase.Reply))) ∷ [])
 gives = serves (LogicalServes.gives refl refl refl refl)
@@ -432,7 +559,7 @@ flushes_no_more : Acts (device true 9) (Request (vio flush asks.Flush phase.Flus
 flushes_no_more = calls (DeviceServes.flush_unmade refl refl refl refl refl)
 
 -- (stop notice): it is passed on to the desk; in the journal those that wait are aborted, and no entry is handed in any more
-notifies : Acts (logical 0 [] [] [] [] []) (StopNotice ∷ []) (at.Logical (record { zone = 0; notified = true; next = 0; places = []; held = []; waiting = []; retired = []; tree = leafy; making = []; lacking = []; unlinkable = []; window = []; slots = [] })) []
+notifies : Acts (logical 0 [] [] [] [] []) (StopNotice ∷ []) (at.Logical (record { zone = 0; notified = true; next = 0; places = []; held = []; waiting = []; retired = []; tree = leafy; making = []; lacking = []; unlinkable = []; slots = [] })) []
     ((id.Desk, StopNotice) ∷ [])
 notifies = serves_notice
 

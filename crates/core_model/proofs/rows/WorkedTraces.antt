@@ -1,13 +1,13 @@
 -- A small session of three streams and two zones, and what happens in it: at these the definitions of a right trace are
 -- computed. Its journal takes one block, and two data blocks are free.
-use Rattle.std.proofs.Common.{None, ℕ, ◌≡◌, ◌≢◌, true, false, List, [], ◌∷◌, length, ap, arith}
+use Rattle.std.proofs.Common.{Option, None, Some, ℕ, ◌≡◌, ◌≢◌, true, false, List, [], ◌∷◌, length, ap, arith, if◌then◌else◌}
 use Rattle.std.proofs.lemmas.List.{length-replicate}
-use Rattle.blk_base.specs.declared.journal_entry.Entry.TheVariants as held
-use Rattle.image_model.specs.Pages.{leaf_of}
+use Rattle.image_model.specs.Pages.{is_page, leaf_of}
 use Rattle.blk_base.specs.Sectors.{zero_block}
 use Rattle.blk_base.specs.declared.place.Lba.{Lba}
 use Rattle.blk_base.specs.declared.place.Mapping.{Mapping}
 use Rattle.blk_base.specs.declared.place.Mapping.TheVariants.{Unmapped, At}
+use Rattle.blk_base.specs.declared.place.PageId.{PageId}
 use Rattle.blk_base.specs.declared.place.Pbn.{Pbn}
 use Rattle.blk_base.specs.declared.request.Request.TheVariants as request
 use Rattle.blk_base.specs.declared.request.Writer.{Writer}
@@ -78,17 +78,19 @@ abbrev pub sizes : Sizes
 sizes = record {
   geometry = record { logical = 1000; slabs = 1; slab_blocks = 64; journal = 2; index = 16; slab_journal = 4; height = 2; nonce = 1 };
   start = 1;
-  opened = 0;
   zones = 2;
   depth = 2;
 }
 
 abbrev pub session : Session
-session = record { sizes = sizes; script = script; blocks = []; before = []; image = []; sealed = []; window = []; free = block 85 ∷ block 86 ∷ [] }
+session = record { sizes = sizes; script = script; links = λ page. None; free = block 85 ∷ block 86 ∷ []; blocks = []; before = []; image = [] }
 
--- the same, where the leaves of both addresses are in the window
+-- the same, where the image links the leaves of both addresses
+abbrev pub leaves : PageId → Option Pbn
+leaves page = if is_page (leaf_of 0) page then Some (block 79) else if is_page (leaf_of 812) page then Some (block 80) else None
+
 abbrev pub leafy : Session
-leafy = record session { window = held.NewPage (leaf_of 0) (block 79) ∷ held.NewPage (leaf_of 812) (block 80) ∷ [] }
+leafy = record session { links = leaves }
 
 -- the first three requests and the flush are begun; those of blocks have their places
 abbrev pub begun : Trace

@@ -1,5 +1,5 @@
 -- How long the lists of the other zones get, and the lanes of a zone: each clause at its limit, and one past it.
-use Rattle.std.proofs.Common.{ℕ, ◌-◌, ◌^◌, false, List, [], ◌∷◌, replicate, arith}
+use Rattle.std.proofs.Common.{None, ℕ, ◌-◌, ◌^◌, false, List, [], ◌∷◌, replicate, arith}
 use Rattle.std.proofs.lemmas.List.{length-replicate}
 use Rattle.vdo_model.specs.declared.report.Placed.{Placed}
 use Rattle.data_vio.specs.declared.logged.Logged.TheVariants.{Remaps}
@@ -48,7 +48,6 @@ logical next places held waiting retired slots = record {
   making = [];
   lacking = [];
   unlinkable = [];
-  window = [];
   slots = replicate slots of_first;
 }
 
@@ -138,7 +137,7 @@ journal_committed is = absurd (omega (arith, is.committed, length-replicate 1966
 
 -- a device that made so many calls, as the zone that made nine steps, with so many items in its inbox and its two outboxes
 abbrev device : ℕ → DeviceZone
-device calls = record { stopped = false; calls = calls; superblock = AsOpened }
+device calls = record { stopped = false; calls = calls; superblock = AsOpened; damage = None }
 
 abbrev lane : ℕ → List Item
 lane items = replicate items StopNotice

@@ -60,6 +60,12 @@ row_wait = (refl, refl, refl, refl, refl)
 row_look : IsRow phase.Look 2 true false [] false
 row_look = (refl, refl, refl, refl, refl)
 
+row_load_leaf : IsRow phase.LoadLeaf 5 true false [] false
+row_load_leaf = (refl, refl, refl, refl, refl)
+
+row_loaded_leaf : IsRow phase.LoadedLeaf 2 true false [] false
+row_loaded_leaf = (refl, refl, refl, refl, refl)
+
 row_claim : IsRow phase.Claim 3 true false [] false
 row_claim = (refl, refl, refl, refl, refl)
 

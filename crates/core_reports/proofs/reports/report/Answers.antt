@@ -4,12 +4,12 @@ use Rattle.vdo_model.specs.declared.report.Placed.{Placed}
 use Rattle.vdo_model.specs.Histories.{histories_of}
 use Rattle.core_model.specs.Reports.{progress_of}
 use Rattle.core_model.specs.SessionLimits.{most_requests}
-use Rattle.core_model.specs.Trace.{journaled}
+use Rattle.core_model.specs.Trace.{damage_in, journaled}
 use Rattle.core_model.specs.declared.zones.Zone.{Zone}
 use Rattle.core_reports.specs.Found.{AreFound}
-use Rattle.core_reports.specs.Listed.{HasDesk, HasEntered, places_of_all}
+use Rattle.core_reports.specs.Listed.{HasDamage, HasDesk, HasEntered, places_of_all}
 use Rattle.core_reports.specs.Rooms.{IsRoomFor}
-use Rattle.core_reports.proofs.ReportLaws.{its_desk, its_entries, places_few_enough, places_found, report_is}
+use Rattle.core_reports.proofs.ReportLaws.{its_damage, its_desk, its_entries, places_few_enough, places_found, report_is}
 use Rattle.core_reports.proofs.reports.report.Goals as goal
 
 pub returns : goal.returns
@@ -35,6 +35,8 @@ returns c s t session legal answered for =
     let histories : c.list_histories.new.histories ≡ histories_of desk.desk.requests desk.desk.log (progress_of t) listed
     = c.list_histories.ensures desk.desk (journaled t) (progress_of t) has entries c.room.invariant.1 found
     ∙ ap (λ (ps : List Placed). histories_of desk.desk.requests desk.desk.log (progress_of t) ps) (sym c.as_slice.ensures) in
-    report_is s t zones session legal c.desk_report-desk.result c.into_list.result c.into_list-2.result
+    let damaged : HasDamage (damage_in t) c.deref-3.result.now = subst (λ (zs : List Zone). HasDamage (damage_in t) zs) (sym c.deref-3.ensures.value) (its_damage s t zones session legal) in
+    report_is s t zones session legal c.desk_report-desk.result c.into_list.result c.into_list-2.result c.damage-damage.result
     (c.desk_report-desk.ensures desk.desk desk.has) (c.into_list.ensures ∙ placed)
     (c.into_list-2.ensures ∙ histories ∙ ap (λ (ps : List Placed). histories_of desk.desk.requests desk.desk.log (progress_of t) ps) (sym c.into_list.ensures))
+    (c.damage-damage.ensures (damage_in t) damaged)

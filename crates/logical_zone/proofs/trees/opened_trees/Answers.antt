@@ -1,20 +1,18 @@
-use Rattle.blk_base.specs.declared.journal_entry.Entry.{Entry}
-use Rattle.blk_base.specs.declared.journal_entry.Entry.TheVariants.{Remap}
-use Rattle.blk_base.specs.declared.place.Mapping.TheVariants.{Unmapped}
-use Rattle.image_model.specs.Windows.{IsOfImage}
-use Rattle.logical_zone.proofs.TreeLaws.{each_of_reverse, one_longer}
+use Rattle.std.proofs.Common.{[], sym, subst}
+use Rattle.block_map_tree.specs.Tree.{Tree}
+use Rattle.core_model.specs.PageLinks.{opened_page}
+use Rattle.core_model.specs.PageTrees.{IsMapTree}
+use Rattle.block_map_tree.proofs.OpeningLaws.{opened_in_zone}
+use Rattle.logical_zone.proofs.TreeLaws.{opened_here}
 use Rattle.logical_zone.proofs.trees.opened_trees.Goals as goal
 
--- what a read past the end would give
-abbrev none : Entry
-none = Remap (record { 0 = 0 }) Unmapped Unmapped
+pub from_opened-requires-clause-opened : goal.from_opened-requires-clause-opened
+from_opened-requires-clause-opened c =
+    opened_in_zone (record { geometry = c.args.opened.now.head.geometry; zone = c.from.result; zones = c.from-2.result }) c.args.opened.now.pages.items c.requires.pages
 
-pub take_over-requires : goal.take_over-requires
-take_over-requires c =
-    let this = each_of_reverse (IsOfImage c.args.sizes.now.geometry) c.args.window.now c.loop-entry.entry-index none c.loop-entry-test.true c.requires.of_image in
-    rw c.loop-entry.invariant.forest_is this
-
-pub loop-entry-preserved : goal.loop-entry-preserved
-loop-entry-preserved c =
-    rw (one_longer c.args.window.now c.loop-entry.entry-index none c.loop-entry-test.true)
-    (c.take_over.ensures c.args.sizes.now.geometry c.args.zone c.args.sizes.now.zones _ c.loop-entry.invariant)
+pub returns : goal.returns
+returns c =
+    let g = c.args.opened.now.head.geometry in
+    let pages = c.args.opened.now.pages.items in
+    subst (λ (t : Tree). IsMapTree g c.args.zone c.args.zones (opened_page pages) [] t) (sym c.new.ensures)
+    (opened_here g c.args.zone c.args.zones c.from.result c.from-2.result pages c.in_ok-nodes.nodes c.from.ensures c.from-2.ensures c.in_ok-nodes.ensures)

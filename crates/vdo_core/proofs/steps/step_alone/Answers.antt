@@ -1,4 +1,4 @@
-use Rattle.std.proofs.Common.{[], ◌∷◌, List, ap, arith, inr, length, refl, sym, subst, take}
+use Rattle.std.proofs.Common.{List, ap, arith, inr, length, refl, sym, subst, take}
 use Rattle.data_vio.specs.declared.items.Item.{Item}
 use Rattle.core_model.specs.PortsData.{Ports}
 use Rattle.core_model.specs.Steps.{Act}

@@ -1,10 +1,10 @@
-use Rattle.std.proofs.Common.{ℕ, ◌∙◌, ap, subst, sym}
+use Rattle.std.proofs.Common.{ℕ, subst, sym}
 use Rattle.recovery_journal.specs.contracts.journal.Journal.{the_view}
-use Rattle.recovery_journal.specs.Log.{Log, IsHead, first_needed}
+use Rattle.recovery_journal.specs.Log.{Log, IsHead}
 use Rattle.recovery_journal.proofs.JournalLaws.{is_head}
 use Rattle.recovery_journal.proofs.journal.Journal.head.Goals as goal
 
 pub returns-clause-least : goal.returns-clause-least
 returns-clause-least c =
-    subst (λ (log : Log). IsHead log c.first_needed.result) c.self.view_is
-    (subst (λ (head : ℕ). IsHead (the_view c.self.inside) head) (sym (c.first_needed.ensures ∙ ap (λ (next : ℕ). first_needed c.self.inside.earlier next) c.first_sequence.ensures)) (is_head (the_view c.self.inside) c.self.invariant.kept))
+    subst (λ (log : Log). IsHead log c.first_sequence.result) c.self.view_is
+    (subst (λ (head : ℕ). IsHead (the_view c.self.inside) head) (sym c.first_sequence.ensures) (is_head (the_view c.self.inside) c.self.invariant.kept))

@@ -1,9 +1,9 @@
-use Rattle.std.proofs.Common.{ℕ, ◌∙◌, ◌+◌, ◌++◌, List, length, All, arith, ap, subst, sym}
+use Rattle.std.proofs.Common.{◌∙◌, ◌+◌, ◌++◌, List, length, All, arith, ap, subst, sym}
 use Rattle.blk_base.specs.declared.journal_entry.Entry.{Entry}
 use Rattle.blk_base.specs.declared.journal_entry.CommittedEntry.{CommittedEntry}
 use Rattle.recovery_journal.specs.contracts.journal.Journal.{the_view}
 use Rattle.journal_codec.specs.Grammar.{HoldsEntry}
-use Rattle.recovery_journal.specs.Log.{Log, first_sequence, first_needed, head_of, placed}
+use Rattle.recovery_journal.specs.Log.{Log, first_sequence, head_of, placed}
 use Rattle.recovery_journal.proofs.JournalLaws.{room_to_seal, kept_sealed_as, first-sealed, block_held}
 use Rattle.recovery_journal.proofs.journal.Journal.seal.Goals as goal
 
@@ -37,7 +37,6 @@ pub returns-clause-head : goal.returns-clause-head
 returns-clause-head c =
     let waits = c.is_empty.ensures.some c.if-is_empty.false in
     let added = c.enter.ensures.items ∙ ap (λ (es : List Entry). c.self.inside.entries.items ++ placed c.self.inside.sequence 0 es) c.as_slice.ensures.value in
-    ap (λ (next : ℕ). first_needed c.self.inside.earlier next)
-    (ap (λ (es : List CommittedEntry). first_sequence es (c.self.inside.sequence + 1)) added
-    ∙ first-sealed c.self.inside.entries.items c.self.inside.sequence c.self.inside.filling waits)
+    ap (λ (es : List CommittedEntry). first_sequence es (c.self.inside.sequence + 1)) added
+    ∙ first-sealed c.self.inside.entries.items c.self.inside.sequence c.self.inside.filling waits
     ∙ ap head_of c.self.view_is

@@ -1,0 +1,143 @@
+ghost use Rattle.std.specs.Prelude.{◌≡◌, ◌<◌, ◌≤◌, List, [], ◌∷◌, IfOk, IfErr, Some, slice_index_or};
+ghost use Rattle.blk_base.specs.Limits.{IsGeometry};
+ghost use Rattle.blk_base.specs.declared.place.Mapping.{Mapping as Mapped};
+ghost use Rattle.blk_base.specs.declared.place.Mapping.TheVariants.{Unmapped};
+ghost use Rattle.disk_model.specs.Seen.{Stays};
+ghost use Rattle.image_model.specs.Pages.{leaf_of, slot_of_address};
+ghost use Rattle.page_codec.specs.Grammar.{IsPage, IsPageFault};
+ghost use Rattle.core_model.specs.DeviceRules as rows;
+ghost use Rattle.core_model.specs.DeviceRules.{DeviceServes, IsReady};
+ghost use Rattle.core_model.specs.PageLinks.{leaf_head};
+ghost use Rattle.core_model.specs.SessionLimits.{most_zones};
+ghost use Rattle.core_model.specs.Trace.{Trace};
+ghost use Rattle.data_vio.specs.declared.items.Phase.TheVariants as phase;
+ghost use Rattle.step_parts.specs.DeviceLog.{HasCalled};
+ghost use Rattle.device_zone.specs.Served.{CanServe, MayServe};
+
+use crate::device_calls::read_block;
+use crate::stop_notices::halt;
+use blk_base::{Answer, Block, Lba, Mapping, Mappings, PAGE_SLOTS, PageId, Pbn, TREES, ZoneId};
+use core_model::DeviceZone;
+use data_vio::{BoxedVio, Item, Phase, Sizes};
+use disk_model::Disk;
+use page_codec::{MapPage, PageFault, PageHead, decode};
+use step_parts::Posts;
+use vdo_model::Damage;
+
+// The leaf of an address.
+fn leaf_of(at: Lba) -> PageId
+    ensures { result ≡ leaf_of at.0 }
+{
+    let leaf = at.0 / u32::from(PAGE_SLOTS);
+    PageId {
+        tree: (leaf % u32::from(TREES)) as u8,
+        level: 0,
+        index: leaf / u32::from(TREES),
+    }
+}
+
+// What the leaf of an address, which stands at this block, maps it to. It is read whole: one that doesn't decode says nothing.
+fn mapping_in(sizes: &Sizes, at: Lba, leaf: Pbn, bytes: &Block) -> Result<Mapping, PageFault>
+    requires { IsGeometry sizes.now.geometry }
+    ensures ok { IfOk result (λ mapping.
+        (mappings : List Mapped) × IsPage (leaf_head sizes.now.geometry at.0 leaf) bytes.now mappings
+        × (mapping ≡ slice_index_or mappings (slot_of_address at.0) Unmapped)) }
+    ensures fault { IfErr result (λ fault.
+        IsPageFault (leaf_head sizes.now.geometry at.0 leaf) bytes.now fault) }
+{
+    let want = PageHead {
+        geometry: sizes.geometry,
+        page: leaf_of(at),
+        at: leaf,
+    };
+    let mut page = MapPage {
+        head: want,
+        mappings: Mappings::new(),
+    };
+    decode(bytes, &want, &mut page)?;
+    let slot = (at.0 % u32::from(PAGE_SLOTS)) as u16;
+    Ok(page.mappings.get(slot))
+}
+
+// A leaf doesn't decode: the session is stopped, where it isn't yet. The damage is kept that was found first.
+fn harm(
+    sizes: &Sizes,
+    zone: &mut DeviceZone,
+    damage: Damage,
+    to: ZoneId,
+    item: Item,
+    posts: &mut Posts,
+)
+    requires few { sizes.now.zones ≤ most_zones }
+    requires none { posts.old ≡ [] }
+    ensures zone { zone.new ≡ rows.harmed damage zone.old }
+    ensures posts { posts.new ≡ (to, item) ∷ rows.notices_after zone.old.stopped sizes.now }
+{
+    if zone.damage.is_none() {
+        zone.damage = Some(damage);
+    }
+    if zone.stopped {
+        posts.first(to, item);
+    } else {
+        halt(sizes, zone, to, item, posts);
+    }
+}
+
+// The leaf of an address, at this block.
+fn load_leaf<D: Disk>(
+    sizes: &Sizes,
+    zone: &mut DeviceZone,
+    vio: BoxedVio,
+    leaf: Pbn,
+    disk: &mut D,
+    posts: &mut Posts,
+)
+    requires phase { vio.phase ≡ phase.LoadLeaf }
+    requires leaf { vio.leaf ≡ Some leaf }
+    requires inside { rows.IsInside sizes.now leaf }
+    requires ready { IsReady zone.old }
+    requires may { MayServe sizes.now zone.old (D.seen disk.old) posts.old }
+    ensures stays { Stays (D.seen disk.old) (D.seen disk.new) }
+    ensures serves { (made : Trace) × DeviceServes sizes.now zone.old vio zone.new made posts.new
+        × HasCalled D.tells D.honest (D.seen disk.old) (D.seen disk.new) made }
+{
+    let home = vio.get().home;
+    let at = vio.get().at;
+    let mut bytes = Block::zero();
+    let Ok(()) = read_block(disk, leaf, &mut bytes) else {
+        let failed = vio.end(Phase::Abort, Answer::ReadFault);
+        posts.first(home, Item::Request(failed));
+        return;
+    };
+    zone.calls += 1;
+    match mapping_in(sizes, at, leaf, &bytes) {
+        Ok(mapping) => posts.first(home, Item::Request(vio.has_leaf(mapping))),
+        Err(fault) => {
+            let damage = Damage::Page { at: leaf, fault };
+            let harmed = Item::Request(vio.end(Phase::Abort, Answer::Damaged));
+            harm(sizes, zone, damage, home, harmed, posts);
+        }
+    }
+}
+
+/// The leaf of the address of a request, which says what that is mapped to.
+pub(crate) fn serve_load_leaf<D: Disk>(
+    sizes: &Sizes,
+    zone: &mut DeviceZone,
+    vio: BoxedVio,
+    disk: &mut D,
+    posts: &mut Posts,
+)
+    requires phase { vio.phase ≡ phase.LoadLeaf }
+    requires can { CanServe sizes.now zone.old vio phase.LoadLeaf }
+    requires ready { IsReady zone.old }
+    requires may { MayServe sizes.now zone.old (D.seen disk.old) posts.old }
+    ensures stays { Stays (D.seen disk.old) (D.seen disk.new) }
+    ensures serves { (made : Trace) × DeviceServes sizes.now zone.old vio zone.new made posts.new
+        × HasCalled D.tells D.honest (D.seen disk.old) (D.seen disk.new) made }
+{
+    let Some(leaf) = vio.get().leaf else {
+        unreachable!();
+    };
+    load_leaf(sizes, zone, vio, leaf, disk, posts);
+}
