@@ -195,7 +195,7 @@ of_no_session is = omega (arith, is)
 
 module _ (g : Geometry) where
   abbrev log : Log
-  log = journal.opening g None 1 1
+  log = journal.opening g 1 1
 
   reaps : Reaps setup log []
   reaps = opening_reaps setup g

@@ -8,7 +8,7 @@ use Rattle.blk_base.specs.declared.journal_entry.CommittedEntry.{CommittedEntry}
 use Rattle.blk_base.specs.declared.point.Point.{Point}
 use Rattle.journal_codec.specs.declared.forms.JournalBlock.{JournalBlock}
 use Rattle.recovery_journal.specs.Kept.{IsKept, AreRising, rank}
-use Rattle.recovery_journal.specs.Log.{Log, Advances, IsBehind, IsDurable, IsNeeded, Seals as SealsBlock, first_needed, first_sequence, head_of, opening, placed, point_at}
+use Rattle.recovery_journal.specs.Log.{Log, Advances, IsBehind, IsDurable, IsNeeded, Seals as SealsBlock, first_sequence, head_of, opening, placed, point_at}
 use Rattle.recovery_journal.proofs.RisingLaws.{first_reached, rank_rises}
 use Rattle.watermark_laws.specs.Marks.{Setup, mark}
 use Rattle.watermark_laws.specs.Parts.{HasEntry, Logged}
@@ -60,27 +60,23 @@ first_least low (e ∷ es) high p n rising (inr has) =
     let less = rank_rises e.point.0 p rising.0 r.1 (omega (arith, r.0)) in
     omega (arith, less)
 
--- the head is the first entry's
-head_is : (log : Log) → log.earlier ≡ None → head_of log ≡ first_sequence log.entries log.sequence
-head_is log none = ap (λ (o : Option ℕ). first_needed o (first_sequence log.entries log.sequence)) none
-
-pub head_rises : (s : Setup) (log : Log) (t : Trace) → RightTrace s t → IsKept log → log.earlier ≡ None → Reaps s log t → risen s.start t ≤ head_of log
+pub head_rises : (s : Setup) (log : Log) (t : Trace) → RightTrace s t → IsKept log → Reaps s log t → risen s.start t ≤ head_of log
     → RiseMayFollow s (head_of log) t
-head_rises s log t right kept none reaps more = record { above = more; within = within_of; handled = handled_of }
+head_rises s log t right kept reaps more = record { above = more; within = within_of; handled = handled_of }
   where
     within_of : head_of log ≤ sequence s.start t
-    within_of = omega (arith, head_is log none, first_reached log.entries log.sequence kept.rising, reaps.number)
+    within_of = omega (arith, first_reached log.entries log.sequence kept.rising, reaps.number)
 
     handled_of : (e : Logged) → IsSealed t e → e.at < head_of log * 512 → IsHandled t e
     handled_of e is below = elim (reaps.kept e is) [
       | inl there ↦
           let least = first_least 0 log.entries (log.sequence * 192) e.at log.sequence kept.rising there in
-          absurd (omega (arith, head_is log none, below, least))
+          absurd (omega (arith, below, least))
       | inr low ↦ λ z p has. marked_handled s t e z p right is (low z ((sealed_formed s t e right is).inside z p has)) has
     ]
 
 -- as it begins
-pub opening_reaps : (s : Setup) (g : Geometry) → Reaps s (opening g None s.start s.zones) []
+pub opening_reaps : (s : Setup) (g : Geometry) → Reaps s (opening g s.start s.zones) []
 opening_reaps s g = record {
   number = refl;
   count = length-replicate s.zones (record { 0 = point_at s.start 0 });
@@ -88,7 +84,7 @@ opening_reaps s g = record {
   kept = λ e is. absurd is;
 }
   where
-    marks_of : (z : ℕ) → z < s.zones → mark_in (opening g None s.start s.zones).marks z ≤ mark s z []
+    marks_of : (z : ℕ) → z < s.zones → mark_in (opening g s.start s.zones).marks z ≤ mark s z []
     marks_of z inside =
         let here = ap (λ (p : Point). p.0) (get_or-replicate s.zones z (record { 0 = point_at s.start 0 }) (record { 0 = 0 }) inside) in
         omega (arith, here)
@@ -194,13 +190,13 @@ first_passed s t h n marks (e ∷ es) filled passed all =
     let here : mark_in marks needs.0 ≡ needs.1.0 = ap (λ (p : Point). p.0) (get_or_default marks needs.0 (record { 0 = 0 }) needs.1 needs.2 ∙ needs.3) in
     omega (arith, passed needs.0 needs.2, here, needs.4)
 
-pub slot_when_still : (s : Setup) (log : Log) (t : Trace) → RightTrace s t → IsStill s t → IsKept log → log.earlier ≡ None → Reaps s log t
+pub slot_when_still : (s : Setup) (log : Log) (t : Trace) → RightTrace s t → IsStill s t → IsKept log → Reaps s log t
     → ((z : ℕ) → z < s.zones → mark s z t ≤ mark_in log.marks z) → 2 ≤ log.size → HasAsked s log.size t
     → log.sequence + 2 ≤ head_of log + log.size
-slot_when_still s log t right still kept none reaps exact ring need =
+slot_when_still s log t right still kept reaps exact ring need =
     let h : ℕ = log.sequence + 2 - log.size in
     let first = first_passed s t h log.sequence log.marks log.entries (omega (arith, ring)) passed kept.needed in
-    omega (arith, first, head_is log none)
+    omega (arith, first)
   where
     passed : (z : ℕ) → z < length log.marks → (log.sequence + 2 - log.size) * 512 ≤ mark_in log.marks z
     passed z within =

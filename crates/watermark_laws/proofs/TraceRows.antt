@@ -286,7 +286,7 @@ marks_are = (refl, refl)
 -- Reaps: a mark may be that of the trace, and not one above it
 module _ (g : Geometry) where
   abbrev log : Log
-  log = journal.opening g None 1 1
+  log = journal.opening g 1 1
 
   marked_as_it_is : Reaps setup log []
   marked_as_it_is = record { number = refl; count = refl; marks = λ z inside. at_most z inside; kept = λ e never. absurd never }

@@ -1,4 +1,4 @@
-ghost use Rattle.std.specs.Prelude.{◌≡◌, ◌<◌, ◌≤◌, ◌+◌, ◌*◌, ◌∷◌, [], ℕ, List, None};
+ghost use Rattle.std.specs.Prelude.{◌≡◌, ◌<◌, ◌≤◌, ◌+◌, ◌*◌, ◌∷◌, [], ℕ, List};
 ghost use Rattle.blk_base.specs.declared.geometry.Geometry.{Geometry};
 ghost use Rattle.blk_base.specs.declared.point.Point.{Point};
 ghost use Rattle.journal_codec.specs.declared.forms.JournalBlock.{JournalBlock};
@@ -14,9 +14,9 @@ ghost use Rattle.watermark_laws.specs.Reaping.{HasPoint, IsOther, Reaps, mark_in
 /// A journal whose marks are those of the trace, and which leaves out what is below all of them, has a head to which the
 /// trace's may rise. It stays such a journal over each happening, where it seals the same entries, and as a zone's mark rises.
 pub fn the_journal_reaps_what_is_handled()
-    ensures opening { (s : Setup) (g : Geometry) → Reaps s (opening g None s.start s.zones) [] }
+    ensures opening { (s : Setup) (g : Geometry) → Reaps s (opening g s.start s.zones) [] }
     ensures head { (s : Setup) (log : Log) (t : Trace) → RightTrace s t → IsKept log →
-        log.earlier ≡ None → Reaps s log t → risen s.start t ≤ head_of log
+        Reaps s log t → risen s.start t ≤ head_of log
         → RiseMayFollow s (head_of log) t }
     ensures happens { (s : Setup) (log : Log) (h : Happening) (t : Trace) → IsOther h →
         RightTrace s (h ∷ t) → Reaps s log t → Reaps s log (h ∷ t) }
@@ -35,7 +35,7 @@ pub fn the_journal_reaps_what_is_handled()
 /// need was for that.
 pub fn the_journal_goes_on_when_all_is_still()
     ensures { (s : Setup) (log : Log) (t : Trace) → RightTrace s t → IsStill s t → IsKept log →
-        log.earlier ≡ None → Reaps s log t
+        Reaps s log t
         → ((z : ℕ) → z < s.zones → mark s z t ≤ mark_in log.marks z) → 2 ≤ log.size →
         HasAsked s log.size t
         → log.sequence + 2 ≤ head_of log + log.size }
