@@ -4,6 +4,7 @@ pub mod CoveredEntries
 pub mod Cuts
 pub mod DamageOfTrace
 pub mod DeskOfTrace
+pub mod EntryMaps
 pub mod Growth
 pub mod HistoriesOfTrace
 pub mod MarksOfTrace

@@ -34,7 +34,7 @@ use Rattle.blk_base.specs.Pages.{above}
 use Rattle.data_vio.specs.declared.items.Asks.{Asks}
 use Rattle.data_vio.specs.declared.items.Asks.TheVariants as asks
 use Rattle.core_model.specs.Superblocks.{IsInOrder, superblock_stage}
-use Rattle.core_model.specs.Sessions.{IsFair, OnBlock, Session, Shown, mapping_by, value_at}
+use Rattle.core_model.specs.Sessions.{IsFair, IsFresh, OnBlock, Session, Shown, mapping_by, value_at}
 use Rattle.data_vio.specs.Vios.{asked}
 use Rattle.core_model.specs.Trace.{Happening, Says, Flushes, Draws, Enters, Passes, Seals, Commits, Sets, Gives, Takes, Aborts, Calls, Fails, Harms, Trace, Gift, moments, lines, places, journaled, entered, new_of, remappings, filled, sealed, all_of, durable, committed, applied, done, dropped, aborted, gifts, taken, has_taken, is_read, is_ok, has_stopped, has_read_fault, is_harmed, of_address, logged_of, request_in, gift_of}
 
@@ -199,8 +199,8 @@ pub record EntryMayFollow (s : Session) (e : Remapping) (t : Trace) : Type 0 whe
   -- a block of the journal is left for it, and that has room
   pub left : length (sealed t) + 1 < s.sizes.geometry.journal
   pub room : length (filled t) < 192
-  -- it maps its address to a data block, or to none
-  pub new_data : OnBlock (λ x. IsDataBlock s.sizes.geometry x.0) e.new
+  -- it maps its address to a data block that was free when the session began, or to none
+  pub new_data : OnBlock (IsFresh s) e.new
   -- no entry named that before, and the page that has its slot is there
   pub unused : OnBlock (λ x. AreElsewhere x.0 (journaled t)) e.new
   pub leaf : IsLeafy s t e.at.0
@@ -218,8 +218,8 @@ pub record PageMayFollow (s : Session) (p : NewPage) (t : Trace) : Type 0 where
   -- a block of the journal is left for it, and that has room
   pub left : length (sealed t) + 1 < s.sizes.geometry.journal
   pub room : length (filled t) < 192
-  pub new_data : IsDataBlock s.sizes.geometry p.at.0
-  -- no entry named that before
+  -- it stands at a data block that was free when the session began, and that no entry named before
+  pub new_data : IsFresh s p.at
   pub unused : AreElsewhere p.at.0 (journaled t)
 
 pub record CommitMayFollow (s : Session) (e : Logged) (t : Trace) : Type 0 where

@@ -91,18 +91,18 @@ module _ (opened : Image) (entries : List CommittedEntry) where
   over_none : (P : List CommittedEntry → Type 0) → P entries → P (entries ++ [])
   over_none P holds = subst P (sym (append-nil entries)) holds
 
-  all_new : (a : ℕ) (at : Pbn) (m : Mapping) → page_after opened entries (leaf_of a) ≡ Some at → newest_for entries a ≡ Some m → mapping_after opened entries a ≡ m
+  pub all_new : (a : ℕ) (at : Pbn) (m : Mapping) → page_after opened entries (leaf_of a) ≡ Some at → newest_for entries a ≡ Some m → mapping_after opened entries a ≡ m
   all_new a at m there newest = with_all (λ list. mapping_after opened list a ≡ m) (mapping_new opened entries [] a at m (over_none (λ list. page_after opened list (leaf_of a) ≡ Some at) there) newest)
 
-  all_old : (a : ℕ) → newest_for entries a ≡ None → mapping_after opened entries a ≡ mapping_of opened a
+  pub all_old : (a : ℕ) → newest_for entries a ≡ None → mapping_after opened entries a ≡ mapping_of opened a
   all_old a none = with_all (λ list. mapping_after opened list a ≡ mapping_of opened a) (mapping_old opened entries [] (unlinked_with_none opened) a none ∙ mapping_with_none opened a)
 
-  all_new_page : (page : PageId) (up at : Pbn) → page.level + 1 < opened.geometry.height → page_after opened entries (above page) ≡ Some up → newest_page entries page ≡ Some (At at)
+  pub all_new_page : (page : PageId) (up at : Pbn) → page.level + 1 < opened.geometry.height → page_after opened entries (above page) ≡ Some up → newest_page entries page ≡ Some (At at)
       → page_after opened entries page ≡ Some at
   all_new_page page up at below there newest =
       with_all (λ list. page_after opened list page ≡ Some at) (page_new opened entries [] page up at below (over_none (λ list. page_after opened list (above page) ≡ Some up) there) newest)
 
-  all_old_page : (page : PageId) → newest_page entries page ≡ None → page_after opened entries page ≡ page_at opened page
+  pub all_old_page : (page : PageId) → newest_page entries page ≡ None → page_after opened entries page ≡ page_at opened page
   all_old_page page none = with_all (λ list. page_after opened list page ≡ page_at opened page) (page_old opened entries [] (unlinked_with_none opened) page none ∙ page_with_none opened page)
 
 -- The same of an image that shows them.

@@ -166,7 +166,7 @@ module _ (s : Session) (t : Trace) (v : Vio) (right : RightTrace s t) (ok : VioO
       below = carries.0.turn.below;
       left = left;
       room = room;
-      new_data = on_each v.new (λ x to fresh. fresh.is_data) carries.2;
+      new_data = carries.2;
       unused = unused;
       leaf = carries.4;
       old_data = carries.0.old_data;

@@ -57,7 +57,7 @@ module _ (s : Session) (t : Trace) (v : Vio) (page : PageId) (x : Pbn) (right : 
       once = carries.1;
       left = left;
       room = room;
-      new_data = fresh.is_data;
+      new_data = fresh;
       unused = unused;
     },
     shown_on,

@@ -39,7 +39,7 @@ writes_no_other s (Harms w x bytes fault ∷ t) right not_yet = (tt, writes_no_o
 writes_no_other s (other ∷ t) right not_yet = writes_no_other s t right.2 not_yet
 
 -- so each other block stands as it did
-misses : (sizes : Sizes) (c : Call) (x : ℕ) → x ≢ 0 → WritesNoOther sizes c → Misses c x
+pub misses : (sizes : Sizes) (c : Call) (x : ℕ) → x ≢ 0 → WritesNoOther sizes c → Misses c x
 misses sizes (Write at bytes success) x other is = λ same. other (sym same ∙ is.first)
 misses sizes (Read at bytes success) x other is = tt
 misses sizes (Flush success) x other is = tt

@@ -1,5 +1,5 @@
 -- Which happening may follow: for each one a trace that it may follow, and for each of its conditions one that breaks it.
-use Rattle.std.proofs.Common.{None, ℕ, zero, suc, length-append, ◌≡◌, true, false, List, [], ◌∷◌, ◌++◌, Some, length, refl, ap, sym, ◌∙◌, subst, inl, inr, arith, replicate}
+use Rattle.std.proofs.Common.{None, ℕ, zero, suc, length-append, ◌≡◌, true, false, List, [], ◌∷◌, ◌++◌, Some, length, refl, ap, sym, ◌∙◌, subst, inl, inr, arith, replicate, Contains}
 use Rattle.std.proofs.lemmas.List.{length-replicate}
 use Rattle.std.proofs.lemmas.Option.{same_Some}
 use Rattle.blk_base.specs.Sectors.{zero_block}
@@ -21,7 +21,7 @@ use Rattle.data_vio.specs.declared.items.Asks.{Asks}
 use Rattle.data_vio.specs.declared.items.Asks.TheVariants as asks
 use Rattle.core_model.specs.PageLinks.{MayLack, page_in}
 use Rattle.core_model.specs.RightTraces.{IsLeafFor, IsLeafy, IsLinkedAt, MapsTo, MayAnswer, MayFollow, NeedsPage, StopsAtFailure}
-use Rattle.core_model.specs.Sessions.{IsFair, Session}
+use Rattle.core_model.specs.Sessions.{IsFair, IsFresh, Session}
 use Rattle.core_model.specs.Superblocks.{session_super, superblock_bytes}
 use Rattle.image_layout.specs.Superblock.{super_block, super_bytes}
 use Rattle.data_vio.specs.Vios.{asked}
@@ -182,6 +182,14 @@ takes_no_block_twice may = let next : 86 ≡ 85 = ap (λ b. b.0) (same_Some _ _ 
 takes_no_block_beyond : May (Takes other None (block 87)) (Takes second None (block 86) ∷ took) → ⊥
 takes_no_block_beyond may = let next = may.next in absurd cc
 
+-- a block that was free when the session began
+fresh : IsFresh roomy (block 86)
+fresh = record {
+  is_data = record { slab = 0; offset = 6; inside = (omega arith, omega arith); stands = refl };
+  is_free = (1, omega arith, refl);
+  inside = omega arith;
+}
+
 -- An entry is handed in once, of a write that has its place; those of its address are done, nothing at its address has a later
 -- place, a block of the journal is left for it, which has room, and it says what its address was mapped to.
 enters : May (Enters (Remaps of_second)) set
@@ -193,7 +201,7 @@ enters = record {
   below = record { writes = ((λ same. omega arith), tt); reads = tt };
   left = omega arith;
   room = omega arith;
-  new_data = record { slab = 0; offset = 6; inside = (omega arith, omega arith); stands = refl };
+  new_data = fresh;
   unused = ((λ same. absurd (omega (arith, same))), tt);
   leaf = inr refl;
   old_data = record { slab = 0; offset = 5; inside = (omega arith, omega arith); stands = refl };
@@ -292,7 +300,7 @@ enters_beside_another = record {
   below = record { writes = tt; reads = tt };
   left = omega arith;
   room = omega arith;
-  new_data = record { slab = 0; offset = 6; inside = (omega arith, omega arith); stands = refl };
+  new_data = fresh;
   unused = ((λ same. absurd (omega (arith, same))), tt);
   leaf = inr refl;
   old_data = tt;
@@ -324,7 +332,15 @@ enters_while_a_block_is_left : May (Enters (Remaps of_other)) (Sets (Remaps of_s
 enters_while_a_block_is_left may = let left = may.left in absurd (omega (arith, left))
 
 enters_of_a_data_block : May (Enters (Remaps (record of_second { new = At (block 78) }))) set → ⊥
-enters_of_a_data_block may = let stands = may.new_data.stands in absurd (omega (arith, stands))
+enters_of_a_data_block may = let stands = may.new_data.is_data.stands in absurd (omega (arith, stands))
+
+enters_of_a_free_block : May (Enters (Remaps (record of_second { new = At (block 87) }))) set → ⊥
+enters_of_a_free_block may = of_neither may.new_data.is_free
+  where
+    of_neither : Contains roomy.free (block 87) → ⊥
+    of_neither (zero, below, same) = let e : 85 ≡ 87 = ap (λ (b : Pbn). b.0) same in omega (arith, e)
+    of_neither (suc zero, below, same) = let e : 86 ≡ 87 = ap (λ (b : Pbn). b.0) same in omega (arith, e)
+    of_neither (suc (suc n), below, same) = omega (arith, below)
 
 enters_from_a_data_block : May (Enters (Remaps (entry second 0 1 (At (block 78)) 86))) set → ⊥
 enters_from_a_data_block may = let stands = may.old_data.stands in absurd (omega (arith, stands))

@@ -8,6 +8,7 @@ use Rattle.blk_base.specs.declared.opened.OpenedPage.{OpenedPage}
 use Rattle.blk_base.specs.declared.place.Mapping.{Mapping}
 use Rattle.blk_base.specs.declared.place.Mapping.TheVariants.{Unmapped, Zero, At}
 use Rattle.blk_base.specs.declared.place.PageId.{PageId}
+use Rattle.blk_base.specs.declared.place.Pbn.{Pbn}
 use Rattle.blk_base.specs.declared.request.Answer.TheVariants.{Stopped}
 use Rattle.blk_base.specs.declared.request.Request.TheVariants as request
 use Rattle.vdo_model.specs.declared.report.DeskLine.TheVariants.{Answer}
@@ -126,7 +127,11 @@ enters = record {
   once = refl;
   left = omega arith;
   room = omega arith;
-  new_data = record { slab = 0; offset = 5; inside = (omega arith, omega arith); stands = refl };
+  new_data = record {
+    is_data = record { slab = 0; offset = 5; inside = (omega arith, omega arith); stands = refl };
+    is_free = (0, omega arith, refl);
+    inside = omega arith;
+  };
   unused = tt;
 }
 
@@ -156,7 +161,15 @@ enters_while_a_block_is_left : MayFollow session (Enters makes) (Seals ∷ Enter
 enters_while_a_block_is_left may = let left = may.left in absurd (omega (arith, left))
 
 enters_of_a_data_block : May (Enters (Makes (record new_leaf { at = block 78 }))) took → ⊥
-enters_of_a_data_block may = let is = may.new_data in let stands = is.stands in absurd (omega (arith, stands))
+enters_of_a_data_block may = let is = may.new_data.is_data in let stands = is.stands in absurd (omega (arith, stands))
+
+enters_of_a_free_block : May (Enters (Makes (record new_leaf { at = block 87 }))) took → ⊥
+enters_of_a_free_block may = of_neither may.new_data.is_free
+  where
+    of_neither : Contains roomy.free (block 87) → ⊥
+    of_neither (zero, below, same) = let e : 85 ≡ 87 = ap (λ (b : Pbn). b.0) same in omega (arith, e)
+    of_neither (suc zero, below, same) = let e : 86 ≡ 87 = ap (λ (b : Pbn). b.0) same in omega (arith, e)
+    of_neither (suc (suc n), below, same) = omega (arith, below)
 
 enters_a_block_once : May (Enters makes) (Enters (Remaps of_first) ∷ took) → ⊥
 enters_a_block_once may = may.unused.0 refl
