@@ -60,7 +60,7 @@ page_turned p q = elim (cases_Bool (is_page p q)) [
   ]
 ]
 
-abbrev at_block : Option Pbn → Option Mapping
+abbrev pub at_block : Option Pbn → Option Mapping
 at_block None = None
 at_block (Some x) = Some (At x)
 

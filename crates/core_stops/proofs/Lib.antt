@@ -1,0 +1,4 @@
+pub mod SessionTurns
+pub mod OpenedStands
+pub mod StandingBlocks
+pub mod SoundStops
