@@ -1,1 +1,2 @@
 mod GateLaws
+pub mod Rows
