@@ -9,20 +9,20 @@ use Rattle.slab_journal.specs.Slab.{Slab, opening}
 use Rattle.slab_journal.specs.Unsettled.{sealed_block, IsWaiting, IsUnsettled, IsLowPoint, NoneUnsettled, IsRising}
 
 -- a slab of 1000 data blocks: two sectors of counters, and two slots
-abbrev sizes : Geometry
+abbrev pub sizes : Geometry
 sizes = record { logical = 1000; slabs = 1; slab_blocks = 1000; journal = 8; index = 16; slab_journal = 2; height = 2; nonce = 1 }
 
-abbrev entry : ℕ → ℕ → SlabEntry
+abbrev pub entry : ℕ → ℕ → SlabEntry
 entry point offset = record { point = record { 0 = point }; offset = offset }
 
-abbrev first : SlabEntry
+abbrev pub first : SlabEntry
 first = entry 512 3
 
-abbrev third : SlabEntry
+abbrev pub third : SlabEntry
 third = entry 600 5
 
 -- block 1 is sealed and isn't durable, and block 2 has an update
-abbrev sealed_one : Slab
+abbrev pub sealed_one : Slab
 sealed_one = record (opening sizes 0) {
   sequence = 2;
   filling = third ∷ [];
@@ -30,7 +30,7 @@ sealed_one = record (opening sizes 0) {
   slots = [] ∷ (first ∷ entry 513 504 ∷ []) ∷ [];
 }
 
-abbrev durable_one : Slab
+abbrev pub durable_one : Slab
 durable_one = record sealed_one { durable = 2 }
 
 -- the first update is covered
@@ -92,7 +92,7 @@ one_is_unsettled : ¬ NoneUnsettled sealed_one
 one_is_unsettled = λ none. none first first_unsettled
 
 -- IsRising
-rising : IsRising (first ∷ third ∷ [])
+pub rising : IsRising (first ∷ third ∷ [])
 rising = (All-push (λ (e : SlabEntry). 512 ≤ e.point.0) [] third (All-nil (λ (e : SlabEntry). 512 ≤ e.point.0)) (omega arith), (All-nil (λ (e : SlabEntry). 600 ≤ e.point.0), tt))
 
 falling : ¬ IsRising (third ∷ first ∷ [])
