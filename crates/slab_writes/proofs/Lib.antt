@@ -7,3 +7,4 @@ pub mod Rows
 pub mod CommitLaws
 pub mod HandedLaws
 pub mod CommitRows
+pub mod CallRows

@@ -21,18 +21,18 @@ use Rattle.slab_writes.specs.declared.forms.SlabPart.TheVariants as part
 use Rattle.slab_writes.specs.declared.forms.SlabWork.{SlabWork}
 
 -- a slab of 16 data blocks from block 85 on, a reference block at 101, and a journal of two slots from block 102 on
-abbrev sizes : Geometry
+abbrev pub sizes : Geometry
 sizes = record { logical = 1000; slabs = 1; slab_blocks = 16; journal = 8; index = 16; slab_journal = 2; height = 2; nonce = 1 }
 
-abbrev p : ℕ → Point
+abbrev pub p : ℕ → Point
 p n = record { 0 = n }
 
 -- the image has commit point 7; nothing is to be written
-abbrev first : Writes
+abbrev pub first : Writes
 first = opening sizes 0 (p 7 ∷ [])
 
 -- an update of its fourth block is taken
-abbrev waits : Writes
+abbrev pub waits : Writes
 waits = record {
   journal = record first.journal { filling = entry 512 3 ∷ []; last = p 512 };
   blocks = record first.blocks { applied = p 512 ∷ []; blocks = record { dirty = Some (p 512); writing = None } ∷ [] };
@@ -50,19 +50,19 @@ takes_it_elsewhere : ¬ (taken first (record { at = record { 0 = 89 }; point = p
 takes_it_elsewhere = λ same. let no : 4 ≡ 3 = ap (λ (w : Writes). first_offset w.journal.filling) same in omega (arith, no)
 
 -- its journal block is handed out, or its reference block
-abbrev block_one : SlabJournalBlock
+abbrev pub block_one : SlabJournalBlock
 block_one = record { nonce = 1; sequence = 1; slab = 0; entries = entry 512 3 ∷ [] }
 
-abbrev sealed : Writes
+abbrev pub sealed : Writes
 sealed = record waits { journal = record waits.journal { sequence = 2; filling = []; slots = [] ∷ (entry 512 3 ∷ []) ∷ [] } }
 
-abbrev journal_work : SlabWork
+abbrev pub journal_work : SlabWork
 journal_work = record { at = record { 0 = 103 }; slab = 0; part = part.Journal; number = 1 }
 
-abbrev out : Writes
+abbrev pub out : Writes
 out = record waits { blocks = record waits.blocks { handed = p 512 ∷ []; blocks = record { dirty = None; writing = Some (p 512) } ∷ [] } }
 
-abbrev reference_work : SlabWork
+abbrev pub reference_work : SlabWork
 reference_work = record { at = record { 0 = 101 }; slab = 0; part = part.References; number = 0 }
 
 -- IsOutAs
@@ -108,7 +108,7 @@ one_sector_more : ¬ RaisesTwo (p 9 ∷ p 10 ∷ p 1 ∷ p 0 ∷ [])
 one_sector_more = λ is. omega (arith, is.size)
 
 -- SettlesAs
-abbrev settled : Writes
+abbrev pub settled : Writes
 settled = record {
   journal = record out.journal { commits = p 512 ∷ [] };
   blocks = record out.blocks { blocks = clean ∷ [] };
@@ -124,7 +124,7 @@ raised_to_handed = record {
   ];
 }
 
-settles_reference : SettlesAs part.References 0 out settled
+pub settles_reference : SettlesAs part.References 0 out settled
 settles_reference = record { raises = raised_to_handed; journal = refl; blocks = refl }
 
 still_being_written : ¬ SettlesAs part.References 0 out (record settled { blocks = out.blocks })
@@ -144,10 +144,10 @@ not_durable_yet : ¬ SettlesAs part.Journal 1 sealed sealed
 not_durable_yet = λ same. let no : 1 ≡ 2 = ap (λ (w : Writes). w.journal.durable) same in omega (arith, no)
 
 -- WantsJournal, WantsReference, Wants
-may : MayOverwrite waits.journal
+pub may : MayOverwrite waits.journal
 may = All-nil (IsCovered sizes waits.journal.commits)
 
-one_waits : Wants part.Journal Head waits.journal
+pub one_waits : Wants part.Journal Head waits.journal
 one_waits = (omega arith, may)
 
 one_is_not_full : ¬ WantsJournal Full waits.journal
@@ -159,7 +159,7 @@ none_waits = λ is. omega (arith, is)
 all_that_is_dirty : WantsReference All first.journal
 all_that_is_dirty = inl refl
 
-no_reference_for_what_can_be_written : ¬ WantsReference Head waits.journal
+pub no_reference_for_what_can_be_written : ¬ WantsReference Head waits.journal
 no_reference_for_what_can_be_written = λ is. elim is [ inl all ↦ cc | inr stuck ↦ stuck.1 may ]
 
 -- block 3 would be written over block 1, whose update isn't covered
@@ -179,10 +179,10 @@ not_over_an_update = λ is. stuck_is is.1
 abbrev WritesIt : List ℕ → Writes → SlabWork → Type 0
 WritesIt bytes new work = WritesJournal waits new bytes work
 
-abbrev one_bytes : List ℕ
+abbrev pub one_bytes : List ℕ
 one_bytes = block_bytes 1 1 0 (entry 512 3 ∷ [])
 
-writes_journal : WritesIt one_bytes sealed journal_work
+pub writes_journal : WritesIt one_bytes sealed journal_work
 writes_journal = record {
   block = block_one;
   seals = record { waits = omega arith; none_writing = refl; covered = may; records = refl; follows = refl };
