@@ -6,20 +6,20 @@ use Rattle.dirty_pages.specs.declared.marks.Marks.{Marks}
 use Rattle.dirty_pages.specs.Marks.{clean, marks_at, IsDue, IsFirstDue, NoneIsEverDue, HandsOut}
 use Rattle.dirty_pages.specs.Minima.{key_at, IsLeast}
 
-abbrev p : ℕ → Point
+abbrev pub p : ℕ → Point
 p n = record { 0 = n }
 
-abbrev value : Option Point → ℕ
+abbrev pub value : Option Point → ℕ
 value None = 0
 value (Some q) = q.0
 
-abbrev number : Option ℕ → ℕ
+abbrev pub number : Option ℕ → ℕ
 number None = 0
 number (Some n) = n
 
 -- IsLeast: two slots with 5, one with 7
 
-abbrev keys : List (Option ℕ)
+abbrev pub keys : List (Option ℕ)
 keys = Some 7 ∷ Some 5 ∷ Some 5 ∷ []
 
 five_is_least : (k other : ℕ) → key_at keys k ≡ Some other → 5 ≤ other
@@ -48,22 +48,22 @@ second_is_not_first is = is.first 1 (omega arith) refl
 
 -- HandsOut, IsFirstDue: two pages that were first changed at 5, one at 7, and one that was at 3 and is being written
 
-abbrev changed : ℕ → Marks
+abbrev pub changed : ℕ → Marks
 changed n = record { dirty = Some (p n); writing = None }
 
-abbrev busy : Marks
+abbrev pub busy : Marks
 busy = record { dirty = Some (p 3); writing = Some (p 2) }
 
-abbrev pages : List Marks
+abbrev pub pages : List Marks
 pages = changed 7 ∷ busy ∷ changed 5 ∷ changed 5 ∷ []
 
-abbrev out : Marks
+abbrev pub out : Marks
 out = record { dirty = None; writing = Some (p 5) }
 
-abbrev written : List Marks
+abbrev pub written : List Marks
 written = changed 7 ∷ busy ∷ out ∷ changed 5 ∷ []
 
-least : (other : ℕ) (later : Point) → IsDue (marks_at pages other) later → 5 ≤ later.0
+pub least : (other : ℕ) (later : Point) → IsDue (marks_at pages other) later → 5 ≤ later.0
 least zero later due = omega (arith, ap value due.dirty)
 least (suc zero) later due = absurd (none-some (p 2) (sym due.idle))
 least (suc (suc zero)) later due = omega (arith, ap value due.dirty)
