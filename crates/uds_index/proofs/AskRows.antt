@@ -28,16 +28,16 @@ the_next_block : ¬ IsNamePage 69 2 name 74 (chapter 5)
 the_next_block = λ is. let no' = one_page 5 74 is in omega (arith, no')
 
 -- a block that may be asked for
-nothing_known : (at : ℕ) → IsNew 69 [] [] at
+pub nothing_known : (at : ℕ) → IsNew 69 [] [] at
 nothing_known at = record { uncached = λ there. absurd (omega (arith, there.1)); new = λ there. absurd (omega (arith, there.1)); few_of_chapter = omega arith; few = omega arith }
 
-only : (x y : ℕ) → Contains (x ∷ []) y → x ≡ y
+pub only : (x y : ℕ) → Contains (x ∷ []) y → x ≡ y
 only x y (k, inside, is) = let first : k ≡ 0 = omega (arith, inside) in subst (λ (n : ℕ). slice_index_or (x ∷ []) n y ≡ y) first is
 
-new_beside : (x at : ℕ) → (x ≡ at → ⊥) → IsNew 69 (x ∷ []) [] at
+pub new_beside : (x at : ℕ) → (x ≡ at → ⊥) → IsNew 69 (x ∷ []) [] at
 new_beside x at other = record { uncached = λ there. other (only x at there); new = λ there. absurd (omega (arith, there.1)); few_of_chapter = omega arith; few = omega arith }
 
-abbrev region : Region
+abbrev pub region : Region
 region = record { first = 69; places = 2 }
 
 -- NeedsNone

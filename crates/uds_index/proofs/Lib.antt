@@ -12,3 +12,5 @@ mod LoadLaws
 mod LoadRows
 pub mod AskLaws
 mod AskRows
+mod FindRows
+mod HeldRows

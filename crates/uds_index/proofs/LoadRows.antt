@@ -17,20 +17,20 @@ use Rattle.index_advice.specs.Orders.{IsNewer}
 use Rattle.uds_index.specs.Loads.{Loaded, Holds, ArePages, pages_with, loaded_location, IsLoaded, HasChapter, IsLoadedBook, ReadOne, ReadEach}
 use Rattle.uds_index.specs.Held.{records_of, with_chapter}
 
-abbrev one : ℕ → ℕ → Record
+abbrev pub one : ℕ → ℕ → Record
 one byte block = record { name = byte ∷ []; at = record { 0 = block } }
 
-abbrev chapter : ℕ → List Record → Numbered
+abbrev pub chapter : ℕ → List Record → Numbered
 chapter number records = record { number = number; records = records }
 
-abbrev loaded : ℕ → List Record → Loaded
+abbrev pub loaded : ℕ → List Record → Loaded
 loaded number records = record { number = number; records = records }
 
 -- the second page of chapter 5, which has no records
-abbrev page_five : List ℕ
+abbrev pub page_five : List ℕ
 page_five = page_bytes 1 5 1 []
 
-decodes : IsPage 1 5 1 page_five []
+pub decodes : IsPage 1 5 1 page_five []
 decodes = record {
   place = omega arith;
   spelled = refl;
@@ -40,7 +40,7 @@ decodes = record {
 }
 
 -- it stands in the index block 5 of one that has four places
-the_page_of_its_place : Holds 1 4 5 page_five (loaded 5 [])
+pub the_page_of_its_place : Holds 1 4 5 page_five (loaded 5 [])
 the_page_of_its_place = record { number = omega arith; place = refl; decodes = decodes }
 
 a_number_too_great : (places block : ℕ) (bytes : List ℕ) → ¬ Holds 1 places block bytes (loaded 4294967296 [])

@@ -48,7 +48,7 @@ twelve_in_all cached given twelve = λ is. let few = is.few in omega (arith, few
 
 -- what is kept
 
-abbrev book_with : ℕ → ℕ → List Numbered → List DuePage → Book
+abbrev pub book_with : ℕ → ℕ → List Numbered → List DuePage → Book
 book_with first places kept due = record { nonce = 1; first = first; places = places; kept = kept; unclosed = []; due = due }
 
 no_place : (first : ℕ) (kept : List Numbered) (due : List DuePage) → ¬ IsKept (book_with first 0 kept due)
@@ -63,7 +63,7 @@ not_in_order first places due = λ is. let newer = is.order.newest_first 0 1 (ch
 too_many_chapters : (first : ℕ) (due : List DuePage) → ¬ IsKept (book_with first 1 (chapter 5 ∷ chapter 4 ∷ chapter 3 ∷ chapter 2 ∷ chapter 1 ∷ []) due)
 too_many_chapters first due = λ is. let few = is.chapters 0 in omega (arith, few)
 
-abbrev page : ℕ → DuePage
+abbrev pub page : ℕ → DuePage
 page i = record { number = 0; page = i }
 
 too_many_pages : (first : ℕ) (kept : List Numbered) → ¬ IsKept (book_with first 1 kept (page 0 ∷ page 1 ∷ page 2 ∷ page 3 ∷ page 0 ∷ []))
@@ -71,16 +71,16 @@ too_many_pages first kept = λ is. let few = is.pages 0 in omega (arith, few)
 
 -- what a look answers
 
-abbrev at : ℕ → Pbn
+abbrev pub at : ℕ → Pbn
 at block = record { 0 = block }
 
-abbrev name : List ℕ
+abbrev pub name : List ℕ
 name = 7 ∷ 0 ∷ 0 ∷ 0 ∷ []
 
-abbrev learnt_book : Book
+abbrev pub learnt_book : Book
 learnt_book = record { nonce = 1; first = 69; places = 2; kept = []; unclosed = record { name = name; at = at 85 } ∷ []; due = [] }
 
-abbrev index_with : Book → Bool → Index
+abbrev pub index_with : Book → Bool → Index
 index_with book unread = record { book = book; cached = []; asked = Some 69; given = []; unread = unread }
 
 the_newest_is_known : Answers name (index_with learnt_book false) (Known (at 85)) (at_rest (index_with learnt_book false))
@@ -109,10 +109,10 @@ a_thirteenth_page book cached given asked twelve = λ is. let few = is.0 refl in
 
 -- what is given
 
-abbrev asked_for : Index
+abbrev pub asked_for : Index
 asked_for = index_with learnt_book false
 
-abbrev given_with : List ℕ → Option ℕ → Bool → Index
+abbrev pub given_with : List ℕ → Option ℕ → Bool → Index
 given_with given asked unread = record { book = learnt_book; cached = []; asked = asked; given = given; unread = unread }
 
 a_page_that_failed : IsGiven asked_for (given_with (69 ∷ []) None true) 69 true
