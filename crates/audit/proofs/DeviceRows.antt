@@ -60,10 +60,10 @@ roots_shown blocks (suc n) shown tree below = elim (cases_eq tree n) [
 ]
 
 -- the slab: a block of counters and four of its journal
-abbrev five : Blocks
+abbrev pub five : Blocks
 five = replicate 5 zero_block
 
-slab_read : (honest : Bool) → AreSlabsRead false honest small seen seen (five ∷ [])
+pub slab_read : (honest : Bool) → AreSlabsRead false honest small seen seen (five ∷ [])
 slab_read honest = record {
   count = refl;
   read = (
@@ -79,25 +79,27 @@ slab_read honest = record {
 abbrev both_read : (honest : Bool) → AreBothRead false honest (head_of true) seen seen (root_readings 60) (five ∷ [])
 both_read honest = record { middle = seen; pages_read = roots_read honest 60 (omega arith); slabs_read = slab_read honest }
 
--- each image with these blocks has nothing
-module _ (blocks : Blocks) (shown : Shows blocks (root_readings 60)) (holds : Holds small blocks (five ∷ [])) where
-  roots_are : (tree : ℕ) → tree < 60 → block_at blocks (block_of small (Root tree)) ≡ empty_root small tree
-  roots_are = roots_shown blocks 60 shown
-
+-- each image with that slab has no counters there, and no updates
+module _ (blocks : Blocks) (holds : Holds small blocks (five ∷ [])) where
   zeros_are : (slab i b : ℕ) → slab < 1 → i < 5 → b ≡ 149 + i → block_at blocks b ≡ zero_block
   zeros_are slab i b one below place =
       let first : slab ≡ 0 = omega (arith, one) in
       let here : block_at blocks (first_of_slab small 0 + i) ≡ block_at five i = holds 0 i (omega arith) below in
       ap (block_at blocks) place ∙ here ∙ get_or-replicate 5 i zero_block zero_block below
 
-  counters_are : (slab i : ℕ) → slab < 1 → i < references_of small → block_at blocks (block_of small (ReferenceBlock slab i)) ≡ zero_block
+  pub counters_are : (slab i : ℕ) → slab < 1 → i < references_of small → block_at blocks (block_of small (ReferenceBlock slab i)) ≡ zero_block
   counters_are slab i one below = zeros_are slab i (block_of small (ReferenceBlock slab i)) one (omega (arith, below)) (omega (arith, one))
 
-  journals_are : (slab slot : ℕ) → slab < 1 → slot < 4 → block_at blocks (block_of small (SlabJournalSlot slab slot)) ≡ zero_block
+  pub journals_are : (slab slot : ℕ) → slab < 1 → slot < 4 → block_at blocks (block_of small (SlabJournalSlot slab slot)) ≡ zero_block
   journals_are slab slot one below = zeros_are slab (1 + slot) (block_of small (SlabJournalSlot slab slot)) one (omega (arith, below)) (omega (arith, one))
 
+-- each image with all of these blocks has nothing
+module _ (blocks : Blocks) (shown : Shows blocks (root_readings 60)) (holds : Holds small blocks (five ∷ [])) where
+  roots_are : (tree : ℕ) → tree < 60 → block_at blocks (block_of small (Root tree)) ≡ empty_root small tree
+  roots_are = roots_shown blocks 60 shown
+
   nothing : HasNothing (the_image small blocks)
-  nothing = nothing_there small blocks journals_are small_is (root_says small blocks roots_are) counters_are
+  nothing = nothing_there small blocks (journals_are blocks holds) small_is (root_says small blocks roots_are) (counters_are blocks holds)
 
   good : ArePagesGood (the_image small blocks)
   good = pages_good small blocks small_is (root_says small blocks roots_are) (blank_slot small blocks roots_are)
@@ -117,13 +119,13 @@ module _ (blocks : Blocks) (shown : Shows blocks (root_readings 60)) (holds : Ho
         subst (λ (count : ℕ). Stores (the_image small blocks) place (Ok count)) (sym (get_or-replicate 64 (block_number small place) 0 0 (omega (arith, slab, offset)))) (nothing.stored place inside);
     sizes = length-replicate {A = SectorPoints} 1 no_points;
     points = λ slab n one below.
-        let none = no_commits small blocks counters_are slab n one (omega (arith, below)) in
+        let none = no_commits small blocks (counters_are blocks holds) slab n one (omega (arith, below)) in
         let here : get_or points (slab * sectors_per_slab small + n) no_points ≡ no_points = get_or-replicate 1 (slab * sectors_per_slab small + n) no_points no_points (omega (arith, one, below)) in
         rw here record {
           commit = sym none;
           applied = record {
             reached = inl (sym none);
-            most = λ point later is. absurd (no_updates small blocks (none_kept_in_zeros small blocks journals_are) (record { slab = slab; offset = is.0 }) point (one, is.1) is.3);
+            most = λ point later is. absurd (no_updates small blocks (none_kept_in_zeros small blocks (journals_are blocks holds)) (record { slab = slab; offset = is.0 }) point (one, is.1) is.3);
           };
         };
   }

@@ -6,3 +6,4 @@ pub mod ReadExample
 mod AcceptedRows
 mod DeviceRows
 pub mod DifferRows
+mod SharedRows

@@ -10,9 +10,6 @@
 //! Not there: that what the reads of an honest device gave is what its one image has; that no data blocks are read but
 //! those of linked pages, and each of them once, so that of a device which gives two contents of one block nothing is
 //! said.
-//!
-//! No rows yet: the fault of a shared block behind a window (`AuditFails`), as a device gives it whole; the parts are
-//! pinned each.
 #![tactic(auto)]
 
 mod auditor;
