@@ -1,3 +1,4 @@
+use blk_base::{Geometry, Layout};
 use file_disk::Access;
 use std::alloc::{AllocError, Global};
 use std::{env, io};
@@ -22,8 +23,6 @@ impl From<AllocError> for ArgumentsError {
 /// A device on which a command is done.
 #[derive(Drop)]
 pub(crate) enum Device {
-    /// In memory, with a fresh image of the default sizes.
-    Fresh,
     /// In memory, with so many blocks.
     Memory(u32),
     /// A file as a device.
@@ -42,12 +41,9 @@ pub(crate) struct CommandLine {
     pub(crate) words: Words,
 }
 
-/// The command `run`, or one whose words these are.
+/// A command of these words.
 fn words_of(alloc: Global, texts: &[String]) -> Result<Words, AllocError> {
     let mut words = Words::new(alloc);
-    if texts.is_empty() {
-        words.push("run")?;
-    }
     for text in texts {
         words.push(text.as_str())?;
     }
@@ -60,10 +56,6 @@ fn number_of(text: &str) -> Option<u32> {
         return None;
     }
     text.parse().ok()
-}
-
-fn names_run(texts: &[String]) -> bool {
-    texts.first().is_some_and(|text| text.as_str() == "run")
 }
 
 /// What a command does to the blocks of its device: an audit and a status look at them alone.
@@ -92,15 +84,21 @@ fn device_of(
     })
 }
 
+/// `run` in memory, on as many blocks as an image of the default sizes needs.
+fn default_line(alloc: Global) -> Result<CommandLine, AllocError> {
+    let mut words = Words::new(alloc);
+    words.push("run")?;
+    Ok(CommandLine {
+        device: Device::Memory(Layout::of(&Geometry::DEFAULT).needed()),
+        words,
+    })
+}
+
 // A word that isn't UTF-8 is a faulty command line.
-/// A command line is nothing, or `run` with its options, or `IMAGE BLOCKS` and a command, which isn't `run` yet.
+/// A command line is nothing, which is `- 154 run`, or `IMAGE BLOCKS` and a command.
 fn line_of(alloc: Global, texts: &[String]) -> Result<CommandLine, ArgumentsError> {
-    if texts.is_empty() || names_run(texts) {
-        let words = words_of(alloc, texts)?;
-        return Ok(CommandLine {
-            device: Device::Fresh,
-            words,
-        });
+    if texts.is_empty() {
+        return Ok(default_line(alloc)?);
     }
     let [image, blocks, command @ ..] = texts else {
         return Err(ArgumentsError::Usage);
@@ -108,7 +106,7 @@ fn line_of(alloc: Global, texts: &[String]) -> Result<CommandLine, ArgumentsErro
     let Some(blocks) = number_of(blocks.as_str()) else {
         return Err(ArgumentsError::Usage);
     };
-    if command.is_empty() || names_run(command) {
+    if command.is_empty() {
         return Err(ArgumentsError::Usage);
     }
     let words = words_of(alloc, command)?;

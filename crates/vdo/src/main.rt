@@ -1,5 +1,5 @@
-//! The program: it makes an image on a file, recovers, rebuilds or grows one, or looks at one, or serves a script on a
-//! fresh image in memory.
+//! The program: it makes an image, recovers, rebuilds or grows one, looks at one, or serves a script on one. The image is
+//! on a file, or in memory, where it is a new one.
 //!
 //! Only tested: the stored run; which device and command the words name, and a file that can't be opened or written
 //! (`tools/image_files.sh`); the instructions of a run (docs/PERFORMANCE.md).
@@ -13,10 +13,8 @@
 mod arguments;
 
 use arguments::{ArgumentsError, CommandLine, Device, command_line};
-use blk_base::{Geometry, Layout};
 use disk_model::{Disk, MemDisk, OpenGate};
 use file_disk::open_disk;
-use image_format::format;
 use std::alloc::{AllocError, Global};
 use std::process::ExitCode;
 use std::sync::Wait;
@@ -60,15 +58,6 @@ impl<'r> Streams<'r> {
     }
 }
 
-/// A device in memory with an empty image of the default sizes. A call of it fails for want of memory alone.
-fn fresh(alloc: Global) -> Result<MemDisk, AllocError> {
-    let mut device = MemDisk::zeroed(alloc, Layout::of(&Geometry::DEFAULT).needed())?;
-    match format(&Geometry::DEFAULT, &mut device) {
-        Ok(_) => Ok(device),
-        Err(_) => Err(AllocError),
-    }
-}
-
 /// A command on a device in memory, on which an image of the default sizes is made first; where that fails, its status.
 fn run_in_memory<R: Threads + Wait + Sync>(
     rt: &R,
@@ -97,10 +86,6 @@ fn run_on<R: Threads + Wait + Sync>(
 ) -> Result<u8, ArgumentsError> {
     let CommandLine { device, words } = line;
     match device {
-        Device::Fresh => {
-            let device = fresh(rt.alloc())?;
-            Ok(streams.run(threads, &words, device).status)
-        }
         Device::Memory(blocks) => {
             Ok(run_in_memory(threads, rt.alloc(), &words, blocks, streams)?)
         }
