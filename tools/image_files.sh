@@ -1,7 +1,7 @@
 #!/bin/sh
 # Tries the commands that work on image files, on files in a new folder: what each prints, its status, and what it leaves.
 # It prints a line for each try that went wrong, then how many went well and what was left out, and ends with 0 where none
-# went wrong. The program is built where a source is newer, unless VDO names another. It takes some two minutes.
+# went wrong. The program is built where a source is newer, unless VDO names another. It takes some four minutes.
 unset CDPATH
 top=$(cd -- "$(dirname -- "$0")/.." && pwd) || exit 1
 folder=$(mktemp -d) || exit 1
@@ -358,13 +358,69 @@ audit clean, used 0 of 64' - 154 audit
 try 0 'formatted 154 blocks, 1 slab of 64, logical 1000
 clean' - 154 recover
 
+# script STATUS TEXT SCRIPT WORD..: the program with these words and this script ends with this status and prints this text.
+script() {
+    status=$1
+    text=$2
+    lines=$3
+    shift 3
+    printed=$(printf "$lines" | "$vdo" "$@" 2>errors)
+    same "$? $printed" "$status $text" "vdo $* with '$lines'"
+}
+
+# Runs one after the other on a file: each finds what was written before, and is recovered where it has to be.
+cp image served
+script 0 '' '' served 154 run
+alike image served 'a script without a request wrote the image'
+script 0 '0 0 write 5 ok z0:0
+0 1 read 5 4096*61 z0:1' '0 write 5 4096*61\n0 read 5\n' served 154 run
+agree served 154
+mend served 154
+script 0 'recovered 2 entries
+0 0 write 5 ok z0:0
+0 1 flush ok' '0 write 5 4096*62\n0 flush\n' served 154 run --schedule 7
+cp served kept
+try 4 'bad image: field blocks' served 153 run
+alike served kept 'an image that was refused was written'
+script 2 'recovered 1 entries
+script line 1: word' '0 erase 5\n' served 154 run
+try 0 clean served 154 recover
+script 0 '0 0 read 5 4096*62 z0:0
+0 1 read 1000 range' '0 read 5\n0 read 1000\n' served 4000000000 run
+try 0 'recovered 0 entries' served 154 recover
+try 0 'audit clean, used 2 of 64' served 154 audit
+script 4 'bad image: not an image' '0 read 5\n' bare 154 run
+same "$(wc -c <bare | tr -d ' ')" 0 'size of a file without an image on which a script ran'
+
+# A new image in memory, with these words and without any.
+for words in '- 154 run' ''; do
+    # shellcheck disable=SC2086
+    script 0 'formatted 154 blocks, 1 slab of 64, logical 1000
+0 0 write 5 ok z0:0' '0 write 5 4096*61\n' $words
+done
+try 8 'layout: needs 154 blocks, has 153' - 153 run
+
+# A page that is no longer one: where the journal replaces a slot the page's own one isn't looked at.
+cp image served
+script 0 '0 0 write 5 ok z0:0' '0 write 5 4096*61\n' served 154 run
+put served 348221 002
+cp served kept
+try 0 'recovered 2 entries' served 154 recover
+cp kept served
+put served 348211 002
+cp served kept
+try 4 'bad image: page 85 slot 3 compressed' served 154 run
+alike served kept 'an image that was refused was written'
+
 # Words that are no command line.
 try 2 usage image
 try 2 usage image 154
 try 2 usage image blocks format
 try 2 usage image +154 format
 try 2 usage image 154 erase
-try 2 usage image 154 run
+try 2 usage run
+try 2 usage run --schedule 7
+try 2 usage image 154 run now
 try 2 usage image 154 recover --schedule 0
 try 2 usage image 154 force-rebuild --slabs 1
 try 2 usage image 154 grow --slabs 1
@@ -375,6 +431,7 @@ try 2 usage image 154 status --logical 1
 # Files that can't be opened, or written.
 mkdir directory
 try 3 'device fault' directory 154 format
+try 3 'device fault' directory 154 run
 try 3 'device fault' directory 154 audit
 try 3 'device fault' directory 154 status
 try 3 'device fault' directory 154 recover
@@ -412,6 +469,7 @@ else
     try 3 'device fault' closed 154 status
     try 0 'audit clean, used 0 of 64' readable 154 audit
     try 3 'device fault' readable 154 format
+    try 3 'device fault' readable 154 run
     try 3 'device fault' readable 154 recover
     try 3 'device fault' readable 154 force-rebuild
     try 3 'device fault' readable 154 grow --logical 2000 --slabs 1
@@ -437,12 +495,12 @@ fi
 if command -v flock >errors; then
     cp image held
     cp held kept
-    for command in format recover force-rebuild 'grow --logical 2000 --slabs 1' audit status; do
+    for command in format run recover force-rebuild 'grow --logical 2000 --slabs 1' audit status; do
         # shellcheck disable=SC2086
         printed=$(flock -x held "$vdo" held 154 $command 2>errors)
         same "$? $printed" '3 device fault' "$command of a file that another changes"
     done
-    for command in format recover force-rebuild 'grow --logical 2000 --slabs 1'; do
+    for command in format run recover force-rebuild 'grow --logical 2000 --slabs 1'; do
         # shellcheck disable=SC2086
         printed=$(flock -s held "$vdo" held 154 $command 2>errors)
         same "$? $printed" '3 device fault' "$command of a file that another looks at"
@@ -519,7 +577,7 @@ alike many kept 'a status wrote the image'
 "$vdo" image 154 format >&-
 same "$?" 7 'status of a format without an output'
 same "$("$vdo" image 154 audit)" 'audit clean, used 0 of 64' 'an image that was made without an output'
-"$vdo" run <&- >lines
+"$vdo" image 154 run <&- >lines
 same "$? $(cat lines)" '7 read fault' 'a run without an input'
 if [ -c /dev/full ]; then
     "$vdo" image 154 audit >/dev/full 2>errors
@@ -544,6 +602,14 @@ fi
 # A file that may grow no further.
 printed=$(trap '' XFSZ; ulimit -f 8; "$vdo" grown 154 format 2>errors)
 same "$? $printed" '3 device fault' 'format of a file that may grow no further'
+
+# A file that is put onto an image by several runs, killed before each of the first system calls that write.
+if [ -n "$python" ] && command -v cc >errors; then
+    printed=$($python "$top/tools/killed_runs.py" "$vdo" 200 2>errors)
+    same "$? $printed" '0 killed runs: 400 kills, 0 went wrong' 'runs that were killed'
+else
+    leave_out 'python3 or cc is missing, so no run is killed'
+fi
 
 # The examples of README and of the manual.
 if [ -n "$python" ]; then
