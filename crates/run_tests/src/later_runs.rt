@@ -1,7 +1,7 @@
 use crate::runs::{Calls, End, all_right, end_of_superblock, fresh, puts};
-use blk_base::{Geometry, Pbn, Super};
-use disk_model::{CallKind, FaultAt};
-use std::alloc::Global;
+use blk_base::{Block, Geometry, Pbn, Super};
+use disk_model::{CallKind, Disk, FaultAt, MemDisk};
+use std::alloc::{AllocError, Global};
 use std::process::Abort;
 use std::sync::Wait;
 use std::test::Fail;
@@ -47,6 +47,27 @@ fn a_later_run_finds_what_an_earlier_one_wrote(rt: HostRuntime) -> Result<(), Fa
             (
                 b"0 read 5\n0 read 999\n0 read 6\n",
                 b"recovered 3 entries\n0 0 read 5 4096*62 z0:0\n0 1 read 999 4096*63 z0:1\n0 2 read 6 4096*00 z0:2\n",
+                0,
+            ),
+        ],
+    )
+}
+
+#[test]
+fn a_later_run_writes_the_same_block(rt: HostRuntime) -> Result<(), Fail> {
+    in_turn(
+        &rt,
+        rt.alloc(),
+        &[
+            (b"0 write 1 4096*61\n", b"0 0 write 1 ok z0:0\n", 0),
+            (
+                b"0 write 2 4096*61\n",
+                b"recovered 2 entries\n0 0 write 2 ok z0:0\n",
+                0,
+            ),
+            (
+                b"0 read 1\n0 read 2\n",
+                b"recovered 1 entries\n0 0 read 1 4096*61 z0:0\n0 1 read 2 4096*61 z0:1\n",
                 0,
             ),
         ],
@@ -152,6 +173,51 @@ fn a_leaf_that_cannot_be_read(rt: HostRuntime) -> Result<(), Fail> {
         b"0 0 read 5 read fault z0:0\n0 1 read 5 4096*61 z0:1\n",
         3,
     )?;
+    Ok(())
+}
+
+/// The leaf that the first write makes.
+const LEAF: Pbn = Pbn(85);
+
+// What a device holds, with another byte in that leaf.
+fn with_byte_in_leaf(
+    alloc: Global,
+    device: &MemDisk,
+    place: usize,
+    byte: u8,
+) -> Result<MemDisk, AllocError> {
+    let mut changed = device.pick_image(alloc, 1)?;
+    let mut leaf = Block::zero();
+    if changed.blocks() > LEAF.0 && changed.read(LEAF, &mut leaf).is_ok() && place < 4096 {
+        leaf.bytes[place] = byte;
+        let _written = changed.write(LEAF, &leaf);
+    }
+    changed.pick_image(alloc, 1)
+}
+
+// A place in the leaf of address 5, another byte there, and how a read of the address ends then. The window has slot 5, whose place
+// is 61, so that isn't looked at.
+const LEAF_BYTES: [(usize, u8, &[u8], u8); 3] = [
+    (51, 2, b"bad image: page 85 slot 3 compressed\n", 4),
+    (61, 2, b"recovered 2 entries\n0 0 read 5 4096*61 z0:0\n", 0),
+    (0, 255, b"bad image: page 85 header\n", 4),
+];
+
+#[test]
+fn a_leaf_with_another_byte(rt: HostRuntime) -> Result<(), Fail> {
+    let alloc = rt.alloc();
+    let written = puts(
+        &rt,
+        alloc,
+        fresh(alloc)?,
+        b"0 write 5 4096*61\n",
+        b"0 0 write 5 ok z0:0\n",
+        0,
+    )?;
+    for &(place, byte, text, status) in &LEAF_BYTES {
+        let changed = with_byte_in_leaf(alloc, &written, place, byte)?;
+        let _left = puts(&rt, alloc, changed, b"0 read 5\n", text, status)?;
+    }
     Ok(())
 }
 

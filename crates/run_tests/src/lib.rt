@@ -13,6 +13,8 @@ mod later_runs;
 #[cfg(test)]
 mod runs;
 #[cfg(test)]
+mod stopped_runs;
+#[cfg(test)]
 mod stops;
 #[cfg(test)]
 mod torn;

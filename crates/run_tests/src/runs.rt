@@ -297,7 +297,7 @@ pub(crate) fn each_is_right<R: Threads + Wait + Sync + Abort>(
     Ok(())
 }
 
-const SCRIPTS: [Case; 3] = [
+const SCRIPTS: [Case; 4] = [
     (
         Device::Fresh,
         b"0 write 5 4096*61\n0 read 5\n",
@@ -315,6 +315,16 @@ const SCRIPTS: [Case; 3] = [
         b"0 write 1 4096*61\n0 write 2 4096*62\n0 write 1 4096*63\n0 read 1\n0 flush\n0 read 2\n0 read 3",
         (
             b"0 0 write 1 ok z0:0\n0 1 write 2 ok z0:1\n0 2 write 1 ok z0:2\n0 3 read 1 4096*63 z0:3\n0 4 flush ok\n0 5 read 2 4096*62 z0:4\n0 6 read 3 4096*00 z0:5\n",
+            0,
+            Calls::Any,
+        ),
+    ),
+    // Two addresses have the same block, until one of them is written again.
+    (
+        Device::Fresh,
+        b"0 write 1 4096*61\n0 flush\n0 write 2 4096*61\n0 flush\n0 write 1 4096*62\n0 read 2\n",
+        (
+            b"0 0 write 1 ok z0:0\n0 1 flush ok\n0 2 write 2 ok z0:1\n0 3 flush ok\n0 4 write 1 ok z0:2\n0 5 read 2 4096*61 z0:3\n",
             0,
             Calls::Any,
         ),
@@ -490,9 +500,9 @@ const SERVED_LINES: [Case; 6] = [
     ),
     (
         Device::Fresh,
-        b"0 read 5\n0 read 1000\n0 write 4294967295 4096*61\n",
+        b"0 read 7\n0 read 1000\n0 write 4294967295 4096*61\n",
         (
-            b"0 0 read 5 4096*00 z0:0\n0 1 read 1000 range\n0 2 write 4294967295 range\n",
+            b"0 0 read 7 4096*00 z0:0\n0 1 read 1000 range\n0 2 write 4294967295 range\n",
             0,
             Calls::Any,
         ),

@@ -118,7 +118,7 @@ fn behind_a_line(text: &[u8]) -> &[u8] {
 }
 
 // The answers of a run, behind how many entries were recovered.
-fn answers(text: &[u8]) -> &[u8] {
+pub(crate) fn answers(text: &[u8]) -> &[u8] {
     if text.starts_with(b"recovered ") {
         behind_a_line(text)
     } else {
@@ -132,7 +132,7 @@ fn shows_allowed(ran: &Ran, count: usize) -> bool {
 }
 
 // Whether each block is counted as often as it is mapped.
-fn is_counted<R: Threads + Wait + Sync>(
+pub(crate) fn is_counted<R: Threads + Wait + Sync>(
     rt: &R,
     alloc: Global,
     device: MemDisk,

@@ -1,8 +1,9 @@
 //! The program: it makes an image, recovers, rebuilds or grows one, looks at one, or serves a script on one. The image is
 //! on a file, or in memory, where it is a new one.
 //!
-//! Only tested: the stored run; which device and command the words name, and a file that can't be opened or written
-//! (`tools/image_files.sh`); the instructions of a run (docs/PERFORMANCE.md).
+//! Only tested: the stored run; which device and command the words name, a file that can't be opened or written, scripts
+//! one after the other on a file, and runs on it that are killed (`tools/image_files.sh`); the instructions of a run
+//! (docs/PERFORMANCE.md).
 //!
 //! Not there: what the operating system's streams and files do, which device and command `main` takes from the words of
 //! the program, what it prints before it calls `run`, that memory is found, how long a call takes, and that `drive`
