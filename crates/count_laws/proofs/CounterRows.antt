@@ -1,9 +1,9 @@
 -- What stands of the counts: for each clause a case that it accepts and one that it refuses. The image and the entries are
 -- those of the example; what its counters and its window have of them is accepted there.
-use Rattle.std.proofs.Common.{ℕ, zero, suc, ◌≡◌, ◌+◌, ◌/◌, ◌%◌, ◌<◌, ◌≤◌, true, false, List, [], ◌∷◌, Contains, Result, Ok, refl, ap, subst, inl, inr, arith}
+use Rattle.std.proofs.Common.{ℕ, zero, suc, ◌≡◌, ◌+◌, ◌/◌, ◌%◌, ◌<◌, ◌≤◌, true, false, List, [], ◌∷◌, Contains, length, Result, Ok, refl, ap, subst, inl, inr, arith}
 use Rattle.std.proofs.lemmas.Bool.Decides.{eqb_tells}
 use Rattle.std.proofs.lemmas.List.Elements.{All-cons, All-nil}
-use Rattle.blk_base.specs.Regions.{DataBlock, ReferenceBlock, SlabJournalSlot, block_of}
+use Rattle.blk_base.specs.Regions.{DataBlock, ReferenceBlock, SlabJournalSlot, block_of, needed_blocks}
 use Rattle.blk_base.specs.Counters.{sector_of_offset}
 use Rattle.blk_base.specs.Sectors.{sector, zero_block}
 use Rattle.blk_base.specs.declared.layout.DataPlace.{DataPlace}
@@ -14,11 +14,14 @@ use Rattle.byte_fields.specs.Fields.{number_at}
 use Rattle.disk_model.specs.declared.call.Call.{Call}
 use Rattle.disk_model.specs.declared.call.Call.TheVariants.{Flush, Write}
 use Rattle.disk_model.specs.Log.{Blocks, block_at}
+use Rattle.disk_model.proofs.LookedLaws.{one_in-all}
+use Rattle.disk_model.proofs.OneImageLaws.{one_image-opening}
 use Rattle.image_model.proofs.CountLaws.{none_in_nothing}
 use Rattle.image_model.proofs.Example.{pbn, small}
 use Rattle.image_model.proofs.ZeroLaws.{no_slab_sector}
 use Rattle.image_model.specs.Counts.{HasMappings, IsUpdate, Stores, block_of_data, commit_at, commit_of, count_after, counter_of, reference_sector_at}
 use Rattle.image_model.specs.Empty.{IsEmpty}
+use Rattle.image_model.specs.Looked.{is_looked_at}
 use Rattle.image_model.specs.Maps.{Image, IsTreePage, mapping_of}
 use Rattle.image_model.specs.Sound.{IsDataPlace}
 use Rattle.slab_codec.proofs.ReadLaws.{written}
@@ -29,6 +32,7 @@ use Rattle.stop_laws.specs.Journals.{Surely}
 use Rattle.count_laws.specs.Closed.{HasClosedCounts}
 use Rattle.count_laws.specs.Counters.{CountsStand, HasUpdate, IsCounted, IsKnown, IsOfSector, MayWrite, SurelyCounters, UpdateStands, counter_in, entry_at, points_at}
 use Rattle.count_laws.specs.Points.{up_to}
+use Rattle.count_laws.proofs.KeepLaws.{counts_after_write, counts_begin}
 use Rattle.count_laws.proofs.Example.{closed, commit_behind, commits_before, counter_none, four, opened, place}
 
 -- Closed counts.
@@ -273,3 +277,29 @@ module _ (blocks : Blocks) (empty : IsEmpty small blocks) where
       | inr counted ↦ (let high = counted.0 in let low = low_commit in omega (arith, high, low))
     ]
   ]
+
+  -- The block of counters as it was opened: the sectors behind the last counter have their opened commit points.
+  write_as_opened : MayWrite blocks [] image [] [] 149 (block_at blocks 149)
+  write_as_opened = record {
+    sectors = λ slab n in_slab below here. again slab n in_slab below;
+    behind = λ slab n in_slab past below here.
+        subst (λ (b : ℕ). number_at 8 0 (sector (n % 8) (block_at blocks 149)) ≤ number_at 8 0 (sector (n % 8) (block_at blocks b))) here (omega arith);
+    no_lower = λ x n point there here has surely. absurd (none_in_nothing point has);
+    only = λ slab slot number entry in_slab in_journal below here. absurd (no_slot slab slot in_slab here);
+    overwritten = λ x slot number point there in_journal below here has surely. absurd (none_in_nothing point has);
+  }
+    where
+      again : (slab n : ℕ) → slab < 1 → n < 1 → IsCounted image [] slab n (sector (n % 8) (block_at blocks 149))
+      again zero zero in_slab below = as_opened
+      again zero (suc n) in_slab below = absurd (omega (arith, below))
+      again (suc slab) n in_slab below = absurd (omega (arith, in_slab))
+
+      no_slot : (slab slot : ℕ) → slab < 1 → 149 ≡ block_of small (SlabJournalSlot slab slot) → ⊥
+      no_slot zero slot one same = omega (arith, same)
+      no_slot (suc slab) slot one same = omega (arith, one)
+
+  stands_as_opened : needed_blocks small ≤ length blocks → ((b : ℕ) → b < length blocks → length (block_at blocks b) ≡ 4096)
+      → CountsStand blocks (Write (pbn 149) (block_at blocks 149) true ∷ []) image [] []
+  stands_as_opened room whole =
+      counts_after_write blocks [] image [] [] (pbn 149) (block_at blocks 149) true write_as_opened
+      (counts_begin blocks [] image room (one_in-all (is_looked_at small) blocks [] blocks (one_image-opening blocks whole)) (closed blocks empty).updates)

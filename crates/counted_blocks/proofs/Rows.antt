@@ -1,5 +1,5 @@
 -- A slab that took two of the four updates that the example's entries give it, and those that it can't have taken.
-use Rattle.std.proofs.Common.{ℕ, zero, suc, ◌≡◌, ◌/◌, ◌%◌, ◌<◌, ◌==◌, true, false, List, [], ◌∷◌, ◌++◌, Contains, replicate, slice_index, get_or, refl, sym, ◌∙◌, ap, subst, inl, inr, arith}
+use Rattle.std.proofs.Common.{ℕ, zero, suc, ◌≡◌, ◌+◌, ◌/◌, ◌%◌, ◌<◌, ◌==◌, true, false, List, [], ◌∷◌, ◌++◌, Contains, replicate, slice_index, get_or, refl, sym, ◌∙◌, ap, subst, inl, inr, arith}
 use Rattle.std.proofs.Math.Nat.{mod-lt}
 use Rattle.std.proofs.lemmas.Bool.Decides.{eqb_tells}
 use Rattle.std.proofs.lemmas.List.{get_or-replicate, length-replicate}
@@ -20,7 +20,7 @@ use Rattle.reference_blocks.specs.References.{point_at}
 use Rattle.reference_blocks.specs.Updates.{AreRising, counters_after}
 use Rattle.slab_codec.specs.declared.forms.SlabEntry.{SlabEntry}
 use Rattle.count_laws.specs.Counters.{points_at}
-use Rattle.count_laws.proofs.Example.{counter_none, four, opened}
+use Rattle.count_laws.proofs.Example.{at_point, counter_none, four, leaf, opened}
 use Rattle.count_laws.proofs.WriteExample.{other_points}
 use Rattle.counted_blocks.specs.Taken.{HasTaken, entries_taken, entry_of, in_slab, place_in, taken_at}
 
@@ -101,6 +101,31 @@ module _ (blocks : Blocks) (empty : IsEmpty small blocks) where
     newer = one_of_two (λ y. (point_at points (sector_of_offset small y.offset)).0 < y.point.0) (update 519 1) (update 516 1) (omega arith) (omega arith);
     small = one_of_two (λ e. e.point.0 < 18446744073709551616) (update 514 1) (update 512 0) (omega arith) (omega arith);
   }
+
+  -- one at the last point of 64 bits
+  at_the_last_point : HasTaken (opened blocks empty) (at_point leaf 18446744073709551615 ∷ []) 0 points (replicate 64 0) (update 18446744073709551615 0 ∷ [])
+  at_the_last_point = record {
+    commits = has_taken.commits;
+    size = has_taken.size;
+    counters = has_taken.counters;
+    inside = λ e has. elim (is_first_or_behind (update 18446744073709551615 0) [] e has) [
+      | inl same ↦ subst (λ (x : SlabEntry). x.offset < 64) same (omega arith)
+      | inr none ↦ absurd (none_in_nothing e none)
+    ];
+    rising = (All-nil (λ (e : SlabEntry). e.point.0 < 18446744073709551615), omega arith, tt);
+    later = [];
+    parts = λ offset inside. last_part offset;
+    order = λ e other has none. absurd (none_in_nothing other none);
+    newer = λ other none. absurd (none_in_nothing other none);
+    small = λ e has. elim (is_first_or_behind (update 18446744073709551615 0) [] e has) [
+      | inl same ↦ subst (λ (x : SlabEntry). x.point.0 < 18446744073709551616) same (omega arith)
+      | inr none ↦ absurd (none_in_nothing e none)
+    ];
+  }
+    where
+      last_part : (offset : ℕ) → points_at small (at_point leaf 18446744073709551615 ∷ []) (place_in 0 offset) ≡ taken_at offset (update 18446744073709551615 0 ∷ []) ++ taken_at offset []
+      last_part zero = refl
+      last_part (suc k) = rw (differs 0 (suc k) (λ (same : ◌≡◌ {A = ℕ} 0 (suc k)). omega (arith, same)), differs 85 (85 + suc k) (λ (same : ◌≡◌ {A = ℕ} 85 (85 + suc k)). omega (arith, same))) refl
 
   -- one that leaves out an update between two others
   left_out : HasTaken (opened blocks empty) four 0 points (replicate 64 0) (update 516 1 ∷ update 512 0 ∷ []) → ⊥
