@@ -22,7 +22,7 @@ use Rattle.image_model.specs.Windows.{IsWindow}
 use Rattle.image_model.specs.Looked.{HasOneImageButIndex, looked_in}
 use Rattle.recovery_laws.proofs.WholeLaws.{cut, failures, parts, stops, stops_behind}
 use Rattle.recovery_laws.specs.Calls.{ArePuts, recovery_calls}
-use Rattle.recovery_laws.specs.Kept.{image_in, recovered_super}
+use Rattle.recovery_laws.specs.Kept.{IsHeadKept, PutsOnly, image_in, recovered_super}
 use Rattle.recovery_laws.proofs.AlikeLaws.{alike_is_kept}
 use Rattle.rebuild.specs.Acts.{AreMade, HasStopped, IsStart}
 use Rattle.rebuild.specs.Outcomes.{Ends, IsAllMade, IsKeptSince}
@@ -41,8 +41,14 @@ reads_miss b (Read at bytes ok ∷ calls) reads = (tt, reads_miss b calls reads)
 reads_miss b (Write at bytes ok ∷ calls) reads = absurd reads
 reads_miss b (Flush ok ∷ calls) reads = absurd reads
 
+pub reads_put_nothing : (b : ℕ) (P : List ℕ → Type 0) (calls : List Call) → OnlyReads calls → AllByRecursion (PutsOnly b P) calls
+reads_put_nothing b P [] reads = tt
+reads_put_nothing b P (Read at bytes ok ∷ calls) reads = (tt, reads_put_nothing b P calls reads)
+reads_put_nothing b P (Write at bytes ok ∷ calls) reads = absurd reads
+reads_put_nothing b P (Flush ok ∷ calls) reads = absurd reads
+
 pub untouched_kept : (tells : Bool) (before now : Seen) (blocks : Blocks) (sound : IsSound blocks) → IsTrue tells → HasOneImageButIndex before.opening before.log blocks → IsUntouched tells before now
-    → IsKeptSince (image_in blocks sound) before now
+    → IsKeptSince blocks sound before now
 untouched_kept tells before now blocks sound told one untouched =
     let since = untouched.reads told in (
       since.0,
@@ -52,6 +58,7 @@ untouched_kept tells before now blocks sound told one untouched =
             let reads = reads_behind newer older (subst OnlyReads same since.2) in
             let still = one_in-since (looked_in blocks) before.opening before.log (older ++ before.log) blocks (older, refl, reads) one in
             alike_is_kept blocks image sound (one_in-unique (looked_in blocks) before.opening (older ++ before.log) blocks image still is);
+        heads = reads_put_nothing 0 (IsHeadKept blocks sound) since.0 since.2;
         index = λ i below. reads_miss (block_of sound.head.geometry (IndexBlock i)) since.0 since.2;
       },
     )
@@ -63,16 +70,16 @@ module _ (tells honest : Bool) (first : Seen) (blocks : Blocks) (start : IsStart
   abbrev last : ℕ
   last = start.to.sound.last
 
-  pub made_kept : (now : Seen) (calls : List Call) → AreMade image first now calls → IsKeptSince image first now
+  pub made_kept : (now : Seen) (calls : List Call) → AreMade image first now calls → IsKeptSince blocks start.to.sound first now
   made_kept now calls made = (calls, made.logged, parts first.opening blocks first.log calls start.to made.each)
 
-  pub stopped_kept : (now : Seen) → HasStopped image first now → IsKeptSince image first now
+  pub stopped_kept : (now : Seen) → HasStopped image first now → IsKeptSince blocks start.to.sound first now
   stopped_kept now stopped = elim stopped.logged [
     | inl is ↦ (as_failed stopped.call ∷ stopped.calls, is, cut first.opening blocks first.log stopped.calls start.to stopped.each stopped.call stopped.kind)
     | inr lost ↦ (stopped.calls, lost.0, parts first.opening blocks first.log stopped.calls start.to stopped.each)
   ]
 
-  pub all_kept : (now : Seen) → IsAllMade image last first now → IsKeptSince image first now
+  pub all_kept : (now : Seen) → IsAllMade image last first now → IsKeptSince blocks start.to.sound first now
   all_kept now (puts, are, logged) = (recovery_calls image last puts, logged, stops first.opening blocks first.log puts start.to are)
 
   -- While it is closed.
@@ -83,7 +90,7 @@ module _ (tells honest : Bool) (first : Seen) (blocks : Blocks) (start : IsStart
     pub closed_made : WereMade tells before now closing → IsAllMade image last first now
     closed_made closes = (puts, are, closes.logged start.told ∙ ap (λ (log : List Call). closing ++ log) made.logged)
 
-    pub closing_failed : OneFailed tells before now closing → IsKeptSince image first now
+    pub closing_failed : OneFailed tells before now closing → IsKeptSince blocks start.to.sound first now
     closing_failed failed =
         let whole : recovery_calls image last puts ≡ failed.newer ++ (failed.call ∷ (failed.done ++ puts)) =
         ap (λ (calls : List Call). calls ++ puts) failed.parts ∙ append_assoc failed.newer (failed.call ∷ failed.done) puts in
@@ -103,7 +110,7 @@ module _ (tells honest : Bool) (first : Seen) (blocks : Blocks) (start : IsStart
           )
         ]
 
-    pub closes_to : (result : Result (Unit {0}) Failed) → Makes tells before now closing result → Ends image last first now result
+    pub closes_to : (result : Result (Unit {0}) Failed) → Makes tells before now closing result → Ends blocks start.to.sound first now result
     closes_to (Ok _) makes = closed_made makes
     closes_to (Err _) makes = closing_failed makes
 

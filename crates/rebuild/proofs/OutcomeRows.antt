@@ -16,6 +16,8 @@ use Rattle.disk_model.specs.Images.{HasOneImage, IsImage}
 use Rattle.disk_model.specs.Log.{Blocks}
 use Rattle.disk_model.specs.Seen.{Seen}
 use Rattle.disk_model.specs.Since.{reads_of}
+use Rattle.image_layout.specs.Superblock.{super_of}
+use Rattle.image_layout.specs.declared.fault.SuperFault.{SuperFault}
 use Rattle.image_layout.specs.declared.fault.SuperFault.TheVariants.{NotAnImage}
 use Rattle.image_model.proofs.Example.{pbn, small}
 use Rattle.image_model.proofs.MapRows.{logged, page, root, with_root}
@@ -190,7 +192,7 @@ abbrev pub opened : Blocks → Seen
 opened blocks = record seen { opening = blocks }
 
 module _ (blocks : Blocks) (sound : IsSound blocks) (one : HasOneImage blocks [] blocks) where
-  pub kept_yet : IsKeptSince (image_in blocks sound) (opened blocks) (opened blocks)
+  pub kept_yet : IsKeptSince blocks sound (opened blocks) (opened blocks)
   kept_yet = (
     [],
     refl,
@@ -199,34 +201,45 @@ module _ (blocks : Blocks) (sound : IsSound blocks) (one : HasOneImage blocks []
           let none = no_older newer older same in
           let here : IsImage blocks [] now = subst (λ (calls : List Call). IsImage blocks (calls ++ []) now) none is in
           subst (AreKept (image_in blocks sound)) (sym (one_image-unique blocks [] blocks now one here)) (kept_by_itself blocks sound);
+      heads = tt;
       index = λ i below. tt;
     },
   )
 
   -- Ends: after a refusal that is all; after an answer all was made
-  refused_end : (fault : ImageFault) → Ends {T = ℕ} {E = ImageFault} (image_in blocks sound) sound.last (opened blocks) (opened blocks) (Err fault)
+  refused_end : (fault : ImageFault) → Ends {T = ℕ} {E = ImageFault} blocks sound (opened blocks) (opened blocks) (Err fault)
   refused_end fault = kept_yet
 
-  answered_early : (n : ℕ) → Ends {T = ℕ} {E = ImageFault} (image_in blocks sound) sound.last (opened blocks) (opened blocks) (Ok n) → ⊥
+  answered_early : (n : ℕ) → Ends {T = ℕ} {E = ImageFault} blocks sound (opened blocks) (opened blocks) (Ok n) → ⊥
   answered_early n (puts, are, log) = let size = ap (λ (l : List Call). length l) log in omega (arith, size)
 
-none_kept : (image : Image) → IsKeptSince image seen seen → ⊥
-none_kept image since = kept_by_nothing image (since.2.kept [] since.0 [] refl (record { size = refl; whole = λ b below. absurd (omega (arith, below)); sectors = λ b below. absurd (omega (arith, below)) }))
+none_kept : (blocks : Blocks) (sound : IsSound blocks) → IsKeptSince blocks sound seen seen → ⊥
+none_kept blocks sound since =
+    kept_by_nothing (image_in blocks sound) (since.2.kept [] since.0 [] refl (record { size = refl; whole = λ b below. absurd (omega (arith, below)); sectors = λ b below. absurd (omega (arith, below)) }))
 
 -- nor is a write of the index among the calls
-index_written : (image : Image) (bytes : List ℕ) (ok : Bool) → 0 < image.geometry.index
-    → AreStopsKept image [] [] (Write (pbn (block_of image.geometry (IndexBlock 0))) bytes ok ∷ []) → ⊥
-index_written image bytes ok some stops = (stops.index 0 some).0 refl
+index_written : (blocks : Blocks) (sound : IsSound blocks) (bytes : List ℕ) (ok : Bool) → 0 < sound.head.geometry.index
+    → AreStopsKept blocks sound [] [] (Write (pbn (block_of sound.head.geometry (IndexBlock 0))) bytes ok ∷ []) → ⊥
+index_written blocks sound bytes ok some stops = (stops.index 0 some).0 refl
+
+-- nor one of block 0 that is no superblock
+head_lost : (blocks : Blocks) (sound : IsSound blocks) (bytes : List ℕ) (fault : SuperFault) (ok : Bool) → super_of bytes (length blocks) ≡ Err fault
+    → AreStopsKept blocks sound [] [] (Write (pbn 0) bytes ok ∷ []) → ⊥
+head_lost blocks sound bytes fault ok is stops = elim (stops.heads.0 refl) [
+  | inl was ↦ absurd (cc (is, was))
+  | inr now ↦ let written = now.1 in absurd (cc (is, written))
+]
 
 -- and the log goes on
-log_lost : (image : Image) → IsKeptSince image flushed seen → ⊥
-log_lost image since = let size = ap (λ (l : List Call). length l) since.1 in omega (arith, size, length-append since.0 (Flush true ∷ []))
+log_lost : (blocks : Blocks) (sound : IsSound blocks) → IsKeptSince blocks sound flushed seen → ⊥
+log_lost blocks sound since = let size = ap (λ (l : List Call). length l) since.1 in omega (arith, size, length-append since.0 (Flush true ∷ []))
 
-all_end : Ends {T = ℕ} {E = ImageFault} still 7 seen (with_all still) (Ok 0)
-all_end = all_made
+all_end : (blocks : Blocks) (sound : IsSound blocks) → ArePuts (image_in blocks sound) []
+    → Ends {T = ℕ} {E = ImageFault} blocks sound seen (record seen { log = recovery_calls (image_in blocks sound) sound.last [] }) (Ok 0)
+all_end blocks sound are = ([], are, refl)
 
-lost_end : (image : Image) (fault : ImageFault) → Ends {T = ℕ} {E = ImageFault} image 7 flushed seen (Err fault) → ⊥
-lost_end image fault = log_lost image
+lost_end : (blocks : Blocks) (sound : IsSound blocks) (fault : ImageFault) → Ends {T = ℕ} {E = ImageFault} blocks sound flushed seen (Err fault) → ⊥
+lost_end blocks sound fault = log_lost blocks sound
 
 -- Writing all. An image of the default sizes that needs no other write: its superblock is written, with flushes around it.
 abbrev Blank : Image → Type 0

@@ -19,7 +19,7 @@ use Rattle.image_format.specs.Runs.{Makes}
 use Rattle.image_layout.specs.Opened.{super_of_image}
 use Rattle.image_layout.specs.Superblock.{super_block}
 use Rattle.image_model.specs.Maps.{Image}
-use Rattle.image_model.specs.Sound.{Opens}
+use Rattle.image_model.specs.Sound.{IsSound, Opens}
 use Rattle.image_model.specs.declared.fault.ImageFault.{ImageFault}
 use Rattle.image_model.specs.declared.fault.ImageFault.TheVariants.{Device}
 use Rattle.image_model.specs.Looked.{HasOneImageButIndex}
@@ -42,9 +42,10 @@ use Rattle.rebuild.specs.Outcomes.{Ends, IsKeptSince, RecoversUnclean, UncleanFa
 use Rattle.audit.specs.Reads.{AreContents}
 use Rattle.audit.specs.declared.forms.Contents.{Contents}
 
-ends_failed : {T E : Type 0} (image : Image) (last : ℕ) (first now : Seen) (result : Result T E) → IsErr result → IsKeptSince image first now → Ends image last first now result
-ends_failed image last first now (Ok _) is kept = absurd (cc is)
-ends_failed image last first now (Err _) is kept = kept
+ends_failed : {T E : Type 0} (blocks : Blocks) (sound : IsSound blocks) (first now : Seen) (result : Result T E) → IsErr result → IsKeptSince blocks sound first now
+    → Ends blocks sound first now result
+ends_failed blocks sound first now (Ok _) is kept = absurd (cc is)
+ends_failed blocks sound first now (Err _) is kept = kept
 
 -- Writing.
 
@@ -56,7 +57,7 @@ blocks_failed tells honest before now N last fault result is acts = record {
   grows = acts.grows;
   failed = on_err tells before now result acts.failed;
   ends = λ first blocks start calls made has same.
-      ends_failed (image_in blocks start.to.sound) start.to.sound.last first now result is
+      ends_failed blocks start.to.sound first now result is
       (stopped_kept tells honest first blocks start now (acts.recovers first blocks start calls made has));
 }
 
@@ -148,7 +149,7 @@ module _ (tells honest : Bool) (head : Superblock) (before second third now : Se
     made : (reads : List Call) × AreMade image first third (reads ++ [])
     made = read_made tells image first first third [] start.told (none_made image first) (untouched_on tells first before third before_it all_read)
 
-    ends_so : (result : Result (Unit {0}) Failed) → WritesAll tells honest third now Needs window.last result → Ends image start.to.sound.last first now result
+    ends_so : (result : Result (Unit {0}) Failed) → WritesAll tells honest third now Needs window.last result → Ends blocks start.to.sound first now result
     ends_so result writes = writes.ends first blocks start (made.0 ++ []) made.1 needs last_is
 
   pub write_failed : (fault : Failed) → WritesAll tells honest third now Needs window.last (Err fault) → RecoversUnclean tells honest head before now (Err Device)

@@ -11,6 +11,7 @@ use Rattle.disk_model.specs.Since.{IsUntouched, SinceThen}
 use Rattle.image_format.specs.Formats.{LastFailed}
 use Rattle.image_layout.specs.Opened.{super_of_image}
 use Rattle.image_model.specs.Maps.{Image}
+use Rattle.image_model.specs.Sound.{IsSound}
 use Rattle.image_model.specs.declared.fault.ImageFault.{ImageFault}
 use Rattle.image_model.specs.declared.fault.ImageFault.TheVariants.{Device}
 use Rattle.journal_window.specs.Reads.{IsWindowRead, Fails}
@@ -52,13 +53,13 @@ WritesNothing tells before now why = (why ≡ Device) ⊎ IsUntouched tells befo
 abbrev pub IsAllMade : Image → ℕ → Seen → Seen → Type 0
 IsAllMade image last first now = (puts : List Call) × ArePuts image puts × (now.log ≡ recovery_calls image last puts ++ first.log)
 
--- whatever a stop leaves says the same, at each moment since, and the index wasn't written
-abbrev pub IsKeptSince : Image → Seen → Seen → Type 0
-IsKeptSince image first now = SinceThen (AreStopsKept image first.opening first.log) first.log now.log
+-- whatever a stop leaves says the same, at each moment since, and no other superblock was written, nor the index
+abbrev pub IsKeptSince : (blocks : Blocks) → IsSound blocks → Seen → Seen → Type 0
+IsKeptSince blocks sound first now = SinceThen (AreStopsKept blocks sound first.opening first.log) first.log now.log
 
-abbrev pub Ends : {T E : Type 0} → Image → ℕ → Seen → Seen → Result T E → Type 0
-Ends image last first now (Ok _) = IsAllMade image last first now
-Ends image last first now (Err _) = IsKeptSince image first now
+abbrev pub Ends : {T E : Type 0} → (blocks : Blocks) → IsSound blocks → Seen → Seen → Result T E → Type 0
+Ends blocks sound first now (Ok _) = IsAllMade (image_in blocks sound) sound.last first now
+Ends blocks sound first now (Err _) = IsKeptSince blocks sound first now
 
 -- The whole.
 
@@ -70,7 +71,7 @@ pub record WritesAll (tells honest : Bool) (before now : Seen) (Needs : Image �
   pub grows : Grows tells before now
   pub failed : OnErr result (LastFailed tells before now)
   pub ends : (first : Seen) (blocks : Blocks) (start : IsStart tells honest first blocks) (calls : List Call) → AreMade (image_in blocks start.to.sound) first before calls
-      → Needs (image_in blocks start.to.sound) → start.to.sound.last ≡ last → Ends (image_in blocks start.to.sound) start.to.sound.last first now result
+      → Needs (image_in blocks start.to.sound) → start.to.sound.last ≡ last → Ends blocks start.to.sound first now result
 
 -- what recovering an image answers whose superblock was read and says that its last session wasn't closed
 pub record RecoversUnclean (tells honest : Bool) (head : Superblock) (before now : Seen) (result : Result ℕ ImageFault) : Type 0 where
@@ -81,4 +82,4 @@ pub record RecoversUnclean (tells honest : Bool) (head : Superblock) (before now
   pub fails : IfErr result (UncleanFails tells honest head before now)
   pub nothing : IfErr result (WritesNothing tells before now)
   pub ends : (first : Seen) (blocks : Blocks) (start : IsStart tells honest first blocks) → IsUntouched tells first before → super_of_image blocks ≡ Ok head
-      → Ends (image_in blocks start.to.sound) start.to.sound.last first now result
+      → Ends blocks start.to.sound first now result

@@ -67,7 +67,7 @@ IsResult blocks before now (Err why) = IsRefusal blocks before now why
 
 -- Each way it ends: where the image is sound, whatever a stop leaves at each moment since is sound and says the same.
 abbrev pub AreStopsSound : Blocks → Seen → Seen → Type 0
-AreStopsSound blocks before now = (sound : IsSound blocks) → IsKeptSince (image_in blocks sound) before now
+AreStopsSound blocks before now = (sound : IsSound blocks) → IsKeptSince blocks sound before now
 
 -- After recovery nothing is pending but in the index, and the image is sound and closed, and says the same.
 abbrev pub LeavesClosed : Blocks → Seen → Recovered → Type 0

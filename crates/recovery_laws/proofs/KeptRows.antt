@@ -1,5 +1,5 @@
 -- What is kept: for each clause a case that it accepts, and one that it refuses.
-use Rattle.std.proofs.Common.{ℕ, zero, suc, ◌≡◌, ◌+◌, ◌<◌, ◌≤◌, ◌++◌, true, false, List, [], ◌∷◌, replicate, Ok, refl, ap, subst, inl, inr, arith}
+use Rattle.std.proofs.Common.{ℕ, zero, suc, ◌≡◌, ◌+◌, ◌<◌, ◌≤◌, ◌++◌, true, false, List, [], ◌∷◌, length, replicate, Result, Ok, refl, sym, ◌∙◌, ap, subst, inl, inr, arith}
 use Rattle.blk_base.specs.Sectors.{sector, zero_block}
 use Rattle.blk_base.specs.declared.geometry.Geometry.{Geometry}
 use Rattle.blk_base.specs.declared.geometry.Super.{Super}
@@ -8,6 +8,8 @@ use Rattle.byte_fields.specs.Fields.{number_at}
 use Rattle.disk_model.specs.Log.{Blocks, block_at}
 use Rattle.disk_model.specs.declared.call.Call.TheVariants.{Write, Flush}
 use Rattle.image_layout.specs.Opened.{super_of_image}
+use Rattle.image_layout.specs.Superblock.{super_of}
+use Rattle.image_layout.specs.declared.fault.SuperFault.{SuperFault}
 use Rattle.image_model.proofs.CountLaws.{none_in_nothing, one_stored}
 use Rattle.image_model.proofs.CountRows.{place}
 use Rattle.image_model.proofs.Example.{small, pbn}
@@ -18,7 +20,7 @@ use Rattle.image_model.specs.Maps.{Image}
 use Rattle.image_model.specs.Sound.{IsSound}
 use Rattle.slab_codec.specs.Grammar.{IsSlabSector}
 use Rattle.slab_codec.specs.declared.forms.SlabEntry.{SlabEntry}
-use Rattle.recovery_laws.specs.Kept.{AreKept, IsRecovered, SayTheSame, image_in, recovered_super, AreIndexMissed, AreStopsKept}
+use Rattle.recovery_laws.specs.Kept.{AreKept, IsRecovered, SayTheSame, image_in, recovered_super, AreIndexMissed, AreStopsKept, IsHeadKept, PutsOnly}
 use Rattle.recovery_laws.specs.Written.{AreOthersKept, AreRestKept}
 use Rattle.recovery_laws.proofs.CountsKept.{stores_counter}
 
@@ -139,6 +141,42 @@ index_missed i below = (λ same. omega (arith, same, below), (tt, tt))
 index_written : AreIndexMissed small (Write (pbn 84) [] false ∷ []) → ⊥
 index_written missed = (missed 15 (omega arith)).0 refl
 
-stops_with_the_index_written : (image : Image) → image.geometry ≡ small → AreStopsKept image [] [] (Write (pbn 84) [] false ∷ []) → ⊥
-stops_with_the_index_written image sizes stops =
+stops_with_the_index_written : (blocks : Blocks) (sound : IsSound blocks) → sound.head.geometry ≡ small → AreStopsKept blocks sound [] [] (Write (pbn 84) [] false ∷ []) → ⊥
+stops_with_the_index_written blocks sound sizes stops =
     index_written (subst (λ (g : Geometry). AreIndexMissed g (Write (pbn 84) [] false ∷ [])) sizes stops.index)
+
+-- What a call writes to a block: with a property of short ones, a short one; another block and no write at all aren't asked.
+puts_short : PutsOnly 5 (λ bytes. length bytes ≡ 1) (Write (pbn 5) (7 ∷ []) false)
+puts_short at = refl
+
+puts_long : PutsOnly 5 (λ bytes. length bytes ≡ 1) (Write (pbn 5) (7 ∷ 7 ∷ []) false) → ⊥
+puts_long puts = let size = puts refl in omega (arith, size)
+
+-- Block 0 of an image that wasn't closed: it has the old superblock, or the one that recovery writes.
+module _ (blocks : Blocks) (sound : IsSound blocks) where
+  old_head : (content : List ℕ) → super_of content (length blocks) ≡ Ok sound.head → IsHeadKept blocks sound content
+  old_head content is = inl is
+
+  new_head : (content : List ℕ) → sound.head.clean ≡ false → super_of content (length blocks) ≡ Ok (recovered_super sound.head.geometry sound.last) → IsHeadKept blocks sound content
+  new_head content unclean is = inr (unclean, is)
+
+  starts : (one other : Super) → ◌≡◌ {A = Result Super SuperFault} (Ok one) (Ok other) → one.start ≡ other.start
+  starts one other is = let same : one ≡ other = cc is in ap (λ (h : Super). h.start) same
+
+  -- no other one ..
+  other_head : (content : List ℕ) (head : Super) → super_of content (length blocks) ≡ Ok head → head.start ≡ sound.head.start + sound.last + 3 → IsHeadKept blocks sound content → ⊥
+  other_head content head is late (inl was) = let same = starts head sound.head (sym is ∙ was) in omega (arith, same, late)
+  other_head content head is late (inr now) = let same = starts head (recovered_super sound.head.geometry sound.last) (sym is ∙ now.1) in omega (arith, same, late)
+
+  -- .. and so none of the calls writes one
+  stops_with_another_head : (content : List ℕ) (head : Super) → super_of content (length blocks) ≡ Ok head → head.start ≡ sound.head.start + sound.last + 3
+      → AreStopsKept blocks sound [] [] (Write (pbn 0) content true ∷ []) → ⊥
+  stops_with_another_head content head is late stops = other_head content head is late (stops.heads.0 refl)
+
+  -- nor is a closed image closed again
+  stops_closed_again : (content : List ℕ) → sound.head.clean ≡ true → super_of content (length blocks) ≡ Ok (recovered_super sound.head.geometry sound.last)
+      → sound.head.start ≡ sound.last + 1 → AreStopsKept blocks sound [] [] (Write (pbn 0) content true ∷ []) → ⊥
+  stops_closed_again content clean is next stops = elim (stops.heads.0 refl) [
+    | inl was ↦ let same = starts (recovered_super sound.head.geometry sound.last) sound.head (sym is ∙ was) in omega (arith, same, next)
+    | inr unclean ↦ absurd (cc (clean, unclean.0))
+  ]

@@ -12,6 +12,7 @@ pub mod ContentLaws
 pub mod PutLaws
 pub mod StopLaws
 pub mod CallLaws
+pub mod HeadLaws
 pub mod WholeLaws
 pub mod OpenedExample
 pub mod KeptRows

@@ -13,9 +13,10 @@ use Rattle.image_model.specs.Looked.{HasOneImageButIndex, is_looked_at}
 use Rattle.image_model.specs.Maps.{Image}
 use Rattle.image_model.specs.Sound.{IsDataPlace}
 use Rattle.recovery_laws.specs.Calls.{ArePuts, IsPut, recovery_calls}
-use Rattle.recovery_laws.specs.Kept.{AreIndexMissed, AreKept, AreStopsKept, IsRecovered, IsToRecover, SayTheSame, image_in}
+use Rattle.recovery_laws.specs.Kept.{AreIndexMissed, AreKept, AreStopsKept, IsHeadKept, IsRecovered, IsToRecover, PutsOnly, SayTheSame, image_in}
 use Rattle.recovery_laws.specs.Written.{AreRestKept, IsCountersBlock}
 use Rattle.recovery_laws.proofs.CallLaws.{at_last_one, cut_kept, each_kept, failure_kept, moment_kept, part_kept, put_misses, puts_miss}
+use Rattle.recovery_laws.proofs.HeadLaws.{all_keep, cut_keeps, failed_keeps, puts_keep}
 
 pub same_again : (old middle new : Image) → SayTheSame old middle → SayTheSame middle new → SayTheSame old new
 same_again old middle new first second = record {
@@ -51,11 +52,12 @@ module _ (opening blocks : Blocks) (first calls : List Call) (to : IsToRecover o
   whole_blocks : (b : ℕ) → b < length blocks → length (block_at blocks b) ≡ 4096
   whole_blocks b below = to.one.whole b (let size = to.one.size in omega (arith, size, below))
 
-  pub parts : AreStopsKept (image_in blocks to.sound) opening first calls
+  pub parts : AreStopsKept blocks to.sound opening first calls
   parts = record {
     kept = λ newer older now same is.
         each_kept blocks to.sound to.named to.unclean whole_blocks opening first calls newer older now to.one
         (part_kept blocks to.sound to.named to.unclean whole_blocks calls each) same is;
+    heads = puts_keep opening blocks first to calls each;
     index = λ i below. puts_miss blocks to.sound i below calls each;
   }
 
@@ -64,11 +66,12 @@ module _ (opening blocks : Blocks) (first calls : List Call) (to : IsToRecover o
   cut_misses i below call (inl is) = misses_failed call (block_of to.sound.head.geometry (IndexBlock i)) (put_misses blocks to.sound i below call is)
   cut_misses i below call (inr is) = subst (λ (other : Call). Misses (as_failed other) (block_of to.sound.head.geometry (IndexBlock i))) (sym is) tt
 
-  pub cut : (call : Call) → IsPut (image_in blocks to.sound) call ⊎ (call ≡ Flush true) → AreStopsKept (image_in blocks to.sound) opening first (as_failed call ∷ calls)
+  pub cut : (call : Call) → IsPut (image_in blocks to.sound) call ⊎ (call ≡ Flush true) → AreStopsKept blocks to.sound opening first (as_failed call ∷ calls)
   cut call kind = record {
     kept = λ newer older now same is.
         each_kept blocks to.sound to.named to.unclean whole_blocks opening first (as_failed call ∷ calls) newer older now to.one
         (cut_kept blocks to.sound to.named to.unclean whole_blocks calls call each kind) same is;
+    heads = (cut_keeps opening blocks first to call kind, puts_keep opening blocks first to calls each);
     index = λ i below. (cut_misses i below call kind, puts_miss blocks to.sound i below calls each);
   }
 
@@ -91,16 +94,21 @@ module _ (opening blocks : Blocks) (first puts : List Call) (to : IsToRecover op
       let P : Call → Type 0 = λ call. Misses call (block_of image.geometry (IndexBlock i)) in
       all_behind P front calls (subst (AllByRecursion P) parts (misses i below))
 
+  heads_behind : (front calls : List Call) → all_calls ≡ front ++ calls → AllByRecursion (PutsOnly 0 (IsHeadKept blocks to.sound)) calls
+  heads_behind front calls parts =
+      let P : Call → Type 0 = PutsOnly 0 (IsHeadKept blocks to.sound) in
+      all_behind P front calls (subst (AllByRecursion P) parts (all_keep opening blocks first to puts are))
+
   moment : (front calls : List Call) → all_calls ≡ front ++ calls → (newer older : List Call) (now : Blocks) → calls ≡ newer ++ older → IsImage opening (older ++ first) now → AreKept image now
   moment front calls parts newer older now same is =
       moment_kept blocks to.sound to.named to.unclean whole puts are opening first to.one (front ++ newer) older now
       (parts ∙ ap (λ (list : List Call). front ++ list) same ∙ sym (append_assoc front newer older)) is
 
   -- of the calls that were made so far, and of all
-  pub stops_behind : (front calls : List Call) → all_calls ≡ front ++ calls → AreStopsKept image opening first calls
-  stops_behind front calls parts = record { kept = moment front calls parts; index = behind front calls parts }
+  pub stops_behind : (front calls : List Call) → all_calls ≡ front ++ calls → AreStopsKept blocks to.sound opening first calls
+  stops_behind front calls parts = record { kept = moment front calls parts; heads = heads_behind front calls parts; index = behind front calls parts }
 
-  pub stops : AreStopsKept image opening first all_calls
+  pub stops : AreStopsKept blocks to.sound opening first all_calls
   stops = stops_behind [] all_calls refl
 
   failure : (front done : List Call) (call : Call) → all_calls ≡ front ++ (call ∷ done) → (newer older : List Call) (now : Blocks) → as_failed call ∷ done ≡ newer ++ older
@@ -111,9 +119,12 @@ module _ (opening blocks : Blocks) (first puts : List Call) (to : IsToRecover op
   failure front done call parts (other ∷ newer) older now same is =
       moment (front ++ (call ∷ [])) done (parts ∙ sym (append_assoc front (call ∷ []) done)) newer older now (cc same) is
 
-  pub failures : (front done : List Call) (call : Call) → all_calls ≡ front ++ (call ∷ done) → AreStopsKept image opening first (as_failed call ∷ done)
+  pub failures : (front done : List Call) (call : Call) → all_calls ≡ front ++ (call ∷ done) → AreStopsKept blocks to.sound opening first (as_failed call ∷ done)
   failures front done call parts = record {
     kept = failure front done call parts;
+    heads =
+        let all = heads_behind front (call ∷ done) parts in
+        (failed_keeps opening blocks first to call all.0, all.1);
     index = λ i below.
         let b = block_of image.geometry (IndexBlock i) in
         let all = behind front (call ∷ done) parts i below in

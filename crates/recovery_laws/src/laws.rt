@@ -43,31 +43,31 @@ pub fn the_index_says_nothing()
 /// Recovery makes its writes in any order, with reads among them; then a flush, the superblock, and a flush. Of a sound image
 /// on which nothing is pending but in the index, whatever a stop leaves at any moment of that, also where a call failed and no
 /// other was made behind it, is sound and says the same, with each block as it was that is neither the superblock's, nor a
-/// page's, nor the counters', nor the index's, which it doesn't write; and afterwards nothing else is pending and the image is
-/// closed. It does nothing.
+/// page's, nor the counters', nor the index's, which it doesn't write; of block 0 no superblock is written but the old one or
+/// its own; and afterwards nothing else is pending and the image is closed. It does nothing.
 pub fn recovery_keeps_what_an_image_says()
     // While not all writes are made.
     ensures parts { (opening blocks : Blocks) (first calls : List Call)
         (to : IsToRecover opening first blocks) →
         AllByRecursion (IsPut (image_in blocks to.sound)) calls
-        → AreStopsKept (image_in blocks to.sound) opening first calls }
+        → AreStopsKept blocks to.sound opening first calls }
     ensures cut { (opening blocks : Blocks) (first calls : List Call) (call : Call)
         (to : IsToRecover opening first blocks)
         → AllByRecursion (IsPut (image_in blocks to.sound)) calls →
         IsPut (image_in blocks to.sound) call ⊎ (call ≡ Flush true)
-        → AreStopsKept (image_in blocks to.sound) opening first (as_failed call ∷ calls) }
+        → AreStopsKept blocks to.sound opening first (as_failed call ∷ calls) }
 
     // And where all are.
     ensures stops { (opening blocks : Blocks) (first puts : List Call)
         (to : IsToRecover opening first blocks) → ArePuts (image_in blocks to.sound) puts
         →
-        AreStopsKept (image_in blocks to.sound) opening first
+        AreStopsKept blocks to.sound opening first
         (recovery_calls (image_in blocks to.sound) to.sound.last puts) }
     ensures failures { (opening blocks : Blocks) (first puts newer done : List Call) (call : Call)
         (to : IsToRecover opening first blocks)
         → ArePuts (image_in blocks to.sound) puts →
         recovery_calls (image_in blocks to.sound) to.sound.last puts ≡ newer ++ (call ∷ done)
-        → AreStopsKept (image_in blocks to.sound) opening first (as_failed call ∷ done) }
+        → AreStopsKept blocks to.sound opening first (as_failed call ∷ done) }
     ensures recovered { (opening blocks : Blocks) (first puts : List Call)
         (to : IsToRecover opening first blocks) → ArePuts (image_in blocks to.sound) puts
         →

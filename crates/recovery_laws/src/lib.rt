@@ -6,9 +6,9 @@
 //! logs (`proofs/StopLaws`, `CallLaws`).
 //!
 //! Not there: that a page into which the window puts nothing, or a block of counters without an update, isn't written.
-//! Of what is kept, a page has its header and what its slots say, the counters give the stored counts, and block 0 is a
-//! superblock of the same sizes: nothing else is said of their bytes, as of a commit point or of block 0's other
-//! sectors.
+//! Of what is kept, a page has its header and what its slots say, the counters give the stored counts, and block 0 has
+//! the old superblock or the one that recovery writes: nothing else is said of their bytes, as of a commit point or of
+//! block 0's other sectors.
 #![tactic(auto)]
 
 mod laws;
