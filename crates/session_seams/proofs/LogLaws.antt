@@ -181,7 +181,7 @@ parted (call ∷ later) prefix (other ∷ session) earlier same =
     ]
 
 -- what stands before the same end
-same_front : (a b end : List Call) → a ++ end ≡ b ++ end → a ≡ b
+pub same_front : (a b end : List Call) → a ++ end ≡ b ++ end → a ≡ b
 same_front a b end same = elim (parted a end b end same) [
   | inl within ↦
       let size : length end ≡ length within.0 + length end = ap length within.2 ∙ length-append within.0 end in

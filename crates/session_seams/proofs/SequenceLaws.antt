@@ -7,28 +7,22 @@ use Rattle.blk_base.specs.declared.geometry.Geometry.{Geometry}
 use Rattle.blk_base.specs.declared.geometry.Super.{Super}
 use Rattle.blk_base.specs.declared.journal_entry.CommittedEntry.{CommittedEntry}
 use Rattle.disk_model.specs.declared.call.Call.{Call}
-use Rattle.disk_model.specs.declared.call.Call.TheVariants.{Read, Write, Flush}
 use Rattle.disk_model.specs.Images.{IsImage, HasOneImage}
 use Rattle.disk_model.specs.Log.{Blocks, block_at, contents}
 use Rattle.disk_model.proofs.ImageLaws.{all_weaker}
 use Rattle.disk_model.proofs.OneImageLaws.{one_image-opening}
-use Rattle.image_format.specs.Runs.{as_failed}
 use Rattle.image_layout.specs.Opened.{super_of_image}
-use Rattle.image_layout.specs.Superblock.{super_block, super_of}
-use Rattle.image_layout.proofs.AgainLaws.{written_again}
+use Rattle.image_layout.specs.Superblock.{super_of}
 use Rattle.image_layout.specs.Values.{journal_of}
-use Rattle.image_model.proofs.EmptyLaws.{sizes_of_image}
 use Rattle.image_model.proofs.WindowLaws.{one_window}
 use Rattle.image_model.specs.Maps.{value_of}
 use Rattle.image_model.specs.Sound.{IsSound, image_of}
 use Rattle.image_model.specs.Windows.{IsWindow}
 use Rattle.image_model.specs.Looked.{HasOneImageButIndex}
 use Rattle.image_model.proofs.LookedLaws.{looked_first}
-use Rattle.recovery_laws.specs.Calls.{ArePuts, IsPut, recovery_calls}
-use Rattle.recovery_laws.specs.Kept.{AreKept, AreStopsKept, IsRecovered, IsToRecover, image_in, recovered_super}
+use Rattle.recovery_laws.specs.Kept.{AreKept, AreStopsKept, IsHeadKept, IsRecovered, IsToRecover, PutsOnly, image_in, recovered_super}
 use Rattle.recovery_laws.proofs.SoundLaws.{known, room}
 use Rattle.recovery_laws.proofs.StillLaws.{same_journal}
-use Rattle.recovery_laws.proofs.StopLaws.{no_counters_first, no_page_first}
 use Rattle.recovery_laws.proofs.SuperLaws.{first_of_image, first_sector_says}
 use Rattle.vdo_model.specs.declared.report.RunReport.{RunReport}
 use Rattle.stop_laws.specs.Journals.{Surely}
@@ -36,12 +30,11 @@ use Rattle.journal_stops.specs.Sealed.{Sealed, next_of}
 use Rattle.journal_stops.proofs.ShownLaws.{window_at_rest, window_under_way}
 use Rattle.session_stops.specs.Beginnings.{IsAsOpened, IsToServe, head_in, opened_in}
 use Rattle.session_stops.specs.Closings.{IsClosedImage, IsClosing, IsWrittenOut, last_in}
-use Rattle.session_stops.specs.Pages.{PutsOnly}
 use Rattle.session_stops.specs.Sessions.{StandsAtRest, StandsUnderWay, ShowsSoundly}
 use Rattle.session_stops.proofs.BeginLaws.{is_true, super_of_mix}
 use Rattle.session_stops.proofs.SurelyLaws.{goes_on}
 use Rattle.session_seams.specs.Logs.{StopsRight}
-use Rattle.session_seams.specs.Sequences.{AreStopsServed, CanBegin, IsHeadKept, ShowsValues, next_by, next_start}
+use Rattle.session_seams.specs.Sequences.{AreStopsServed, CanBegin, ShowsValues, next_by, next_start}
 
 -- An image is sound in one way.
 
@@ -166,24 +159,22 @@ next_by_same blocks now sound size kept old =
     ap (λ (h : Super). next_by h kept.sound.last) heads ∙ ap (next_by sound.head) same.0
 
 -- .. and else it is the one that recovery writes.
-pub next_by_heads : (blocks now : Blocks) (sound : IsSound blocks) → sound.head.clean ≡ false → length now ≡ length blocks → (kept : AreKept (image_in blocks sound) now)
-    → (super_of_image now ≡ Ok sound.head) ⊎ (super_of_image now ≡ Ok (recovered_super sound.head.geometry sound.last)) → next_start now kept.sound ≡ next_start blocks sound
-next_by_heads blocks now sound unclean size kept (inl old) = next_by_same blocks now sound size kept old
-next_by_heads blocks now sound unclean size kept (inr new) =
+pub next_by_heads : (blocks now : Blocks) (sound : IsSound blocks) → length now ≡ length blocks → (kept : AreKept (image_in blocks sound) now)
+    → (super_of_image now ≡ Ok sound.head) ⊎ ((sound.head.clean ≡ false) × (super_of_image now ≡ Ok (recovered_super sound.head.geometry sound.last)))
+    → next_start now kept.sound ≡ next_start blocks sound
+next_by_heads blocks now sound size kept (inl old) = next_by_same blocks now sound size kept old
+next_by_heads blocks now sound size kept (inr (unclean, new)) =
     let both : Ok kept.sound.head ≡ Ok (recovered_super sound.head.geometry sound.last) = sym kept.sound.opens.accepted ∙ new in
     let heads : kept.sound.head ≡ recovered_super sound.head.geometry sound.last = cc both in
     ap (λ (h : Super). next_by h kept.sound.last) heads ∙ sym (next_open sound.head sound.last unclean)
 
-module _ (opening blocks : Blocks) (first : List Call) (to : IsToRecover opening first blocks) where
-  abbrev sound : IsSound blocks
-  sound = to.sound
-
+module _ (opening blocks : Blocks) (first : List Call) (sound : IsSound blocks) (one : HasOneImageButIndex opening first blocks) where
   abbrev IsKeptHead : List ℕ → Type 0
   IsKeptHead = IsHeadKept blocks sound
 
   by_first : (content other : List ℕ) → sector 0 content ≡ sector 0 other → IsKeptHead content → IsKeptHead other
   by_first content other same (inl is) = inl (first_sector_says other content (length blocks) (sym same) ∙ is)
-  by_first content other same (inr is) = inr (first_sector_says other content (length blocks) (sym same) ∙ is)
+  by_first content other same (inr is) = inr (is.0, first_sector_says other content (length blocks) (sym same) ∙ is.1)
 
   some : 0 < length blocks
   some = let enough = room blocks blocks sound in omega (arith, enough)
@@ -192,7 +183,7 @@ module _ (opening blocks : Blocks) (first : List Call) (to : IsToRecover opening
   at_first =
       all_weaker (λ content. content ≡ block_at blocks 0) IsKeptHead (contents opening first 0)
       (λ content is. inl (ap (λ (c : List ℕ). super_of c (length blocks)) is ∙ sym (first_of_image blocks some) ∙ sound.opens.accepted))
-      (to.one.only 0 (let size = to.one.size in let long = some in omega (arith, size, long)) (looked_first blocks))
+      (one.only 0 (let size = one.size in let long = some in omega (arith, size, long)) (looked_first blocks))
 
   heads_of : (calls : List Call) → AllByRecursion (PutsOnly 0 IsKeptHead) calls → Surely opening (calls ++ first) 0 IsKeptHead
   heads_of [] each = at_first
@@ -205,46 +196,17 @@ module _ (opening blocks : Blocks) (first : List Call) (to : IsToRecover opening
   pub kept_next : (calls newer older : List Call) (now : Blocks) → AllByRecursion (PutsOnly 0 IsKeptHead) calls → calls ≡ newer ++ older → IsImage opening (older ++ first) now
       → (kept : AreKept (image_in blocks sound) now) → next_start now kept.sound ≡ next_start blocks sound
   kept_next calls newer older now each parts is kept =
-      let size : length now ≡ length blocks = is.size ∙ sym to.one.size in
+      let size : length now ≡ length blocks = is.size ∙ sym one.size in
       let all = heads_of older (behind newer older (subst (AllByRecursion (PutsOnly 0 IsKeptHead)) parts each)) in
-      let long : 0 < length opening = (let size = to.one.size in let long = some in omega (arith, size, long)) in
+      let long : 0 < length opening = (let size = one.size in let long = some in omega (arith, size, long)) in
       let here = super_of_mix IsKeptHead by_first opening (older ++ first) now long is all in
       let says : super_of_image now ≡ super_of (block_at now 0) (length blocks) =
       first_of_image now (let long = some in omega (arith, long, size)) ∙ ap (super_of (block_at now 0)) size in
-      next_by_heads blocks now sound to.unclean size kept (elim here [ inl old ↦ inl (says ∙ old) | inr new ↦ inr (says ∙ new) ])
+      next_by_heads blocks now sound size kept (elim here [ inl old ↦ inl (says ∙ old) | inr new ↦ inr (new.0, says ∙ new.1) ])
 
-  pub served : (calls : List Call) → AllByRecursion (PutsOnly 0 IsKeptHead) calls → AreStopsKept (image_in blocks sound) opening first calls
-      → AreStopsServed opening first blocks sound calls
-  served calls each stops newer older now parts is =
-      let kept = stops.kept newer older now parts is in (kept, kept_next calls newer older now each parts is kept)
-
-  -- the calls of recovery
-
-  put_keeps : (call : Call) → IsPut (image_in blocks sound) call → PutsOnly 0 IsKeptHead call
-  put_keeps (Read _ _ _) is = tt
-  put_keeps (Write at bytes true) is = λ same. elim is.1 [
-    | inl page ↦ absurd (no_page_first blocks sound to.named (page.0, at, page.1, same))
-    | inr counters ↦ absurd (no_counters_first blocks sound to.named (counters.slab, counters.i, counters.inside, counters.stands ∙ same))
-  ]
-  put_keeps (Write at bytes false) is = absurd is
-  put_keeps (Flush _) is = absurd is
-
-  pub puts_keep : (calls : List Call) → AllByRecursion (IsPut (image_in blocks sound)) calls → AllByRecursion (PutsOnly 0 IsKeptHead) calls
-  puts_keep [] each = tt
-  puts_keep (call ∷ calls) each = (put_keeps call each.0, puts_keep calls each.1)
-
-  pub all_keep : (puts : List Call) → ArePuts (image_in blocks sound) puts → AllByRecursion (PutsOnly 0 IsKeptHead) (recovery_calls (image_in blocks sound) sound.last puts)
-  all_keep puts are =
-      let enough = room blocks blocks sound in
-      let new : PutsOnly 0 IsKeptHead (Write (record { 0 = 0 }) (super_block (recovered_super sound.head.geometry sound.last)) true) =
-      λ same. inr (written_again (recovered_super sound.head.geometry sound.last) (length blocks) (sizes_of_image blocks sound.head sound.opens.accepted) to.named (omega arith)
-      (sound.opens.sequences to.unclean) enough) in
-      (tt, (new, (tt, puts_keep puts are.each)))
-
-  pub failed_keeps : (call : Call) → PutsOnly 0 IsKeptHead call → PutsOnly 0 IsKeptHead (as_failed call)
-  failed_keeps (Read _ _ _) is = tt
-  failed_keeps (Write at bytes ok) is = is
-  failed_keeps (Flush _) is = tt
+  pub served : (calls : List Call) → AreStopsKept blocks sound opening first calls → AreStopsServed opening first blocks sound calls
+  served calls stops newer older now parts is =
+      let kept = stops.kept newer older now parts is in (kept, kept_next calls newer older now stops.heads parts is kept)
 
 -- A session raises it by at most 2 ^ 18.
 

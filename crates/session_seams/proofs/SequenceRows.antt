@@ -1,6 +1,6 @@
 -- An empty image of the default sizes: a run may begin on it with 2 ^ 20 sequences left, and not with all; what a read of it
 -- leaves. And what a recovery keeps of the next sequence.
-use Rattle.std.proofs.Common.{ℕ, ◌≡◌, ◌+◌, ◌-◌, ◌<◌, ◌≤◌, ◌^◌, true, false, List, [], ◌∷◌, length, Result, Ok, refl, sym, ◌∙◌, ap, inl, inr, arith}
+use Rattle.std.proofs.Common.{ℕ, ◌≡◌, ◌-◌, ◌<◌, ◌≤◌, ◌^◌, true, false, List, [], ◌∷◌, length, Ok, refl, sym, ◌∙◌, ap, arith}
 use Rattle.blk_base.specs.declared.geometry.Geometry.{Geometry}
 use Rattle.blk_base.specs.declared.geometry.Super.{Super}
 use Rattle.disk_model.specs.declared.call.Call.{Call}
@@ -9,19 +9,17 @@ use Rattle.disk_model.specs.Images.{IsImage}
 use Rattle.disk_model.specs.Log.{Blocks, block_at}
 use Rattle.disk_model.proofs.OneImageLaws.{one_image-opening}
 use Rattle.disk_model.proofs.LookedLaws.{one_in-all}
-use Rattle.image_layout.specs.Superblock.{super_of}
-use Rattle.image_layout.specs.declared.fault.SuperFault.{SuperFault}
 use Rattle.image_model.specs.Empty.{IsEmpty, empty_super}
 use Rattle.image_model.specs.Maps.{value_of}
 use Rattle.image_model.specs.Sound.{IsSound}
 use Rattle.image_model.proofs.EmptyLaws.{is_sound}
 use Rattle.image_model.proofs.Example.{small}
 use Rattle.image_model.specs.Looked.{looked_in}
-use Rattle.recovery_laws.specs.Kept.{AreKept, IsToRecover, image_in, recovered_super}
+use Rattle.recovery_laws.specs.Kept.{AreKept, IsToRecover, image_in}
 use Rattle.recovery_laws.proofs.WholeLaws.{parts}
 use Rattle.session_stops.specs.Beginnings.{IsToServe}
 use Rattle.session_seams.specs.Logs.{StopsShow}
-use Rattle.session_seams.specs.Sequences.{AreStopsServed, CanBegin, IsHeadKept, ShowsValues, next_by, next_start}
+use Rattle.session_seams.specs.Sequences.{AreStopsServed, CanBegin, ShowsValues, next_by, next_start}
 use Rattle.session_seams.proofs.EarlyLaws.{reads_show}
 use Rattle.session_seams.proofs.SequenceLaws.{can_less, can_serve, served}
 
@@ -91,25 +89,11 @@ closed_next sizes = refl
 open_next : (sizes : Geometry) → next_by (record { geometry = sizes; clean = false; start = 9 }) 20 ≡ 22
 open_next sizes = refl
 
--- A recovery: block 0 has the old superblock or the one that is written, and no other; its reads leave all of it, and none
--- leaves another next sequence.
+-- A recovery: its reads leave what there was, and none leaves another next sequence.
 
 module _ (opening blocks : Blocks) (first : List Call) (to : IsToRecover opening first blocks) where
-  old_head : (content : List ℕ) → super_of content (length blocks) ≡ Ok to.sound.head → IsHeadKept blocks to.sound content
-  old_head content is = inl is
-
-  new_head : (content : List ℕ) → super_of content (length blocks) ≡ Ok (recovered_super to.sound.head.geometry to.sound.last) → IsHeadKept blocks to.sound content
-  new_head content is = inr is
-
-  starts : (one other : Super) → ◌≡◌ {A = Result Super SuperFault} (Ok one) (Ok other) → one.start ≡ other.start
-  starts one other is = let same : one ≡ other = cc is in ap (λ (h : Super). h.start) same
-
-  other_head : (content : List ℕ) (head : Super) → super_of content (length blocks) ≡ Ok head → head.start ≡ to.sound.head.start + to.sound.last + 3 → IsHeadKept blocks to.sound content → ⊥
-  other_head content head is late (inl was) = let same = starts head to.sound.head (sym is ∙ was) in omega (arith, same, late)
-  other_head content head is late (inr now) = let same = starts head (recovered_super to.sound.head.geometry to.sound.last) (sym is ∙ now) in omega (arith, same, late)
-
   read_served : AreStopsServed opening first blocks to.sound (Read (record { 0 = 0 }) [] true ∷ [])
-  read_served = served opening blocks first to (Read (record { 0 = 0 }) [] true ∷ []) (tt, tt) (parts opening blocks first (Read (record { 0 = 0 }) [] true ∷ []) to (tt, tt))
+  read_served = served opening blocks first to.sound to.one (Read (record { 0 = 0 }) [] true ∷ []) (parts opening blocks first (Read (record { 0 = 0 }) [] true ∷ []) to (tt, tt))
 
   other_next : AreStopsServed opening first blocks to.sound [] → (now : Blocks) → IsImage opening first now
       → ((sound : IsSound now) → next_start now sound ≡ next_start blocks to.sound → ⊥) → ⊥

@@ -1,14 +1,13 @@
 -- Which sequences are left on an image, and what a run leaves to the next one.
-use Rattle.std.specs.Prelude.{ℕ, ◌≡◌, ◌⊎◌, ◌+◌, ◌<◌, ◌≤◌, ◌^◌, ◌++◌, List, length, Ok, if◌then◌else◌}
+use Rattle.std.specs.Prelude.{ℕ, ◌≡◌, ◌+◌, ◌<◌, ◌≤◌, ◌^◌, ◌++◌, List, length, if◌then◌else◌}
 use Rattle.blk_base.specs.declared.geometry.Geometry.{Geometry}
 use Rattle.blk_base.specs.declared.geometry.Super.{Super}
 use Rattle.disk_model.specs.declared.call.Call.{Call}
 use Rattle.disk_model.specs.Images.{IsImage}
 use Rattle.disk_model.specs.Log.{Blocks, block_at}
-use Rattle.image_layout.specs.Superblock.{super_of}
 use Rattle.image_model.specs.Maps.{value_of}
 use Rattle.image_model.specs.Sound.{IsSound}
-use Rattle.recovery_laws.specs.Kept.{AreKept, image_in, recovered_super}
+use Rattle.recovery_laws.specs.Kept.{AreKept, image_in}
 
 -- the first sequence of the next session on an image with this superblock and last sequence: the one that it says, where the
 -- last session was closed, and else that which recovery gives it
@@ -33,11 +32,6 @@ pub record ShowsValues (g : Geometry) (most : ℕ) (image : Blocks) (values : �
   pub sizes : sound.head.geometry ≡ g
   pub next : next_start image sound ≤ most
   pub values_are : (a : ℕ) → values a ≡ value_of (image_in image sound) a
-
--- bytes of the superblock of an image that is recovered: the old one, or the one that recovery writes
-abbrev pub IsHeadKept : (blocks : Blocks) → IsSound blocks → List ℕ → Type 0
-IsHeadKept blocks sound content =
-    (super_of content (length blocks) ≡ Ok sound.head) ⊎ (super_of content (length blocks) ≡ Ok (recovered_super sound.head.geometry sound.last))
 
 -- Whatever a stop leaves at each moment of a recovery says the same, and the next session begins where it would have begun.
 abbrev pub AreStopsServed : Blocks → List Call → (blocks : Blocks) → IsSound blocks → List Call → Type 0

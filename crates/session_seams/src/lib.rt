@@ -1,7 +1,6 @@
 //! What one run leaves to the next: the laws over definitions alone by which its parts fit together.
 //!
-//! Not there: that `rebuild` makes only such calls (its own clauses say `AreStopsKept`, which says nothing of the next
-//! session's first sequence), and that a core's session is right after stops over such images.
+//! Not there: that a core's session is right after stops over such images.
 #![tactic(auto)]
 
 mod logs;

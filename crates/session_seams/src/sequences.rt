@@ -1,24 +1,20 @@
 ghost use Rattle.std.specs.Prelude.{ℕ, ◌≡◌, ◌+◌, ◌^◌, ◌<◌, ◌≤◌, ◌++◌, [], true, false, List, length};
-ghost use Rattle.std.specs.List.{AllByRecursion};
 ghost use Rattle.blk_base.specs.declared.geometry.Geometry.{Geometry};
 ghost use Rattle.blk_base.specs.declared.journal_entry.CommittedEntry.{CommittedEntry};
 ghost use Rattle.disk_model.specs.declared.call.Call.{Call};
 ghost use Rattle.disk_model.specs.Images.{HasOneImage, IsImage};
 ghost use Rattle.disk_model.specs.Log.{Blocks};
-ghost use Rattle.image_format.specs.Runs.{as_failed};
 ghost use Rattle.image_model.specs.Maps.{value_of};
 ghost use Rattle.image_model.specs.Sound.{IsSound};
 ghost use Rattle.image_model.specs.Looked.{HasOneImageButIndex};
 ghost use Rattle.journal_stops.specs.Sealed.{Sealed};
-ghost use Rattle.recovery_laws.specs.Calls.{ArePuts, IsPut, recovery_calls};
-ghost use Rattle.recovery_laws.specs.Kept.{AreKept, AreStopsKept, IsRecovered, IsToRecover, image_in};
+ghost use Rattle.recovery_laws.specs.Kept.{AreStopsKept, IsRecovered, IsToRecover, image_in};
 ghost use Rattle.session_stops.specs.Beginnings.{IsAsOpened, IsToServe, head_in, opened_in};
 ghost use Rattle.session_stops.specs.Closings.{IsClosedImage, IsClosing, IsWrittenOut};
-ghost use Rattle.session_stops.specs.Pages.{PutsOnly};
 ghost use Rattle.session_stops.specs.Sessions.{StandsAtRest, StandsUnderWay, ShowsSoundly};
 ghost use Rattle.vdo_model.specs.declared.report.RunReport.{RunReport};
 ghost use Rattle.session_seams.specs.Logs.{StopsRight};
-ghost use Rattle.session_seams.specs.Sequences.{AreStopsServed, CanBegin, IsHeadKept, ShowsValues, next_start};
+ghost use Rattle.session_seams.specs.Sequences.{AreStopsServed, CanBegin, ShowsValues, next_start};
 
 /// Whatever a stop leaves of a run, as a device of its own it has one image, on which the next run may begin. It does
 /// nothing.
@@ -69,31 +65,10 @@ pub fn how_far_sequences_rise()
     ensures recovered { (blocks now : Blocks) (sound : IsSound blocks) → sound.head.clean ≡ false →
         (is : IsRecovered (image_in blocks sound) sound.last now)
         → next_start now is.kept.sound ≡ next_start blocks sound }
-    ensures underway { (opening blocks : Blocks) (first : List Call)
-        (to : IsToRecover opening first blocks) (calls newer older : List Call) (now : Blocks)
-        → AllByRecursion (PutsOnly 0 (IsHeadKept blocks to.sound)) calls → calls ≡ newer ++ older →
-        IsImage opening (older ++ first) now
-        → (kept : AreKept (image_in blocks to.sound) now) →
-        next_start now kept.sound ≡ next_start blocks to.sound }
-    ensures served { (opening blocks : Blocks) (first : List Call)
-        (to : IsToRecover opening first blocks) (calls : List Call)
-        → AllByRecursion (PutsOnly 0 (IsHeadKept blocks to.sound)) calls →
-        AreStopsKept (image_in blocks to.sound) opening first calls
-        → AreStopsServed opening first blocks to.sound calls }
-    ensures parts { (opening blocks : Blocks) (first : List Call)
-        (to : IsToRecover opening first blocks) (calls : List Call) →
-        AllByRecursion (IsPut (image_in blocks to.sound)) calls
-        → AllByRecursion (PutsOnly 0 (IsHeadKept blocks to.sound)) calls }
-    ensures all { (opening blocks : Blocks) (first : List Call)
-        (to : IsToRecover opening first blocks) (puts : List Call) →
-        ArePuts (image_in blocks to.sound) puts
-        →
-        AllByRecursion (PutsOnly 0 (IsHeadKept blocks to.sound))
-        (recovery_calls (image_in blocks to.sound) to.sound.last puts) }
-    ensures failed { (opening blocks : Blocks) (first : List Call)
-        (to : IsToRecover opening first blocks) (call : Call) →
-        PutsOnly 0 (IsHeadKept blocks to.sound) call
-        → PutsOnly 0 (IsHeadKept blocks to.sound) (as_failed call) }
+    ensures served { (opening blocks : Blocks) (first : List Call) (sound : IsSound blocks)
+        (calls : List Call) → HasOneImageButIndex opening first blocks
+        → AreStopsKept blocks sound opening first calls →
+        AreStopsServed opening first blocks sound calls }
     ensures base { (base : Blocks) (to : IsToServe base) →
         next_start base to.sound ≡ to.sound.head.start }
     ensures opened { (base : Blocks) (to : IsToServe base) (image : Blocks)

@@ -20,8 +20,8 @@ use Rattle.image_model.specs.Sound.{IsClosed}
 use Rattle.recovery_laws.proofs.AlikeLaws.{sound_as}
 use Rattle.recovery_laws.proofs.SoundLaws.{room}
 use Rattle.recovery_laws.proofs.SuperLaws.{first_of_image, first_sector_says}
+use Rattle.recovery_laws.specs.Kept.{PutsOnly}
 use Rattle.session_stops.specs.Beginnings.{HeadStands, IsAsOpened, IsBeginning, IsHeadOf, IsToServe, head_in, opened_in}
-use Rattle.session_stops.specs.Pages.{PutsOnly}
 use Rattle.session_stops.proofs.SurelyLaws.{goes_on, missed}
 
 -- What all contents of block 0 have by their first sectors, each mix of them has.

@@ -38,7 +38,8 @@ use Rattle.journal_stops.specs.Mapped.{ArePagesShown, page_after, slot_after}
 use Rattle.journal_stops.proofs.NewestLaws.{page_equal}
 use Rattle.journal_stops.proofs.OpenedLaws.{page_with_none}
 use Rattle.count_laws.proofs.Example.{at_point, data_block, four, leaf, leaf_gone, one, opened, page, remap}
-use Rattle.session_stops.specs.Pages.{ArePagesOnIt, EmptyPageStands, MissesNew, NewPagesStand, PagesStand, PutsOnly, SaysTheRest, Settles, SlotStands}
+use Rattle.recovery_laws.specs.Kept.{PutsOnly}
+use Rattle.session_stops.specs.Pages.{ArePagesOnIt, EmptyPageStands, MissesNew, NewPagesStand, PagesStand, SaysTheRest, Settles, SlotStands}
 use Rattle.session_stops.proofs.NewPages.{AreMadeNew}
 use Rattle.session_stops.proofs.PageHeads.{page_written}
 use Rattle.session_stops.proofs.PagePlaces.{pages_on_it, root_or_below}

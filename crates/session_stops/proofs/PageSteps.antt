@@ -25,13 +25,14 @@ use Rattle.page_codec.specs.Grammar.{HasHead, IsPage, IsSlot}
 use Rattle.page_codec.specs.declared.forms.PageHead.{PageHead}
 use Rattle.plain_laws.proofs.OptionLaws.{option_cases}
 use Rattle.recovery_laws.proofs.OldLaws.{own_slot}
+use Rattle.recovery_laws.specs.Kept.{PutsOnly}
 use Rattle.stop_laws.specs.Journals.{Surely}
 use Rattle.journal_stops.specs.Mapped.{AreRooted, newest_page, page_after, put_page, slot_after}
 use Rattle.journal_stops.proofs.GrowLaws.{page_new, page_stays, slot_left}
 use Rattle.journal_stops.proofs.MapLaws.{put_append}
 use Rattle.journal_stops.proofs.NewestLaws.{newest_is_block, page_equal}
 use Rattle.journal_stops.proofs.OpenedLaws.{page_with_none, rooted_old_page, slot_of_page, unlinked, above_linked, no_first, same_block}
-use Rattle.session_stops.specs.Pages.{EmptyPageStands, NewPagesStand, PageStands, PagesStand, PutsOnly, SaysTheRest, SlotStands}
+use Rattle.session_stops.specs.Pages.{EmptyPageStands, NewPagesStand, PageStands, PagesStand, SaysTheRest, SlotStands}
 use Rattle.session_stops.proofs.NewPages.{AreMadeNew, MakesNew}
 use Rattle.count_laws.specs.Turns.{IsPageAfter}
 use Rattle.session_stops.proofs.PagePlaces.{block_put}

@@ -16,10 +16,11 @@ use Rattle.page_codec.proofs.SpellingLaws.{length-head}
 use Rattle.page_codec.specs.Grammar.{HasHead, HoldsMapping, IsSlot, slot_bytes}
 use Rattle.page_codec.specs.Spelling.{head_bytes}
 use Rattle.page_codec.specs.declared.forms.PageHead.{PageHead}
+use Rattle.recovery_laws.specs.Kept.{PutsOnly}
 use Rattle.stop_laws.specs.Journals.{Surely}
 use Rattle.recovery_laws.proofs.BlockLaws.{part_of_mix}
 use Rattle.disk_model.proofs.ContentLaws.{after_write}
-use Rattle.session_stops.specs.Pages.{PutsOnly, Settles}
+use Rattle.session_stops.specs.Pages.{Settles}
 
 -- What keeps it.
 

@@ -10,21 +10,12 @@ use Rattle.blk_base.specs.declared.place.PageId.{PageId}
 use Rattle.blk_base.specs.declared.place.Pbn.{Pbn}
 use Rattle.blk_base.specs.declared.sizes.TheConstants.{PAGE_SLOTS}
 use Rattle.disk_model.specs.declared.call.Call.{Call}
-use Rattle.disk_model.specs.declared.call.Call.TheVariants.{Read, Write, Flush}
 use Rattle.disk_model.specs.Log.{Blocks, Misses, settled}
 use Rattle.image_model.specs.Maps.{Image, head_of, put_last}
 use Rattle.page_codec.specs.Grammar.{HasHead, IsPage, IsSlot}
 use Rattle.page_codec.specs.declared.forms.PageHead.{PageHead}
 use Rattle.stop_laws.specs.Journals.{Surely}
 use Rattle.journal_stops.specs.Mapped.{page_after, slot_after}
-
--- What a call does to a block.
-
--- what this call writes to this block, if it does, has this property
-abbrev pub PutsOnly : ℕ → (List ℕ → Type 0) → Call → Type 0
-PutsOnly b P (Read _ _ _) = Unit {0}
-PutsOnly b P (Write at bytes _) = at.0 ≡ b → P bytes
-PutsOnly b P (Flush _) = Unit {0}
 
 -- once all is flushed, whatever stands in a block has this property
 abbrev pub Settles : Blocks → List Call → ℕ → (List ℕ → Type 0) → Type 0

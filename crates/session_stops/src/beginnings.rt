@@ -5,8 +5,8 @@ ghost use Rattle.disk_model.specs.Images.{IsImage};
 ghost use Rattle.disk_model.specs.Log.{Blocks, Misses};
 ghost use Rattle.image_layout.specs.Opened.{super_of_image};
 ghost use Rattle.image_layout.specs.Superblock.{super_block, super_of};
+ghost use Rattle.recovery_laws.specs.Kept.{PutsOnly};
 ghost use Rattle.session_stops.specs.Beginnings.{HeadStands, IsAsOpened, IsBeginning, IsHeadOf, IsToServe, head_in};
-ghost use Rattle.session_stops.specs.Pages.{PutsOnly};
 ghost use Rattle.image_model.specs.Looked.{HasOneImageButIndex};
 
 /// While nothing was written but the superblock, as it was or as the session has it, each image is sound and says the same

@@ -15,12 +15,12 @@ ghost use Rattle.image_model.specs.Sound.{IsSound};
 ghost use Rattle.page_codec.specs.Grammar.{IsSlot};
 ghost use Rattle.page_codec.specs.declared.forms.PageHead.{PageHead};
 ghost use Rattle.stop_laws.specs.Journals.{Surely};
-ghost use Rattle.recovery_laws.specs.Kept.{image_in};
+ghost use Rattle.recovery_laws.specs.Kept.{image_in, PutsOnly};
 ghost use Rattle.recovery_laws.specs.Written.{IsFullPage};
 ghost use Rattle.journal_stops.specs.Mapped.{ArePagesShown, later_image, page_after};
 ghost use Rattle.journal_stops.specs.Shown.{HasInWindow};
 ghost use Rattle.count_laws.specs.Turns.{AreInTurn};
-ghost use Rattle.session_stops.specs.Pages.{ArePagesOnIt, NewPagesStand, PageStands, PagesStand, PutsOnly, SaysTheRest, Settles, SlotStands};
+ghost use Rattle.session_stops.specs.Pages.{ArePagesOnIt, NewPagesStand, PageStands, PagesStand, SaysTheRest, Settles, SlotStands};
 
 /// Pages that stand are shown by each image, mixed by sectors as they may be: in each slot that the window leaves to it, a
 /// linked page says what the entries give. So the pages of the image can be read. It does nothing.

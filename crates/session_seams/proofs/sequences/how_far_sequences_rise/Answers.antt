@@ -1,20 +1,8 @@
-use Rattle.session_seams.proofs.SequenceLaws.{all_keep, base_next, closed_values, closing_values, failed_keeps, kept_next, opened_next, opened_values, puts_keep, recovered_next, rest_next, rest_values, served, torn_next, torn_values}
+use Rattle.session_seams.proofs.SequenceLaws.{base_next, closed_values, closing_values, opened_next, opened_values, recovered_next, rest_next, rest_values, served, torn_next, torn_values}
 use Rattle.session_seams.proofs.sequences.how_far_sequences_rise.Goals as goal
 
 pub returns-clause-recovered : goal.returns-clause-recovered
 returns-clause-recovered c = recovered_next
-
-pub returns-clause-underway : goal.returns-clause-underway
-returns-clause-underway c = λ opening blocks first to calls newer older now each parts is kept. kept_next opening blocks first to calls newer older now each parts is kept
-
-pub returns-clause-parts : goal.returns-clause-parts
-returns-clause-parts c = λ opening blocks first to calls each. puts_keep opening blocks first to calls each
-
-pub returns-clause-all : goal.returns-clause-all
-returns-clause-all c = λ opening blocks first to puts are. all_keep opening blocks first to puts are
-
-pub returns-clause-failed : goal.returns-clause-failed
-returns-clause-failed c = λ opening blocks first to call is. failed_keeps opening blocks first to call is
 
 pub returns-clause-base : goal.returns-clause-base
 returns-clause-base c = λ base to. base_next base to
@@ -29,7 +17,7 @@ pub returns-clause-torn : goal.returns-clause-torn
 returns-clause-torn c = λ base to opening log blocks image is block way entries shows. torn_next base to opening log blocks image is block way entries shows
 
 pub returns-clause-served : goal.returns-clause-served
-returns-clause-served c = λ opening blocks first to calls each stops. served opening blocks first to calls each stops
+returns-clause-served c = λ opening blocks first sound calls one stops. served opening blocks first sound one calls stops
 
 pub returns-clause-opened_values : goal.returns-clause-opened_values
 returns-clause-opened_values c = λ base to image is. opened_values base to image is
