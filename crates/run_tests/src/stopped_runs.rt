@@ -42,9 +42,13 @@ const SHOWN: [[&[u8]; 2]; 6] = [
 
 // How many requests were answered `ok`.
 fn answered_ok(text: &[u8]) -> usize {
-    (0..text.len())
-        .filter(|&at| text[at..].starts_with(b" ok"))
-        .count()
+    let mut answered: usize = 0;
+    for at in 0..text.len() {
+        if text[at..].starts_with(b" ok") {
+            answered = answered.saturating_add(1);
+        }
+    }
+    answered
 }
 
 fn may_show(answered: usize, text: &[u8]) -> bool {
