@@ -364,6 +364,7 @@ script() {
     text=$2
     lines=$3
     shift 3
+    # shellcheck disable=SC2059
     printed=$(printf "$lines" | "$vdo" "$@" 2>errors)
     same "$? $printed" "$status $text" "vdo $* with '$lines'"
 }
