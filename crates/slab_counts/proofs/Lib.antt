@@ -4,3 +4,4 @@ pub mod OpeningLaws
 pub mod AnswerLaws
 mod Rows
 mod OpeningRows
+mod CallRows
