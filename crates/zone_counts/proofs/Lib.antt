@@ -9,3 +9,4 @@ pub mod UsedLaws
 pub mod SlabSums
 pub mod BlockLaws
 pub mod OneAnswer
+mod CallRows
