@@ -5,3 +5,4 @@ pub mod AnswerLaws
 mod Rows
 mod OpeningRows
 mod CallRows
+mod ViewRows

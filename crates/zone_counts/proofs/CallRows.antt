@@ -349,6 +349,12 @@ gives_ticket = (record { fewer = omega arith; number = omega arith }, record { n
 gives_a_ticket_for_a_free_one : (new : Zone) → Does (Asks' asker (asked.Ticket ticket)) some new → ⊥
 gives_a_ticket_for_a_free_one new is = one_free is.1.none_free
 
+gives_another_number : (new : Zone) → Does (Asks' asker (asked.Ticket (record ticket { number = 6 }))) full new → ⊥
+gives_another_number new is = let no : 6 ≡ 5 = is.1.issues.number in omega (arith, no)
+
+gives_a_ticket_and_frees : Does (Asks' asker (asked.Ticket ticket)) full (record asked_for { slabs = some.slabs }) → ⊥
+gives_a_ticket_and_frees is = let no : 0 ≡ 1 = ap (count_of 1) is.1.same in omega (arith, no)
+
 -- WithdrawsFrom: a ticket is withdrawn
 abbrev withdrawn : Zone
 withdrawn = record full { desk = record quiet { issued = 6 } }

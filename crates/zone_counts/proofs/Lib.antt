@@ -10,3 +10,4 @@ pub mod SlabSums
 pub mod BlockLaws
 pub mod OneAnswer
 mod CallRows
+mod ViewRows
