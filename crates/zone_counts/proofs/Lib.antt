@@ -11,3 +11,6 @@ pub mod BlockLaws
 pub mod OneAnswer
 mod CallRows
 mod ViewRows
+pub mod FreeBlocks
+pub mod OpenedCounts
+pub mod FitLaws

@@ -14,6 +14,7 @@ use Rattle.blk_base.specs.declared.point.Half.TheVariants.{Increment, Decrement}
 use Rattle.blk_base.specs.declared.opened.Opened.{Opened}
 use Rattle.slab_tickets.specs.declared.forms.Withdrawn.TheVariants.{Block, Nothing}
 use Rattle.zone_counts.specs.ByBlock.{has_block, counter_in, claims_in, out_with, makes, drops, maps, unmaps, withdraws, served_block}
+use Rattle.zone_counts.specs.Openings.{opened_count}
 use Rattle.zone_counts.specs.Calls.{Call, Asks', Withdraws', Shares', Extends, Drops, SpendsPage, Applies}
 use Rattle.zone_counts.specs.declared.forms.Asked.TheVariants as asked
 use Rattle.zone_counts.specs.Asking.{GivesBlock, GivesTicket, IsRefusedIn}
@@ -226,6 +227,13 @@ counter_outside = refl
 
 claims_outside : claims_in (at 86) counted ≡ 0
 claims_outside = refl
+
+-- opened_count: of each data block its own counter; what lies before, between and behind them has none
+opened_counters : opened_count ones (3 ∷ 5 ∷ []) (at 85) ∷ opened_count ones (3 ∷ 5 ∷ []) (at 91) ∷ [] ≡ 3 ∷ 5 ∷ []
+opened_counters = refl
+
+no_data_blocks : opened_count ones (3 ∷ 5 ∷ []) (at 84) ∷ opened_count ones (3 ∷ 5 ∷ []) (at 86) ∷ opened_count ones (3 ∷ 5 ∷ []) (at 97) ∷ [] ≡ 0 ∷ 0 ∷ 0 ∷ []
+no_data_blocks = refl
 
 -- out_with: the tickets that have the block
 abbrev with_block : Desk

@@ -1,16 +1,21 @@
-ghost use Rattle.std.specs.Prelude.{ℕ, List, Option, None, Some, ◌≡◌, ◌+◌};
+ghost use Rattle.std.specs.Prelude.{ℕ, List, [], Option, None, Some, ◌≡◌, ◌⊎◌, ◌↔◌, ◌+◌, ◌<◌, ◌≤◌};
+ghost use Rattle.blk_base.specs.Counters.{limit_of};
+ghost use Rattle.blk_base.specs.Regions.{IsDataBlock};
+ghost use Rattle.blk_base.specs.declared.geometry.Geometry.{Geometry};
+ghost use Rattle.blk_base.specs.declared.opened.Opened.{Opened};
 ghost use Rattle.slab_counts.specs.declared.refusals.Refusal.{Refusal};
 ghost use Rattle.slab_counts.specs.declared.tickets.Ticket.{Ticket};
 ghost use Rattle.slab_counts.specs.declared.tickets.Receipt.{Receipt};
 ghost use Rattle.slab_tickets.specs.Numbers.{ticket_of};
-ghost use Rattle.slab_tickets.specs.Tickets.{empty_desk};
+ghost use Rattle.slab_tickets.specs.Tickets.{IsNow, IsOutAt, empty_desk};
 ghost use Rattle.slab_tickets.specs.declared.forms.Withdrawn.{Withdrawn};
 ghost use Rattle.slab_tickets.specs.declared.forms.Withdrawn.TheVariants.{Nothing};
-ghost use Rattle.zone_counts.specs.Zone.{Zone, IsZone, IsOfZone, IsClaimedIn, BeginsStep, Changes, NoneFree, slab_of, with_slab};
+ghost use Rattle.zone_counts.specs.Zone.{Zone, IsZone, IsOfZone, IsClaimedIn, IsOpeningZone, BeginsStep, Changes, NoneFree, slab_of, with_slab};
+ghost use Rattle.zone_counts.specs.Openings.{opened_count};
 ghost use Rattle.zone_counts.specs.Asking.{Asks, GivesBlock, SharesIn, WithdrawsFrom, IsRefusedIn};
 ghost use Rattle.zone_counts.specs.ByBlock.{counter_in, claims_in, out_with, is_at, makes, drops, maps, unmaps, withdraws, served_block, served_in};
 ghost use Rattle.zone_counts.specs.declared.forms.Asked.{Asked};
-ghost use Rattle.slab_counts.specs.Counts.{Counts, IsFree, Takes, counter_of, claims_of, claimed, unclaimed};
+ghost use Rattle.slab_counts.specs.Counts.{Counts, IsFree, IsStray, Takes, counter_of, claims_of, claimed, unclaimed};
 ghost use Rattle.blk_base.specs.declared.place.Pbn.{Pbn};
 ghost use Rattle.blk_base.specs.declared.point.Half.{Half};
 ghost use Rattle.blk_base.specs.declared.point.Half.TheVariants.{Increment, Decrement};
@@ -80,7 +85,7 @@ pub fn calls_move_claims_and_counters()
 {}
 
 /// What goes to a ticket is the block that became free by the call, which then has no mapping and one claim; an increment
-/// frees none.
+/// frees none, and where no ticket is out nothing is served.
 pub fn what_is_served_is_what_became_free()
     ensures dropped { (old new : Zone) (at block : Pbn) → IsZone old → IsClaimedIn old at →
         (change : Changes old new at (unclaimed (slab_of old at) at))
@@ -94,6 +99,61 @@ pub fn what_is_served_is_what_became_free()
         Takes Increment (slab_of old at) slab at
         → (change : Changes old new at slab) →
         (served_block change.serves ≡ None) × (new ≡ with_slab old at slab) }
+    ensures quiet { (old new : Zone) (at : Pbn) (slab : Counts) → old.desk.out ≡ [] →
+        Changes old new at slab → new ≡ with_slab old at slab }
+{}
+
+/// A zone is opened with the counters of the image, without claims, and without tickets.
+pub fn an_opened_zone_has_the_opened_counters()
+    ensures counters { (opened : Opened) (zone zones room : ℕ) (new : Zone) (at : Pbn) →
+        IsOpeningZone opened zone zones room new → IsZone new → IsOfZone new at →
+        counter_in at new.slabs ≡ opened_count opened.head.geometry opened.counters.items at }
+    ensures no_data { (geometry : Geometry) (counters : List ℕ) (at : Pbn) →
+        ¬ IsDataBlock geometry at.0 → opened_count geometry counters at ≡ 0 }
+    ensures claims { (opened : Opened) (zone zones room : ℕ) (new : Zone) (at : Pbn) →
+        IsOpeningZone opened zone zones room new → IsZone new → claims_in at new.slabs ≡ 0 }
+    ensures tickets { (opened : Opened) (zone zones room : ℕ) (new : Zone) →
+        IsOpeningZone opened zone zones room new → new.desk.out ≡ [] }
+{}
+
+/// What is given was free, which is where counter and claims are 0; and where none is free no block of the zone is.
+pub fn what_a_zone_gives_was_free()
+    ensures given { (old new : Zone) (block : Pbn) → IsZone old → GivesBlock old new block →
+        IsOfZone old block × (counter_in block old.slabs ≡ 0) × (claims_in block old.slabs ≡ 0) }
+    ensures free { (zone : Zone) (at : Pbn) → IsZone zone → IsOfZone zone at →
+        IsFree (slab_of zone at) at ↔ (counter_in at zone.slabs + claims_in at zone.slabs ≡ 0) }
+    ensures none { (zone : Zone) (at : Pbn) → IsZone zone → NoneFree zone.slabs →
+        IsOfZone zone at → 0 < counter_in at zone.slabs + claims_in at zone.slabs }
+{}
+
+/// Counter and claims of a block are together within the limit. So an increment fits for which there is a claim, and a
+/// decrement where something is mapped.
+pub fn counts_of_a_block_are_within_the_limit()
+    ensures limit { (zone : Zone) (at : Pbn) → IsZone zone →
+        counter_in at zone.slabs + claims_in at zone.slabs ≤ limit_of zone.geometry }
+    ensures claimed { (zone : Zone) (at : Pbn) → IsZone zone → IsOfZone zone at →
+        IsClaimedIn zone at ↔ (0 < claims_in at zone.slabs) }
+    ensures added { (zone : Zone) (at : Pbn) → IsZone zone → IsOfZone zone at →
+        0 < claims_in at zone.slabs → (slab : Counts) × Takes Increment (slab_of zone at) slab at }
+    ensures removed { (zone : Zone) (at : Pbn) → IsZone zone → IsOfZone zone at →
+        0 < counter_in at zone.slabs → (slab : Counts) × Takes Decrement (slab_of zone at) slab at }
+    ensures stray { (zone : Zone) (at : Pbn) → IsZone zone → IsOfZone zone at →
+        counter_in at zone.slabs ≡ 0 → IsStray Decrement (slab_of zone at) at }
+{}
+
+/// Each call that a zone allows has a result: so a rule that a call meets applies. The lowest free block is given, or none is
+/// free.
+pub fn each_call_has_a_result()
+    ensures begun { (old : Zone) (step : ℕ) → (new : Zone) × BeginsStep old new step }
+    ensures given { (old : Zone) → NoneFree old.slabs
+        ⊎ ((block : Pbn) × (new : Zone) × GivesBlock old new block) }
+    ensures asked { (old : Zone) (writer : Writer) (step : ℕ) → IsNow old.desk step →
+        (answer : Asked) × (new : Zone) × Asks old new writer answer }
+    ensures withdrawn { (old : Zone) (ticket : Ticket) (place step : ℕ) → IsNow old.desk step →
+        IsOutAt old.desk ticket place →
+        (result : Withdrawn) × (new : Zone) × WithdrawsFrom old new ticket result }
+    ensures changed { (old : Zone) (at : Pbn) (slab : Counts) →
+        (new : Zone) × Changes old new at slab }
 {}
 
 /// A call has one result, and what is refused, for one cause, isn't done.

@@ -1,12 +1,12 @@
-ghost use Rattle.std.specs.Prelude.{◌≡◌, ◌<◌, ◌≤◌, ◌*◌, ◌/◌, ◌%◌, ◌↔◌, ℕ, All, length, false, IsTrue, IfErr, IfOk, OnOk, OnErr};
+ghost use Rattle.std.specs.Prelude.{◌≡◌, ◌<◌, ◌≤◌, ◌*◌, ◌/◌, ◌%◌, ◌↔◌, ℕ, All, length, false, IsTrue, IfErr, IfNone, IfOk, IfSome, OnOk, OnErr};
 ghost use Rattle.blk_base.specs.Counters.{limit_of};
 ghost use Rattle.blk_base.specs.Limits.{IsGeometry};
 ghost use Rattle.blk_base.specs.Points.{half_of};
 ghost use Rattle.slab_counts.specs.Counts.{Counts, IsFree, HasRoom, Takes, IsStray, counter_of, claimed, unclaimed, with_page};
 ghost use Rattle.slab_counts.specs.declared.refusals.Refusal.TheVariants.{Full};
 ghost use Rattle.slab_tickets.specs.Tickets.{IsNow, IsBelow, IsOutAt, HasRoom as HasTicket};
-ghost use Rattle.zone_counts.specs.Zone.{IsZone, IsOfZone, IsClaimedIn, IsOpeningZone, BeginsStep, Changes, place_of, slab_at, slab_of, used_in, with_slab};
-ghost use Rattle.zone_counts.specs.Asking.{Asks, WithdrawsFrom, SharesIn, IsRefusedIn};
+ghost use Rattle.zone_counts.specs.Zone.{IsZone, IsOfZone, IsClaimedIn, IsOpeningZone, BeginsStep, Changes, NoneFree, place_of, slab_at, slab_of, used_in, with_slab};
+ghost use Rattle.zone_counts.specs.Asking.{Asks, GivesBlock, WithdrawsFrom, SharesIn, IsRefusedIn};
 
 use crate::Asked;
 use crate::opened_slabs::opening_slabs;
@@ -126,6 +126,15 @@ impl ZoneCounts {
             Some(place) => self.slabs[place].is_claimed(at),
             None => false,
         }
+    }
+
+    /// Claims the zone's lowest free block; `None` exactly where none is free.
+    pub fn claim_free(&mut self) -> Option<Claim>
+        ensures some { IfSome result (GivesBlock self.old self.new) }
+        ensures none { IfNone result (NoneFree self.old.slabs) }
+        ensures same { IfNone result (self.new ≡ self.old) }
+    {
+        claim_lowest(&mut self.slabs, &mut self.mark)
     }
 
     /// Asks for a block: it gives the zone's lowest free block, claimed, and a ticket exactly where none is free. A step was
