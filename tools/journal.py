@@ -8,7 +8,6 @@ import mapping
 from vector import SECTOR_BYTES, SECTORS, Vector, chunks, filled, spelling, u16, u32, u64
 
 FILE = "base_tests/src/journals.rt"
-WINDOWS = "run_tests/src/windows.rt"
 
 MAGIC = b"VJS1"
 ENTRIES_PER_SECTOR = 24
@@ -79,24 +78,5 @@ def spelled_blocks() -> Iterator[Vector]:
     )
 
 
-def beginning(sequence: int, head: int, entries: list[bytes]) -> bytes:
-    """The first sector of a block of the default image, without the zeros that end it."""
-    return sector(1, sequence, head, 0, entries).rstrip(b"\0")
-
-
-def window_blocks() -> Iterator[Vector]:
-    none = mapping.unmapped()
-    to_85 = remap(5, none, mapping.at(85))
-    blocks = {
-        "WRITTEN": beginning(1, 1, [to_85]),
-        "TWO": beginning(1, 1, [to_85, remap(5, mapping.at(85), mapping.at(86))]),
-        "HEAD_0": beginning(1, 0, [to_85]),
-        "PAGE": beginning(1, 1, [new_page(3, 1, 0, 86)]),
-    }
-    for item, content in blocks.items():
-        yield Vector(WINDOWS, item, (content,))
-
-
 def vectors() -> Iterator[Vector]:
     yield from spelled_blocks()
-    yield from window_blocks()
