@@ -69,6 +69,17 @@ try() {
     same "$? $printed" "$status $text" "vdo $*"
 }
 
+# script STATUS TEXT SCRIPT WORD..: the program with these words and this script ends with this status and prints this text.
+script() {
+    status=$1
+    text=$2
+    lines=$3
+    shift 3
+    # shellcheck disable=SC2059
+    printed=$(printf "$lines" | "$vdo" "$@" 2>errors)
+    same "$? $printed" "$status $text" "vdo $* with '$lines'"
+}
+
 python=$(command -v python3) || leave_out 'python3 is missing, so no other program is asked what an image says'
 
 # bytes FILE FROM COUNT: bytes of a file, in hexadecimal.
@@ -298,7 +309,7 @@ try 4 'bad image: page 85 header' stopped 154 recover
 alike stopped kept 'an image that was refused was written'
 
 # A large image with 100,000 entries in its journal, of which nothing is left of the counters and the slabs' journals: it is
-# rebuilt, and then it grows twice. Each address stays mapped to its block, and each block has what it had.
+# rebuilt, then it grows twice, and a script is served on it. Each address stays mapped to its block, and each block has what it had.
 if [ -n "$python" ]; then
     large="$python $top/tools/large_image.py"
     same "$($large make large)" '135233 blocks, 100000 entries in the journal' 'a large image'
@@ -312,6 +323,12 @@ if [ -n "$python" ]; then
     try 0 'grown 135233 blocks, 1024 slabs of 128, logical 39560640' large 135233 grow --logical 39560640 --slabs 1024
     try 0 'audit clean, used 99999 of 131072' large 135233 audit
     same "$($large check large)" '0 of 123 leaves and 0 of 99876 blocks differ' 'a large image that has grown'
+    script 0 '0 0 write 39560639 ok z0:0
+0 1 flush ok
+0 2 read 39560639 4096*61 z0:1' '0 write 39560639 4096*61\n0 flush\n0 read 39560639\n' large 135233 run
+    try 0 'recovered 2 entries' large 135233 recover
+    try 0 'audit clean, used 100001 of 131072' large 135233 audit
+    same "$($large check large)" '0 of 123 leaves and 0 of 99876 blocks differ' 'a large image that has grown, behind a run'
     rm large rebuilt
 fi
 
@@ -357,17 +374,6 @@ try 0 'formatted 154 blocks, 1 slab of 64, logical 1000
 audit clean, used 0 of 64' - 154 audit
 try 0 'formatted 154 blocks, 1 slab of 64, logical 1000
 clean' - 154 recover
-
-# script STATUS TEXT SCRIPT WORD..: the program with these words and this script ends with this status and prints this text.
-script() {
-    status=$1
-    text=$2
-    lines=$3
-    shift 3
-    # shellcheck disable=SC2059
-    printed=$(printf "$lines" | "$vdo" "$@" 2>errors)
-    same "$? $printed" "$status $text" "vdo $* with '$lines'"
-}
 
 # Runs one after the other on a file: each finds what was written before, and is recovered where it has to be.
 cp image served
