@@ -97,3 +97,6 @@ rising = (All-push (λ (e : SlabEntry). 512 ≤ e.point.0) [] third (All-nil (λ
 
 falling : ¬ IsRising (third ∷ first ∷ [])
 falling = λ is. omega (arith, is.0 0 first (omega arith))
+
+level : IsRising (first ∷ first ∷ [])
+level = (All-push (λ (e : SlabEntry). 512 ≤ e.point.0) [] first (All-nil (λ (e : SlabEntry). 512 ≤ e.point.0)) (omega arith), (All-nil (λ (e : SlabEntry). 512 ≤ e.point.0), tt))

@@ -1,19 +1,19 @@
 -- What a call does, which block is due, and what is true at every moment: for each clause a case that it accepts, and one
 -- that breaks it alone.
-use Rattle.std.specs.Prelude.{ℕ, zero, suc, ◌≡◌, ◌<◌, ◌≤◌, List, [], ◌∷◌, length, Option, None, Some}
+use Rattle.std.specs.Prelude.{ℕ, zero, suc, ◌≡◌, ◌<◌, ◌-◌, ◌≤◌, List, [], ◌∷◌, ◌++◌, length, replicate, Option, None, Some}
 use Rattle.std.proofs.Common.{ap, sym, arith, inl, inr, refl}
 use Rattle.std.proofs.lemmas.Option.{none-some}
 use Rattle.blk_base.specs.Limits.{IsGeometry}
 use Rattle.blk_base.specs.declared.geometry.Geometry.{Geometry}
 use Rattle.blk_base.specs.declared.point.Point.{Point}
 use Rattle.dirty_pages.specs.Marks.{IsDue, clean, marks_at}
-use Rattle.reference_blocks.specs.References.{HandsOutBlock, References, sectors_of}
+use Rattle.reference_blocks.specs.References.{HandsOutBlock, References, point_at, sectors_of}
 use Rattle.reference_blocks.proofs.Rows.{entry}
 use Rattle.slab_codec.specs.Reference.{reference_bytes}
 use Rattle.slab_journal.specs.Slab.{Seals, Slab}
 use Rattle.slab_writes.specs.Calls.{Does, JournalDurable, JournalOut, LeadTo, ReferenceDurable, ReferenceOut, Taken}
-use Rattle.slab_writes.specs.Due.{IsDue as IsBlockDue}
-use Rattle.slab_writes.specs.Writes.{IsKept, IsOut, Settles, Writes, opening}
+use Rattle.slab_writes.specs.Due.{IsDue as IsBlockDue, WantsJournal}
+use Rattle.slab_writes.specs.Writes.{IsKept, IsOut, Settles, SettlesReference, Writes, opening}
 use Rattle.slab_writes.specs.declared.forms.Need.TheVariants.{Full, Head, All}
 use Rattle.slab_writes.specs.declared.forms.SlabPart.TheVariants as part
 use Rattle.slab_writes.specs.declared.forms.SlabWork.{SlabWork}
@@ -126,6 +126,31 @@ in_another_order new (before, (opened, same, sealing), taking) = no_update opene
 
 by_no_call : LeadTo first [] waits → ⊥
 by_no_call same = let no : 1 ≡ 0 = ap (λ (w : Writes). length w.journal.filling) same in omega (arith, no)
+
+-- SettlesReference: the eight sectors of the second block, of seventeen that were handed out with 5
+abbrev many : Writes
+many = record { journal = record out.journal { commits = replicate 17 (p 0) }; blocks = record out.blocks { handed = replicate 17 (p 5) } }
+
+abbrev raised_but : ℕ → ℕ → List Point
+raised_but first end = replicate first (p 0) ++ (replicate (end - first) (p 5) ++ replicate (17 - end) (p 0))
+
+not_up_to_the_last : (new : Writes) → new.journal.commits ≡ raised_but 8 15 → SettlesReference many new 1 → ⊥
+not_up_to_the_last new has is = let stands = ap (λ (ps : List Point). (point_at ps 15).0) has in let raised = is.raises.inside 15 (omega arith) (omega arith) (omega arith) in omega (arith, stands, raised)
+
+past_the_last : (new : Writes) → new.journal.commits ≡ raised_but 8 17 → SettlesReference many new 1 → ⊥
+past_the_last new has is =
+    let stands = ap (λ (ps : List Point). (point_at ps 16).0) has in let kept = ap (λ (q : Point). q.0) (is.raises.outside 16 (inr (omega arith))) in omega (arith, stands, kept)
+
+not_from_the_first : (new : Writes) → new.journal.commits ≡ raised_but 9 16 → SettlesReference many new 1 → ⊥
+not_from_the_first new has is = let stands = ap (λ (ps : List Point). (point_at ps 8).0) has in let raised = is.raises.inside 8 (omega arith) (omega arith) (omega arith) in omega (arith, stands, raised)
+
+before_the_first : (new : Writes) → new.journal.commits ≡ raised_but 7 16 → SettlesReference many new 1 → ⊥
+before_the_first new has is =
+    let stands = ap (λ (ps : List Point). (point_at ps 7).0) has in let kept = ap (λ (q : Point). q.0) (is.raises.outside 7 (inl (omega arith))) in omega (arith, stands, kept)
+
+-- WantsJournal: a full block has 320 updates
+full_is_wanted : WantsJournal Full (record waits.journal { filling = replicate 320 (entry 512 3) })
+full_is_wanted = refl
 
 -- IsDue: the journal block for the head, or the reference block at the end
 journal_is_due : IsBlockDue Head waits sealed [] one_bytes journal_work
