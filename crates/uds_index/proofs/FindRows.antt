@@ -1,16 +1,20 @@
 -- What a look finds and asks for, and what a book in memory is: for each clause that has no row beside it elsewhere a case
 -- that it accepts, and one that breaks it alone.
-use Rattle.std.proofs.Common.{ℕ, zero, suc, ◌≡◌, true, false, List, [], ◌∷◌, Contains, length, replicate, Option, None, Some, ap, sym, arith, refl, inl, inr}
+use Rattle.std.proofs.Common.{ℕ, zero, suc, ◌≡◌, true, false, List, [], ◌∷◌, Contains, length, replicate, Option, None, Some, ap, sym, subst, arith, refl, inl, inr}
 use Rattle.std.proofs.lemmas.Bool.{false≢true}
 use Rattle.std.proofs.lemmas.List.Elements.{All-cons, All-contains, All-nil, All-replicate}
+use Rattle.std.proofs.lemmas.List.{get_or-replicate, length-replicate}
 use Rattle.std.proofs.lemmas.Option.{none-some}
 use Rattle.blk_base.specs.declared.place.Pbn.{Pbn}
 use Rattle.byte_fields.specs.Fields.{number_at}
+use Rattle.uds_chapters.specs.declared.entry.Record.{Record}
 use Rattle.uds_chapters.specs.Chapters.{Numbered}
+use Rattle.uds_chapters.specs.Finds.{IsUnder}
+use Rattle.uds_chapters.specs.Places.{IsGapFor}
 use Rattle.index_advice.specs.Books.{Book}
 use Rattle.index_advice.specs.Orders.{IsChapter, IsOfKept}
 use Rattle.index_advice.specs.declared.look.Look.TheVariants.{Known, Nothing, Read}
-use Rattle.uds_index.specs.Looks.{Answers, Asks, AsksFew, AsksOf, CachesIf, Finds, FindsKept, Index, IsCached, IsGiven, IsNew, MayRead, SameLook, at_rest, chapters_for, is_asked, is_just, place_of_block}
+use Rattle.uds_index.specs.Looks.{IsNamePage, Answers, Asks, AsksFew, AsksOf, CachesIf, Finds, FindsKept, Index, IsCached, IsGiven, IsNew, MayRead, SameLook, at_rest, chapters_for, is_asked, is_just, place_of_block}
 use Rattle.uds_index.specs.Places.{IsKept}
 use Rattle.uds_index.specs.Rooms.{FewAtPlaces, place_of_chapter, place_of_page}
 use Rattle.uds_index.proofs.AskRows.{nothing_known, region}
@@ -152,6 +156,31 @@ asks_nothing : AsksOf kept_book [] [] name Nothing → ⊥
 unfolding number_at
 asks_nothing asks = (asks refl).0.2 (nothing_known (asks refl).0.0)
 
+behind_all : (count : ℕ) → IsGapFor (replicate count (record { name = 6 ∷ 0 ∷ 0 ∷ 0 ∷ []; at = at 85 })) name count
+behind_all count =
+    let other : Record = record { name = 6 ∷ 0 ∷ 0 ∷ 0 ∷ []; at = at 85 } in
+    let size = length-replicate {A = Record} count other in
+    record {
+      inside = omega (arith, size);
+      parted = (
+        (λ k d from below. subst (λ (one : Record). IsUnder name one) (sym (get_or-replicate count k other d below)) refl),
+        (λ k d past inside. absurd (omega (arith, size, past, inside))),
+      );
+    }
+
+-- IsNamePage: a page has 170 records, and the last one all behind it
+abbrev records_of : ℕ → List Record
+records_of count = replicate count (record { name = 6 ∷ 0 ∷ 0 ∷ 0 ∷ []; at = at 85 })
+
+first_page : IsNamePage 69 2 name 73 (record { number = 5; records = records_of 169 })
+first_page = record { place = 169; stands = inr (behind_all 169); block = refl }
+
+second_page : IsNamePage 69 2 name 74 (record { number = 5; records = records_of 170 })
+second_page = record { place = 170; stands = inr (behind_all 170); block = refl }
+
+last_page : IsNamePage 69 2 name 76 (record { number = 5; records = records_of 680 })
+last_page = record { place = 680; stands = inr (behind_all 680); block = refl }
+
 -- Asks: unless a page couldn't be read
 asks : Asks name (index_with kept_book false) (Read (at 73))
 asks readable = asks_its_page
@@ -184,6 +213,9 @@ another_record new is = omega (arith, ap block_in is.1)
 -- AsksFew
 asks_the_twelfth : AsksFew (record asked_for { given = replicate 11 73 })
 asks_the_twelfth = ((λ some. omega arith), omega arith)
+
+given_twelve : AsksFew (record asked_for { asked = None; given = replicate 12 73 })
+given_twelve = ((λ some. absurd (false≢true some)), omega arith)
 
 given_thirteen : AsksFew (record asked_for { asked = None; given = replicate 13 73 }) → ⊥
 given_thirteen few = omega (arith, few.1)

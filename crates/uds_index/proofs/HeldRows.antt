@@ -1,9 +1,10 @@
 -- How pages that were read come to chapters: for each clause that has no row beside it elsewhere a case that it accepts, and
 -- one that breaks it.
-use Rattle.std.proofs.Common.{ℕ, zero, suc, ◌≡◌, ◌<◌, ◌∙◌, Bool, true, false, if◌then◌else◌, List, [], ◌∷◌, length, slice_index_or, Option, None, Some, ap, sym, subst, arith, refl, inl, inr}
+use Rattle.std.proofs.Common.{ℕ, zero, suc, ◌≡◌, ◌<◌, ◌∙◌, Bool, true, false, if◌then◌else◌, List, [], ◌∷◌, length, replicate, slice_index_or, Option, None, Some, ap, sym, subst, arith, refl, inl, inr}
 use Rattle.std.specs.Str.{bytes_eq}
 use Rattle.std.specs.Option.{option_or}
 use Rattle.std.proofs.lemmas.Bool.{false≢true}
+use Rattle.std.proofs.lemmas.List.{length-replicate}
 use Rattle.std.proofs.lemmas.List.Elements.{All-cons, All-nil}
 use Rattle.blk_base.specs.declared.place.Pbn.{Pbn}
 use Rattle.blk_base.proofs.Example.{small}
@@ -113,6 +114,12 @@ forgets_it is = let no : 0 ≡ 1 = ap (λ (chapters : List Numbered). length cha
 -- IsSmall: 170 records for each page so far
 is_small : IsSmall 4 5 (chapter 5 (one 1 85 ∷ []))
 is_small = omega arith
+
+as_many_as_fit : IsSmall 4 5 (chapter 5 (replicate 170 (one 1 85)))
+as_many_as_fit = let many = length-replicate {A = Record} 170 (one 1 85) in omega (arith, many)
+
+one_more_than_fits : IsSmall 4 5 (chapter 5 (replicate 171 (one 1 85))) → ⊥
+one_more_than_fits is = let many = length-replicate {A = Record} 171 (one 1 85) in omega (arith, many, is)
 
 before_its_first_page : IsSmall 4 4 (chapter 5 (one 1 85 ∷ [])) → ⊥
 before_its_first_page is = omega (arith, is)
