@@ -90,8 +90,8 @@ kept = record {
     block_one_is : AreOfSlab sealed_one block_one
     block_one_is = All-cons (HoldsEntry 1000) first (entry 513 504 ∷ []) (omega arith, omega arith, omega arith) (All-cons (HoldsEntry 1000) (entry 513 504) [] (omega arith, omega arith, omega arith) (All-nil (HoldsEntry 1000)))
 
--- a journal whose last number is that of its last point, of which each block is durable
-kept_at_its_last_number : IsKept (record (opening sizes 0) { sequence = 511; durable = 511 })
+-- a journal whose last number is that of its last point; of a block that is durable nothing is asked
+kept_at_its_last_number : IsKept (record (opening sizes 0) { sequence = 511; durable = 511; slots = [] ∷ (third ∷ first ∷ []) ∷ [] })
 kept_at_its_last_number = record {
   geometry = sizes_are;
   slab = omega arith;
@@ -104,10 +104,13 @@ kept_at_its_last_number = record {
   filling = All-nil (HoldsEntry 1000);
   taken = All-nil (Below 511);
   rising = All-nil (Above 511);
-  blocks = All-cons (AreOfSlab sealed_one) [] ([] ∷ []) (All-nil (HoldsEntry 1000)) (All-cons (AreOfSlab sealed_one) [] [] (All-nil (HoldsEntry 1000)) (All-nil (AreOfSlab sealed_one)));
+  blocks = All-cons (AreOfSlab sealed_one) [] ((third ∷ first ∷ []) ∷ []) (All-nil (HoldsEntry 1000)) (All-cons (AreOfSlab sealed_one) (third ∷ first ∷ []) [] falling_is (All-nil (AreOfSlab sealed_one)));
   in_order = tt;
   sealed = λ writing. absurd (omega (arith, writing));
 }
+  where
+    falling_is : AreOfSlab sealed_one (third ∷ first ∷ [])
+    falling_is = All-cons (HoldsEntry 1000) third (first ∷ []) (omega arith, omega arith, omega arith) (All-cons (HoldsEntry 1000) first [] (omega arith, omega arith, omega arith) (All-nil (HoldsEntry 1000)))
 
 -- geometry
 of_another_image : IsKept (record sealed_one { geometry = record sizes { height = 4 } }) → ⊥
