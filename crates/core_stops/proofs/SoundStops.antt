@@ -25,13 +25,12 @@ use Rattle.image_model.specs.Looked.{HasOneImageButIndex, is_looked_at, looked_i
 use Rattle.image_model.specs.Maps.{image_with, value_of}
 use Rattle.image_model.specs.Sound.{IsSound}
 use Rattle.image_model.specs.Windows.{IsWindow}
-use Rattle.recovery_laws.specs.Kept.{image_in}
+use Rattle.recovery_laws.specs.Kept.{PutsOnly, image_in}
 use Rattle.session_seams.proofs.SequenceLaws.{opened_next, rest_next, torn_next}
 use Rattle.session_seams.specs.Sequences.{ShowsValues, next_start}
 use Rattle.session_stops.proofs.BeginLaws.{beginning_goes_on, begins_with, head_is_read, image_is_as_opened}
 use Rattle.session_stops.proofs.SoundImages.{rest_sound, way_sound}
 use Rattle.session_stops.specs.Beginnings.{IsBeginning, IsHeadOf, IsToServe, head_in, opened_in}
-use Rattle.session_stops.specs.Pages.{PutsOnly}
 use Rattle.session_stops.specs.Sessions.{ShowsSoundly, StandsAtRest, StandsUnderWay}
 use Rattle.vdo_model.specs.Stops.{RightAfterStops}
 use Rattle.core_stops.proofs.StandingBlocks.{rest_stands, way_stands}

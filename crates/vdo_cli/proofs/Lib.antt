@@ -3,11 +3,12 @@ pub mod OpenedPages
 pub mod OpenedSessions
 pub mod RecoveredImages
 pub mod FreeLaws
-pub mod StopLaws
 pub mod SessionLaws
 pub mod ScriptLaws
 pub mod EndingLaws
 pub mod OnwardLaws
+pub mod NextRuns
+pub mod CompleteLaws
 pub mod CommandPins
 pub mod TextPins
 pub mod PlayPins
@@ -23,3 +24,5 @@ pub mod EmptyScript
 pub mod SessionPins
 pub mod DrivenPins
 pub mod ValuePins
+pub mod NextPins
+pub mod CompletePins

@@ -1,13 +1,17 @@
 -- Rows that pin why no session was begun (`PlayFails`), and that the run says so (`NotBegun`): for each part some that it accepts,
 -- and some that break this part alone.
-use Rattle.std.proofs.Common.{ℕ, ◌≡◌, ◌≢◌, true, false, List, [], ◌∷◌, length, Option, Some, None, Ok, Err, refl, ap, inl, inr, arith}
+use Rattle.std.proofs.Common.{ℕ, ◌≡◌, ◌≢◌, true, false, List, [], ◌∷◌, length, Option, Some, None, Ok, Err, refl, ap, subst, inl, inr, arith}
 use Rattle.blk_base.specs.declared.opened.Opened.{Opened}
+use Rattle.disk_model.specs.declared.call.Call.{Call}
+use Rattle.disk_model.specs.Images.{IsImage}
+use Rattle.disk_model.specs.Log.{Blocks}
 use Rattle.disk_model.specs.Seen.{Seen}
 use Rattle.disk_model.specs.Streams.{SourceSeen}
 use Rattle.image_layout.specs.declared.fault.SuperFault.TheVariants.{NotAnImage, Version}
 use Rattle.image_model.specs.declared.fault.ImageFault.{ImageFault}
 use Rattle.image_model.specs.declared.fault.ImageFault.TheVariants as image
-use Rattle.rebuild.specs.Recoveries.{IsRecovery}
+use Rattle.image_model.specs.Sound.{IsSound}
+use Rattle.rebuild.specs.Recoveries.{IsRecovery, IsTold}
 use Rattle.rebuild.specs.declared.forms.Recovered.{Recovered}
 use Rattle.rebuild.specs.declared.forms.Recovered.TheVariants.{Clean, Entries}
 use Rattle.stream_text.specs.WholeScript.{whole_script}
@@ -16,10 +20,11 @@ use Rattle.vdo_model.specs.Scripts.{Script}
 use Rattle.vdo_model.specs.declared.report.RunReport.{RunReport}
 use Rattle.vdo_cli.specs.declared.fault.Fault.{Fault}
 use Rattle.vdo_cli.specs.declared.fault.Fault.TheVariants as fault
-use Rattle.vdo_cli.specs.Endings.{PlayFails}
+use Rattle.vdo_cli.specs.Endings.{KeepsImage, PlayFails}
 use Rattle.vdo_cli.specs.Inspections.{told_as}
 use Rattle.vdo_cli.specs.Openings.{IsReady, IsUnready, recovered_of}
-use Rattle.vdo_cli.specs.Outsides.{Outside, input_setting, inputs, no_report, trust}
+use Rattle.vdo_cli.specs.Outsides.{Outside, input_setting, inputs, no_report, outcome, setting, trust}
+use Rattle.vdo_cli.specs.Runs.{EndsSo}
 use Rattle.vdo_cli.specs.Texts.{fault_text, refusal_text}
 use Rattle.vdo_cli.proofs.AuditPins.{bare, begins, no_image}
 use Rattle.vdo_cli.proofs.CommandPins.{run_words}
@@ -153,3 +158,22 @@ not_begun-not_silent ends = elim ends.refuses.puts [
     by_recovered : (recovered : Option ℕ) → [] ≡ refusal_text recovered no_image → ⊥
     by_recovered None put = let size = ap length put in omega (arith, size)
     by_recovered (Some count) put = absurd cc
+
+-- Where the device or the image ended the call, nothing was taken of the script.
+device-takes_nothing : (before after : Outside) (status : ℕ) (report : RunReport) → Ends run_words before after status report (Some fault.Device) → after.source ≡ before.source
+device-takes_nothing before after status report ends = elim ends.cause [ inl on_image ↦ on_image.unread | inr on_script ↦ absurd on_script.cause ]
+
+image-takes_nothing : (before after : Outside) (status : ℕ) (report : RunReport) (why : ImageFault) → Ends run_words before after status report (Some (fault.Image why)) → after.source ≡ before.source
+image-takes_nothing before after status report why ends = elim ends.cause [ inl on_image ↦ on_image.unread | inr on_script ↦ absurd on_script.cause ]
+
+-- Whatever a stop leaves of a sound image is sound, where no session was begun either: not where a moment leaves an image that isn't.
+not_begun-not_unsound : (before after : Outside) (status : ℕ) (report : RunReport) (why : ImageFault) (blocks : Blocks) (other : Blocks) → IsTold true true before.device blocks → IsSound blocks
+    → EndsSo (setting true true true true) run_words before after (outcome status report (Some (fault.Image why))) → IsImage before.device.opening after.device.log other → (IsSound other → ⊥) → ⊥
+not_begun-not_unsound before after status report why blocks other told sound ends is_image never =
+    let kept = ends.early blocks told sound in
+    let shown = kept.2 [] kept.0 refl other (subst (λ (log : List Call). IsImage before.device.opening log other) kept.1 is_image) in
+    never shown.1.sound
+
+-- A device that doesn't tell says nothing of stops, and neither does one whose image isn't sound.
+keeps-untold : (before after : Seen) → KeepsImage (trust false true) before after
+keeps-untold before after image told sound = let tells = told.told in absurd (cc tells)

@@ -1,24 +1,26 @@
 -- What a recovery leaves of a sound image, and what stops leave of it until a session begins.
-use Rattle.std.proofs.Common.{ℕ, ◌≡◌, ◌++◌, ◌≤◌, Bool, IsTrue, Option, List, [], ◌∷◌, Ok, refl, sym, ◌∙◌, ap, subst, append_assoc, inl, inr, arith}
+use Rattle.std.proofs.Common.{ℕ, ◌≡◌, ◌++◌, ◌≤◌, Bool, true, false, Option, List, [], Ok, refl, sym, ◌∙◌, ap, append_assoc, inl, inr, arith}
 use Rattle.blk_base.specs.Regions.{needed_blocks}
+use Rattle.blk_base.specs.declared.geometry.Super.{Super}
 use Rattle.blk_base.specs.declared.opened.Opened.{Opened}
-use Rattle.blk_base.specs.declared.place.Pbn.{Pbn}
-use Rattle.disk_model.proofs.SinceLaws.{image_before}
-use Rattle.disk_model.specs.Images.{IsImage}
 use Rattle.disk_model.specs.Log.{Blocks}
-use Rattle.disk_model.specs.Seen.{Seen, Stays}
-use Rattle.disk_model.specs.Since.{IsUntouched, OnlyReads}
+use Rattle.disk_model.specs.Seen.{Seen}
+use Rattle.disk_model.specs.Since.{IsUntouched, OnlyReads, SinceThen}
 use Rattle.disk_model.specs.declared.call.Call.{Call}
-use Rattle.disk_model.specs.declared.call.Call.TheVariants.{Read, Write, Flush}
-use Rattle.image_model.specs.Maps.{Image, value_of}
+use Rattle.image_model.specs.Maps.{value_of}
 use Rattle.image_model.specs.Sound.{IsSound}
 use Rattle.image_model.specs.declared.fault.ImageFault.{ImageFault}
-use Rattle.recovery_laws.specs.Kept.{AreKept, AreStopsKept, image_in}
+use Rattle.recovery_laws.specs.Kept.{image_in}
+use Rattle.rebuild.proofs.KeptLaws.{opened_alike}
 use Rattle.rebuild.proofs.ReadLaws.{still}
 use Rattle.rebuild.specs.Outcomes.{IsKeptSince}
 use Rattle.rebuild.specs.Recoveries.{IsRecovery, IsTold}
 use Rattle.rebuild.specs.declared.forms.Recovered.{Recovered}
 use Rattle.rebuild.specs.declared.forms.Recovered.TheVariants.{Clean, Entries}
+use Rattle.session_seams.proofs.EarlyLaws.{early_shows}
+use Rattle.session_seams.proofs.SequenceLaws.{recovered_next, served}
+use Rattle.session_seams.specs.Logs.{StopsShow}
+use Rattle.session_seams.specs.Sequences.{ShowsValues, next_start}
 use Rattle.vdo_cli.specs.Endings.{KeepsImage}
 use Rattle.vdo_cli.specs.Openings.{IsReady, IsUnready}
 use Rattle.vdo_cli.specs.Outsides.{Trust}
@@ -27,70 +29,84 @@ use Rattle.vdo_cli.specs.Outsides.{Trust}
 pub still_told : (tells honest : Bool) (before now : Seen) (image : Blocks) → IsTold tells honest before image → IsUntouched tells before now → IsTold tells honest now image
 still_told tells honest before now image is untouched = record { told = is.told; fair = is.fair; one = still tells honest image is.told is.fair before now untouched is.one }
 
--- nothing is pending, and the one image is sound and has the values of another one
+-- Nothing is pending, and the one image is sound and closed: it has the sizes and the values of another one, and the next session
+-- begins where it would have begun there.
 pub record IsLeft (image : Blocks) (sound : IsSound image) (tells honest : Bool) (now : Seen) : Type 0 where
   pub left : Blocks
   pub is_told : IsTold tells honest now left
   pub is_sound : IsSound left
+  pub clean : is_sound.head.clean ≡ true
+  pub geometry : is_sound.head.geometry ≡ sound.head.geometry
   pub values : (a : ℕ) → value_of (image_in left is_sound) a ≡ value_of (image_in image sound) a
+  pub next : next_start left is_sound ≡ next_start image sound
 
 pub left_by : (tells honest : Bool) (before now : Seen) (image : Blocks) (sound : IsSound image) (found : Recovered) → IsTold tells honest before image
     → IsRecovery tells honest before now (Ok found) → IsLeft image sound tells honest now
-left_by tells honest before now image sound Clean is recovery = record {
-  left = image;
-  is_told = still_told tells honest before now image is recovery.answers.3;
-  is_sound = sound;
-  values = λ a. refl;
-}
+left_by tells honest before now image sound Clean is recovery =
+    let answer = recovery.says image is in
+    let both : Ok sound.head ≡ Ok answer.0 = sym sound.opens.accepted ∙ answer.1 in
+    let same : sound.head ≡ answer.0 = cc both in
+    record {
+      left = image;
+      is_told = still_told tells honest before now image is recovery.answers.3;
+      is_sound = sound;
+      clean = ap (λ (h : Super). h.clean) same ∙ answer.2;
+      geometry = refl;
+      values = λ a. refl;
+      next = refl;
+    }
 left_by tells honest before now image sound (Entries count) is recovery =
     let closed = recovery.closed image is sound in
+    let answer = recovery.says image is in
+    let same = (opened_alike image sound answer.0 answer.1 answer.2 answer.3).0 in
+    let unclean : sound.head.clean ≡ false = ap (λ (h : Super). h.clean) (sym same) ∙ answer.4 in
     record {
       left = closed.0;
       is_told = record { told = is.told; fair = is.fair; one = closed.1 };
       is_sound = closed.2.kept.sound;
+      clean = ap (λ (h : Super). h.clean) closed.2.closed;
+      geometry = closed.2.kept.same.geometry;
       values = closed.2.kept.same.values;
+      next = recovered_next image closed.0 sound unclean closed.2;
     }
 
--- Reads leave whatever they found.
+-- Whatever a stop leaves of a sound image while it is recovered, and then read, says the same.
+module _ (tells honest : Bool) (before middle : Seen) (image : Blocks) (sound : IsSound image) (is : IsTold tells honest before image) (kept : IsKeptSince image sound before middle) (most logical : ℕ)
+    (few : next_start image sound ≤ most) where
+  abbrev Shows : List Call → Type 0
+  Shows = StopsShow (ShowsValues sound.head.geometry most) before.opening before.log logical (value_of (image_in image sound))
 
-one_read : (old : Image) (opening : Blocks) (first calls : List Call) (at : Pbn) (bytes : List ℕ) (ok : Bool) → AreStopsKept old opening first calls → AreStopsKept old opening first (Read at bytes ok ∷ calls)
-one_read old opening first calls at bytes ok before = record { kept = each; index = λ i below. (tt, before.index i below) }
-  where
-    each : (newer older : List Call) (now : Blocks) → Read at bytes ok ∷ calls ≡ newer ++ older → IsImage opening (older ++ first) now → AreKept old now
-    each [] older now same is =
-        let whole : older ++ first ≡ Read at bytes ok ∷ (calls ++ first) = ap (λ (l : List Call). l ++ first) (sym same) in
-        before.kept [] calls now refl (image_before opening (calls ++ first) (Read at bytes ok ∷ []) now tt (subst (λ (l : List Call). IsImage opening l now) whole is))
-    each (call ∷ newer) older now same is = let rest : calls ≡ newer ++ older = cc same in before.kept newer older now rest is
+  recovered_shows : (reads : List Call) → OnlyReads reads → Shows (reads ++ kept.0)
+  recovered_shows reads only = early_shows before.opening image before.log sound most logical few kept.0 reads only (served before.opening image before.log sound is.one kept.0 kept.2)
 
-read_more : (old : Image) (opening : Blocks) (first reads calls : List Call) → OnlyReads reads → AreStopsKept old opening first calls → AreStopsKept old opening first (reads ++ calls)
-read_more old opening first [] calls only kept = kept
-read_more old opening first (Write at bytes ok ∷ reads) calls only kept = absurd only
-read_more old opening first (Flush ok ∷ reads) calls only kept = absurd only
-read_more old opening first (Read at bytes ok ∷ reads) calls only kept = one_read old opening first (reads ++ calls) at bytes ok (read_more old opening first reads calls only kept)
+  pub shows_yet : SinceThen Shows before.log middle.log
+  shows_yet = (kept.0, kept.1, recovered_shows [] tt)
 
-pub kept_on : (old : Image) (tells : Bool) (first middle now : Seen) → IsTrue tells → Stays first middle → IsKeptSince old first middle → IsUntouched tells middle now → IsKeptSince old first now
-kept_on old tells first middle now told stays (calls, made, kept) untouched =
-    let reads = untouched.reads told in (
-      reads.0 ++ calls,
-      reads.1 ∙ ap (λ (l : List Call). reads.0 ++ l) made ∙ sym (append_assoc reads.0 calls first.log),
-      read_more old first.opening first.log reads.0 calls reads.2 kept,
-    )
-
--- So whatever a stop leaves of a sound image while it is recovered says the same, and while it is opened too, however that ends.
-pub kept_since : (tells honest : Bool) (before middle now : Seen) (image : Blocks) (sound : IsSound image) → IsTold tells honest before image → IsKeptSince (image_in image sound) before middle
-    → Stays before middle → IsUntouched tells middle now → IsKeptSince (image_in image sound) before now
-kept_since tells honest before middle now image sound is kept stays untouched = kept_on (image_in image sound) tells before middle now is.told stays kept untouched
+  pub shows_on : (now : Seen) → IsUntouched tells middle now → SinceThen Shows before.log now.log
+  shows_on now untouched =
+      let reads = untouched.reads is.told in (
+        reads.0 ++ kept.0,
+        reads.1 ∙ ap (λ (l : List Call). reads.0 ++ l) kept.1 ∙ sym (append_assoc reads.0 kept.0 before.log),
+        recovered_shows reads.0 reads.2,
+      )
 
 -- So of an image that is ready, and of one that isn't.
 
+module _ (trust : Trust) (before now : Seen) (image : Blocks) (told : IsTold trust.tells trust.honest before image) (sound : IsSound image) where
+  pub ready_shows : (found : Recovered) (start : Opened) → IsReady trust before now found start → (most logical : ℕ) → next_start image sound ≤ most
+      → SinceThen (StopsShow (ShowsValues sound.head.geometry most) before.opening before.log logical (value_of (image_in image sound))) before.log now.log
+  ready_shows found start is most logical few =
+      shows_on trust.tells trust.honest before is.middle image sound told (is.recovery.stops image told sound) most logical few now is.opening.untouched
+
 pub ready_kept : (trust : Trust) (before now : Seen) (found : Recovered) (start : Opened) → IsReady trust before now found start → KeepsImage trust before now
 ready_kept trust before now found start is image told sound =
-    kept_since trust.tells trust.honest before is.middle now image sound told (is.recovery.stops image told sound) is.recovery.stays is.opening.untouched
+    ready_shows trust before now image told sound found start is (next_start image sound) sound.head.geometry.logical (omega arith)
 
 pub unready_kept : (trust : Trust) (before now : Seen) (recovered : Option ℕ) (why : ImageFault) → IsUnready trust before now recovered why → KeepsImage trust before now
-unready_kept trust before now recovered why (inl is) image told sound = is.recovery.stops image told sound
+unready_kept trust before now recovered why (inl is) image told sound =
+    shows_yet trust.tells trust.honest before now image sound told (is.recovery.stops image told sound) (next_start image sound) sound.head.geometry.logical (omega arith)
 unready_kept trust before now recovered why (inr is) image told sound =
-    kept_since trust.tells trust.honest before is.middle now image sound told (is.recovery.stops image told sound) is.recovery.stays is.opening.untouched
+    shows_on trust.tells trust.honest before is.middle image sound told (is.recovery.stops image told sound) (next_start image sound) sound.head.geometry.logical (omega arith) now is.opening.untouched
 
 -- The device has room for what was opened, and its sizes are within their limits.
 pub room_of : (trust : Trust) (before now : Seen) (found : Recovered) (start : Opened) → IsReady trust before now found start → needed_blocks start.head.geometry ≤ now.size

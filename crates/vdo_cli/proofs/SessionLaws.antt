@@ -1,7 +1,9 @@
 -- What a session did, from what its core, its schedule and its report say.
-use Rattle.std.proofs.Common.{ℕ, suc, ◌≡◌, ◌⊎◌, ◌<◌, ◌≤◌, ◌^◌, ◌++◌, Bool, true, false, IsTrue, List, [], ◌∷◌, length, Option, Some, None, IsSome, Ok, refl, sym, ◌∙◌, ap, subst, append_assoc, arith, inl, inr}
+use Rattle.std.proofs.Common.{ℕ, suc, ◌≡◌, ◌⊎◌, ◌+◌, ◌<◌, ◌≤◌, ◌^◌, ◌++◌, Bool, true, false, IsTrue, List, [], ◌∷◌, Option, Some, None, IsSome, Ok, refl, sym, ◌∙◌, ap, subst, append_assoc, arith, inl, inr}
 use Rattle.std.proofs.Math.Path.{fun_ext}
 use Rattle.std.proofs.lemmas.List.{append-nil}
+use Rattle.blk_base.specs.declared.geometry.Geometry.{Geometry}
+use Rattle.blk_base.specs.declared.geometry.Super.{Super}
 use Rattle.blk_base.specs.declared.opened.Opened.{Opened}
 use Rattle.blk_base.specs.declared.place.Pbn.{Pbn}
 use Rattle.blk_base.specs.declared.request.Answer.{Answer as Reply}
@@ -11,29 +13,27 @@ use Rattle.blk_base.specs.declared.request.Request.TheVariants as request
 use Rattle.blk_base.specs.declared.request.Writer.{Writer}
 use Rattle.disk_model.specs.Causes.{Rose}
 use Rattle.disk_model.specs.declared.call.Call.{Call}
-use Rattle.disk_model.specs.Log.{Blocks, block_at}
+use Rattle.disk_model.specs.Log.{Blocks}
 use Rattle.disk_model.specs.Seen.{Seen, Stays}
 use Rattle.disk_model.specs.Streams.{SourceSeen}
 use Rattle.disk_model.proofs.SeenLaws.{stays_on}
-use Rattle.image_layout.specs.Opened.{super_of_image}
 use Rattle.image_model.specs.Maps.{value_of}
 use Rattle.image_model.specs.Sound.{IsSound}
 use Rattle.data_vio.specs.declared.sizes.Sizes.{Sizes}
 use Rattle.core_model.specs.declared.zones.Zone.{Zone}
 use Rattle.core_model.specs.Legal.{Legal}
 use Rattle.core_model.specs.PageLinks.{opened_page}
-use Rattle.core_model.specs.Reports.{SaysSuperblock, opening_values, report_of}
+use Rattle.core_model.specs.Reports.{opening_values, report_of}
 use Rattle.core_model.specs.RightTraces.{HarmMayFollow, MayAnswer, MayFollow, RightTrace}
 use Rattle.core_model.specs.Sessions.{Session, IsFair, IsSession}
 use Rattle.core_model.specs.Start.{IsFirst}
 use Rattle.core_model.specs.Steps.{Leads}
-use Rattle.core_model.specs.Superblocks.{superblock_bytes}
 use Rattle.core_model.specs.Trace.{Aborts, Passes, Calls, Commits, Draws, Enters, Seals, Fails, Flushes, Gives, Happening, Harms, Says, Sets, Takes, Trace, calls, damage_in, first_of, has_read_fault, has_stopped, is_harmed, lines, moments}
 use Rattle.core_laws.proofs.kept.FirstState.{legal_first}
 use Rattle.core_laws.proofs.trace.AbortsOfTrace.{stops_at_failure}
 use Rattle.core_laws.proofs.trace.DamageOfTrace.{fair_undamaged}
 use Rattle.core_laws.proofs.trace.MarksOfTrace.{marks_right}
-use Rattle.core_laws.proofs.trace.ReportOfTrace.{report_reads_right, report_stops_right, run_right}
+use Rattle.core_laws.proofs.trace.ReportOfTrace.{report_reads_right, run_right}
 use Rattle.core_laws.proofs.kept.LegalMoves.{legal_leads}
 use Rattle.step_parts.specs.DeviceLog.{HasCalled, RoseBy, failed_calls}
 use Rattle.page_codec.specs.declared.fault.PageFault.{PageFault}
@@ -41,6 +41,13 @@ use Rattle.rebuild.specs.Openings.{OpensRight}
 use Rattle.rebuild.specs.Recoveries.{IsTold}
 use Rattle.rebuild.specs.declared.forms.Recovered.{Recovered}
 use Rattle.recovery_laws.specs.Kept.{image_in}
+use Rattle.core_stops.proofs.SoundStops.{sound_stops}
+use Rattle.session_seams.proofs.EarlyLaws.{run_is_right}
+use Rattle.session_seams.proofs.LogLaws.{marks_within}
+use Rattle.session_seams.proofs.SequenceLaws.{next_clean}
+use Rattle.session_seams.specs.Logs.{StopsRight, report_from}
+use Rattle.session_seams.specs.Sequences.{ShowsValues, next_start}
+use Rattle.session_stops.specs.Beginnings.{IsToServe}
 use Rattle.vdo_core.specs.Cores.{CanBegin, sizes_of}
 use Rattle.vdo_core.specs.FreeBlocks.{free_of}
 use Rattle.vdo_core.specs.Plays.{core_with}
@@ -48,6 +55,7 @@ use Rattle.vdo_core.specs.Done.{IsDone}
 use Rattle.vdo_core.proofs.DoneLaws.{answered_when_done}
 use Rattle.vdo_core.proofs.SessionLaws.{bare, can_serve, honest_reads, is_of, is_session}
 use Rattle.vdo_model.specs.DeskLog.{AllAnswered, answer_of}
+use Rattle.vdo_model.specs.FlushMarks.{successes}
 use Rattle.vdo_model.specs.RightReads.{ReadsRight}
 use Rattle.vdo_model.proofs.NameLaws.{same_tells}
 use Rattle.vdo_model.specs.Scripts.{Script, request_at}
@@ -59,20 +67,17 @@ use Rattle.vdo_model.specs.Stops.{RightAfterStops}
 use Rattle.schedule.specs.Turns.{Drives}
 use Rattle.schedule.proofs.TurnLaws.{driven_leads}
 use Rattle.stream_text.specs.WholeScript.{whole_script}
-use Rattle.recovery_laws.proofs.SuperLaws.{first_of_image, room_of_image}
-use Rattle.image_layout.proofs.AgainLaws.{written_again}
 use Rattle.vdo_core.specs.Starts.{IsOf}
 use Rattle.vdo_core.specs.declared.events.Event.{Event}
 use Rattle.vdo_cli.specs.Commands.{run_setup}
 use Rattle.vdo_cli.specs.Endings.{RunsSession}
-use Rattle.vdo_cli.specs.Openings.{IsReady}
+use Rattle.vdo_cli.specs.Openings.{HasSequencesLeft, IsReady}
 use Rattle.vdo_cli.specs.Outsides.{input_setting, inputs, trust}
 use Rattle.vdo_cli.specs.Sessions.{HasDamage, IsExplained, IsOver, IsReported, run_sizes, task}
-use Rattle.vdo_cli.specs.Stops.{Happens, OpensWith, unclosed}
+use Rattle.vdo_cli.specs.Stops.{Happens}
 use Rattle.vdo_cli.proofs.FreeLaws.{free_in}
 use Rattle.vdo_cli.proofs.OpenedSessions.{as_opened, as_opened_values, head_of_sound}
-use Rattle.vdo_cli.proofs.RecoveredImages.{IsLeft, left_by, ready_kept, still_told}
-use Rattle.vdo_cli.proofs.StopLaws.{some_blocks, super_by_sector}
+use Rattle.vdo_cli.proofs.RecoveredImages.{IsLeft, left_by, ready_kept, ready_shows, still_told}
 
 -- what happened before a happening, of a right trace
 right_at : (s : Session) (newer older : Trace) (h : Happening) → RightTrace s (newer ++ h ∷ older) → MayFollow s h older
@@ -170,6 +175,10 @@ answered_told s (Takes v page x ∷ t) w r a right asked is = answered_told s t 
 answered_told s (Passes e ∷ t) w r a right asked is = answered_told s t w r a right.2 asked is
 answered_told s (Aborts e ∷ t) w r a right asked is = answered_told s t w r a right.2 asked is
 answered_told s (Calls c ∷ t) w r a right asked is = answered_told s t w r a right.2 asked is
+
+true_is : (b : Bool) → b ≡ true → IsTrue b
+true_is true is = refl
+true_is false is = absurd (cc is)
 
 rose : (n before now : ℕ) → 1 ≤ n → RoseBy n before now → Rose before now
 rose n before now some by = omega (arith, some, by)
@@ -302,29 +311,24 @@ module _ (tells honest : Bool) (start : Opened) (script : Script) (first last : 
     pub values_of_image : opening_values real ≡ value_of (image_in image sound)
     values_of_image = fun_ext (as_opened_values real start sound right refl refl refl (λ x has. free_in start can.geometry x has) is.one)
 
-    accepted : super_of_image image ≡ Ok start.head
-    accepted = sound.opens.accepted ∙ ap Ok (head_of_sound image sound start right)
+    -- the image as it is served
+    own_head : sound.head ≡ start.head
+    own_head = head_of_sound image sound start right
 
-    -- the superblock of an image that a stop leaves
-    says_of : (other : Blocks) → length other ≡ length image → SaysSuperblock real other → (super_of_image other ≡ Ok start.head) ⊎ (super_of_image other ≡ Ok (unclosed start.head))
-    says_of other size says =
-        let some = some_blocks image start.head accepted in
-        let here : 0 < length other = omega (arith, some, size) in
-        elim says [
-          | inl opened ↦ inl (super_by_sector other (block_at image 0) (length image) start.head here size opened.says (sym (first_of_image image some) ∙ accepted))
-          | inr session ↦ inr (super_by_sector other (superblock_bytes real.sizes) (length image) (unclosed start.head) here size session
-              (written_again (unclosed start.head) (length image) real_session.sizes named real_session.start.0 real_session.start.1 (room_of_image image start.head accepted)))
-        ]
+    abbrev to_serve : sound.head.clean ≡ true → sound.head.start + 2 ^ 19 ≤ 2 ^ 54 → IsToServe image
+    to_serve clean late = record {
+      sound = sound;
+      clean = true_is sound.head.clean clean;
+      late = late;
+      named = subst (λ (h : Super). h.geometry.nonce < 2 ^ 64) (sym own_head) named;
+    }
 
-    pub stops_of_image : RightAfterStops (OpensWith start.head) before.opening before.log start.head.geometry.logical (opening_values real) report (calls trace)
-    stops_of_image later prefix calls_are other is_image =
-        let (values, shows, right_then) = report_stops_right real trace real_session real_legal.right real_fair later prefix calls_are other is_image in
-        let one_size = is.one.size in
-        let size : length other ≡ length image = is_image.size ∙ sym one_size in (
-          values,
-          record { superblock = says_of other size shows.0; has_values = shows.1 },
-          right_then,
-        )
+    -- each of its stops leaves a sound image
+    pub stops_of_image : sound.head.clean ≡ true → sound.head.start + 2 ^ 19 ≤ 2 ^ 54
+        → RightAfterStops (ShowsValues start.head.geometry (start.head.start + 2 ^ 18)) before.opening before.log start.head.geometry.logical (opening_values real) report (calls trace)
+    stops_of_image clean late =
+        sound_stops real trace (to_serve clean late) real_session real_legal.right real_fair
+        (ap (λ (h : Super). h.geometry) own_head) (ap (λ (h : Super). h.start) own_head)
 
   -- What was done before it.
   module _ (entry : Seen) (found : Recovered) (ready : IsReady (trust tells honest) entry before found start) (named : start.head.geometry.nonce < 2 ^ 64) where
@@ -353,7 +357,10 @@ module _ (tells honest : Bool) (start : Opened) (script : Script) (first last : 
         left = left_then.left;
         is_told = still_told tells honest ready.middle before left_then.left left_then.is_told ready.opening.untouched;
         is_sound = left_then.is_sound;
+        clean = left_then.clean;
+        geometry = left_then.geometry;
         values = left_then.values;
+        next = left_then.next;
       }
 
       opens : OpensRight left.left start
@@ -370,11 +377,45 @@ module _ (tells honest : Bool) (start : Opened) (script : Script) (first last : 
       reads_then = subst (λ (values : ℕ → List ℕ). ReadsRight values report.requests report.desk report.places report.histories) values_are
           (reads_of_image left.left left.is_sound left.is_told opens named)
 
-      pub stops_then : RightAfterStops (OpensWith start.head) entry.opening before.log start.head.geometry.logical (value_of (image_in image sound)) report (calls trace)
-      stops_then =
-          subst (λ (opening : Blocks). RightAfterStops (OpensWith start.head) opening before.log start.head.geometry.logical (value_of (image_in image sound)) report (calls trace)) stays_till.opening
-          (subst (λ (values : ℕ → List ℕ). RightAfterStops (OpensWith start.head) before.opening before.log start.head.geometry.logical values report (calls trace)) values_are
-          (stops_of_image left.left left.is_sound left.is_told opens named))
+      -- over the log of the whole call
+      own_geometry : start.head.geometry ≡ sound.head.geometry
+      own_geometry = ap (λ (h : Super). h.geometry) (sym (head_of_sound left.left left.is_sound start opens)) ∙ left.geometry
+
+      own_start : start.head.start ≡ next_start image sound
+      own_start = ap (λ (h : Super). h.start) (sym (head_of_sound left.left left.is_sound start opens))
+          ∙ sym (next_clean left.is_sound.head left.is_sound.last left.clean) ∙ left.next
+
+      first_starts : left.is_sound.head.start ≡ next_start image sound
+      first_starts = sym (next_clean left.is_sound.head left.is_sound.last left.clean) ∙ left.next
+
+      abbrev Shown : Geometry → ℕ → Blocks → (ℕ → List ℕ) → Type 0
+      Shown g from opening values = RightAfterStops (ShowsValues g (from + 2 ^ 18)) opening before.log g.logical values report (calls trace)
+
+      session_stops : HasSequencesLeft image sound → Shown sound.head.geometry (next_start image sound) entry.opening (value_of (image_in image sound))
+      session_stops late =
+          subst (λ (g : Geometry). Shown g (next_start image sound) entry.opening (value_of (image_in image sound))) own_geometry
+          (subst (λ (from : ℕ). Shown start.head.geometry from entry.opening (value_of (image_in image sound))) own_start
+          (subst (λ (opening : Blocks). Shown start.head.geometry start.head.start opening (value_of (image_in image sound))) stays_till.opening
+          (subst (λ (values : ℕ → List ℕ). Shown start.head.geometry start.head.start before.opening values) values_are
+          (stops_of_image left.left left.is_sound left.is_told opens named left.clean (let from = first_starts in omega (arith, late, from))))))
+
+      pub stops_then : HasSequencesLeft image sound
+          → StopsRight (ShowsValues sound.head.geometry (next_start image sound + 2 ^ 18)) entry.opening entry.log after.log sound.head.geometry.logical (value_of (image_in image sound))
+          (report_from (successes before.log) report)
+      stops_then late =
+          let most = next_start image sound + 2 ^ 18 in
+          let before_it = ready_shows (trust tells honest) entry before image told sound found start ready most sound.head.geometry.logical (omega arith) in
+          let happened = happens told.told in
+          let now : after.log ≡ calls trace ++ (before_it.0 ++ entry.log) = happened.calls ∙ ap (λ (l : List Call). calls trace ++ l) before_it.1 in
+          let session : RightAfterStops (ShowsValues sound.head.geometry most) entry.opening (before_it.0 ++ entry.log) sound.head.geometry.logical (value_of (image_in image sound)) report (calls trace) =
+          subst (λ (l : List Call). RightAfterStops (ShowsValues sound.head.geometry most) entry.opening l sound.head.geometry.logical (value_of (image_in image sound)) report (calls trace)) before_it.1
+          (session_stops late) in
+          let right = run_is_right entry.opening image entry.log before_it.0 (calls trace) sound sound.head.geometry.logical most 0 report
+          (marks_within report.requests (moments trace) report.marks happened.flushes) before_it.2 session in
+          subst (λ (l : List Call). StopsRight (ShowsValues sound.head.geometry most) entry.opening entry.log l sound.head.geometry.logical (value_of (image_in image sound)) (report_from (successes before.log) report))
+          (sym now)
+          (subst (λ (l : List Call). StopsRight (ShowsValues sound.head.geometry most) entry.opening entry.log (calls trace ++ (before_it.0 ++ entry.log)) sound.head.geometry.logical (value_of (image_in image sound)) (report_from (successes l) report))
+          (sym before_it.1) right)
 
     pub plays : (source_tells : Bool) (schedule state : ℕ) (events : List Event) (source rest : SourceSeen) → Stays before after
         → Drives tells honest (run_sizes start.head) schedule state events first last before after trace
@@ -402,7 +443,7 @@ module _ (tells honest : Bool) (start : Opened) (script : Script) (first last : 
       undamaged = λ image told sound. undamaged_then image told sound;
       happens = happens;
       early = ready_kept (trust tells honest) entry before found start ready;
-      stops = λ image told sound late. stops_then image told sound;
+      stops = λ image told sound late. stops_then image told sound late;
     }
 
 -- what a core did that began with what was opened, was driven to its end, and told its report

@@ -1,7 +1,6 @@
 -- Rows that pin what a session says of a sound image that it opened (`early`, `reads_right`, `undamaged` and `stops` of
 -- `RunsSession`): a run that is accepted, and for each one that isn't since it breaks this clause.
-use Rattle.std.proofs.Common.{ℕ, ◌≡◌, ◌<◌, ◌≤◌, ◌^◌, ◌++◌, true, false, List, [], ◌∷◌, length, replicate, Some, None, Err, refl, sym, ◌∙◌, ap, subst, arith}
-use Rattle.blk_base.specs.declared.journal_entry.CommittedEntry.{CommittedEntry}
+use Rattle.std.proofs.Common.{ℕ, ◌≡◌, ◌+◌, ◌-◌, ◌<◌, ◌≤◌, ◌^◌, ◌++◌, true, false, List, [], ◌∷◌, length, replicate, Some, None, Err, refl, sym, ◌∙◌, ap, subst, append_assoc, arith}
 use Rattle.blk_base.specs.declared.opened.Opened.{Opened}
 use Rattle.blk_base.specs.declared.place.PageId.{PageId}
 use Rattle.blk_base.specs.declared.request.Answer.TheVariants as reply
@@ -13,18 +12,19 @@ use Rattle.disk_model.specs.Images.{IsImage}
 use Rattle.disk_model.specs.Log.{Blocks}
 use Rattle.disk_model.specs.Seen.{Seen}
 use Rattle.image_layout.specs.Opened.{super_of_image}
-use Rattle.image_layout.specs.Values.{journal_of}
 use Rattle.image_layout.specs.declared.fault.SuperFault.{SuperFault}
-use Rattle.image_model.specs.Maps.{image_with, value_of}
+use Rattle.image_model.specs.Maps.{value_of}
 use Rattle.image_model.specs.Sound.{IsSound}
-use Rattle.image_model.specs.Windows.{IsWindow}
 use Rattle.page_codec.specs.declared.fault.PageFault.TheVariants.{Header}
 use Rattle.rebuild.specs.Recoveries.{IsTold}
 use Rattle.rebuild.specs.declared.forms.Recovered.{Recovered}
 use Rattle.recovery_laws.specs.Kept.{image_in}
+use Rattle.session_seams.proofs.SequenceLaws.{next_clean}
+use Rattle.session_seams.specs.Sequences.{ShowsValues, next_start}
 use Rattle.stop_laws.proofs.HistoryLaws.{length_at_within}
 use Rattle.vdo_model.specs.Scripts.{Script}
-use Rattle.vdo_model.specs.Stops.{last_value}
+use Rattle.vdo_model.specs.FlushMarks.{successes}
+use Rattle.vdo_model.specs.Stops.{last_value, length_at}
 use Rattle.vdo_model.specs.declared.report.Damage.TheVariants.{Page}
 use Rattle.vdo_model.specs.declared.report.DeskLine.TheVariants.{Begin, Answer}
 use Rattle.vdo_model.specs.declared.report.HistoryEntry.{HistoryEntry}
@@ -84,12 +84,35 @@ served-empty before opened found start ready unlinked named = record {
 -- A device has this sound image, and nothing is pending on it; address 1 has block 11 there.
 module _ (before : Seen) (image : Blocks) (told : IsTold true true before image) (sound : IsSound image) (has_value : value_of (image_in image sound) 1 ≡ block 11) (left : List ℕ) (after : Outside) where
   -- early: a stop before the session leaves an image
-  early-not_destroyed : (other : Blocks) (why : SuperFault) (report : RunReport) (ends : Served before left after 0 report) → IsImage before.opening ends.session.opened.log other → super_of_image other ≡ Err why → ⊥
-  early-not_destroyed other why report ends is_image says =
+  abbrev Early : RunReport → Type 0
+  Early report = Served before left after 0 report
+
+  early_shows : (other : Blocks) (report : RunReport) (ends : Early report) → IsImage before.opening ends.session.opened.log other
+      → (values : ℕ → List ℕ) × ShowsValues sound.head.geometry (next_start image sound) other values × ((a : ℕ) → a < sound.head.geometry.logical → values a ≡ value_of (image_in image sound) a)
+  early_shows other report ends is_image =
       let kept = ends.session.early image told sound in
-      let is = kept.2.kept [] kept.0 other refl (subst (λ (log : List Call). IsImage before.opening log other) kept.1 is_image) in
-      let accepted = is.sound.opens.accepted in
+      kept.2 [] kept.0 refl other (subst (λ (log : List Call). IsImage before.opening log other) kept.1 is_image)
+
+  early-not_destroyed : (other : Blocks) (why : SuperFault) (report : RunReport) (ends : Early report) → IsImage before.opening ends.session.opened.log other → super_of_image other ≡ Err why → ⊥
+  early-not_destroyed other why report ends is_image says =
+      let accepted = (early_shows other report ends is_image).1.sound.opens.accepted in
       absurd (cc (accepted, says))
+
+  -- with that value, and on which the next session begins no later
+  early-not_another_value : (other : Blocks) (report : RunReport) (ends : Early report) → IsImage before.opening ends.session.opened.log other
+      → ((own : IsSound other) → value_of (image_in other own) 1 ≡ block 10) → 1 < sound.head.geometry.logical → ⊥
+  early-not_another_value other report ends is_image differs below =
+      let shown = early_shows other report ends is_image in
+      let bytes = blocks_tell 10 11 (sym (differs shown.1.sound) ∙ sym (shown.1.values_are 1) ∙ shown.2 1 below ∙ has_value) in
+      omega (arith, bytes)
+
+  early-not_begun_later : (other : Blocks) (report : RunReport) (ends : Early report) → IsImage before.opening ends.session.opened.log other
+      → ((own : IsSound other) → next_start other own ≡ next_start image sound + 1) → ⊥
+  early-not_begun_later other report ends is_image later =
+      let shown = early_shows other report ends is_image in
+      let next = shown.1.next in
+      let more = later shown.1.sound in
+      omega (arith, next, more)
 
   -- reads_right: a read of the address gave that block, and not another one
   reads_right-not_another_block : Served before left after 0 (read_report 10) → ⊥
@@ -102,22 +125,45 @@ module _ (before : Seen) (image : Blocks) (told : IsTold true true before image)
   undamaged-not_with_damage : Served before left after 4 (record empty_report { damage = Some (Page (record { 0 = 85 }) Header) }) → ⊥
   undamaged-not_with_damage ends = absurd (let none = ends.session.undamaged image told sound in cc)
 
-  -- stops: a write was answered, and a flush behind it. A stop behind that flush leaves the address no older block
+  -- stops: at each moment of the run a stop leaves a sound image, of these sizes, and the next session begins soon behind this one
+  stops-not_unsound : (report : RunReport) (later prefix : List Call) (other : Blocks) → Served before left after 0 report → HasSequencesLeft image sound
+      → after.device.log ≡ later ++ (prefix ++ before.log) → IsImage before.opening (prefix ++ before.log) other → (IsSound other → ⊥) → ⊥
+  stops-not_unsound report later prefix other ends late parts is_image never =
+      let stop = ends.session.stops image told sound late later prefix parts other is_image in never stop.1.sound
+
+  stops-not_begun_late : (report : RunReport) (later prefix : List Call) (other : Blocks) → Served before left after 0 report → HasSequencesLeft image sound
+      → after.device.log ≡ later ++ (prefix ++ before.log) → IsImage before.opening (prefix ++ before.log) other
+      → ((own : IsSound other) → next_start other own ≡ next_start image sound + 2 ^ 18 + 1) → ⊥
+  stops-not_begun_late report later prefix other ends late parts is_image past =
+      let stop = ends.session.stops image told sound late later prefix parts other is_image in
+      let next = stop.1.next in
+      let more = past stop.1.sound in
+      omega (arith, next, more)
+
+  -- A write was answered, and a flush behind it. A stop behind that flush leaves the address no older block.
   stops-not_an_older_block : (count : ℕ) (other : Blocks) (ends : Served before left after 0 (write_report count)) → HasSequencesLeft image sound → IsImage before.opening after.device.log other
-      → ((last : ℕ) (entries : List CommittedEntry) → IsWindow ends.session.start.head.geometry ends.session.start.head.start (journal_of ends.session.start.head.geometry other) last entries
-      → value_of (image_with ends.session.start.head.geometry other entries) 1 ≡ block 11)
-      → 1 < ends.session.start.head.geometry.logical → ⊥
+      → ((own : IsSound other) → value_of (image_in other own) 1 ≡ block 11) → 1 < sound.head.geometry.logical → ⊥
   stops-not_an_older_block count other ends late is_image older below =
       let it = ends.session in
       let happened = it.happens refl in
       let since = calls it.trace in
-      let stop = it.stops image told sound late [] since refl other (subst (λ (log : List Call). IsImage before.opening log other) happened.calls is_image) in
-      let has = stop.1.has_values in
-      let value : stop.0 1 ≡ block 11 = has.values_are 1 ∙ older has.last has.window has.is_window in
+      let whole : after.device.log ≡ (since ++ happened.earlier) ++ before.log =
+      happened.calls ∙ ap (λ (log : List Call). since ++ log) happened.earlier_is ∙ sym (append_assoc since happened.earlier before.log) in
+      let stop = it.stops image told sound late [] (since ++ happened.earlier) whole other (subst (λ (log : List Call). IsImage before.opening log other) whole is_image) in
+      let value : stop.0 1 ≡ block 11 = stop.1.values_are 1 ∙ older stop.1.sound in
       let may = stop.2 1 below in
-      of_part _ may.newer may.shown may.part (sym value ∙ may.value_is) (may.flushed.0 (length_at_within since count))
+      let reached : length_at after.device.log (count + successes it.opened.log) ≤ length ((since ++ happened.earlier) ++ before.log) =
+      subst (λ (log : List Call). length_at after.device.log (count + successes it.opened.log) ≤ length log) whole (length_at_within after.device.log (count + successes it.opened.log)) in
+      of_part _ may.newer may.shown may.part (sym value ∙ may.value_is) (may.flushed.0 reached)
     where
       of_part : (opening : List ℕ) (newer shown : List HistoryEntry) → entry 1 (of_a 0) Settled ∷ [] ≡ newer ++ shown → block 11 ≡ last_value writes_one opening shown → 1 ≤ length shown → ⊥
       of_part opening [] shown is value flushed = let bytes = blocks_tell 11 1 (rw (← is) at value) in omega (arith, bytes)
       of_part opening (e ∷ []) shown is value flushed = let none : [] ≡ shown = cc in omega (arith, ap length none, flushed)
       of_part opening (e ∷ e' ∷ newer) shown is value flushed = absurd cc
+
+-- Sequences are left: of a closed image that begins at 9 they are, and of one that begins with the last of them they aren't.
+sequences-left : (image : Blocks) (sound : IsSound image) → sound.head.clean ≡ true → sound.head.start ≡ 9 → HasSequencesLeft image sound
+sequences-left image sound clean start = let next = next_clean sound.head sound.last clean in omega (arith, next, start)
+
+sequences-not_left : (image : Blocks) (sound : IsSound image) → sound.head.clean ≡ true → sound.head.start ≡ 2 ^ 54 - 1 → HasSequencesLeft image sound → ⊥
+sequences-not_left image sound clean start left = let next = next_clean sound.head sound.last clean in omega (arith, next, start, left)

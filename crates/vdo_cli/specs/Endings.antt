@@ -1,31 +1,35 @@
 -- How a run ends, and why.
-use Rattle.std.specs.Prelude.{ℕ, ◌≡◌, ◌⊎◌, Bool, IsTrue, [], Option, None, Ok, Err}
+use Rattle.std.specs.Prelude.{ℕ, ◌≡◌, ◌⊎◌, ◌+◌, ◌^◌, Bool, IsTrue, [], Option, None, Ok, Err}
 use Rattle.blk_base.specs.declared.opened.Opened.{Opened}
 use Rattle.disk_model.specs.Causes.{Rose}
 use Rattle.disk_model.specs.Seen.{Seen, Stays}
+use Rattle.disk_model.specs.Since.{SinceThen}
 use Rattle.disk_model.specs.Streams.{SourceSeen}
 use Rattle.image_model.specs.Maps.{value_of}
 use Rattle.image_model.specs.declared.fault.ImageFault.{ImageFault}
 use Rattle.core_model.specs.Trace.{Trace, moments}
-use Rattle.rebuild.specs.Outcomes.{IsKeptSince}
 use Rattle.rebuild.specs.declared.forms.Recovered.{Recovered}
 use Rattle.recovery_laws.specs.Kept.{image_in}
+use Rattle.session_seams.specs.Logs.{StopsRight, StopsShow, report_from}
+use Rattle.session_seams.specs.Sequences.{ShowsValues, next_start}
 use Rattle.stream_text.specs.WholeScript.{whole_script}
 use Rattle.vdo_model.specs.declared.report.RunReport.{RunReport}
-use Rattle.vdo_model.specs.FlushMarks.{calls_of}
+use Rattle.vdo_model.specs.FlushMarks.{successes}
 use Rattle.vdo_model.specs.RightReads.{ReadsRight}
-use Rattle.vdo_model.specs.Stops.{RightAfterStops}
 use Rattle.vdo_cli.specs.declared.fault.Fault.{Fault}
 use Rattle.vdo_cli.specs.declared.fault.Fault.TheVariants as fault
 use Rattle.vdo_cli.specs.Inspections.{told_as}
 use Rattle.vdo_cli.specs.Openings.{HasSequencesLeft, IsReady, IsUnready, OfSound, recovered_of}
 use Rattle.vdo_cli.specs.Outsides.{InputSetting, Inputs, Trust}
 use Rattle.vdo_cli.specs.Sessions.{IsDriven, IsReported, task}
-use Rattle.vdo_cli.specs.Stops.{Happens, OpensWith}
+use Rattle.vdo_cli.specs.Stops.{Happens}
 
--- whatever a stop leaves of a sound image at each moment since is sound and says the same
+-- Whatever a stop leaves of a sound image at each moment since is a sound one of the same sizes, each address has the value
+-- that it had, and the next session's first sequence is no later.
 abbrev pub KeepsImage : Trust → Seen → Seen → Type 0
-KeepsImage trust before now = OfSound trust before (λ image sound. IsKeptSince (image_in image sound) before now)
+KeepsImage trust before now = OfSound trust before (λ image sound.
+    SinceThen (StopsShow (ShowsValues sound.head.geometry (next_start image sound)) before.opening before.log sound.head.geometry.logical
+    (value_of (image_in image sound))) before.log now.log)
 
 -- what a session did, from the recovery on, of which this was found
 pub record RunsSession (s : InputSetting) (schedule : ℕ) (found : Recovered) (report : RunReport) (before after : Inputs) : Type 0 where
@@ -50,10 +54,12 @@ pub record RunsSession (s : InputSetting) (schedule : ℕ) (found : Recovered) (
   pub happens : IsTrue s.device.tells → Happens (moments trace) report before.device opened after.device
   -- a stop before the session leaves an image that says the same
   pub early : KeepsImage s.device before.device opened
-  -- a stop before or within any of the session's calls leaves each address a value no older than its last flushed one
+  -- A stop at any moment of it all, from the recovery on, leaves a sound image of the same sizes, on which the next session's
+  -- first sequence is at most 2^18 later; and each address has a value that its history and the flushes that were answered
+  -- allow. The marks of the report are counted from the first call of the device's log.
   pub stops : OfSound s.device before.device (λ image sound. HasSequencesLeft image sound
-      → RightAfterStops (OpensWith start.head) before.device.opening opened.log start.head.geometry.logical
-      (value_of (image_in image sound)) report (calls_of (moments trace)))
+      → StopsRight (ShowsValues sound.head.geometry (next_start image sound + 2 ^ 18)) before.device.opening before.device.log after.device.log
+      sound.head.geometry.logical (value_of (image_in image sound)) (report_from (successes opened.log) report))
 
 -- why a script can't be served
 abbrev pub ScriptFails : Bool → SourceSeen → SourceSeen → Fault → Type 0
@@ -65,7 +71,7 @@ ScriptFails tells before after fault.Read = Rose before.faults after.faults
 ScriptFails tells before after fault.Memory = Unit {0}
 ScriptFails tells before after other = ⊥
 
--- the image wasn't recovered or opened, and the script wasn't looked at
+-- the image wasn't recovered or opened, and nothing was taken of the script
 pub record FailsOnImage (s : InputSetting) (before after : Inputs) (recovered : Option ℕ) (why : Fault) : Type 0 where
   pub cause : ImageFault
   pub fault_is : why ≡ told_as cause

@@ -12,3 +12,4 @@ pub mod Rebuilds
 pub mod Growths
 pub mod Runs
 pub mod Onward
+pub mod Complete

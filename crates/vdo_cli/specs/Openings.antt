@@ -1,5 +1,5 @@
 -- What is done to an image before a session: it is recovered where its last session wasn't closed, and then opened.
-use Rattle.std.specs.Prelude.{ℕ, ◌≡◌, ◌⊎◌, ◌+◌, ◌≤◌, ◌^◌, false, Option, Some, None, Ok, Err}
+use Rattle.std.specs.Prelude.{ℕ, ◌≡◌, ◌⊎◌, ◌+◌, ◌≤◌, ◌^◌, Option, Some, None, Ok, Err}
 use Rattle.blk_base.specs.declared.opened.Opened.{Opened}
 use Rattle.disk_model.specs.Log.{Blocks}
 use Rattle.disk_model.specs.Seen.{Seen}
@@ -9,6 +9,7 @@ use Rattle.rebuild.specs.Openings.{IsOpening}
 use Rattle.rebuild.specs.Recoveries.{IsRecovery, IsTold}
 use Rattle.rebuild.specs.declared.forms.Recovered.{Recovered}
 use Rattle.rebuild.specs.declared.forms.Recovered.TheVariants.{Clean, Entries}
+use Rattle.session_seams.specs.Sequences.{next_start}
 use Rattle.vdo_cli.specs.Outsides.{Trust}
 
 -- how many entries of the journal were used, where there was a recovery
@@ -43,7 +44,6 @@ IsUnready trust before now recovered why = IsNotRecovered trust before now recov
 abbrev pub OfSound : Trust → Seen → ((image : Blocks) → IsSound image → Type 0) → Type 0
 OfSound trust before Says = (image : Blocks) → IsTold trust.tells trust.honest before image → (sound : IsSound image) → Says image sound
 
--- so many sequences are left to the next session, also behind a recovery
-pub record HasSequencesLeft (image : Blocks) (sound : IsSound image) : Type 0 where
-  pub start : sound.head.start + 2 ^ 20 ≤ 2 ^ 54
-  pub recovered : sound.head.clean ≡ false → sound.last + 2 + 2 ^ 20 ≤ 2 ^ 54
+-- so many sequences are left to the next session, and to those behind it
+abbrev pub HasSequencesLeft : (image : Blocks) → IsSound image → Type 0
+HasSequencesLeft image sound = next_start image sound + 2 ^ 20 ≤ 2 ^ 54

@@ -34,8 +34,8 @@ Closes tells recovered report status (Some fault.Sink) before after =
     × (IsTrue tells → PutsPart before.held after.held (session_text recovered report))
 Closes tells recovered report status (Some other) before after = ⊥
 
--- No session was begun: the cause is the fault's. Where there was no recovery nothing was written, and else only what recovery writes:
--- of a sound image a stop leaves what says the same.
+-- No session was begun: the cause is the fault's, and where that is of the image or its device nothing was taken of the script.
+-- The image may have been recovered before: whatever a stop leaves of a sound one says the same.
 pub record NotBegun (s : Setting) (before after : Outside) (outcome : Outcome) (why : Fault) : Type 0 where
   pub recovered : Option ℕ
   pub cause : PlayFails (input_setting_of s) (inputs_of before) (inputs_of after) recovered why

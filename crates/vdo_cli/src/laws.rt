@@ -1,8 +1,17 @@
-ghost use Rattle.std.specs.Prelude.{ℕ, Bool, List};
+ghost use Rattle.std.specs.Prelude.{ℕ, ◌≡◌, ◌+◌, ◌≤◌, ◌^◌, Bool, IsTrue, List, Some, Ok};
+ghost use Rattle.disk_model.specs.Log.{Blocks};
 ghost use Rattle.disk_model.specs.Seen.{Seen};
-ghost use Rattle.vdo_cli.specs.Onward.{GoesOn};
+ghost use Rattle.image_model.specs.Sound.{IsSound};
+ghost use Rattle.rebuild.specs.Recoveries.{IsTold};
+ghost use Rattle.session_seams.specs.Sequences.{CanBegin};
+ghost use Rattle.stream_text.specs.WholeScript.{whole_script};
+ghost use Rattle.vdo_model.specs.Scripts.{Script};
+ghost use Rattle.vdo_cli.specs.declared.words.Served.TheVariants as served;
+ghost use Rattle.vdo_cli.specs.Commands.{served_of};
+ghost use Rattle.vdo_cli.specs.Complete.{IsComplete, NoneRose};
+ghost use Rattle.vdo_cli.specs.Onward.{GoesOn, LeavesRunnable};
 ghost use Rattle.vdo_cli.specs.Outsides.{Outcome, Outside, Setting};
-ghost use Rattle.vdo_cli.specs.Runs.{EndsSo};
+ghost use Rattle.vdo_cli.specs.Runs.{EndsSo, RunsScript};
 
 /// A device goes on over a run, however that ended, and so over two runs of which the second begins with the device that
 /// the first gave back. It does nothing.
@@ -13,4 +22,28 @@ pub fn runs_go_on()
         → GoesOn setting.device.tells before.device after.device }
     ensures two { (tells : Bool) (first middle last : Seen)
         → GoesOn tells first middle → GoesOn tells middle last → GoesOn tells first last }
+{}
+
+/// On each image that a stop may leave at any moment of a run, the next run may begin: as a device of its own it has that one
+/// image, which is sound, and with 2^18 sequences less left than before. It does nothing.
+pub fn what_a_run_leaves_can_be_run()
+    ensures { (setting : Setting) (schedule left : ℕ) (before after : Outside) (outcome : Outcome)
+        (image : Blocks)
+        → IsTold setting.device.tells setting.device.honest before.device image →
+        CanBegin (2 ^ 18 + left) image → 2 ^ 20 ≤ 2 ^ 18 + left
+        → RunsScript setting schedule before after outcome →
+        LeavesRunnable setting.device left before.device after.device }
+{}
+
+/// Where no call of the outside failed, a run of a script whose lines have no fault, on an honest device with a sound image,
+/// serves each request, if it doesn't run out of memory before. It does nothing.
+pub fn a_run_without_faults_is_complete()
+    ensures { (setting : Setting) (words : List (List ℕ)) (schedule : ℕ) (script : Script)
+        (before after : Outside) (outcome : Outcome) (image : Blocks) → IsSound image
+        → IsTold setting.device.tells setting.device.honest before.device image →
+        IsTrue setting.source_tells
+        → served_of words ≡ Some (served.Script schedule) →
+        whole_script before.source.left ≡ Ok script
+        → NoneRose before after → EndsSo setting words before after outcome →
+        IsComplete script outcome }
 {}

@@ -9,12 +9,11 @@
 //! that reads otherwise once the session has written; a script stopped at each call, with the last write old, new, and
 //! torn in some sectors, run again; one output of a script of one stream, and one of two, by the schedules 0 to 7.
 //!
-//! Not there: that a later run opens the image that a stop in a session leaves: of its superblock and its window is spoken, and
-//! of no page or count. Of an image that isn't sound, or on which writes are pending when it is opened, those of the index aside,
-//! a session says nothing of values.
+//! Not there: that a session closes its image. Of an image that isn't sound, or on which writes are pending when it is
+//! opened, those of the index aside, a session says nothing of values, nor of stops.
 //!
-//! No rows yet: but through the definitions that use them: `OpensWith`, `IsReady`, `PlayedOut` and `EndsAs`; that a script's
-//! answers are put behind `recovered 30 entries`.
+//! No rows yet: but through the definitions that use them: `IsReady`, `PlayedOut` and `EndsAs`; that a script's answers
+//! are put behind `recovered 30 entries`.
 #![tactic(auto)]
 
 mod adapters;
@@ -30,6 +29,6 @@ mod words;
 pub use adapters::{StdSink, StdSource};
 pub use endings::put_fault;
 pub use fault::Fault;
-pub use laws::runs_go_on;
+pub use laws::{a_run_without_faults_is_complete, runs_go_on, what_a_run_leaves_can_be_run};
 pub use runner::{Ended, run};
 pub use words::Words;

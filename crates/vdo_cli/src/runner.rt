@@ -308,14 +308,16 @@ fn status_of_device<D: Disk, S: Source, K: Sink>(
 /// `audit`: each data block whose stored count isn't the number of its mappings is told, or how many are used where
 /// none differs; nothing is written. `status`: what the image says of itself is told, and nothing is written.
 ///
-/// On an honest device on which nothing was pending, and whose image is sound, a stop before a session leaves a sound image that
-/// says the same. A stop before or within any call of the session leaves an image with the superblock that was opened, or the
-/// session's, and a journal with a window, as long as 2^20 sequences are left. By that window each address has the value of one of
-/// its writes: of none older than the last one that was answered before a flush was begun which was answered too (docs/DESIGN.md,
-/// "A stop"); and no damage is found. The report's marks say which calls of the device made the flushes last. A stop while an image
-/// is made leaves what the old image said, or no image, or an empty
-/// one. One while a sound image is recovered leaves a sound one that says the same. One while an image is rebuilt leaves one
-/// with the same map, which can be rebuilt again. One while a sound image grows leaves it as it was, or grown.
+/// On an honest device on which nothing was pending, and whose image is sound, a stop at any moment of the run of a script leaves
+/// a sound image, on which the next run may begin: each stored count is the number of mappings, also where no session was begun.
+/// Until the session begins each address has the value that it had. From then on, as long as 2^20 sequences were left, it has that
+/// value or the one of one of its writes: of none older than the last one that was answered before a flush was begun which was
+/// answered too (docs/DESIGN.md, "A stop"); and no damage is found. The report's marks say which calls of the device made the
+/// flushes last. Where the device or the image ends the call before a session, nothing was taken of the script.
+///
+/// A stop while an image is made leaves what the old image said, or no image, or an empty one. One while a sound image is
+/// recovered leaves a sound one that says the same. One while an image is rebuilt leaves one with the same map, which can be
+/// rebuilt again. One while a sound image grows leaves it as it was, or grown.
 ///
 /// | Status | Comes where |
 /// |---|---|

@@ -1,0 +1,302 @@
+-- Where nothing failed, each request is served, or memory ran out before.
+use Rattle.std.proofs.Common.{ℕ, true, ◌≡◌, ◌⊎◌, ◌+◌, ◌<◌, ◌≤◌, ◌++◌, false, IsTrue, List, [], ◌∷◌, slice_get, Option, Some, None, IsSome, Ok, Err, refl, sym, ◌∙◌, ap, subst, append_assoc, inl, inr, arith}
+use Rattle.std.proofs.lemmas.Bool.{cases_Bool, cases_lt}
+use Rattle.std.proofs.lemmas.Bool.Decides.{eqb_tells}
+use Rattle.blk_base.specs.declared.geometry.Super.{Super}
+use Rattle.blk_base.specs.declared.request.Answer.{Answer as Reply}
+use Rattle.blk_base.specs.declared.request.Answer.TheVariants as reply
+use Rattle.blk_base.specs.declared.request.Request.{Request}
+use Rattle.blk_base.specs.declared.request.Request.TheVariants as request
+use Rattle.blk_base.specs.declared.request.Writer.{Writer}
+use Rattle.core_laws.proofs.lists.CoreLists.{answer_later}
+use Rattle.core_model.specs.RightTraces.{MayAnswer}
+use Rattle.core_model.specs.Sessions.{Session}
+use Rattle.core_model.specs.Trace.{Fails, Flushes, Happening, Says, Trace, lines}
+use Rattle.disk_model.specs.Causes.{Rose}
+use Rattle.disk_model.specs.Log.{Blocks}
+use Rattle.image_model.proofs.FaultLaws.{no_fault}
+use Rattle.image_model.specs.Faults.{IsImageFault}
+use Rattle.image_model.specs.Sound.{IsSound}
+use Rattle.image_model.specs.declared.fault.ImageFault.{ImageFault}
+use Rattle.image_model.specs.declared.fault.ImageFault.TheVariants as image
+use Rattle.rebuild.specs.Openings.{IsOpeningRefusal}
+use Rattle.rebuild.specs.Recoveries.{IsRecovery, IsTold}
+use Rattle.stream_text.specs.WholeScript.{whole_script}
+use Rattle.vdo_model.proofs.NameLaws.{same_self, same_tells}
+use Rattle.vdo_model.specs.DeskLog.{IsDeskLog, answer_of, begun}
+use Rattle.vdo_model.specs.Scripts.{Script, request_at, stream_of}
+use Rattle.vdo_model.specs.declared.report.DeskLine.{DeskLine}
+use Rattle.vdo_model.specs.declared.report.DeskLine.TheVariants.{Begin, Answer}
+use Rattle.vdo_model.specs.declared.report.RunReport.{RunReport}
+use Rattle.vdo_cli.specs.declared.fault.Fault.{Fault}
+use Rattle.vdo_cli.specs.declared.fault.Fault.TheVariants as fault
+use Rattle.vdo_cli.specs.declared.words.Served.{Served}
+use Rattle.vdo_cli.specs.declared.words.Served.TheVariants as served
+use Rattle.vdo_cli.specs.Commands.{served_of}
+use Rattle.vdo_cli.specs.Complete.{IsAllServed, IsComplete, NeedsNoFault, NoneRose}
+use Rattle.vdo_cli.specs.Endings.{PlayFails, ScriptFails}
+use Rattle.vdo_cli.specs.Inspections.{told_as}
+use Rattle.vdo_cli.specs.Openings.{IsNotOpened, IsUnready, recovered_of}
+use Rattle.vdo_cli.specs.Outsides.{Outcome, Outside, Setting, input_setting_of, inputs_of}
+use Rattle.vdo_cli.specs.Runs.{Closes, EndsAs, EndsSo, NotBegun, PlayedOut, PutsWith, RunsScript, RunsScriptBy}
+use Rattle.vdo_cli.specs.Sessions.{IsReported}
+use Rattle.vdo_cli.specs.Texts.{fault_status, is_lost, served_status, session_text, some_full, some_lost, struck_status}
+use Rattle.vdo_cli.proofs.RecoveredImages.{IsLeft, left_by}
+
+-- Counts.
+
+rose_from : (first middle last : ℕ) → first ≤ middle → Rose middle last → Rose first last
+rose_from first middle last later rose = omega (arith, later, rose)
+
+rose_to : (first middle last : ℕ) → middle ≤ last → Rose first middle → Rose first last
+rose_to first middle last later rose = omega (arith, later, rose)
+
+-- Desk logs.
+
+-- what is begun is asked
+begun_asked : (depth : ℕ) (script : Script) (desk : List DeskLine) (w : Writer) → IsDeskLog depth script desk → w.number < begun w.stream desk → IsSome (request_at script w)
+begun_asked depth script [] w log below = absurd (omega (arith, below))
+begun_asked depth script (Answer v a ∷ older) w log below = begun_asked depth script older w log.1 below
+begun_asked depth script (Begin v ∷ older) w log below = elim (eqb_tells v.stream w.stream) [
+  | inl same ↦ elim (cases_lt w.number (begun w.stream older)) [
+    | inl less ↦ begun_asked depth script older w log.1 less
+    | inr more ↦
+        let here : w.number < begun w.stream older + 1 = rw same.0 at below in
+        let number_is : v.number ≡ begun v.stream older = log.0.0 in
+        let streams : begun v.stream older ≡ begun w.stream older = ap (λ (i : ℕ). begun i older) same.1 in
+        let numbers : v.number ≡ w.number = omega (arith, more, here, number_is, streams) in
+        subst (λ (n : ℕ). IsSome (slice_get (stream_of script w.stream) n)) numbers (subst (λ (i : ℕ). IsSome (slice_get (stream_of script i) v.number)) same.1 log.0.1)
+  ]
+  | inr other ↦ begun_asked depth script older w log.1 (rw other.0 at below)
+]
+
+some_is : (o : Option Request) → IsSome o → (r : Request) × (o ≡ Some r)
+some_is None some = absurd (cc some)
+some_is (Some r) some = (r, refl)
+
+-- each request that has an answer has one that needs no fault
+abbrev NoneFailed : Script → List DeskLine → Type 0
+NoneFailed script desk = (w : Writer) (r : Request) (a : Reply) → request_at script w ≡ Some r → answer_of desk w ≡ Some a → NeedsNoFault a
+
+not_lost : (a : Reply) → NeedsNoFault a → is_lost a ≡ false
+not_lost reply.Ok fine = refl
+not_lost (reply.Bytes bytes) fine = refl
+not_lost reply.Range fine = refl
+not_lost reply.Full fine = refl
+not_lost reply.NoSpace fine = absurd fine
+not_lost reply.ReadFault fine = absurd fine
+not_lost reply.Stopped fine = absurd fine
+not_lost reply.Damaged fine = absurd fine
+
+-- so no line of the desk log says that something failed
+none_lost : (depth : ℕ) (script : Script) (newer older : List DeskLine) → IsDeskLog depth script (newer ++ older) → IsDeskLog depth script older → NoneFailed script (newer ++ older)
+    → some_lost older ≡ false
+none_lost depth script newer [] log own fine = refl
+none_lost depth script newer (Begin w ∷ older) log own fine =
+    let parts : newer ++ (Begin w ∷ older) ≡ (newer ++ (Begin w ∷ [])) ++ older = sym (append_assoc newer (Begin w ∷ []) older) in
+    none_lost depth script (newer ++ (Begin w ∷ [])) older (subst (IsDeskLog depth script) parts log) own.1 (subst (NoneFailed script) parts fine)
+none_lost depth script newer (Answer w a ∷ older) log own fine =
+    let parts : newer ++ (Answer w a ∷ older) ≡ (newer ++ (Answer w a ∷ [])) ++ older = sym (append_assoc newer (Answer w a ∷ []) older) in
+    let rest = none_lost depth script (newer ++ (Answer w a ∷ [])) older (subst (IsDeskLog depth script) parts log) own.1 (subst (NoneFailed script) parts fine) in
+    let asked = some_is (request_at script w) (begun_asked depth script older w own.1 own.0.0) in
+    let has : answer_of (Answer w a ∷ older) w ≡ Some a = rw (same_self w) refl in
+    let answers = answer_later depth script newer (Answer w a ∷ older) w a log has in
+    rw (not_lost a (fine w asked.0 a asked.1 answers)) rest
+
+-- Answers.
+
+onto : (h : Happening) (t : Trace) (w : Writer) (a : Reply) → (a ≡ reply.Ok) ⊎ ((newer older : Trace) × (t ≡ newer ++ Says (Answer w a) ∷ older))
+    → (a ≡ reply.Ok) ⊎ ((newer older : Trace) × (h ∷ t ≡ newer ++ Says (Answer w a) ∷ older))
+onto h t w a (inl ok) = inl ok
+onto h t w a (inr (newer, older, is)) = inr (h ∷ newer, older, ap (λ (u : Trace). h ∷ u) is)
+
+-- an answer was said, but that of a flush
+answered_so : (t : Trace) (w : Writer) (a : Reply) → answer_of (lines t) w ≡ Some a → (a ≡ reply.Ok) ⊎ ((newer older : Trace) × (t ≡ newer ++ Says (Answer w a) ∷ older))
+answered_so [] w a is = absurd (cc is)
+answered_so (Says (Begin v) ∷ t) w a is = onto (Says (Begin v)) t w a (answered_so t w a is)
+answered_so (Says (Answer v b) ∷ t) w a is = elim (same_tells v w) [
+  | inl same ↦
+      let here : Some b ≡ Some a = rw same.0 at is in
+      let answers : b ≡ a = cc here in
+      inr ([], t, subst (λ (x : Writer). Says (Answer v b) ∷ t ≡ Says (Answer x a) ∷ t) same.1 (subst (λ (y : Reply). Says (Answer v b) ∷ t ≡ Says (Answer v y) ∷ t) answers refl))
+  | inr other ↦ onto (Says (Answer v b)) t w a (answered_so t w a (rw other.0 at is))
+]
+answered_so (Flushes mark ∷ t) w a is = elim (same_tells mark.request w) [
+  | inl same ↦ let here : Some reply.Ok ≡ Some a = rw same.0 at is in inl (let answers : reply.Ok ≡ a = cc here in sym answers)
+  | inr other ↦ onto (Flushes mark) t w a (answered_so t w a (rw other.0 at is))
+]
+answered_so (Fails v c true ∷ t) w a is = onto (Fails v c true) t w a (answered_so t w a is)
+answered_so (Fails v c false ∷ t) w a is = onto (Fails v c false) t w a (answered_so t w a is)
+answered_so (other ∷ t) w a is = onto other t w a (answered_so t w a is)
+
+-- no block is refused for want of space yet
+never_no_space : (s : Session) (t : Trace) (w : Writer) (r : Request) → MayAnswer s t w r reply.NoSpace → ⊥
+never_no_space s t w (request.Read at) cause = cause
+never_no_space s t w (request.Write at bytes fua) cause = cause
+never_no_space s t w (request.Discard at) cause = cause
+never_no_space s t w request.Flush cause = cause
+
+-- An image without a fault.
+
+never : (blocks : Blocks) (sound : IsSound blocks) (why : ImageFault) → IsImageFault blocks why → (why ≡ image.Device → ⊥) → (why ≡ image.Unclean → ⊥) → (why ≡ image.Memory → ⊥) → ⊥
+never blocks sound why is device unclean memory = elim (no_fault blocks sound why is) [ inl same ↦ device same | inr (inl same) ↦ unclean same | inr (inr same) ↦ memory same ]
+
+struck_by_none : (report : RunReport) → report.damage ≡ None → some_lost report.desk ≡ false → struck_status report ≡ None
+struck_by_none report undamaged fine = rw (undamaged, fine) refl
+
+served_low : (desk : List DeskLine) → served_status desk ≤ 1
+served_low desk = elim (cases_Bool (some_full desk)) [ inl full ↦ rw full (omega arith) | inr room ↦ rw room (omega arith) ]
+
+-- The run.
+
+module _ (s : Setting) (schedule : ℕ) (script : Script) (before after : Outside) (outcome : Outcome) (blocks : Blocks) (sound : IsSound blocks)
+    (told : IsTold s.device.tells s.device.honest before.device blocks) (tells : IsTrue s.source_tells) (valid : whole_script before.source.left ≡ Ok script) (none : NoneRose before after) where
+  -- it wasn't recovered: only memory can have run out
+  not_recovered : (why : ImageFault) → IsRecovery s.device.tells s.device.honest before.device after.device (Err why) → why ≡ image.Memory
+  not_recovered (image.Super fault) is = absurd (never blocks sound (image.Super fault) (is.says blocks told) (λ same. absurd (cc same)) (λ same. absurd (cc same)) (λ same. absurd (cc same)))
+  not_recovered (image.Window n) is = absurd (never blocks sound (image.Window n) (is.says blocks told).1 (λ same. absurd (cc same)) (λ same. absurd (cc same)) (λ same. absurd (cc same)))
+  not_recovered (image.Page at fault) is = absurd (never blocks sound (image.Page at fault) (is.says blocks told).1 (λ same. absurd (cc same)) (λ same. absurd (cc same)) (λ same. absurd (cc same)))
+  not_recovered (image.Counter at point) is = absurd (never blocks sound (image.Counter at point) (is.says blocks told).1 (λ same. absurd (cc same)) (λ same. absurd (cc same)) (λ same. absurd (cc same)))
+  not_recovered (image.SharedPage at) is = absurd (never blocks sound (image.SharedPage at) (is.says blocks told).1 (λ same. absurd (cc same)) (λ same. absurd (cc same)) (λ same. absurd (cc same)))
+  not_recovered (image.Counts at stored mapped) is = absurd (is.says blocks told)
+  not_recovered image.Device is = absurd (none.device (is.says blocks told).rose)
+  not_recovered image.Unclean is = absurd (is.says blocks told)
+  not_recovered image.Memory is = refl
+
+  -- nor was it opened
+  module _ (recovered : Option ℕ) (why : ImageFault) (is : IsNotOpened s.device before.device after.device recovered why) where
+    left : IsLeft blocks sound s.device.tells s.device.honest is.middle
+    left = left_by s.device.tells s.device.honest before.device is.middle blocks sound is.found told is.recovery
+
+    abbrev Refused : ImageFault → Type 0
+    Refused fault = IsOpeningRefusal left.left is.middle after.device fault
+
+    not_opened_so : (fault : ImageFault) → Refused fault → fault ≡ image.Memory
+    not_opened_so (image.Super fault) refused = absurd (never left.left left.is_sound (image.Super fault) refused (λ same. absurd (cc same)) (λ same. absurd (cc same)) (λ same. absurd (cc same)))
+    not_opened_so (image.Window n) refused = absurd (never left.left left.is_sound (image.Window n) refused.1 (λ same. absurd (cc same)) (λ same. absurd (cc same)) (λ same. absurd (cc same)))
+    not_opened_so (image.Page at fault) refused = absurd (never left.left left.is_sound (image.Page at fault) refused.1 (λ same. absurd (cc same)) (λ same. absurd (cc same)) (λ same. absurd (cc same)))
+    not_opened_so (image.Counter at point) refused = absurd (never left.left left.is_sound (image.Counter at point) refused.1 (λ same. absurd (cc same)) (λ same. absurd (cc same)) (λ same. absurd (cc same)))
+    not_opened_so (image.SharedPage at) refused = absurd (never left.left left.is_sound (image.SharedPage at) refused.1 (λ same. absurd (cc same)) (λ same. absurd (cc same)) (λ same. absurd (cc same)))
+    not_opened_so (image.Counts at stored mapped) refused = absurd (never left.left left.is_sound (image.Counts at stored mapped) refused.1 (λ same. absurd (cc same)) (λ same. absurd (cc same)) (λ same. absurd (cc same)))
+    not_opened_so image.Device refused = absurd (none.device (rose_from before.device.faults is.middle.faults after.device.faults is.recovery.later.faults refused.rose))
+    not_opened_so image.Unclean refused =
+        let both : Ok left.is_sound.head ≡ Ok refused.0 = sym left.is_sound.opens.accepted ∙ refused.1 in
+        let same : left.is_sound.head ≡ refused.0 = cc both in
+        let clean = ap (λ (h : Super). h.clean) (sym same) ∙ left.clean in
+        absurd (cc (clean, refused.2))
+    not_opened_so image.Memory refused = refl
+
+    not_opened : why ≡ image.Memory
+    not_opened = not_opened_so why (is.opening.says left.left left.is_told)
+
+  not_ready : (recovered : Option ℕ) (why : ImageFault) → IsUnready s.device before.device after.device recovered why → why ≡ image.Memory
+  not_ready recovered why (inl is) = not_recovered why is.recovery
+  not_ready recovered why (inr is) = not_opened recovered why is
+
+  of_script : (why : Fault) → ScriptFails s.source_tells before.source after.source why → why ≡ fault.Memory
+  of_script (fault.Script refusal) fails = let said = fails tells in absurd (cc (said, valid))
+  of_script fault.Read fails = absurd (none.source fails)
+  of_script fault.Memory fails = refl
+  of_script fault.Usage fails = absurd fails
+  of_script (fault.Layout why) fails = absurd fails
+  of_script fault.Device fails = absurd fails
+  of_script (fault.Image why) fails = absurd fails
+  of_script (fault.Differs count) fails = absurd fails
+  of_script (fault.Grow why) fails = absurd fails
+  of_script fault.Sink fails = absurd fails
+
+  -- no session was begun
+  of_memory : (recovered : Option ℕ) (why : Fault) → PlayFails (input_setting_of s) (inputs_of before) (inputs_of after) recovered why → why ≡ fault.Memory
+  of_memory recovered why (inl fails) = fails.fault_is ∙ ap told_as (not_ready recovered fails.cause fails.unready)
+  of_memory recovered why (inr fails) = of_script why fails.cause
+
+  out_of_memory : (why : Fault) → outcome.fault ≡ Some why → NotBegun s before after outcome why → IsComplete script outcome
+  out_of_memory why is begun =
+      let memory = of_memory begun.recovered why begun.cause in
+      inr (is ∙ ap (λ (f : Fault). Some f) memory, begun.refuses.status_is ∙ ap fault_status memory)
+
+  -- one was served
+  module _ (played : PlayedOut s schedule before after outcome) where
+    abbrev report : RunReport
+    report = outcome.report
+
+    undamaged : report.damage ≡ None
+    undamaged = played.session.undamaged blocks told sound
+
+    no_damage : IsSome report.damage → ⊥
+    no_damage some = absurd (cc (undamaged, some))
+
+    own_later : before.device.faults ≤ played.session.opened.faults
+    own_later = let first = played.session.ready.recovery.later.faults in let second = played.session.ready.opening.untouched.later.faults in omega (arith, first, second)
+
+    no_rise : Rose played.session.opened.faults after.device.faults → ⊥
+    no_rise rose = none.device (rose_from before.device.faults played.session.opened.faults after.device.faults own_later rose)
+
+    reported : IsReported played.session.start report played.session.trace played.session.opened after.device
+    reported = played.session.reported
+
+    no_space : (w : Writer) (r : Request) → request_at report.requests w ≡ Some r → answer_of report.desk w ≡ Some reply.NoSpace → ⊥
+    no_space w r asked is =
+        let here : answer_of (lines played.session.trace) w ≡ Some reply.NoSpace = subst (λ (l : RunReport). answer_of l.desk w ≡ Some reply.NoSpace) reported.report_is is in
+        elim (answered_so played.session.trace w reply.NoSpace here) [
+          | inl ok ↦ absurd (cc ok)
+          | inr said ↦ never_no_space reported.session said.1 w r (reported.causes said.0 said.1 w r reply.NoSpace said.2 asked)
+        ]
+
+    fine : NoneFailed report.requests report.desk
+    fine w r reply.Ok asked is = tt
+    fine w r (reply.Bytes bytes) asked is = tt
+    fine w r reply.Range asked is = tt
+    fine w r reply.Full asked is = tt
+    fine w r reply.NoSpace asked is = absurd (no_space w r asked is)
+    fine w r reply.ReadFault asked is = absurd (no_rise (reported.faults w r reply.ReadFault asked is))
+    fine w r reply.Stopped asked is = elim (reported.faults w r reply.Stopped asked is) [ inl rose ↦ absurd (no_rise rose) | inr some ↦ absurd (no_damage some) ]
+    fine w r reply.Damaged asked is = absurd (no_damage (reported.faults w r reply.Damaged asked is))
+
+    some_answer : (o : Option Reply) → IsSome o → (a : Reply) × (o ≡ Some a)
+    some_answer None some = absurd (cc some)
+    some_answer (Some a) some = (a, refl)
+
+    requests_are : report.requests ≡ script
+    requests_are = let said = played.session.script_is tells in cc (said, valid)
+
+    none_struck : struck_status report ≡ None
+    none_struck = struck_by_none report undamaged (none_lost 1 report.requests [] report.desk reported.run_right.desk_log reported.run_right.desk_log fine)
+
+    served_all : outcome.fault ≡ None → IsAllServed script outcome
+    served_all is = record {
+      ended = is;
+      status =
+          let closes : Closes s.sink_tells (recovered_of played.found) report outcome.status None before.sink after.sink =
+          subst (λ (ended : Option Fault). Closes s.sink_tells (recovered_of played.found) report outcome.status ended before.sink after.sink) is played.closes in
+          let puts = subst (λ (struck : Option ℕ). PutsWith struck s.sink_tells (session_text (recovered_of played.found) report) (served_status report.desk) outcome.status before.sink after.sink) none_struck closes in
+          let low = served_low report.desk in
+          let status_is = puts.0 in
+          omega (arith, low, status_is);
+      requests = requests_are;
+      each = λ w r asked.
+          let asked_too : request_at report.requests w ≡ Some r = ap (λ (list : Script). request_at list w) requests_are ∙ asked in
+          let answer = some_answer (answer_of report.desk w) (reported.run_right.all_answered w (rw asked_too refl)) in
+          (answer.0, answer.1, fine w r answer.0 asked_too answer.1);
+    }
+
+    sink_rose : outcome.fault ≡ Some fault.Sink → ⊥
+    sink_rose is =
+        let closes : Closes s.sink_tells (recovered_of played.found) report outcome.status (Some fault.Sink) before.sink after.sink =
+        subst (λ (ended : Option Fault). Closes s.sink_tells (recovered_of played.found) report outcome.status ended before.sink after.sink) is played.closes in
+        none.sink closes.2
+
+  complete_by : (ended : Option Fault) → outcome.fault ≡ ended → RunsScriptBy ended s schedule before after outcome → IsComplete script outcome
+  complete_by None is played = inl (served_all played is)
+  complete_by (Some fault.Sink) is played = absurd (sink_rose played is)
+  complete_by (Some other) is begun = out_of_memory other is begun
+
+  pub script_complete : RunsScript s schedule before after outcome → IsComplete script outcome
+  script_complete ends = complete_by outcome.fault refl ends
+
+pub run_complete : (s : Setting) (words : List (List ℕ)) (schedule : ℕ) (script : Script) (before after : Outside) (outcome : Outcome) (blocks : Blocks) → IsSound blocks
+    → IsTold s.device.tells s.device.honest before.device blocks → IsTrue s.source_tells → served_of words ≡ Some (served.Script schedule) → whole_script before.source.left ≡ Ok script
+    → NoneRose before after → EndsSo s words before after outcome → IsComplete script outcome
+run_complete s words schedule script before after outcome blocks sound told tells asked valid none ends =
+    script_complete s schedule script before after outcome blocks sound told tells valid none
+    (subst (λ (what : Option Served). EndsAs s what before after outcome) asked ends)
