@@ -1,0 +1,9 @@
+use Rattle.std.proofs.Common.{None, Some}
+use Rattle.crash_images.proofs.ValueLaws.{nothing_right}
+use Rattle.crash_images.proofs.values.read_mapping.Goals as goal
+
+pub read_slot-requires-clause-leaf : goal.read_slot-requires-clause-leaf
+read_slot-requires-clause-leaf g c = rw (c.deref.ensures.value, c.leaf_of.ensures) at c.in-Some.ensures
+
+pub returns-in-None-clause-mapping : goal.returns-in-None-clause-mapping
+returns-in-None-clause-mapping g c = nothing_right _ _ _ c.args.opened.now c.requires.fits c.args.at.0 (rw (c.deref.ensures.value, c.leaf_of.ensures) at c.in-None.ensures)
