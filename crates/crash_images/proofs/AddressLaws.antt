@@ -1,5 +1,5 @@
 -- The addresses that a script names, as they are gathered.
-use Rattle.std.proofs.Common.{ℕ, suc, ◌≡◌, ◌⊎◌, ◌↔◌, ◌+◌, ◌<◌, nat_lt, Bool, true, false, if◌then◌else◌, Option, Some, None, List, [], ◌∷◌, ◌++◌, Contains, length, map, flat_map, get_or, eqb, refl, sym, ◌∙◌, ap, subst, inl, inr, arith}
+use Rattle.std.proofs.Common.{ℕ, ◌≡◌, ◌⊎◌, ◌<◌, nat_lt, Bool, if◌then◌else◌, Option, Some, None, List, [], ◌∷◌, Contains, map, flat_map, get_or, eqb, refl, sym, ◌∙◌, ap, subst, inl, inr, arith}
 use Rattle.std.specs.List.{AllPairs, dedup, filter_map}
 use Rattle.std.specs.List.Retain.{DiffersFromLast, IsFiltered}
 use Rattle.std.specs.List.Sorted.{IsPermutation, IsSorted}
@@ -14,7 +14,6 @@ use Rattle.std.proofs.lemmas.List.Kept.{AllPairs-from_increasing, Contains-dedup
 use Rattle.std.proofs.lemmas.List.Sorted.{Contains-permutation, IsPermutation-sym}
 use Rattle.std.proofs.lemmas.Map.Keys.{IsStrictlyIncreasing-dedup}
 use Rattle.blk_base.specs.declared.place.Lba.{Lba}
-use Rattle.blk_base.specs.declared.request.Request.{Request}
 use Rattle.image_model.proofs.CountLaws.{is_behind, is_first, is_first_or_behind, none_in_nothing}
 use Rattle.vdo_model.specs.Scripts.{Script, address_of}
 use Rattle.crash_images.specs.Addresses.{AreAddresses, IsNamed, address_below, lba, where_below}
@@ -120,8 +119,8 @@ addresses_are script logical sorted kept moved sorts filtered =
     record {
       rising = rising_too kept (AllPairs-from_increasing kept (rw is (IsStrictlyIncreasing-dedup sorted sorts)));
       each = λ at. (
-          λ has. named_of script logical at.0
-              (Contains-permutation sorted named at.0 (IsPermutation-sym named sorted moved) (Contains-from_dedup eqb sorted at.0 (rw is at (number_in kept at has)))),
-          λ is_named. address_in kept at (rw is (Contains-dedup_nat sorted at.0 (Contains-permutation named sorted at.0 moved (of_named script logical at.0 is_named)))),
-        );
+        λ has. named_of script logical at.0
+            (Contains-permutation sorted named at.0 (IsPermutation-sym named sorted moved) (Contains-from_dedup eqb sorted at.0 (rw is at (number_in kept at has)))),
+        λ is_named. address_in kept at (rw is (Contains-dedup_nat sorted at.0 (Contains-permutation named sorted at.0 moved (of_named script logical at.0 is_named)))),
+      );
     }

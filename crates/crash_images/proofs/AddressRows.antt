@@ -1,5 +1,5 @@
 -- For each definition of a script's addresses a case that it accepts, and for each clause one that breaks it alone.
-use Rattle.std.proofs.Common.{ℕ, ◌≡◌, ◌<◌, Option, None, Some, List, [], ◌∷◌, Contains, refl, sym, ◌∙◌, ap, subst, inl, inr, arith}
+use Rattle.std.proofs.Common.{ℕ, ◌≡◌, ◌<◌, None, Some, [], ◌∷◌, Contains, refl, ap, inl, inr, arith}
 use Rattle.blk_base.specs.declared.place.Lba.{Lba}
 use Rattle.blk_base.specs.declared.request.Request.TheVariants as request
 use Rattle.image_model.proofs.CountLaws.{is_first_or_behind, none_in_nothing}

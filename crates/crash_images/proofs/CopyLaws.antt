@@ -1,5 +1,5 @@
 -- A copy has the image of its device.
-use Rattle.std.proofs.Common.{ℕ, ◌≡◌, ◌+◌, ◌<◌, ◌≤◌, Bool, true, List, [], IsTrue, length, reverse, refl, sym, ◌∙◌, ap, subst, arith, zero-add}
+use Rattle.std.proofs.Common.{ℕ, ◌≡◌, ◌<◌, Bool, IsTrue, length, reverse, refl, sym, ◌∙◌, ap, subst, arith, zero-add}
 use Rattle.std.proofs.lemmas.List.{length-reverse, reverse-reverse}
 use Rattle.disk_model.proofs.LookedLaws.{given_block}
 use Rattle.disk_model.specs.Log.{Blocks, block_at}

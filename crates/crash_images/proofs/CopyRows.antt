@@ -1,17 +1,14 @@
 -- For each clause on a copy a case that it accepts, and one that breaks it alone: of a device of one block.
-use Rattle.std.proofs.Common.{ℕ, ◌≡◌, ◌≢◌, ◌<◌, Bool, true, List, [], ◌∷◌, length, refl, sym, ◌∙◌, ap, subst, inl, inr, arith}
-use Rattle.std.proofs.lemmas.Bool.{cases_eq}
+use Rattle.std.proofs.Common.{ℕ, ◌≡◌, ◌≢◌, ◌<◌, true, List, [], ◌∷◌, length, refl, sym, ap, subst, inl, inr, arith}
 use Rattle.blk_base.specs.Sectors.{sector}
-use Rattle.blk_base.specs.declared.place.Pbn.{Pbn}
 use Rattle.disk_model.proofs.LookedLaws.{one_in-all}
 use Rattle.disk_model.proofs.OneImageLaws.{one_image-opening}
 use Rattle.disk_model.proofs.SinceLaws.{one_read}
-use Rattle.disk_model.specs.declared.call.Call.{Call}
 use Rattle.disk_model.specs.declared.call.Call.TheVariants.{Read, Flush}
 use Rattle.disk_model.specs.Log.{Blocks, block_at}
 use Rattle.disk_model.specs.Memory.{Memory, fresh, seen_of}
 use Rattle.disk_model.specs.Seen.{Seen}
-use Rattle.disk_model.specs.Since.{AreGiven, reads_of}
+use Rattle.disk_model.specs.Since.{AreGiven}
 use Rattle.image_model.proofs.LookedLaws.{looked_first}
 use Rattle.image_model.specs.Looked.{looked_in}
 use Rattle.rebuild.specs.Recoveries.{IsTold}
@@ -34,7 +31,7 @@ module _ (block other : List ℕ) (size : length block ≡ 4096) (differs : sect
     refl,
     refl,
     one_read true true 0 before now (record { 0 = 0 }) block refl (λ told. refl) (record { opening = refl; size = refl })
-      (record { faults = omega arith; unkept = omega arith }) size (λ told honest i within. inl refl) (λ told. refl),
+        (record { faults = omega arith; unkept = omega arith }) size (λ told honest i within. inl refl) (λ told. refl),
   )
 
   copied-not_fewer_blocks : IsCopy true true before now (fresh []) → ⊥

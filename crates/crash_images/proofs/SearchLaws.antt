@@ -1,5 +1,5 @@
 -- Lists that are gone through from the first item on, and a page that is looked for among others.
-use Rattle.std.proofs.Common.{ℕ, suc, ◌≡◌, ◌⊎◌, ◌+◌, ◌<◌, ◌&&◌, true, eqb, ap, ap₂, map, List, [], ◌∷◌, ◌++◌, Contains, length, get_or, take, refl, sym, ◌∙◌, subst, inl, inr, arith, add-one}
+use Rattle.std.proofs.Common.{ℕ, ◌≡◌, ◌⊎◌, ◌+◌, ◌<◌, ◌&&◌, true, eqb, ap, ap₂, map, List, [], ◌∷◌, ◌++◌, Contains, length, get_or, take, refl, sym, ◌∙◌, subst, inl, inr, add-one}
 use Rattle.std.proofs.Math.Seq.{take-suc}
 use Rattle.std.proofs.lemmas.Bool.Decides.{eqb_tells}
 use Rattle.std.proofs.lemmas.List.{map-append}

@@ -1,11 +1,10 @@
 -- What the reads of an image that was opened say of its values.
-use Rattle.std.proofs.Common.{ℕ, ◌≡◌, ◌⊎◌, ◌+◌, ◌/◌, ◌%◌, ◌<◌, ◌≤◌, Bool, true, IsTrue, Option, Some, None, List, [], ◌∷◌, All, Contains, length, Result, Ok, Err, IfErr, IsErrAnd, slice_index_or, refl, sym, ◌∙◌, ap, subst, inl, inr, arith, mod-lt}
+use Rattle.std.proofs.Common.{ℕ, ◌≡◌, ◌+◌, ◌/◌, ◌%◌, ◌<◌, ◌≤◌, Bool, true, Option, Some, None, List, [], ◌∷◌, Contains, length, Result, Ok, Err, IfErr, IsErrAnd, slice_index_or, refl, sym, ◌∙◌, ap, subst, inl, inr, arith, mod-lt}
 use Rattle.std.proofs.Math.Nat.{add-zero}
 use Rattle.std.proofs.lemmas.List.Elements.{All-contains}
 use Rattle.blk_base.proofs.RegionLaws.{data_block_high, data_block_inside}
 use Rattle.blk_base.specs.Regions.{IsDataBlock, needed_blocks}
 use Rattle.blk_base.specs.Pages.{above, slot_of}
-use Rattle.blk_base.specs.declared.geometry.Geometry.{Geometry}
 use Rattle.blk_base.specs.declared.geometry.Super.{Super}
 use Rattle.blk_base.specs.declared.journal_entry.CommittedEntry.{CommittedEntry}
 use Rattle.blk_base.specs.declared.opened.Opened.{Opened}
@@ -36,7 +35,6 @@ use Rattle.rebuild.proofs.KeptLaws.{opened_alike}
 use Rattle.rebuild.proofs.ReadLaws.{still}
 use Rattle.rebuild.specs.Openings.{Fits, IsRight, OpensRight}
 use Rattle.rebuild.specs.Recoveries.{IsTold}
-use Rattle.recovery_laws.specs.Kept.{image_in}
 use Rattle.replay_map.proofs.LinkLaws.{where_above_says}
 use Rattle.replay_map.proofs.LinkedLaws.{above_linked}
 use Rattle.crash_images.specs.Values.{AreRefused, IsRefused, LeadTo, OfOpened, leaf_head, opened_in}

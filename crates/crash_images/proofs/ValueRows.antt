@@ -1,11 +1,11 @@
 -- For each definition of the values of an image a case that it accepts, and for each clause one that breaks it alone.
-use Rattle.std.proofs.Common.{ℕ, ◌≡◌, Bool, true, false, Option, None, Some, List, [], ◌∷◌, Contains, refl, sym, ◌∙◌, ap, inl, inr, arith}
+use Rattle.std.proofs.Common.{ℕ, ◌≡◌, true, false, Option, None, Some, [], ◌∷◌, Contains, refl, sym, ap, inl, inr, arith}
 use Rattle.blk_base.specs.declared.geometry.Geometry.{Geometry}
 use Rattle.blk_base.specs.declared.journal_entry.CommittedEntry.{CommittedEntry}
 use Rattle.blk_base.specs.declared.opened.Opened.{Opened}
 use Rattle.blk_base.specs.declared.opened.OpenedPage.{OpenedPage}
 use Rattle.blk_base.specs.declared.place.Lba.{Lba}
-use Rattle.blk_base.specs.declared.place.Mapping.TheVariants.{Unmapped, Zero, At}
+use Rattle.blk_base.specs.declared.place.Mapping.TheVariants.{At}
 use Rattle.blk_base.specs.declared.place.PageId.{PageId}
 use Rattle.blk_base.specs.declared.place.Pbn.{Pbn}
 use Rattle.disk_model.specs.Log.{Blocks}
@@ -13,7 +13,6 @@ use Rattle.disk_model.specs.Seen.{Seen}
 use Rattle.image_model.proofs.CountLaws.{is_first, is_first_or_behind, none_in_nothing}
 use Rattle.image_model.proofs.ReadExample.{failed, seen}
 use Rattle.image_model.specs.Maps.{Image, value_of}
-use Rattle.image_model.specs.Pages.{leaf_of}
 use Rattle.image_model.specs.Sound.{IsSound}
 use Rattle.page_codec.specs.declared.fault.PageFault.TheVariants.{Header}
 use Rattle.rebuild.specs.Openings.{OpensRight}
@@ -72,7 +71,7 @@ leads_to_90 found (inl (parent, has, named, is)) = rw (sym (root_alone parent ha
 leads_to_90 found (inr (none, missing)) = absurd (missing root (is_first root []) refl)
 
 leads-not_to_another_block : LeadTo (root ∷ []) leaf (Some (pbn 91)) → ⊥
-leads-not_to_another_block to = let other : Some (pbn 91) ≡ Some (pbn 90) = leads_to_90 (Some (pbn 91)) to in let same : 91 ≡ 90 = cc other in omega (arith, same)
+leads-not_to_another_block to = let other : Some (pbn 91) ≡ Some (pbn 90) = leads_to_90 (Some (pbn 91)) to in let block : pbn 91 ≡ pbn 90 = cc other in let same = ap (λ (at : Pbn). at.0) block in omega (arith, same)
 
 leads-not_to_none : LeadTo (root ∷ []) leaf None → ⊥
 leads-not_to_none to = absurd (let none : None ≡ Some (pbn 90) = leads_to_90 None to in cc none)

@@ -127,11 +127,7 @@ fn read_slot<D: Disk>(
 }
 
 // The bytes that a leaf of the image maps an address to.
-fn read_mapped<D: Disk>(
-    device: &mut D,
-    opened: &Opened,
-    mapping: Mapping,
-) -> Result<Block, Failed>
+fn read_mapped<D: Disk>(device: &mut D, opened: &Opened, mapping: Mapping) -> Result<Block, Failed>
     requires held { HoldsMapping opened.now.head.geometry 0 mapping }
     requires room { needed_blocks opened.now.head.geometry ≤ (D.seen device.old).size }
     ensures value { IfOk result (λ block.

@@ -1,4 +1,3 @@
-use Rattle.std.proofs.Common.{None, Some}
 use Rattle.crash_images.proofs.ValueLaws.{nothing_right}
 use Rattle.crash_images.proofs.values.read_mapping.Goals as goal
 

@@ -1,4 +1,4 @@
-use Rattle.std.proofs.Common.{ℕ, ◌≡◌, ◌∙◌, ap, arith, map, refl, List, [], get_or}
+use Rattle.std.proofs.Common.{ℕ, ◌≡◌, ◌∙◌, ap, arith, map, refl, List, get_or}
 use Rattle.std.proofs.lemmas.List.{get_or_default}
 use Rattle.blk_base.specs.declared.place.Lba.{Lba}
 use Rattle.command_text.specs.declared.crashes.AddressValue.{AddressValue}
