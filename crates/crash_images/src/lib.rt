@@ -1,5 +1,11 @@
-//! What a crash is tried on and what it shows: a copy of a device in memory, the addresses of a script, and the values that
-//! they have on an image that was opened.
+//! What a crash is tried on, and what it shows: a copy of a device in memory, the addresses that a script names, and the
+//! values that these have on an image that was opened. It writes nothing.
+//!
+//! The values are those of an honest device's image where that is sound and was opened so (`specs/Values`, `OfOpened`):
+//! then nothing is left in its window, and each of its leaves says its mappings. Of any other only the reasons are told
+//! for which no value was read.
+//!
+//! Only tested: the addresses of one script, and their values on a copy of one image.
 #![tactic(auto)]
 
 mod addresses;

@@ -1,10 +1,10 @@
 use crate::images::blocks_of;
 use crate::rows::{Row, SMALL};
 use blk_base::Mapping::{At, Zero};
-use blk_base::{Block, Lba, Layout, PageId, Pbn, Request};
+use blk_base::{Block, Layout, Lba, PageId, Pbn, Request};
 use command_text::AddressValue;
 use crash_images::{addresses_of, copy_of, value_at, values_of};
-use disk_model::{Call, MemDisk};
+use disk_model::{Call, Disk, MemDisk};
 use rebuild::open_clean;
 use std::alloc::{AllocError, Global};
 use std::test::Fail;
@@ -125,7 +125,10 @@ fn a_copy_has_the_values_of_its_device(rt: HostRuntime) -> Result<(), Fail> {
         None,
         None,
     ];
-    assert_eq!(rt; found(rt.alloc(), &mut device)?, Some((values, Some(0x62), true)));
+    assert_eq!(rt;
+        found(rt.alloc(), &mut device)?,
+        Some((values, Some(0x62), true))
+    );
     assert_eq!(rt; device.calls().len(), 92);
     Ok(())
 }
