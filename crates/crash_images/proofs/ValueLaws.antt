@@ -1,5 +1,5 @@
 -- What the reads of an image that was opened say of its values.
-use Rattle.std.proofs.Common.{ℕ, ◌≡◌, ◌+◌, ◌/◌, ◌%◌, ◌<◌, ◌≤◌, Bool, true, Option, Some, None, List, [], ◌∷◌, Contains, length, Result, Ok, Err, IfErr, IsErrAnd, slice_index_or, refl, sym, ◌∙◌, ap, subst, inl, inr, arith, mod-lt}
+use Rattle.std.proofs.Common.{ℕ, ◌≡◌, ◌+◌, ◌/◌, ◌%◌, ◌<◌, ◌≤◌, Bool, true, Option, Some, None, List, [], ◌∷◌, Contains, length, Result, Ok, Err, IfErr, IsErrAnd, slice_index_or, refl, sym, ◌∙◌, ap, ap₂, subst, inl, inr, arith, mod-lt}
 use Rattle.std.proofs.Math.Nat.{add-zero}
 use Rattle.std.proofs.lemmas.List.Elements.{All-contains}
 use Rattle.blk_base.proofs.RegionLaws.{data_block_high, data_block_inside}
@@ -35,6 +35,7 @@ use Rattle.rebuild.proofs.KeptLaws.{opened_alike}
 use Rattle.rebuild.proofs.ReadLaws.{still}
 use Rattle.rebuild.specs.Openings.{Fits, IsRight, OpensRight}
 use Rattle.rebuild.specs.Recoveries.{IsTold}
+use Rattle.recovery_laws.specs.Kept.{image_in}
 use Rattle.replay_map.proofs.LinkLaws.{where_above_says}
 use Rattle.replay_map.proofs.LinkedLaws.{above_linked}
 use Rattle.crash_images.specs.Values.{AreRefused, IsRefused, LeadTo, OfOpened, leaf_head, opened_in}
@@ -47,21 +48,28 @@ pub record IsClosed (opened : Opened) (blocks : Blocks) : Type 0 where
   pub accepted : super_of_image blocks ≡ Ok opened.head
   pub right : IsRight (opened_in opened blocks) opened.head opened
 
-module _ (opened : Opened) (blocks : Blocks) (sound : IsSound blocks) (opens_right : OpensRight blocks opened) where
-  pub closed_right : IsClosed opened blocks
-  closed_right = by opens_right
-    where
-      by : OpensRight blocks opened → IsClosed opened blocks
-      by (head, last, window, opens, clean, right) =
-          let one = opened_alike blocks sound head last window opens in
-          let own : opened.head ≡ head = right.start.head_is in
-          let is_clean : sound.head.clean ≡ true = ap (λ (h : Super). h.clean) (sym one.0) ∙ clean in
-          let none : window ≡ [] = one.2 ∙ (sound.closed is_clean).window in
-          let here : IsRight (image_of head blocks []) head opened = subst (λ (w : List CommittedEntry). IsRight (image_of head blocks w) head opened) none right in
-          record {
-            accepted = opens.accepted ∙ ap Ok (sym own);
-            right = subst (λ (h : Super). IsRight (image_of h blocks []) h opened) (sym own) here;
-          }
+pub closed_right : (opened : Opened) (blocks : Blocks) (sound : IsSound blocks) → OpensRight blocks opened → IsClosed opened blocks
+closed_right opened blocks sound (head, last, window, opens, clean, right) =
+    let one = opened_alike blocks sound head last window opens in
+    let own : opened.head ≡ head = right.start.head_is in
+    let is_clean : sound.head.clean ≡ true = ap (λ (h : Super). h.clean) (sym one.0) ∙ clean in
+    let none : window ≡ [] = one.2 ∙ (sound.closed is_clean).window in
+    let here : IsRight (image_of head blocks []) head opened = subst (λ (w : List CommittedEntry). IsRight (image_of head blocks w) head opened) none right in
+    record {
+      accepted = opens.accepted ∙ ap Ok (sym own);
+      right = subst (λ (h : Super). IsRight (image_of h blocks []) h opened) (sym own) here;
+    }
+
+-- so it is the image that it is with its window
+opened_is : (opened : Opened) (blocks : Blocks) (sound : IsSound blocks) → OpensRight blocks opened → opened_in opened blocks ≡ image_in blocks sound
+opened_is opened blocks sound (head, last, window, opens, clean, right) =
+    let one = opened_alike blocks sound head last window opens in
+    let is_clean : sound.head.clean ≡ true = ap (λ (h : Super). h.clean) (sym one.0) ∙ clean in
+    ap₂ (λ (h : Super) (w : List CommittedEntry). image_of h blocks w) (right.start.head_is ∙ one.0) (sym (sound.closed is_clean).window)
+
+pub opened_values : (opened : Opened) (blocks : Blocks) (sound : IsSound blocks) → OpensRight blocks opened → (address : ℕ)
+    → value_of (opened_in opened blocks) address ≡ value_of (image_in blocks sound) address
+opened_values opened blocks sound right address = ap (λ (image : Image). value_of image address) (opened_is opened blocks sound right)
 
 -- By the pages that are no leaves.
 

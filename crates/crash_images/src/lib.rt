@@ -11,10 +11,12 @@
 mod addresses;
 mod copies;
 mod fault;
+mod laws;
 mod leaves;
 mod values;
 
 pub use addresses::addresses_of;
 pub use copies::copy_of;
 pub use fault::ValueFault;
+pub use laws::an_opened_image_has_its_values;
 pub use values::{value_at, values_of};

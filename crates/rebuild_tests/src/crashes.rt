@@ -90,7 +90,11 @@ fn are_reads(device: &MemDisk) -> bool {
 }
 
 fn found(alloc: Global, device: &mut MemDisk) -> Result<Found, AllocError> {
-    let addresses = addresses_of(alloc, &script(alloc)?, 1000)?;
+    let requests = script(alloc)?;
+    if requests.count() > 256 {
+        return Ok(None);
+    }
+    let addresses = addresses_of(alloc, &requests, 1000)?;
     let Ok(mut copy) = copy_of(alloc, device) else {
         return Ok(None);
     };
