@@ -23,7 +23,7 @@ use Rattle.command_text.specs.Audits.{report_text}
 use Rattle.command_text.specs.Pieces.{piece_text}
 use Rattle.command_text.specs.Runs.{ending_text, run_text}
 use Rattle.command_text.specs.Tallies.{with_answer, with_line, tally_of}
-use Rattle.command_text.specs.Workloads.{tally_text, summary_text}
+use Rattle.command_text.specs.Workloads.{tally_text, tally_and_space_text, summary_text}
 use Rattle.command_text.specs.Crashes.{stop_text, head_text, value_text, values_text, crash_text}
 use Rattle.command_text.specs.Sectors.{placed_text, asked_text, answer_text, line_text, lines_text, sectors_text}
 use Rattle.command_text.proofs.ImageRows.{fresh, some_used, report_clean}
@@ -92,18 +92,30 @@ pub tally_of_three : tally_of (Answer (writer 0 1) reply.Ok ∷ Begin (writer 0 
     ≡ record { ok = 2; no_space = 0; read_sum = 0 }
 tally_of_three = refl
 
-pub tally_printed : tally_text 1 (record { ok = 1; no_space = 0; read_sum = 0 }) fresh ≡ codes "requests 1\nok 1\nno space 0\nread sum 0\nused 0 of 64\n"
+pub counts_full : with_answer reply.Full none_counted ≡ record { ok = 0; no_space = 1; read_sum = 0 }
+counts_full = refl
+
+pub tally_printed : tally_text 1 (record { ok = 1; no_space = 0; read_sum = 0 }) ≡ codes "requests 1\nok 1\nno space 0\nread sum 0\n"
 tally_printed = simp numerals refl
 
-pub tally_of_many : tally_text 1000 (record { ok = 990; no_space = 10; read_sum = 7 }) some_used
-    ≡ codes "requests 1000\nok 990\nno space 10\nread sum 7\nused 2 of 64\n"
+pub tally_of_many : tally_text 1000 (record { ok = 990; no_space = 10; read_sum = 7 })
+    ≡ codes "requests 1000\nok 990\nno space 10\nread sum 7\n"
 tally_of_many = simp numerals refl
 
-pub summary_clean : summary_text (record { recovered = None; requests = 1; tally = none_counted; space = fresh })
+pub tally_and_space : tally_and_space_text (record { recovered = Some 30; requests = 1; tally = none_counted; space = Some some_used })
+    ≡ codes "requests 1\nok 0\nno space 0\nread sum 0\nused 2 of 64\n"
+tally_and_space = simp numerals refl
+
+-- where the space isn't known
+pub tally_alone : tally_and_space_text (record { recovered = None; requests = 1; tally = none_counted; space = None })
+    ≡ codes "requests 1\nok 0\nno space 0\nread sum 0\n"
+tally_alone = simp numerals refl
+
+pub summary_clean : summary_text (record { recovered = None; requests = 1; tally = none_counted; space = Some fresh })
     ≡ codes "requests 1\nok 0\nno space 0\nread sum 0\nused 0 of 64\n"
 summary_clean = simp numerals refl
 
-pub summary_recovered : summary_text (record { recovered = Some 30; requests = 1; tally = none_counted; space = fresh })
+pub summary_recovered : summary_text (record { recovered = Some 30; requests = 1; tally = none_counted; space = Some fresh })
     ≡ codes "recovered 30 entries\nrequests 1\nok 0\nno space 0\nread sum 0\nused 0 of 64\n"
 summary_recovered = simp numerals refl
 

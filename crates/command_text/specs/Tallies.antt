@@ -7,13 +7,13 @@ use Rattle.vdo_model.specs.declared.report.DeskLine.{DeskLine}
 use Rattle.vdo_model.specs.declared.report.DeskLine.TheVariants.{Begin, Answer}
 use Rattle.command_text.specs.declared.tallies.Tally.{Tally}
 
--- bytes count as ok, and add to the sum of all bytes read
+-- bytes count as ok, and add to the sum of all bytes read; a full image counts as no space
 abbrev pub with_answer : Reply → Tally → Tally
 with_answer Ok t = record { ok = t.ok + 1; no_space = t.no_space; read_sum = t.read_sum }
 with_answer (Bytes bytes) t = record { ok = t.ok + 1; no_space = t.no_space; read_sum = t.read_sum + sum bytes }
 with_answer NoSpace t = record { ok = t.ok; no_space = t.no_space + 1; read_sum = t.read_sum }
+with_answer Full t = record { ok = t.ok; no_space = t.no_space + 1; read_sum = t.read_sum }
 with_answer Range t = t
-with_answer Full t = t
 with_answer ReadFault t = t
 with_answer Stopped t = t
 with_answer Damaged t = t

@@ -2,8 +2,8 @@
 //!
 //! Only tested: a table of texts.
 //!
-//! Not there: a command that prints `run`, `crash`, `workload` or `sectors` by these texts: the program prints what
-//! `format`, `recover`, `force-rebuild`, `grow`, `audit` and `status` do, and why there is no image.
+//! Not there: a command that prints `crash` or `sectors` by these texts; how many blocks are used behind a run or a workload,
+//! since a session doesn't tell it.
 #![tactic(auto)]
 
 mod audits;

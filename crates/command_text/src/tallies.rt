@@ -10,7 +10,7 @@ use vdo_model::DeskLine;
 pub struct Tally {
     /// Requests that were answered ok or with bytes.
     pub ok: u64,
-    /// Requests that were answered with no space.
+    /// Requests that were answered that there was no room: no space, or full.
     pub no_space: u64,
     /// The sum of all bytes read.
     pub read_sum: u128,
@@ -41,9 +41,8 @@ impl Tally {
                 counted.ok += 1;
                 counted.read_sum += byte_sum(&block.bytes);
             }
-            Answer::NoSpace => counted.no_space += 1,
-            Answer::Range | Answer::Full | Answer::ReadFault | Answer::Stopped | Answer::Damaged =>
-                {}
+            Answer::NoSpace | Answer::Full => counted.no_space += 1,
+            Answer::Range | Answer::ReadFault | Answer::Stopped | Answer::Damaged => {}
         }
         counted
     }

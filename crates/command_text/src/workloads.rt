@@ -1,7 +1,7 @@
 ghost use Rattle.disk_model.specs.Streams.{Puts};
-ghost use Rattle.command_text.specs.Workloads.{tally_text, summary_text};
+ghost use Rattle.command_text.specs.Workloads.{tally_text, tally_and_space_text, summary_text};
 
-use crate::parts::{Space, put_recovered};
+use crate::parts::{Space, put_known, put_recovered};
 use crate::pieces::{Piece, put_lines};
 use crate::tallies::Tally;
 use disk_model::{Failed, Sink};
@@ -14,13 +14,12 @@ pub struct Summary {
     /// How many requests there were.
     pub requests: u32,
     pub tally: Tally,
-    pub space: Space,
+    /// How many data blocks are used, where that is known.
+    pub space: Option<Space>,
 }
 
-fn put_tally<K: Sink>(requests: u32, tally: Tally, space: Space, out: &mut K) -> Result<(), Failed>
-    ensures { Puts K.tells
-        (tally_text requests tally space)
-        (K.seen out.old) (K.seen out.new) result }
+fn put_tally<K: Sink>(requests: u32, tally: Tally, out: &mut K) -> Result<(), Failed>
+    ensures { Puts K.tells (tally_text requests tally) (K.seen out.old) (K.seen out.new) result }
 {
     put_lines(
         &[
@@ -33,21 +32,25 @@ fn put_tally<K: Sink>(requests: u32, tally: Tally, space: Space, out: &mut K) ->
             Piece::Word(b"\nread sum "),
             Piece::U128(tally.read_sum),
             Piece::Word(b"\n"),
-            Piece::Word(b"used "),
-            Piece::U32(space.used),
-            Piece::Word(b" of "),
-            Piece::U32(space.total),
-            Piece::Word(b"\n"),
         ],
         out,
     )
 }
 
-/// Puts `recovered 30 entries` where the image wasn't clean, and `requests 1000`, `ok 990`, `no space 10`, `read sum 7` and
-/// `used 2 of 64`, a line each. It fails where the sink fails; then a first part of the text was put.
+fn put_tally_and_space<K: Sink>(summary: &Summary, out: &mut K) -> Result<(), Failed>
+    ensures { Puts K.tells (tally_and_space_text summary.now) (K.seen out.old) (K.seen out.new)
+        result }
+{
+    put_tally(summary.requests, summary.tally, out)?;
+    put_known(summary.space, out)
+}
+
+/// Puts `recovered 30 entries` where the image wasn't clean, and `requests 1000`, `ok 990`, `no space 10`, `read sum 7` and,
+/// where that is known, `used 2 of 64`, a line each. It takes no memory. It fails where the sink fails; then a first part of the text was
+/// put.
 pub fn put_summary<K: Sink>(summary: &Summary, out: &mut K) -> Result<(), Failed>
     ensures { Puts K.tells (summary_text summary.now) (K.seen out.old) (K.seen out.new) result }
 {
     put_recovered(summary.recovered, out)?;
-    put_tally(summary.requests, summary.tally, summary.space, out)
+    put_tally_and_space(summary, out)
 }

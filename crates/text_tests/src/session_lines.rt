@@ -144,7 +144,7 @@ fn answers_are_counted(rt: HostRuntime) -> Result<(), Fail> {
         [
             Tally {
                 ok: 4,
-                no_space: 3,
+                no_space: 4,
                 read_sum: 0,
             },
             Tally {
@@ -168,19 +168,31 @@ fn a_workload_is_summed_up(rt: HostRuntime) -> Result<(), Fail> {
             no_space: 10,
             read_sum: 397_312,
         },
-        space: SPACE,
+        space: Some(SPACE),
     };
-    let put = put_summary(&summary, &mut out);
+    let unknown = Summary {
+        space: None,
+        ..summary
+    };
+    let put = (
+        put_summary(&summary, &mut out),
+        put_summary(&unknown, &mut out),
+    );
     assert_eq!(rt;
         (put, out.bytes()),
         (
-            Ok(()),
+            (Ok(()), Ok(())),
             b"recovered 30 entries
 requests 1000
 ok 990
 no space 10
 read sum 397312
 used 2 of 64
+recovered 30 entries
+requests 1000
+ok 990
+no space 10
+read sum 397312
 "
                 .as_slice()
         )
