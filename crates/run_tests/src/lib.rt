@@ -1,5 +1,5 @@
 //! Tests of whole runs of the program: scripts with faults, runs one after the other on one device, refused images,
-//! stops, and audits of what they leave.
+//! stops, audits of what they leave, and workloads.
 #![tactic(auto)]
 
 #[cfg(test)]
@@ -18,3 +18,5 @@ mod stopped_runs;
 mod stops;
 #[cfg(test)]
 mod torn;
+#[cfg(test)]
+mod workloads;

@@ -21,7 +21,7 @@ const TALL: Geometry = Geometry {
 };
 
 // A device with a fresh image of these sizes.
-fn sized(alloc: Global, geometry: &Geometry) -> Result<MemDisk, AllocError>
+pub(crate) fn sized(alloc: Global, geometry: &Geometry) -> Result<MemDisk, AllocError>
     requires { IsGeometry geometry.now }
 {
     let blocks = fresh_blocks(alloc, geometry)?;
@@ -92,7 +92,7 @@ pub(crate) fn outside_of(
     })
 }
 
-fn run_in<R: Threads + Wait + Sync>(rt: &R, outside: Outside, device: MemDisk) -> Ran {
+pub(crate) fn run_in<R: Threads + Wait + Sync>(rt: &R, outside: Outside, device: MemDisk) -> Ran {
     let Outside {
         words,
         mut source,

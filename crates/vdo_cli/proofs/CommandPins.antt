@@ -1,7 +1,9 @@
 -- Rows that pin which words are served, and as what, computed.
-use Rattle.std.proofs.Common.{ℕ, ◌≡◌, true, false, List, [], ◌∷◌, Some, None, codes, refl}
+use Rattle.std.proofs.Common.{ℕ, ◌≡◌, true, false, List, [], ◌∷◌, Some, None, codes, refl, arith}
 use Rattle.blk_base.specs.declared.geometry.Geometry.{Geometry}
-use Rattle.vdo_words.specs.declared.commands.Command.TheVariants.{Run, Workload}
+use Rattle.vdo_words.specs.declared.commands.Command.TheVariants.{Crash, Run}
+use Rattle.vdo_words.specs.declared.commands.Command.TheVariants.{Workload as WorkloadCommand}
+use Rattle.vdo_words.specs.declared.commands.CrashOptions.{CrashOptions}
 use Rattle.vdo_words.specs.declared.commands.Command.TheVariants.{Audit as AuditCommand, ForceRebuild as RebuildCommand, Grow as GrowCommand, Recover as RecoverCommand, Status as StatusCommand}
 use Rattle.vdo_words.specs.declared.commands.Command.TheVariants.{Format as FormatCommand}
 use Rattle.vdo_words.specs.declared.commands.FormatOptions.{FormatOptions}
@@ -9,8 +11,8 @@ use Rattle.vdo_words.specs.declared.commands.GrowOptions.{GrowOptions}
 use Rattle.vdo_words.specs.declared.commands.CoreOptions.{CoreOptions}
 use Rattle.vdo_words.specs.declared.commands.WorkloadOptions.{WorkloadOptions}
 use Rattle.vdo_words.specs.declared.commands.Drive.TheVariants.{Schedule, Threads}
-use Rattle.vdo_cli.specs.declared.words.Served.TheVariants.{Audit, ForceRebuild, Format, Grow, Recover, Script, Status}
-use Rattle.vdo_cli.specs.Commands.{are_default, number_of, served_in, served_of, sizes_of}
+use Rattle.vdo_cli.specs.declared.words.Served.TheVariants.{Audit, ForceRebuild, Format, Grow, Recover, Script, Status, Workload}
+use Rattle.vdo_cli.specs.Commands.{IsServedWithin, IsWorkload, are_default, number_of, served_in, served_of, sizes_of}
 
 -- the options of a core that has none
 abbrev core : CoreOptions
@@ -39,7 +41,7 @@ each_size_is_its_option : sizes_of (record { logical = 1; slabs = 2; slab_blocks
     ≡ record { logical = 1; slabs = 2; slab_blocks = 3; journal = 4; index = 5; slab_journal = 6; height = 7; nonce = 8 }
 each_size_is_its_option = refl
 
--- served_in: `run` with such a core and a schedule, `format`, `recover`, `force-rebuild`, `grow`, `audit` and `status`
+-- served_in: `run` and `workload` with such a core and a schedule, `format`, `recover`, `force-rebuild`, `grow`, `audit` and `status`
 in_run : (number : ℕ) → served_in (Some (Run (record { drive = Schedule number; core = core }))) ≡ Some (Script number)
 in_run number = refl
 
@@ -67,8 +69,37 @@ in_audit = refl
 in_status : served_in (Some StatusCommand) ≡ Some Status
 in_status = refl
 
-not_in_another_command : (options : WorkloadOptions) → served_in (Some (Workload options)) ≡ None
+-- `workload` with such a core
+in_workload : (options : WorkloadOptions) → served_in (Some (WorkloadCommand (record options { core = core }))) ≡ Some (Workload (record options { core = core }))
+in_workload options = refl
+
+not_in_workload_with_another_core : (options : WorkloadOptions) → served_in (Some (WorkloadCommand (record options { core = record core { depth = 2 } }))) ≡ None
+not_in_workload_with_another_core options = refl
+
+not_in_another_command : (options : CrashOptions) → served_in (Some (Crash options)) ≡ None
 not_in_another_command options = refl
+
+-- IsWorkload, IsServedWithin: 1 to 65,536 requests of 1 to 16 streams
+abbrev pub draws : ℕ → ℕ → WorkloadOptions
+draws requests streams = record { schedule = 0; core = core; seed = 0; requests = requests; streams = streams }
+
+least_workload : IsServedWithin (Some (Workload (draws 1 1)))
+least_workload = record { some = omega arith; few = omega arith; one = omega arith; streams = omega arith }
+
+greatest_workload : IsWorkload (draws 65536 16)
+greatest_workload = record { some = omega arith; few = omega arith; one = omega arith; streams = omega arith }
+
+workload_of_none : IsWorkload (draws 0 1) → ⊥
+workload_of_none within = omega (arith, within.some)
+
+workload_of_too_many : IsServedWithin (Some (Workload (draws 65537 1))) → ⊥
+workload_of_too_many within = omega (arith, within.few)
+
+workload_of_no_stream : IsWorkload (draws 1 0) → ⊥
+workload_of_no_stream within = omega (arith, within.one)
+
+workload_of_17_streams : IsWorkload (draws 1 17) → ⊥
+workload_of_17_streams within = omega (arith, within.streams)
 
 not_in_no_command : served_in None ≡ None
 not_in_no_command = refl
@@ -162,8 +193,28 @@ deeper = refl
 no_number : served_of (codes "run" ∷ codes "--schedule" ∷ codes "seven" ∷ []) ≡ None
 no_number = refl
 
-workload : served_of (codes "workload" ∷ []) ≡ None
+-- a workload has the seed 0, 1,000 requests and 4 streams where none are given, else those that are
+pub workload : served_of (codes "workload" ∷ []) ≡ Some (Workload (draws 1000 4))
 workload = refl
+
+abbrev pub workload_words : List (List ℕ)
+workload_words = codes "workload" ∷ codes "--requests" ∷ codes "1" ∷ []
+
+pub workload_of_one : served_of workload_words ≡ Some (Workload (draws 1 4))
+workload_of_one = refl
+
+workload_of_a_seed : served_of (codes "workload" ∷ codes "--seed=7" ∷ codes "--streams" ∷ codes "2" ∷ codes "--schedule" ∷ codes "3" ∷ [])
+    ≡ Some (Workload (record (draws 1000 2) { schedule = 3; seed = 7 }))
+workload_of_a_seed = refl
+
+workload_by_threads : served_of (codes "workload" ∷ codes "--threads" ∷ []) ≡ None
+workload_by_threads = refl
+
+workload_deeper : served_of (codes "workload" ∷ codes "--depth" ∷ codes "2" ∷ []) ≡ None
+workload_deeper = refl
+
+workload_with_an_image : served_of (codes "workload" ∷ codes "--image" ∷ codes "2" ∷ []) ≡ None
+workload_with_an_image = refl
 
 twice : served_of (codes "run" ∷ codes "run" ∷ []) ≡ None
 twice = refl

@@ -2,7 +2,9 @@
 use Rattle.std.proofs.Common.{ℕ, true, ◌≡◌, ◌⊎◌, ◌+◌, ◌<◌, ◌≤◌, ◌++◌, false, IsTrue, List, [], ◌∷◌, slice_get, Option, Some, None, IsSome, Ok, Err, refl, sym, ◌∙◌, ap, subst, append_assoc, inl, inr, arith}
 use Rattle.std.proofs.lemmas.Bool.{cases_Bool, cases_lt}
 use Rattle.std.proofs.lemmas.Bool.Decides.{eqb_tells}
+use Rattle.blk_base.specs.declared.geometry.Geometry.{Geometry}
 use Rattle.blk_base.specs.declared.geometry.Super.{Super}
+use Rattle.blk_base.specs.declared.opened.Opened.{Opened}
 use Rattle.blk_base.specs.declared.request.Answer.{Answer as Reply}
 use Rattle.blk_base.specs.declared.request.Answer.TheVariants as reply
 use Rattle.blk_base.specs.declared.request.Request.{Request}
@@ -13,7 +15,9 @@ use Rattle.core_model.specs.RightTraces.{MayAnswer}
 use Rattle.core_model.specs.Sessions.{Session}
 use Rattle.core_model.specs.Trace.{Fails, Flushes, Happening, Says, Trace, lines}
 use Rattle.disk_model.specs.Causes.{Rose}
+use Rattle.command_text.specs.Workloads.{summary_text}
 use Rattle.disk_model.specs.Log.{Blocks}
+use Rattle.disk_model.specs.Seen.{Seen}
 use Rattle.image_model.proofs.FaultLaws.{no_fault}
 use Rattle.image_model.specs.Faults.{IsImageFault}
 use Rattle.image_model.specs.Sound.{IsSound}
@@ -21,6 +25,7 @@ use Rattle.image_model.specs.declared.fault.ImageFault.{ImageFault}
 use Rattle.image_model.specs.declared.fault.ImageFault.TheVariants as image
 use Rattle.rebuild.specs.Openings.{IsOpeningRefusal}
 use Rattle.rebuild.specs.Recoveries.{IsRecovery, IsTold}
+use Rattle.rebuild.specs.declared.forms.Recovered.{Recovered}
 use Rattle.stream_text.specs.WholeScript.{whole_script}
 use Rattle.vdo_model.proofs.NameLaws.{same_self, same_tells}
 use Rattle.vdo_model.specs.DeskLog.{IsDeskLog, answer_of, begun}
@@ -34,13 +39,17 @@ use Rattle.vdo_cli.specs.declared.words.Served.{Served}
 use Rattle.vdo_cli.specs.declared.words.Served.TheVariants as served
 use Rattle.vdo_cli.specs.Commands.{served_of}
 use Rattle.vdo_cli.specs.Complete.{IsAllServed, IsComplete, NeedsNoFault, NoneRose}
-use Rattle.vdo_cli.specs.Endings.{PlayFails, ScriptFails}
+use Rattle.vdo_cli.specs.Closings.{Closes, PutsWith}
+use Rattle.vdo_cli.specs.Endings.{FailsUnready, PlayFails, ScriptFails, ServesRequests}
 use Rattle.vdo_cli.specs.Inspections.{told_as}
-use Rattle.vdo_cli.specs.Openings.{IsNotOpened, IsUnready, recovered_of}
-use Rattle.vdo_cli.specs.Outsides.{Outcome, Outside, Setting, input_setting_of, inputs_of}
-use Rattle.vdo_cli.specs.Runs.{Closes, EndsAs, EndsSo, NotBegun, PlayedOut, PutsWith, RunsScript, RunsScriptBy}
+use Rattle.vdo_cli.specs.Openings.{IsNotOpened, IsReady, IsUnready, recovered_of}
+use Rattle.vdo_cli.specs.Outsides.{Outcome, Outside, RefusesAfter, Setting, input_setting_of, inputs_of}
+use Rattle.vdo_cli.specs.Runs.{EndsAs, EndsSo, PlayedOut, RunsScript, RunsScriptBy}
 use Rattle.vdo_cli.specs.Sessions.{IsReported}
 use Rattle.vdo_cli.specs.Texts.{fault_status, is_lost, served_status, session_text, some_full, some_lost, struck_status}
+use Rattle.vdo_cli.specs.Workloads.{EndsWorkload, EndsWorkloadBy, WorkloadFails, WorkloadServed, requests_for, summary_of}
+use Rattle.vdo_words.specs.declared.commands.WorkloadOptions.{WorkloadOptions}
+use Rattle.vdo_cli.proofs.OpenedSessions.{head_of_sound}
 use Rattle.vdo_cli.proofs.RecoveredImages.{IsLeft, left_by}
 
 -- Counts.
@@ -149,8 +158,8 @@ served_low desk = elim (cases_Bool (some_full desk)) [ inl full ↦ rw full (ome
 
 -- The run.
 
-module _ (s : Setting) (schedule : ℕ) (script : Script) (before after : Outside) (outcome : Outcome) (blocks : Blocks) (sound : IsSound blocks)
-    (told : IsTold s.device.tells s.device.honest before.device blocks) (tells : IsTrue s.source_tells) (valid : whole_script before.source.left ≡ Ok script) (none : NoneRose before after) where
+module _ (s : Setting) (before after : Outside) (outcome : Outcome) (blocks : Blocks) (sound : IsSound blocks)
+    (told : IsTold s.device.tells s.device.honest before.device blocks) (none : NoneRose before after) where
   -- it wasn't recovered: only memory can have run out
   not_recovered : (why : ImageFault) → IsRecovery s.device.tells s.device.honest before.device after.device (Err why) → why ≡ image.Memory
   not_recovered (image.Super fault) is = absurd (never blocks sound (image.Super fault) (is.says blocks told) (λ same. absurd (cc same)) (λ same. absurd (cc same)) (λ same. absurd (cc same)))
@@ -193,52 +202,40 @@ module _ (s : Setting) (schedule : ℕ) (script : Script) (before after : Outsid
   not_ready recovered why (inl is) = not_recovered why is.recovery
   not_ready recovered why (inr is) = not_opened recovered why is
 
-  of_script : (why : Fault) → ScriptFails s.source_tells before.source after.source why → why ≡ fault.Memory
-  of_script (fault.Script refusal) fails = let said = fails tells in absurd (cc (said, valid))
-  of_script fault.Read fails = absurd (none.source fails)
-  of_script fault.Memory fails = refl
-  of_script fault.Usage fails = absurd fails
-  of_script (fault.Layout why) fails = absurd fails
-  of_script fault.Device fails = absurd fails
-  of_script (fault.Image why) fails = absurd fails
-  of_script (fault.Differs count) fails = absurd fails
-  of_script (fault.Grow why) fails = absurd fails
-  of_script fault.Sink fails = absurd fails
+  unready_of_memory : (recovered : Option ℕ) (why : Fault) → FailsUnready s.device before.device after.device recovered why → why ≡ fault.Memory
+  unready_of_memory recovered why fails = fails.fault_is ∙ ap told_as (not_ready recovered fails.cause fails.unready)
 
   -- no session was begun
-  of_memory : (recovered : Option ℕ) (why : Fault) → PlayFails (input_setting_of s) (inputs_of before) (inputs_of after) recovered why → why ≡ fault.Memory
-  of_memory recovered why (inl fails) = fails.fault_is ∙ ap told_as (not_ready recovered fails.cause fails.unready)
-  of_memory recovered why (inr fails) = of_script why fails.cause
-
-  out_of_memory : (why : Fault) → outcome.fault ≡ Some why → NotBegun s before after outcome why → IsComplete script outcome
-  out_of_memory why is begun =
-      let memory = of_memory begun.recovered why begun.cause in
-      inr (is ∙ ap (λ (f : Fault). Some f) memory, begun.refuses.status_is ∙ ap fault_status memory)
+  out_of_memory : (script : Script) (recovered : Option ℕ) (why : Fault) → outcome.fault ≡ Some why → why ≡ fault.Memory
+      → RefusesAfter s.sink_tells recovered why outcome.status outcome.report before.sink after.sink → IsComplete script outcome
+  out_of_memory script recovered why is memory refuses = inr (is ∙ ap (λ (f : Fault). Some f) memory, refuses.status_is ∙ ap fault_status memory)
 
   -- one was served
-  module _ (played : PlayedOut s schedule before after outcome) where
+  module _ (schedule : ℕ) (found : Recovered) (start : Opened) (script : Script) (text : List ℕ)
+      (session : ServesRequests s.device schedule found start outcome.report before.device after.device) (requests_are : outcome.report.requests ≡ script)
+      (closing : Closes s.sink_tells text outcome.report outcome.status outcome.fault before.sink after.sink) where
     abbrev report : RunReport
     report = outcome.report
 
     undamaged : report.damage ≡ None
-    undamaged = played.session.undamaged blocks told sound
+    undamaged = session.undamaged blocks told sound
 
     no_damage : IsSome report.damage → ⊥
     no_damage some = absurd (cc (undamaged, some))
 
-    own_later : before.device.faults ≤ played.session.opened.faults
-    own_later = let first = played.session.ready.recovery.later.faults in let second = played.session.ready.opening.untouched.later.faults in omega (arith, first, second)
+    own_later : before.device.faults ≤ session.opened.faults
+    own_later = let first = session.ready.recovery.later.faults in let second = session.ready.opening.untouched.later.faults in omega (arith, first, second)
 
-    no_rise : Rose played.session.opened.faults after.device.faults → ⊥
-    no_rise rose = none.device (rose_from before.device.faults played.session.opened.faults after.device.faults own_later rose)
+    no_rise : Rose session.opened.faults after.device.faults → ⊥
+    no_rise rose = none.device (rose_from before.device.faults session.opened.faults after.device.faults own_later rose)
 
-    reported : IsReported played.session.start report played.session.trace played.session.opened after.device
-    reported = played.session.reported
+    reported : IsReported start report session.trace session.opened after.device
+    reported = session.reported
 
     no_space : (w : Writer) (r : Request) → request_at report.requests w ≡ Some r → answer_of report.desk w ≡ Some reply.NoSpace → ⊥
     no_space w r asked is =
-        let here : answer_of (lines played.session.trace) w ≡ Some reply.NoSpace = subst (λ (l : RunReport). answer_of l.desk w ≡ Some reply.NoSpace) reported.report_is is in
-        elim (answered_so played.session.trace w reply.NoSpace here) [
+        let here : answer_of (lines session.trace) w ≡ Some reply.NoSpace = subst (λ (l : RunReport). answer_of l.desk w ≡ Some reply.NoSpace) reported.report_is is in
+        elim (answered_so session.trace w reply.NoSpace here) [
           | inl ok ↦ absurd (cc ok)
           | inr said ↦ never_no_space reported.session said.1 w r (reported.causes said.0 said.1 w r reply.NoSpace said.2 asked)
         ]
@@ -257,9 +254,6 @@ module _ (s : Setting) (schedule : ℕ) (script : Script) (before after : Outsid
     some_answer None some = absurd (cc some)
     some_answer (Some a) some = (a, refl)
 
-    requests_are : report.requests ≡ script
-    requests_are = let said = played.session.script_is tells in cc (said, valid)
-
     none_struck : struck_status report ≡ None
     none_struck = struck_by_none report undamaged (none_lost 1 report.requests [] report.desk reported.run_right.desk_log reported.run_right.desk_log fine)
 
@@ -267,9 +261,9 @@ module _ (s : Setting) (schedule : ℕ) (script : Script) (before after : Outsid
     served_all is = record {
       ended = is;
       status =
-          let closes : Closes s.sink_tells (recovered_of played.found) report outcome.status None before.sink after.sink =
-          subst (λ (ended : Option Fault). Closes s.sink_tells (recovered_of played.found) report outcome.status ended before.sink after.sink) is played.closes in
-          let puts = subst (λ (struck : Option ℕ). PutsWith struck s.sink_tells (session_text (recovered_of played.found) report) (served_status report.desk) outcome.status before.sink after.sink) none_struck closes in
+          let closes : Closes s.sink_tells text report outcome.status None before.sink after.sink =
+          subst (λ (ended : Option Fault). Closes s.sink_tells text report outcome.status ended before.sink after.sink) is closing in
+          let puts = subst (λ (struck : Option ℕ). PutsWith struck s.sink_tells text (served_status report.desk) outcome.status before.sink after.sink) none_struck closes in
           let low = served_low report.desk in
           let status_is = puts.0 in
           omega (arith, low, status_is);
@@ -282,21 +276,90 @@ module _ (s : Setting) (schedule : ℕ) (script : Script) (before after : Outsid
 
     sink_rose : outcome.fault ≡ Some fault.Sink → ⊥
     sink_rose is =
-        let closes : Closes s.sink_tells (recovered_of played.found) report outcome.status (Some fault.Sink) before.sink after.sink =
-        subst (λ (ended : Option Fault). Closes s.sink_tells (recovered_of played.found) report outcome.status ended before.sink after.sink) is played.closes in
+        let closes : Closes s.sink_tells text report outcome.status (Some fault.Sink) before.sink after.sink =
+        subst (λ (ended : Option Fault). Closes s.sink_tells text report outcome.status ended before.sink after.sink) is closing in
         none.sink closes.2
 
-  complete_by : (ended : Option Fault) → outcome.fault ≡ ended → RunsScriptBy ended s schedule before after outcome → IsComplete script outcome
-  complete_by None is played = inl (served_all played is)
-  complete_by (Some fault.Sink) is played = absurd (sink_rose played is)
-  complete_by (Some other) is begun = out_of_memory other is begun
+    complete_if_none : outcome.fault ≡ None → IsComplete script outcome
+    complete_if_none is = inl (served_all is)
 
-  pub script_complete : RunsScript s schedule before after outcome → IsComplete script outcome
-  script_complete ends = complete_by outcome.fault refl ends
+    complete_if_sink : outcome.fault ≡ Some fault.Sink → IsComplete script outcome
+    complete_if_sink is = absurd (sink_rose is)
+
+  -- Of a script.
+  module _ (schedule : ℕ) (script : Script) (tells : IsTrue s.source_tells) (valid : whole_script before.source.left ≡ Ok script) where
+    of_script : (why : Fault) → ScriptFails s.source_tells before.source after.source why → why ≡ fault.Memory
+    of_script (fault.Script refusal) fails = let said = fails tells in absurd (cc (said, valid))
+    of_script fault.Read fails = absurd (none.source fails)
+    of_script fault.Memory fails = refl
+    of_script fault.Usage fails = absurd fails
+    of_script (fault.Layout why) fails = absurd fails
+    of_script fault.Device fails = absurd fails
+    of_script (fault.Image why) fails = absurd fails
+    of_script (fault.Differs count) fails = absurd fails
+    of_script (fault.Grow why) fails = absurd fails
+    of_script fault.Sink fails = absurd fails
+
+    of_memory : (recovered : Option ℕ) (why : Fault) → PlayFails (input_setting_of s) (inputs_of before) (inputs_of after) recovered why → why ≡ fault.Memory
+    of_memory recovered why (inl fails) = unready_of_memory recovered why fails.fails
+    of_memory recovered why (inr fails) = of_script why fails.cause
+
+    requests_so : (played : PlayedOut s schedule before after outcome) → outcome.report.requests ≡ script
+    requests_so played = let said = played.session.script_is tells in cc (said, valid)
+
+    complete_by : (ended : Option Fault) → outcome.fault ≡ ended → RunsScriptBy ended s schedule before after outcome → IsComplete script outcome
+    complete_by None is played =
+        complete_if_none schedule played.found played.session.start script (session_text (recovered_of played.found) outcome.report) played.session.serves (requests_so played) played.closes is
+    complete_by (Some fault.Sink) is played =
+        complete_if_sink schedule played.found played.session.start script (session_text (recovered_of played.found) outcome.report) played.session.serves (requests_so played) played.closes is
+    complete_by (Some other) is begun = out_of_memory script begun.recovered other is (of_memory begun.recovered other begun.cause) begun.refuses
+
+    pub script_complete : RunsScript s schedule before after outcome → IsComplete script outcome
+    script_complete ends = complete_by outcome.fault refl ends
+
+  -- Of a seed.
+  module _ (options : WorkloadOptions) where
+    abbrev wanted : Script
+    wanted = requests_for options sound.head.geometry.logical
+
+    -- the image that was opened is of the same sizes
+    same_logical : (found : Recovered) (start : Opened) (now : Seen) → IsReady s.device before.device now found start → start.head.geometry.logical ≡ sound.head.geometry.logical
+    same_logical found start now ready =
+        let left = left_by s.device.tells s.device.honest before.device ready.middle blocks sound found told ready.recovery in
+        ap (λ (h : Super). h.geometry.logical) (sym (head_of_sound left.left left.is_sound start (ready.opening.says left.left left.is_told)))
+        ∙ ap (λ (g : Geometry). g.logical) left.geometry
+
+    seeded_so : (worked : WorkloadServed s options before after outcome) → outcome.report.requests ≡ wanted
+    seeded_so worked =
+        let serves = worked.session.serves in
+        worked.session.requests_are ∙ ap (requests_for options) (same_logical worked.found worked.session.start serves.opened serves.ready)
+
+    seeded_of_memory : (recovered : Option ℕ) (why : Fault) → WorkloadFails s.device before.device after.device recovered why → why ≡ fault.Memory
+    seeded_of_memory recovered why (inl fails) = unready_of_memory recovered why fails
+    seeded_of_memory recovered why (inr lacks) = lacks.fault_is
+
+    seeded_by : (ended : Option Fault) → outcome.fault ≡ ended → EndsWorkloadBy ended s options before after outcome → IsComplete wanted outcome
+    seeded_by None is worked =
+        complete_if_none options.schedule worked.found worked.session.start wanted (summary_text (summary_of (recovered_of worked.found) options outcome.report))
+        worked.session.serves (seeded_so worked) worked.closes is
+    seeded_by (Some fault.Sink) is worked =
+        complete_if_sink options.schedule worked.found worked.session.start wanted (summary_text (summary_of (recovered_of worked.found) options outcome.report))
+        worked.session.serves (seeded_so worked) worked.closes is
+    seeded_by (Some other) is begun = out_of_memory wanted begun.recovered other is (seeded_of_memory begun.recovered other begun.cause) begun.refuses
+
+    pub seeded_complete : EndsWorkload s options before after outcome → IsComplete wanted outcome
+    seeded_complete ends = seeded_by outcome.fault refl ends.ends
 
 pub run_complete : (s : Setting) (words : List (List ℕ)) (schedule : ℕ) (script : Script) (before after : Outside) (outcome : Outcome) (blocks : Blocks) → IsSound blocks
     → IsTold s.device.tells s.device.honest before.device blocks → IsTrue s.source_tells → served_of words ≡ Some (served.Script schedule) → whole_script before.source.left ≡ Ok script
     → NoneRose before after → EndsSo s words before after outcome → IsComplete script outcome
 run_complete s words schedule script before after outcome blocks sound told tells asked valid none ends =
-    script_complete s schedule script before after outcome blocks sound told tells valid none
+    script_complete s before after outcome blocks sound told none schedule script tells valid
+    (subst (λ (what : Option Served). EndsAs s what before after outcome) asked ends)
+
+pub workload_complete : (s : Setting) (words : List (List ℕ)) (options : WorkloadOptions) (before after : Outside) (outcome : Outcome) (blocks : Blocks) (sound : IsSound blocks)
+    → IsTold s.device.tells s.device.honest before.device blocks → served_of words ≡ Some (served.Workload options)
+    → NoneRose before after → EndsSo s words before after outcome → IsComplete (requests_for options sound.head.geometry.logical) outcome
+workload_complete s words options before after outcome blocks sound told asked none ends =
+    seeded_complete s before after outcome blocks sound told none options
     (subst (λ (what : Option Served). EndsAs s what before after outcome) asked ends)

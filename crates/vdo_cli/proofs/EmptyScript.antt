@@ -148,7 +148,12 @@ module _ (tells honest : Bool) (schedule : ℕ) (found : Recovered) (start : Ope
 
     pub empty_plays : (source_tells : Bool) (source rest : SourceSeen) → (IsTrue source_tells → whole_script source.left ≡ Ok no_requests) → (IsTrue source_tells → rest.left ≡ [])
         → RunsSession (input_setting tells honest source_tells) schedule found empty_report (inputs before source) (inputs opened rest)
-    empty_plays source_tells source rest script_is whole =
-        plays tells honest start no_requests (first_zones start no_requests) (first_zones start no_requests) [] opened opened can
-        (first_begins start no_requests can.geometry unlinked) rests (first_done start) (not_called tells honest opened) before found ready named source_tells schedule schedule [] source rest
-        (record { opening = refl; size = refl }) (refl, refl, refl, refl) script_is whole
+    empty_plays source_tells source rest script_is whole = record {
+      start = start;
+      serves =
+          plays tells honest start no_requests (first_zones start no_requests) (first_zones start no_requests) [] opened opened can
+          (first_begins start no_requests can.geometry unlinked) rests (first_done start) (not_called tells honest opened) before found ready named schedule schedule []
+          (record { opening = refl; size = refl }) (refl, refl, refl, refl);
+      script_is = script_is;
+      to_its_end = whole;
+    }

@@ -2,6 +2,7 @@
 use Rattle.std.proofs.Common.{ℕ, ◌≡◌, Bool, List, [], Option, Some, None, Result, Ok, Err, IfErr, inl, inr}
 use Rattle.std.specs.Result.{IsErrAnd}
 use Rattle.blk_base.specs.declared.geometry.Geometry.{Geometry}
+use Rattle.disk_model.specs.Seen.{Seen}
 use Rattle.disk_model.specs.Streams.{Puts, SinkSeen}
 use Rattle.image_model.specs.declared.fault.ImageFault.{ImageFault}
 use Rattle.image_model.specs.declared.fault.ImageFault.TheVariants as image
@@ -13,8 +14,10 @@ use Rattle.vdo_cli.specs.declared.fault.Fault.TheVariants as fault
 use Rattle.vdo_cli.specs.Endings.{PlayFails}
 use Rattle.vdo_cli.specs.NewImages.{IsMade, IsMadeOrNot, IsNotMade}
 use Rattle.vdo_cli.specs.Inspections.{TellsReport, told_as}
-use Rattle.vdo_cli.specs.Outsides.{InputSetting, Inputs, Outcome, Outside, PutsOrFails, Setting, Tells, input_setting_of, inputs_of, outcome}
+use Rattle.vdo_cli.specs.Outsides.{InputSetting, Inputs, Outcome, Outside, PutsOrFails, Setting, Tells, Trust, input_setting_of, inputs_of, outcome}
 use Rattle.vdo_cli.specs.Runs.{NotBegun, PlayedOut, RunsScript}
+use Rattle.vdo_cli.specs.Workloads.{EndsWorkloadBy, WorkloadFails, WorkloadNotBegun, WorkloadServed}
+use Rattle.vdo_words.specs.declared.commands.WorkloadOptions.{WorkloadOptions}
 
 -- after a session
 pub served_ends : (s : Setting) (schedule : ℕ) (before after : Outside) (status : ℕ) (report : RunReport) (ended : Option Fault)
@@ -36,7 +39,7 @@ not_told (image.SharedPage at) is = absurd cc
 not_told (image.Counts at stored mapped) is = absurd cc
 
 never_sink : (s : InputSetting) (before after : Inputs) (recovered : Option ℕ) → PlayFails s before after recovered fault.Sink → ⊥
-never_sink s before after recovered (inl on_image) = not_told on_image.cause on_image.fault_is
+never_sink s before after recovered (inl on_image) = not_told on_image.fails.cause on_image.fails.fault_is
 never_sink s before after recovered (inr on_script) = absurd on_script.cause
 
 -- where no session was begun
@@ -44,6 +47,23 @@ pub not_begun_ends : (s : Setting) (schedule : ℕ) (before after : Outside) (st
     → NotBegun s before after (outcome status report (Some why)) why → RunsScript s schedule before after (outcome status report (Some why))
 not_begun_ends s schedule before after status report fault.Sink begun = absurd (never_sink (input_setting_of s) (inputs_of before) (inputs_of after) begun.recovered begun.cause)
 not_begun_ends s schedule before after status report other begun = begun
+
+-- after a session of a workload
+pub workload_served_ends : (s : Setting) (options : WorkloadOptions) (before after : Outside) (status : ℕ) (report : RunReport) (ended : Option Fault)
+    → WorkloadServed s options before after (outcome status report ended) → EndsWorkloadBy ended s options before after (outcome status report ended)
+workload_served_ends s options before after status report None served = served
+workload_served_ends s options before after status report (Some fault.Sink) served = served
+workload_served_ends s options before after status report (Some other) served = absurd served.closes
+
+workload_never_sink : (trust : Trust) (before after : Seen) (recovered : Option ℕ) → WorkloadFails trust before after recovered fault.Sink → ⊥
+workload_never_sink trust before after recovered (inl unready) = not_told unready.cause unready.fault_is
+workload_never_sink trust before after recovered (inr lacks) = absurd (let is = lacks.fault_is in cc is)
+
+-- where none was begun
+pub workload_not_begun_ends : (s : Setting) (options : WorkloadOptions) (before after : Outside) (status : ℕ) (report : RunReport) (why : Fault)
+    → WorkloadNotBegun s before after (outcome status report (Some why)) why → EndsWorkloadBy (Some why) s options before after (outcome status report (Some why))
+workload_not_begun_ends s options before after status report fault.Sink begun = absurd (workload_never_sink s.device before.device after.device begun.recovered begun.cause)
+workload_not_begun_ends s options before after status report other begun = begun
 
 -- where an image was made
 pub made_ends : (s : Setting) (g : Geometry) (before after : Outside) (status : ℕ) (report : RunReport) (ended : Option Fault)

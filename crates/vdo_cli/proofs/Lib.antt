@@ -5,6 +5,7 @@ pub mod RecoveredImages
 pub mod FreeLaws
 pub mod SessionLaws
 pub mod ScriptLaws
+pub mod SeededScripts
 pub mod EndingLaws
 pub mod OnwardLaws
 pub mod NextRuns
@@ -22,6 +23,7 @@ pub mod RebuildPins
 pub mod GrowthPins
 pub mod EmptyScript
 pub mod SessionPins
+pub mod WorkloadPins
 pub mod DrivenPins
 pub mod ValuePins
 pub mod NextPins

@@ -1,5 +1,6 @@
 -- What a run leaves to the next one.
 use Rattle.std.proofs.Common.{ℕ, ◌≡◌, ◌+◌, ◌≤◌, ◌^◌, ◌++◌, Bool, List, [], Option, Some, None, sym, ◌∙◌, subst, append_assoc, arith}
+use Rattle.blk_base.specs.declared.opened.Opened.{Opened}
 use Rattle.disk_model.specs.declared.call.Call.{Call}
 use Rattle.disk_model.specs.Images.{HasOneImage}
 use Rattle.disk_model.specs.Log.{Blocks}
@@ -8,6 +9,7 @@ use Rattle.disk_model.proofs.LookedLaws.{one_in-all}
 use Rattle.image_model.specs.Looked.{HasOneImageButIndex, looked_in}
 use Rattle.image_model.specs.Maps.{value_of}
 use Rattle.rebuild.specs.Recoveries.{IsTold}
+use Rattle.rebuild.specs.declared.forms.Recovered.{Recovered}
 use Rattle.recovery_laws.specs.Kept.{image_in}
 use Rattle.session_seams.proofs.EarlyLaws.{run_after_run}
 use Rattle.session_seams.proofs.LogLaws.{same_front}
@@ -17,10 +19,12 @@ use Rattle.session_seams.specs.Sequences.{CanBegin, next_start}
 use Rattle.vdo_model.specs.FlushMarks.{successes}
 use Rattle.vdo_cli.specs.declared.fault.Fault.{Fault}
 use Rattle.vdo_cli.specs.declared.fault.Fault.TheVariants as fault
-use Rattle.vdo_cli.specs.Endings.{KeepsImage}
+use Rattle.vdo_cli.specs.Endings.{KeepsImage, ServesRequests}
 use Rattle.vdo_cli.specs.Onward.{IsJustMade, LeavesRunnable}
 use Rattle.vdo_cli.specs.Outsides.{Outcome, Outside, Setting}
-use Rattle.vdo_cli.specs.Runs.{PlayedOut, RunsScript, RunsScriptBy}
+use Rattle.vdo_cli.specs.Runs.{RunsScript, RunsScriptBy}
+use Rattle.vdo_cli.specs.Workloads.{EndsWorkload, EndsWorkloadBy}
+use Rattle.vdo_words.specs.declared.commands.WorkloadOptions.{WorkloadOptions}
 
 -- of a device that is made of an image nothing else is known
 pub made_told : (tells honest : Bool) (before made : Seen) (first image : Blocks) → IsTold tells honest before first → HasOneImage image [] image → IsJustMade image made
@@ -50,20 +54,30 @@ module _ (s : Setting) (left : ℕ) (before after : Outside) (image : Blocks) (t
       (may_begin before.device.opening (prefix ++ before.device.log) stop can.sound.head.geometry (next_start image can.sound) left shown.0 is shown.1
       (let late = can.late in omega (arith, late)) can.named)
 
-  module _ (schedule : ℕ) (outcome : Outcome) (enough : 2 ^ 20 ≤ 2 ^ 18 + left) where
+  module _ (outcome : Outcome) (enough : 2 ^ 20 ≤ 2 ^ 18 + left) where
     -- where one was served
-    played_leaves : PlayedOut s schedule before after outcome → Leaves
-    played_leaves played later prefix parts stop is =
+    session_leaves : (schedule : ℕ) (found : Recovered) (start : Opened) → ServesRequests s.device schedule found start outcome.report before.device after.device → Leaves
+    session_leaves schedule found start session later prefix parts stop is =
         let late = can.late in
-        let right = played.session.stops image told can.sound (omega (arith, late, enough)) in
+        let right = session.stops image told can.sound (omega (arith, late, enough)) in
         to_next stop
         (run_after_run before.device.opening image before.device.log after.device.log left can.sound.head.geometry.logical (value_of (image_in image can.sound))
-        (report_from (successes played.session.opened.log) outcome.report) can right later prefix parts stop is)
+        (report_from (successes session.opened.log) outcome.report) can right later prefix parts stop is)
 
-    leaves_by : (ended : Option Fault) → RunsScriptBy ended s schedule before after outcome → Leaves
-    leaves_by None played = played_leaves played
-    leaves_by (Some fault.Sink) played = played_leaves played
-    leaves_by (Some other) begun = kept_leaves begun.early
+    -- of a script
+    leaves_by : (schedule : ℕ) (ended : Option Fault) → RunsScriptBy ended s schedule before after outcome → Leaves
+    leaves_by schedule None played = session_leaves schedule played.found played.session.start played.session.serves
+    leaves_by schedule (Some fault.Sink) played = session_leaves schedule played.found played.session.start played.session.serves
+    leaves_by schedule (Some other) begun = kept_leaves begun.early
 
-    pub run_leaves_runnable : RunsScript s schedule before after outcome → Leaves
-    run_leaves_runnable ends = leaves_by outcome.fault ends
+    pub run_leaves_runnable : (schedule : ℕ) → RunsScript s schedule before after outcome → Leaves
+    run_leaves_runnable schedule ends = leaves_by schedule outcome.fault ends
+
+    -- of a seed
+    workload_leaves_by : (options : WorkloadOptions) (ended : Option Fault) → EndsWorkloadBy ended s options before after outcome → Leaves
+    workload_leaves_by options None worked = session_leaves options.schedule worked.found worked.session.start worked.session.serves
+    workload_leaves_by options (Some fault.Sink) worked = session_leaves options.schedule worked.found worked.session.start worked.session.serves
+    workload_leaves_by options (Some other) begun = kept_leaves begun.early
+
+    pub workload_leaves_runnable : (options : WorkloadOptions) → EndsWorkload s options before after outcome → Leaves
+    workload_leaves_runnable options ends = workload_leaves_by options outcome.fault ends.ends

@@ -1,6 +1,7 @@
 -- A device goes on over runs.
 use Rattle.std.proofs.Common.{ℕ, ◌≡◌, ◌++◌, Bool, List, [], Option, Some, None, Result, Ok, inl, inr, refl, sym, ◌∙◌, ap, append_assoc}
 use Rattle.blk_base.specs.declared.geometry.Geometry.{Geometry}
+use Rattle.blk_base.specs.declared.opened.Opened.{Opened}
 use Rattle.disk_model.specs.declared.call.Call.{Call}
 use Rattle.disk_model.specs.Seen.{Seen}
 use Rattle.disk_model.specs.Since.{IsUntouched}
@@ -23,6 +24,10 @@ use Rattle.vdo_cli.specs.Recoveries.{EndsRecovery}
 use Rattle.vdo_cli.specs.Openings.{IsUnready}
 use Rattle.vdo_cli.specs.Outsides.{Outcome, Outside, Setting, Trust}
 use Rattle.vdo_cli.specs.Runs.{EndsAs, EndsSo, NotBegun, PlayedOut, RunsScriptBy}
+use Rattle.vdo_cli.specs.Endings.{ServesRequests}
+use Rattle.vdo_cli.specs.Workloads.{EndsWorkloadBy, WorkloadNotBegun, WorkloadServed}
+use Rattle.vdo_model.specs.declared.report.RunReport.{RunReport}
+use Rattle.vdo_words.specs.declared.commands.WorkloadOptions.{WorkloadOptions}
 
 untouched : (tells : Bool) (before after : Seen) → IsUntouched tells before after → GoesOn tells before after
 untouched tells before after is = record { stays = is.stays; calls = λ told. let since = is.reads told in (since.0, since.1) }
@@ -48,27 +53,48 @@ not_ready trust before after recovered_so why (inr is) = recovered trust.tells t
 not_begun : (s : Setting) (before after : Outside) (ends : Outcome) (why : Fault)
     → NotBegun s before after ends why → GoesOn s.device.tells before.device after.device
 not_begun s before after ends why fails = elim fails.cause [
-  | inl on_image ↦ not_ready s.device before.device after.device fails.recovered on_image.cause on_image.unready
+  | inl on_image ↦ not_ready s.device before.device after.device fails.recovered on_image.fails.cause on_image.fails.unready
   | inr on_script ↦ recovered s.device.tells s.device.honest before.device on_script.ready.middle after.device (Ok on_script.found) on_script.ready.recovery on_script.ready.opening.untouched
 ]
 
-played : (s : Setting) (schedule : ℕ) (before after : Outside) (ends : Outcome)
-    → PlayedOut s schedule before after ends → GoesOn s.device.tells before.device after.device
-played s schedule before after ends out = record {
-  stays = out.session.stays;
+serves_on : (trust : Trust) (schedule : ℕ) (found : Recovered) (start : Opened) (report : RunReport) (before after : Seen)
+    → ServesRequests trust schedule found start report before after → GoesOn trust.tells before after
+serves_on trust schedule found start report before after session = record {
+  stays = session.stays;
   calls = λ told.
-      let happens = out.session.happens told in
-      let since = calls out.session.trace in (
+      let happens = session.happens told in
+      let since = calls session.trace in (
         since ++ happens.earlier,
-        happens.calls ∙ ap (λ (log : List Call). since ++ log) happens.earlier_is ∙ sym (append_assoc since happens.earlier before.device.log),
+        happens.calls ∙ ap (λ (log : List Call). since ++ log) happens.earlier_is ∙ sym (append_assoc since happens.earlier before.log),
       );
 }
+
+played : (s : Setting) (schedule : ℕ) (before after : Outside) (ends : Outcome)
+    → PlayedOut s schedule before after ends → GoesOn s.device.tells before.device after.device
+played s schedule before after ends out = serves_on s.device schedule out.found out.session.start ends.report before.device after.device out.session.serves
 
 script_goes_on : (ended : Option Fault) (s : Setting) (schedule : ℕ) (before after : Outside) (ends : Outcome)
     → RunsScriptBy ended s schedule before after ends → GoesOn s.device.tells before.device after.device
 script_goes_on None s schedule before after ends out = played s schedule before after ends out
 script_goes_on (Some fault.Sink) s schedule before after ends out = played s schedule before after ends out
 script_goes_on (Some other) s schedule before after ends fails = not_begun s before after ends other fails
+
+worked : (s : Setting) (options : WorkloadOptions) (before after : Outside) (ends : Outcome)
+    → WorkloadServed s options before after ends → GoesOn s.device.tells before.device after.device
+worked s options before after ends out = serves_on s.device options.schedule out.found out.session.start ends.report before.device after.device out.session.serves
+
+not_worked : (s : Setting) (before after : Outside) (ends : Outcome) (why : Fault)
+    → WorkloadNotBegun s before after ends why → GoesOn s.device.tells before.device after.device
+not_worked s before after ends why fails = elim fails.cause [
+  | inl unready ↦ not_ready s.device before.device after.device fails.recovered unready.cause unready.unready
+  | inr lacks ↦ recovered s.device.tells s.device.honest before.device lacks.ready.middle after.device (Ok lacks.found) lacks.ready.recovery lacks.ready.opening.untouched
+]
+
+workload_goes_on : (ended : Option Fault) (s : Setting) (options : WorkloadOptions) (before after : Outside) (ends : Outcome)
+    → EndsWorkloadBy ended s options before after ends → GoesOn s.device.tells before.device after.device
+workload_goes_on None s options before after ends out = worked s options before after ends out
+workload_goes_on (Some fault.Sink) s options before after ends out = worked s options before after ends out
+workload_goes_on (Some other) s options before after ends fails = not_worked s before after ends other fails
 
 format_goes_on : (s : Setting) (g : Geometry) (before after : Outside) (ends : Outcome)
     → MakesImage s g before after ends → GoesOn s.device.tells before.device after.device
@@ -106,6 +132,7 @@ served_goes_on : (s : Setting) (asked : Option Served) (before after : Outside) 
     → EndsAs s asked before after outcome → GoesOn s.device.tells before.device after.device
 served_goes_on s None before after outcome ends = same_device s.device.tells before.device after.device ends.device
 served_goes_on s (Some (served.Script schedule)) before after outcome ends = script_goes_on outcome.fault s schedule before after outcome ends
+served_goes_on s (Some (served.Workload options)) before after outcome ends = workload_goes_on outcome.fault s options before after outcome ends.ends
 served_goes_on s (Some (served.Format sizes)) before after outcome ends = format_goes_on s sizes before after outcome ends
 served_goes_on s (Some served.Recover) before after outcome ends = recovery_goes_on s before after outcome ends
 served_goes_on s (Some served.ForceRebuild) before after outcome ends = rebuild_goes_on s before after outcome ends

@@ -38,10 +38,16 @@ Fails before after left rest recovered why = PlayFails (input_setting true false
 
 -- Not recovered: a device without blocks has no image, and nothing was done; or a read failed
 image-refused : (left : List ℕ) → Fails begins.device begins.device left left None no_image
-image-refused left = inl (record { cause = image.Super NotAnImage; fault_is = refl; unready = inl (record { none = refl; recovery = refused }); unread = refl })
+image-refused left = inl (record {
+  fails = record { cause = image.Super NotAnImage; fault_is = refl; unready = inl (record { none = refl; recovery = refused }) };
+  unread = refl;
+})
 
 device-failed : (left : List ℕ) → Fails begins.device failed left left None fault.Device
-device-failed left = inl (record { cause = image.Device; fault_is = refl; unready = inl (record { none = refl; recovery = failed_so }); unread = refl })
+device-failed left = inl (record {
+  fails = record { cause = image.Device; fault_is = refl; unready = inl (record { none = refl; recovery = failed_so }) };
+  unread = refl;
+})
 
 -- a device without blocks has nothing that was recovered or is ready
 no_room : (after : Seen) (found : Recovered) → IsRecovery true false begins.device after (Ok found) → ⊥
@@ -50,7 +56,7 @@ no_room after (Entries count) recovery = let room = recovery.answers.2.is.room i
 
 -- the line isn't that of another fault; no entries were recovered; the script wasn't looked at
 image-not_another : (left : List ℕ) (version : ℕ) → Fails begins.device begins.device left left None (fault.Image (image.Super (Version version))) → ⊥
-image-not_another left version (inl fails) = of_cause fails.cause fails.fault_is fails.unready
+image-not_another left version (inl fails) = of_cause fails.fails.cause fails.fails.fault_is fails.fails.unready
   where
     of_cause : (cause : ImageFault) → fault.Image (image.Super (Version version)) ≡ told_as cause → IsUnready (trust true false) begins.device begins.device None cause → ⊥
     of_cause image.Device is unready = absurd (cc is)
@@ -72,7 +78,7 @@ image-not_another left version (inl fails) = of_cause fails.cause fails.fault_is
 image-not_another left version (inr fails) = no_room fails.ready.middle fails.found fails.ready.recovery
 
 image-not_recovered : (left : List ℕ) (count : ℕ) → Fails begins.device begins.device left left (Some count) no_image → ⊥
-image-not_recovered left count (inl fails) = elim fails.unready [
+image-not_recovered left count (inl fails) = elim fails.fails.unready [
   | inl none ↦ let is = none.none in absurd (cc is)
   | inr opened ↦ no_room opened.middle opened.found opened.recovery
 ]
@@ -119,16 +125,16 @@ not_of_source (image.Counts block stored mapped) is = absurd cc
 -- no line has a fault, or another one
 script-not_accepted : (before after : Seen) (left : List ℕ) (recovered : Option ℕ) (script : Script) (refusal : ScriptRefusal) → whole_script left ≡ Ok script
     → Fails before after left [] recovered (fault.Script refusal) → ⊥
-script-not_accepted before after left recovered script refusal says (inl fails) = not_of_script fails.cause refusal fails.fault_is
+script-not_accepted before after left recovered script refusal says (inl fails) = not_of_script fails.fails.cause refusal fails.fails.fault_is
 script-not_accepted before after left recovered script refusal says (inr fails) = let said = fails.cause refl in absurd cc
 
 script-not_another : (before after : Seen) (left : List ℕ) (recovered : Option ℕ) (refusal other : ScriptRefusal) → whole_script left ≡ Err refusal → refusal ≢ other
     → Fails before after left [] recovered (fault.Script other) → ⊥
-script-not_another before after left recovered refusal other says differ (inl fails) = not_of_script fails.cause other fails.fault_is
+script-not_another before after left recovered refusal other says differ (inl fails) = not_of_script fails.fails.cause other fails.fails.fault_is
 script-not_another before after left recovered refusal other says differ (inr fails) = let said = fails.cause refl in let same : refusal ≡ other = cc in differ same
 
 read-not_without_rise : (before after : Seen) (left : List ℕ) (recovered : Option ℕ) → Fails before after left [] recovered fault.Read → ⊥
-read-not_without_rise before after left recovered (inl fails) = not_of_source fails.cause fails.fault_is
+read-not_without_rise before after left recovered (inl fails) = not_of_source fails.fails.cause fails.fails.fault_is
 read-not_without_rise before after left recovered (inr fails) = omega (arith, fails.cause)
 
 -- NotBegun. The words are served, and the fault's line was put, with its status

@@ -10,11 +10,12 @@ use Rattle.image_model.specs.declared.fault.ImageFault.{ImageFault}
 use Rattle.image_model.specs.declared.fault.ImageFault.TheVariants as image
 use Rattle.vdo_cli.specs.declared.fault.Fault.{Fault}
 use Rattle.vdo_cli.specs.declared.fault.Fault.TheVariants as fault
+use Rattle.vdo_cli.specs.Closings.{PutsWith}
 use Rattle.vdo_cli.specs.Endings.{RunsSession}
 use Rattle.vdo_cli.specs.Inspections.{told_as}
 use Rattle.vdo_cli.specs.Onward.{GoesOn}
 use Rattle.vdo_cli.specs.Outsides.{Setting, Outside, no_report, input_setting, inputs, outcome, outside, setting}
-use Rattle.vdo_cli.specs.Runs.{EndsSo, PutsWith}
+use Rattle.vdo_cli.specs.Runs.{EndsSo}
 use Rattle.vdo_cli.specs.Texts.{served_status, session_text, struck_status}
 use Rattle.vdo_cli.specs.Openings.{recovered_of}
 use Rattle.vdo_cli.proofs.CommandPins.{run_words}
@@ -57,7 +58,7 @@ usage-part = record {
 }
 
 usage-not_run : Ends run_words begins (with [] (7 ∷ []) (codes "usage\n") 0) 2 no_report (Some fault.Usage) → ⊥
-usage-not_run ends = elim ends.cause [ inl on_image ↦ not_usage on_image.cause on_image.fault_is | inr on_script ↦ absurd on_script.cause ]
+usage-not_run ends = elim ends.cause [ inl on_image ↦ not_usage on_image.fails.cause on_image.fails.fault_is | inr on_script ↦ absurd on_script.cause ]
   where
     not_usage : (cause : ImageFault) → fault.Usage ≡ told_as cause → ⊥
     not_usage image.Device is = absurd cc
@@ -108,7 +109,7 @@ faults-not_other_words : (after : Outside) (status : ℕ) (report : RunReport) (
 faults-not_other_words after status report why ends = let is = ends.fault_is in cc
 
 -- A session was served: its text was put, with its status: that of damage or of a device that failed, or that of its answers
-abbrev status_by : Option ℕ → ℕ → ℕ
+abbrev pub status_by : Option ℕ → ℕ → ℕ
 status_by (Some struck) served = struck
 status_by None served = served
 

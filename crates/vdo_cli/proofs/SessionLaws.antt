@@ -15,7 +15,6 @@ use Rattle.disk_model.specs.Causes.{Rose}
 use Rattle.disk_model.specs.declared.call.Call.{Call}
 use Rattle.disk_model.specs.Log.{Blocks}
 use Rattle.disk_model.specs.Seen.{Seen, Stays}
-use Rattle.disk_model.specs.Streams.{SourceSeen}
 use Rattle.disk_model.proofs.SeenLaws.{stays_on}
 use Rattle.image_model.specs.Maps.{value_of}
 use Rattle.image_model.specs.Sound.{IsSound}
@@ -66,13 +65,12 @@ use Rattle.vdo_model.specs.declared.report.RunReport.{RunReport}
 use Rattle.vdo_model.specs.Stops.{RightAfterStops}
 use Rattle.schedule.specs.Turns.{Drives}
 use Rattle.schedule.proofs.TurnLaws.{driven_leads}
-use Rattle.stream_text.specs.WholeScript.{whole_script}
 use Rattle.vdo_core.specs.Starts.{IsOf}
 use Rattle.vdo_core.specs.declared.events.Event.{Event}
 use Rattle.vdo_cli.specs.Commands.{run_setup}
-use Rattle.vdo_cli.specs.Endings.{RunsSession}
+use Rattle.vdo_cli.specs.Endings.{ServesRequests}
 use Rattle.vdo_cli.specs.Openings.{HasSequencesLeft, IsReady}
-use Rattle.vdo_cli.specs.Outsides.{input_setting, inputs, trust}
+use Rattle.vdo_cli.specs.Outsides.{trust}
 use Rattle.vdo_cli.specs.Sessions.{HasDamage, IsExplained, IsOver, IsReported, run_sizes, task}
 use Rattle.vdo_cli.specs.Stops.{Happens}
 use Rattle.vdo_cli.proofs.FreeLaws.{free_in}
@@ -417,16 +415,12 @@ module _ (tells honest : Bool) (start : Opened) (script : Script) (first last : 
           (subst (λ (l : List Call). StopsRight (ShowsValues sound.head.geometry most) entry.opening entry.log (calls trace ++ (before_it.0 ++ entry.log)) sound.head.geometry.logical (value_of (image_in image sound)) (report_from (successes l) report))
           (sym before_it.1) right)
 
-    pub plays : (source_tells : Bool) (schedule state : ℕ) (events : List Event) (source rest : SourceSeen) → Stays before after
+    pub plays : (schedule state : ℕ) (events : List Event) → Stays before after
         → Drives tells honest (run_sizes start.head) schedule state events first last before after trace
-        → (IsTrue source_tells → whole_script source.left ≡ Ok script) → (IsTrue source_tells → rest.left ≡ [])
-        → RunsSession (input_setting tells honest source_tells) schedule found report (inputs entry source) (inputs after rest)
-    plays source_tells schedule state events source rest stays drives script_is whole = record {
-      start = start;
+        → ServesRequests (trust tells honest) schedule found start report entry after
+    plays schedule state events stays drives = record {
       opened = before;
       ready = ready;
-      script_is = script_is;
-      to_its_end = whole;
       trace = trace;
       driven = record {
         first = first;
@@ -447,15 +441,14 @@ module _ (tells honest : Bool) (start : Opened) (script : Script) (first last : 
     }
 
 -- what a core did that began with what was opened, was driven to its end, and told its report
-pub played : (tells honest source_tells : Bool) (number state : ℕ) (start : Opened) (script : Script) (sizes : Sizes) (first last : List Zone) (entry before after : Seen) (found : Recovered)
-    (source rest : SourceSeen) (report : RunReport) → CanBegin (run_sizes start.head) script start → IsReady (trust tells honest) entry before found start → start.head.geometry.nonce < 2 ^ 64
+pub played : (tells honest : Bool) (number state : ℕ) (start : Opened) (script : Script) (sizes : Sizes) (first last : List Zone) (entry before after : Seen) (found : Recovered)
+    (report : RunReport) → CanBegin (run_sizes start.head) script start → IsReady (trust tells honest) entry before found start → start.head.geometry.nonce < 2 ^ 64
     → sizes ≡ sizes_of run_setup start.head
     → ((s : Session) → IsOf s sizes script start → IsFirst s (core_with first []))
     → ((events : List Event) × (made : Trace) × Drives tells honest sizes number state events first last before after made) → IsDone last → Stays before after
-    → (IsTrue source_tells → whole_script source.left ≡ Ok script) → (IsTrue source_tells → rest.left ≡ [])
     → ((s : Session) (t : Trace) → IsSession s → Legal s (core_with last t) → IsDone last → report ≡ report_of s t)
-    → RunsSession (input_setting tells honest source_tells) number found report (inputs entry source) (inputs after rest) × (report.requests ≡ script)
-played tells honest source_tells number state start script sizes first last entry before after found source rest report can ready named sizes_are begins driven done stays script_is whole says =
+    → ServesRequests (trust tells honest) number found start report entry after × (report.requests ≡ script)
+played tells honest number state start script sizes first last entry before after found report can ready named sizes_are begins driven done stays says =
     let sized : sizes ≡ run_sizes start.head = sizes_are in
     let begins_so = (λ (s : Session) (over : IsOver (task start script) s). begins s (rw sized over)) in
     let (events, made, drives_so) = driven in
@@ -466,7 +459,7 @@ played tells honest source_tells number state start script sizes first last entr
     let report_is = says (over tells honest start script first last made before after can begins_so leads done called) made
     (session tells honest start script first last made before after can begins_so leads done called)
     (legal tells honest start script first last made before after can begins_so leads done called) done in (
-      subst (λ (r : RunReport). RunsSession (input_setting tells honest source_tells) number found r (inputs entry source) (inputs after rest)) (sym report_is)
-          (plays tells honest start script first last made before after can begins_so leads done called entry found ready named source_tells number state events source rest stays drives script_is whole),
+      subst (λ (r : RunReport). ServesRequests (trust tells honest) number found start r entry after) (sym report_is)
+          (plays tells honest start script first last made before after can begins_so leads done called entry found ready named number state events stays drives),
       ap (λ (r : RunReport). r.requests) report_is,
     )

@@ -72,11 +72,11 @@ served-not_another_script ends = flush_asked (ends.session.script_is refl)
 
 -- the device has its opening blocks and its size
 served-not_of_another_size : Ends run_words (with [] [] [] 0) (outside (device [] [] 0 0) (source [] 0) (sink [] 0)) 0 empty_report None → ⊥
-served-not_of_another_size ends = omega (arith, ends.session.stays.size)
+served-not_of_another_size ends = omega (arith, ends.session.serves.stays.size)
 
 -- the image was recovered, or had nothing to recover: a device of one block has none
 served-not_of_one_block : Ends run_words (with [] [] [] 0) (with [] [] [] 0) 0 empty_report None → ⊥
-served-not_of_one_block ends = of_found ends.found ends.session.ready.middle ends.session.ready.recovery
+served-not_of_one_block ends = of_found ends.found ends.session.serves.ready.middle ends.session.serves.ready.recovery
   where
     of_found : (found : Recovered) (middle : Seen) → IsRecovery true false (with [] [] [] 0).device middle (Ok found) → ⊥
     of_found Clean middle recovery = let room = recovery.answers.1.is.room in let many = recovery.answers.1.is.sizes.journal.0 in omega (arith, room, many)

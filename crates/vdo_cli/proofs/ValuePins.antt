@@ -1,5 +1,5 @@
 -- Rows that pin what a session says of a sound image that it opened (`early`, `reads_right`, `undamaged` and `stops` of
--- `RunsSession`): a run that is accepted, and for each one that isn't since it breaks this clause.
+-- `ServesRequests`): a run that is accepted, and for each one that isn't since it breaks this clause.
 use Rattle.std.proofs.Common.{ℕ, ◌≡◌, ◌+◌, ◌-◌, ◌<◌, ◌≤◌, ◌^◌, ◌++◌, true, false, List, [], ◌∷◌, length, replicate, Some, None, Err, refl, sym, ◌∙◌, ap, subst, append_assoc, arith}
 use Rattle.blk_base.specs.declared.opened.Opened.{Opened}
 use Rattle.blk_base.specs.declared.place.PageId.{PageId}
@@ -87,26 +87,26 @@ module _ (before : Seen) (image : Blocks) (told : IsTold true true before image)
   abbrev Early : RunReport → Type 0
   Early report = Served before left after 0 report
 
-  early_shows : (other : Blocks) (report : RunReport) (ends : Early report) → IsImage before.opening ends.session.opened.log other
+  early_shows : (other : Blocks) (report : RunReport) (ends : Early report) → IsImage before.opening ends.session.serves.opened.log other
       → (values : ℕ → List ℕ) × ShowsValues sound.head.geometry (next_start image sound) other values × ((a : ℕ) → a < sound.head.geometry.logical → values a ≡ value_of (image_in image sound) a)
   early_shows other report ends is_image =
-      let kept = ends.session.early image told sound in
+      let kept = ends.session.serves.early image told sound in
       kept.2 [] kept.0 refl other (subst (λ (log : List Call). IsImage before.opening log other) kept.1 is_image)
 
-  early-not_destroyed : (other : Blocks) (why : SuperFault) (report : RunReport) (ends : Early report) → IsImage before.opening ends.session.opened.log other → super_of_image other ≡ Err why → ⊥
+  early-not_destroyed : (other : Blocks) (why : SuperFault) (report : RunReport) (ends : Early report) → IsImage before.opening ends.session.serves.opened.log other → super_of_image other ≡ Err why → ⊥
   early-not_destroyed other why report ends is_image says =
       let accepted = (early_shows other report ends is_image).1.sound.opens.accepted in
       absurd (cc (accepted, says))
 
   -- with that value, and on which the next session begins no later
-  early-not_another_value : (other : Blocks) (report : RunReport) (ends : Early report) → IsImage before.opening ends.session.opened.log other
+  early-not_another_value : (other : Blocks) (report : RunReport) (ends : Early report) → IsImage before.opening ends.session.serves.opened.log other
       → ((own : IsSound other) → value_of (image_in other own) 1 ≡ block 10) → 1 < sound.head.geometry.logical → ⊥
   early-not_another_value other report ends is_image differs below =
       let shown = early_shows other report ends is_image in
       let bytes = blocks_tell 10 11 (sym (differs shown.1.sound) ∙ sym (shown.1.values_are 1) ∙ shown.2 1 below ∙ has_value) in
       omega (arith, bytes)
 
-  early-not_begun_later : (other : Blocks) (report : RunReport) (ends : Early report) → IsImage before.opening ends.session.opened.log other
+  early-not_begun_later : (other : Blocks) (report : RunReport) (ends : Early report) → IsImage before.opening ends.session.serves.opened.log other
       → ((own : IsSound other) → next_start other own ≡ next_start image sound + 1) → ⊥
   early-not_begun_later other report ends is_image later =
       let shown = early_shows other report ends is_image in
@@ -117,25 +117,25 @@ module _ (before : Seen) (image : Blocks) (told : IsTold true true before image)
   -- reads_right: a read of the address gave that block, and not another one
   reads_right-not_another_block : Served before left after 0 (read_report 10) → ⊥
   reads_right-not_another_block ends =
-      let right : block 10 ≡ value_of (image_in image sound) 1 = ends.session.reads_right image told sound (of_a 0) (address 1) (block 10) (placed (of_a 0) 0 0) refl refl refl in
+      let right : block 10 ≡ value_of (image_in image sound) 1 = ends.session.serves.reads_right image told sound (of_a 0) (address 1) (block 10) (placed (of_a 0) 0 0) refl refl refl in
       let bytes = blocks_tell 10 11 (right ∙ has_value) in
       omega (arith, bytes)
 
   -- undamaged: no leaf is found not to decode
   undamaged-not_with_damage : Served before left after 4 (record empty_report { damage = Some (Page (record { 0 = 85 }) Header) }) → ⊥
-  undamaged-not_with_damage ends = absurd (let none = ends.session.undamaged image told sound in cc)
+  undamaged-not_with_damage ends = absurd (let none = ends.session.serves.undamaged image told sound in cc)
 
   -- stops: at each moment of the run a stop leaves a sound image, of these sizes, and the next session begins soon behind this one
   stops-not_unsound : (report : RunReport) (later prefix : List Call) (other : Blocks) → Served before left after 0 report → HasSequencesLeft image sound
       → after.device.log ≡ later ++ (prefix ++ before.log) → IsImage before.opening (prefix ++ before.log) other → (IsSound other → ⊥) → ⊥
   stops-not_unsound report later prefix other ends late parts is_image never =
-      let stop = ends.session.stops image told sound late later prefix parts other is_image in never stop.1.sound
+      let stop = ends.session.serves.stops image told sound late later prefix parts other is_image in never stop.1.sound
 
   stops-not_begun_late : (report : RunReport) (later prefix : List Call) (other : Blocks) → Served before left after 0 report → HasSequencesLeft image sound
       → after.device.log ≡ later ++ (prefix ++ before.log) → IsImage before.opening (prefix ++ before.log) other
       → ((own : IsSound other) → next_start other own ≡ next_start image sound + 2 ^ 18 + 1) → ⊥
   stops-not_begun_late report later prefix other ends late parts is_image past =
-      let stop = ends.session.stops image told sound late later prefix parts other is_image in
+      let stop = ends.session.serves.stops image told sound late later prefix parts other is_image in
       let next = stop.1.next in
       let more = past stop.1.sound in
       omega (arith, next, more)
@@ -144,7 +144,7 @@ module _ (before : Seen) (image : Blocks) (told : IsTold true true before image)
   stops-not_an_older_block : (count : ℕ) (other : Blocks) (ends : Served before left after 0 (write_report count)) → HasSequencesLeft image sound → IsImage before.opening after.device.log other
       → ((own : IsSound other) → value_of (image_in other own) 1 ≡ block 11) → 1 < sound.head.geometry.logical → ⊥
   stops-not_an_older_block count other ends late is_image older below =
-      let it = ends.session in
+      let it = ends.session.serves in
       let happened = it.happens refl in
       let since = calls it.trace in
       let whole : after.device.log ≡ (since ++ happened.earlier) ++ before.log =

@@ -1,11 +1,12 @@
 -- The words that are served.
-use Rattle.std.specs.Prelude.{ℕ, ◌==◌, ◌&&◌, Bool, List, Option, Some, None, option_map, if◌then◌else◌}
+use Rattle.std.specs.Prelude.{ℕ, ◌≤◌, ◌==◌, ◌&&◌, Bool, List, Option, Some, None, option_map, if◌then◌else◌}
 use Rattle.blk_base.specs.declared.geometry.Geometry.{Geometry}
 use Rattle.vdo_words.specs.Commands.{command_of}
 use Rattle.vdo_words.specs.declared.commands.Command.{Command}
-use Rattle.vdo_words.specs.declared.commands.Command.TheVariants.{Audit, ForceRebuild, Format, Grow, Recover, Run, Status}
+use Rattle.vdo_words.specs.declared.commands.Command.TheVariants.{Audit, ForceRebuild, Format, Grow, Recover, Run, Status, Workload}
 use Rattle.vdo_words.specs.declared.commands.CoreOptions.{CoreOptions}
 use Rattle.vdo_words.specs.declared.commands.FormatOptions.{FormatOptions}
+use Rattle.vdo_words.specs.declared.commands.WorkloadOptions.{WorkloadOptions}
 use Rattle.vdo_words.specs.declared.commands.Drive.{Drive}
 use Rattle.vdo_words.specs.declared.commands.Drive.TheVariants.{Schedule, Threads}
 use Rattle.vdo_core.specs.declared.cores.Setup.{Setup}
@@ -38,9 +39,10 @@ sizes_of o = record {
   nonce = o.nonce;
 }
 
--- `run` is served, with a schedule, and `format`, `recover`, `force-rebuild`, `grow`, `audit` and `status`
+-- `run` and `workload` are served, with a schedule, and `format`, `recover`, `force-rebuild`, `grow`, `audit` and `status`
 abbrev pub served_in : Option Command → Option Served
 served_in (Some (Run options)) = if are_default options.core then option_map served.Script (number_of options.drive) else None
+served_in (Some (Workload options)) = if are_default options.core then Some (served.Workload options) else None
 served_in (Some (Format options)) = Some (served.Format (sizes_of options))
 served_in (Some Recover) = Some served.Recover
 served_in (Some ForceRebuild) = Some served.ForceRebuild
@@ -48,6 +50,18 @@ served_in (Some (Grow options)) = Some (served.Grow options)
 served_in (Some Audit) = Some served.Audit
 served_in (Some Status) = Some served.Status
 served_in other = None
+
+-- how many requests a workload has, and of how many streams
+pub record IsWorkload (options : WorkloadOptions) : Type 0 where
+  pub some : 1 ≤ options.requests
+  pub few : options.requests ≤ 65536
+  pub one : 1 ≤ options.streams
+  pub streams : options.streams ≤ 16
+
+-- so it is of what is asked for
+abbrev pub IsServedWithin : Option Served → Type 0
+IsServedWithin (Some (served.Workload options)) = IsWorkload options
+IsServedWithin other = Unit {0}
 
 -- what these words ask for, of what is served
 abbrev pub served_of : List (List ℕ) → Option Served

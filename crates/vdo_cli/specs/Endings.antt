@@ -31,35 +31,39 @@ KeepsImage trust before now = OfSound trust before (λ image sound.
     SinceThen (StopsShow (ShowsValues sound.head.geometry (next_start image sound)) before.opening before.log sound.head.geometry.logical
     (value_of (image_in image sound))) before.log now.log)
 
--- what a session did, from the recovery on, of which this was found
-pub record RunsSession (s : InputSetting) (schedule : ℕ) (found : Recovered) (report : RunReport) (before after : Inputs) : Type 0 where
-  -- what the session starts with, and what the device was then
-  pub start : Opened
+-- what a session did, from the recovery on, of which this was found, and which started with this
+pub record ServesRequests (trust : Trust) (schedule : ℕ) (found : Recovered) (start : Opened) (report : RunReport) (before after : Seen) : Type 0 where
+  -- what the device was when the session started
   pub opened : Seen
-  pub ready : IsReady s.device before.device opened found start
-  -- the requests are those of the script, which was read to its end
-  pub script_is : IsTrue s.source_tells → whole_script before.source.left ≡ Ok report.requests
-  pub to_its_end : IsTrue s.source_tells → after.source.left ≡ []
-  -- a core served them by the schedule from then on
+  pub ready : IsReady trust before opened found start
+  -- a core served the requests by the schedule from then on
   pub trace : Trace
-  pub driven : IsDriven s.device schedule (task start report.requests) trace opened after.device
-  pub reported : IsReported start report trace opened after.device
-  pub stays : Stays before.device after.device
+  pub driven : IsDriven trust schedule (task start report.requests) trace opened after
+  pub reported : IsReported start report trace opened after
+  pub stays : Stays before after
   -- before the first write of an address in the session, a read of it gives its value in the image that there was
-  pub reads_right : OfSound s.device before.device
+  pub reads_right : OfSound trust before
       (λ image sound. ReadsRight (value_of (image_in image sound)) report.requests report.desk report.places report.histories)
   -- and no leaf is found not to decode
-  pub undamaged : OfSound s.device before.device (λ image sound. report.damage ≡ None)
+  pub undamaged : OfSound trust before (λ image sound. report.damage ≡ None)
   -- flush marks
-  pub happens : IsTrue s.device.tells → Happens (moments trace) report before.device opened after.device
+  pub happens : IsTrue trust.tells → Happens (moments trace) report before opened after
   -- a stop before the session leaves an image that says the same
-  pub early : KeepsImage s.device before.device opened
+  pub early : KeepsImage trust before opened
   -- A stop at any moment of it all, from the recovery on, leaves a sound image of the same sizes, on which the next session's
   -- first sequence is at most 2^18 later; and each address has a value that its history and the flushes that were answered
   -- allow. The marks of the report are counted from the first call of the device's log.
-  pub stops : OfSound s.device before.device (λ image sound. HasSequencesLeft image sound
-      → StopsRight (ShowsValues sound.head.geometry (next_start image sound + 2 ^ 18)) before.device.opening before.device.log after.device.log
+  pub stops : OfSound trust before (λ image sound. HasSequencesLeft image sound
+      → StopsRight (ShowsValues sound.head.geometry (next_start image sound + 2 ^ 18)) before.opening before.log after.log
       sound.head.geometry.logical (value_of (image_in image sound)) (report_from (successes opened.log) report))
+
+-- so of a script, which was read to its end
+pub record RunsSession (s : InputSetting) (schedule : ℕ) (found : Recovered) (report : RunReport) (before after : Inputs) : Type 0 where
+  pub start : Opened
+  pub serves : ServesRequests s.device schedule found start report before.device after.device
+  -- the requests are those of the script
+  pub script_is : IsTrue s.source_tells → whole_script before.source.left ≡ Ok report.requests
+  pub to_its_end : IsTrue s.source_tells → after.source.left ≡ []
 
 -- why a script can't be served
 abbrev pub ScriptFails : Bool → SourceSeen → SourceSeen → Fault → Type 0
@@ -71,11 +75,15 @@ ScriptFails tells before after fault.Read = Rose before.faults after.faults
 ScriptFails tells before after fault.Memory = Unit {0}
 ScriptFails tells before after other = ⊥
 
--- the image wasn't recovered or opened, and nothing was taken of the script
-pub record FailsOnImage (s : InputSetting) (before after : Inputs) (recovered : Option ℕ) (why : Fault) : Type 0 where
+-- the image wasn't recovered or opened
+pub record FailsUnready (trust : Trust) (before after : Seen) (recovered : Option ℕ) (why : Fault) : Type 0 where
   pub cause : ImageFault
   pub fault_is : why ≡ told_as cause
-  pub unready : IsUnready s.device before.device after.device recovered cause
+  pub unready : IsUnready trust before after recovered cause
+
+-- so, and nothing was taken of the script
+pub record FailsOnImage (s : InputSetting) (before after : Inputs) (recovered : Option ℕ) (why : Fault) : Type 0 where
+  pub fails : FailsUnready s.device before.device after.device recovered why
   pub unread : after.source ≡ before.source
 
 -- it was opened, and the script can't be served

@@ -10,6 +10,8 @@ pub mod Inspections
 pub mod Recoveries
 pub mod Rebuilds
 pub mod Growths
+pub mod Closings
+pub mod Workloads
 pub mod Runs
 pub mod Onward
 pub mod Complete

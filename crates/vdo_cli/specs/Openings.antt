@@ -23,6 +23,11 @@ pub record IsReady (trust : Trust) (before now : Seen) (found : Recovered) (star
   pub recovery : IsRecovery trust.tells trust.honest before middle (Ok found)
   pub opening : IsOpening trust.tells trust.honest middle now (Ok start)
 
+-- so it is now, whatever it was before
+pub record IsReadyNow (trust : Trust) (now : Seen) (found : Recovered) (start : Opened) : Type 0 where
+  pub before : Seen
+  pub is : IsReady trust before now found start
+
 -- it wasn't recovered, for this reason
 pub record IsNotRecovered (trust : Trust) (before now : Seen) (recovered : Option ℕ) (why : ImageFault) : Type 0 where
   pub none : recovered ≡ None

@@ -1,13 +1,11 @@
 -- What a run promises, by what its words ask for and how it ended.
-use Rattle.std.specs.Prelude.{ℕ, ◌≡◌, ◌++◌, Bool, IsTrue, List, Option, Some, None}
-use Rattle.disk_model.specs.Causes.{Rose}
-use Rattle.disk_model.specs.Streams.{PutsPart, SinkSeen}
+use Rattle.std.specs.Prelude.{ℕ, ◌≡◌, List, Option, Some, None}
 use Rattle.rebuild.specs.declared.forms.Recovered.{Recovered}
-use Rattle.vdo_model.specs.declared.report.RunReport.{RunReport}
 use Rattle.vdo_cli.specs.declared.fault.Fault.{Fault}
 use Rattle.vdo_cli.specs.declared.fault.Fault.TheVariants as fault
 use Rattle.vdo_cli.specs.declared.words.Served.{Served}
 use Rattle.vdo_cli.specs.declared.words.Served.TheVariants as served
+use Rattle.vdo_cli.specs.Closings.{Closes}
 use Rattle.vdo_cli.specs.Commands.{served_of}
 use Rattle.vdo_cli.specs.Endings.{KeepsImage, PlayFails, RunsSession}
 use Rattle.vdo_cli.specs.Growths.{EndsGrowth}
@@ -16,23 +14,9 @@ use Rattle.vdo_cli.specs.Openings.{recovered_of}
 use Rattle.vdo_cli.specs.NewImages.{MakesImage}
 use Rattle.vdo_cli.specs.Rebuilds.{EndsRebuild}
 use Rattle.vdo_cli.specs.Recoveries.{EndsRecovery}
-use Rattle.vdo_cli.specs.Outsides.{Outcome, Outside, PutsOrFails, Refuses, RefusesAfter, Setting, input_setting_of, inputs_of}
-use Rattle.vdo_cli.specs.Texts.{served_status, session_text, struck_status}
-
--- The text of a session is put, with its status: that of damage or of the device's failure, also where the sink failed; or else that
--- of its answers.
-abbrev pub PutsWith : Option ℕ → Bool → List ℕ → ℕ → ℕ → SinkSeen → SinkSeen → Type 0
-PutsWith (Some struck) tells text served status before after = (status ≡ struck) × PutsOrFails tells text before after
-PutsWith None tells text served status before after = (status ≡ served) × (IsTrue tells → after.held ≡ before.held ++ text)
-
--- it is put so, or the sink failed
-abbrev pub Closes : Bool → Option ℕ → RunReport → ℕ → Option Fault → SinkSeen → SinkSeen → Type 0
-Closes tells recovered report status None before after =
-    PutsWith (struck_status report) tells (session_text recovered report) (served_status report.desk) status before after
-Closes tells recovered report status (Some fault.Sink) before after =
-    (status ≡ 7) × (struck_status report ≡ None) × Rose before.faults after.faults
-    × (IsTrue tells → PutsPart before.held after.held (session_text recovered report))
-Closes tells recovered report status (Some other) before after = ⊥
+use Rattle.vdo_cli.specs.Outsides.{Outcome, Outside, Refuses, RefusesAfter, Setting, input_setting_of, inputs_of}
+use Rattle.vdo_cli.specs.Texts.{session_text}
+use Rattle.vdo_cli.specs.Workloads.{EndsWorkload}
 
 -- No session was begun: the cause is the fault's, and where that is of the image or its device nothing was taken of the script.
 -- The image may have been recovered before: whatever a stop leaves of a sound one says the same.
@@ -46,7 +30,7 @@ pub record NotBegun (s : Setting) (before after : Outside) (outcome : Outcome) (
 pub record PlayedOut (s : Setting) (schedule : ℕ) (before after : Outside) (outcome : Outcome) : Type 0 where
   pub found : Recovered
   pub session : RunsSession (input_setting_of s) schedule found outcome.report (inputs_of before) (inputs_of after)
-  pub closes : Closes s.sink_tells (recovered_of found) outcome.report outcome.status outcome.fault before.sink after.sink
+  pub closes : Closes s.sink_tells (session_text (recovered_of found) outcome.report) outcome.report outcome.status outcome.fault before.sink after.sink
 
 -- how the run of a script ends that has this fault, or none
 abbrev pub RunsScriptBy : Option Fault → Setting → ℕ → Outside → Outside → Outcome → Type 0
@@ -69,6 +53,7 @@ pub record IsUsage (s : Setting) (before after : Outside) (outcome : Outcome) : 
 abbrev pub EndsAs : Setting → Option Served → Outside → Outside → Outcome → Type 0
 EndsAs s None before after outcome = IsUsage s before after outcome
 EndsAs s (Some (served.Script schedule)) before after outcome = RunsScript s schedule before after outcome
+EndsAs s (Some (served.Workload options)) before after outcome = EndsWorkload s options before after outcome
 EndsAs s (Some (served.Format sizes)) before after outcome = MakesImage s sizes before after outcome
 EndsAs s (Some served.Recover) before after outcome = EndsRecovery s before after outcome
 EndsAs s (Some served.ForceRebuild) before after outcome = EndsRebuild s before after outcome

@@ -12,6 +12,8 @@ ghost use Rattle.vdo_cli.specs.Complete.{IsComplete, NoneRose};
 ghost use Rattle.vdo_cli.specs.Onward.{GoesOn, LeavesRunnable};
 ghost use Rattle.vdo_cli.specs.Outsides.{Outcome, Outside, Setting};
 ghost use Rattle.vdo_cli.specs.Runs.{EndsSo, RunsScript};
+ghost use Rattle.vdo_cli.specs.Workloads.{EndsWorkload, requests_for};
+ghost use Rattle.vdo_words.specs.declared.commands.WorkloadOptions.{WorkloadOptions};
 
 /// A device goes on over a run, however that ended, and so over two runs of which the second begins with the device that
 /// the first gave back. It does nothing.
@@ -24,21 +26,27 @@ pub fn runs_go_on()
         → GoesOn tells first middle → GoesOn tells middle last → GoesOn tells first last }
 {}
 
-/// On each image that a stop may leave at any moment of a run, the next run may begin: as a device of its own it has that one
+/// On each image that a stop may leave at any moment of a run, of a script or of a workload, the next run may begin: as a device of its own it has that one
 /// image, which is sound, and with 2^18 sequences less left than before. It does nothing.
 pub fn what_a_run_leaves_can_be_run()
-    ensures { (setting : Setting) (schedule left : ℕ) (before after : Outside) (outcome : Outcome)
+    ensures script { (setting : Setting) (schedule left : ℕ) (before after : Outside) (outcome : Outcome)
         (image : Blocks)
         → IsTold setting.device.tells setting.device.honest before.device image →
         CanBegin (2 ^ 18 + left) image → 2 ^ 20 ≤ 2 ^ 18 + left
         → RunsScript setting schedule before after outcome →
         LeavesRunnable setting.device left before.device after.device }
+    ensures workload { (setting : Setting) (options : WorkloadOptions) (left : ℕ) (before after : Outside) (outcome : Outcome)
+        (image : Blocks)
+        → IsTold setting.device.tells setting.device.honest before.device image →
+        CanBegin (2 ^ 18 + left) image → 2 ^ 20 ≤ 2 ^ 18 + left
+        → EndsWorkload setting options before after outcome →
+        LeavesRunnable setting.device left before.device after.device }
 {}
 
-/// Where no call of the outside failed, a run of a script whose lines have no fault, on an honest device with a sound image,
+/// Where no call of the outside failed, a run of a script whose lines have no fault, or of a workload, on an honest device with a sound image,
 /// serves each request, if it doesn't run out of memory before. It does nothing.
 pub fn a_run_without_faults_is_complete()
-    ensures { (setting : Setting) (words : List (List ℕ)) (schedule : ℕ) (script : Script)
+    ensures script { (setting : Setting) (words : List (List ℕ)) (schedule : ℕ) (script : Script)
         (before after : Outside) (outcome : Outcome) (image : Blocks) → IsSound image
         → IsTold setting.device.tells setting.device.honest before.device image →
         IsTrue setting.source_tells
@@ -46,4 +54,10 @@ pub fn a_run_without_faults_is_complete()
         whole_script before.source.left ≡ Ok script
         → NoneRose before after → EndsSo setting words before after outcome →
         IsComplete script outcome }
+    ensures workload { (setting : Setting) (words : List (List ℕ)) (options : WorkloadOptions)
+        (before after : Outside) (outcome : Outcome) (image : Blocks) (sound : IsSound image)
+        → IsTold setting.device.tells setting.device.honest before.device image →
+        served_of words ≡ Some (served.Workload options)
+        → NoneRose before after → EndsSo setting words before after outcome →
+        IsComplete (requests_for options sound.head.geometry.logical) outcome }
 {}

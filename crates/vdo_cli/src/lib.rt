@@ -23,6 +23,7 @@ mod laws;
 mod new_image;
 mod ready;
 mod runner;
+mod seeded;
 mod session;
 mod words;
 

@@ -1,5 +1,9 @@
-ghost use Rattle.std.specs.Prelude.{◌≡◌, ◌<◌, ◌^◌, Some, None, IsTrue, length};
+ghost use Rattle.std.specs.Prelude.{ℕ, ◌≡◌, ◌<◌, ◌^◌, Bool, List, Some, None, IsTrue, length};
+ghost use Rattle.command_text.specs.Workloads.{summary_text};
+ghost use Rattle.disk_model.specs.Streams.{Puts, SinkSeen};
 ghost use Rattle.stream_text.specs.AnswerRooms.{HasRoomFor};
+ghost use Rattle.vdo_cli.specs.Closings.{Closes};
+ghost use Rattle.vdo_cli.specs.Commands.{IsWorkload};
 ghost use Rattle.vdo_cli.specs.Growths.{EndsGrowth};
 ghost use Rattle.vdo_cli.specs.Inspections.{EndsAudit, EndsStatus, TellsReport};
 ghost use Rattle.vdo_cli.specs.NewImages.{MakesImage};
@@ -7,7 +11,10 @@ ghost use Rattle.vdo_cli.specs.Openings as openings;
 ghost use Rattle.vdo_cli.specs.Outsides.{Refuses, RefusesAfter, Tells, no_report, outcome, outside, setting};
 ghost use Rattle.vdo_cli.specs.Rebuilds.{EndsRebuild};
 ghost use Rattle.vdo_cli.specs.Recoveries.{EndsRecovery};
-ghost use Rattle.vdo_cli.specs.Runs.{EndsSo, Closes, RunsScript};
+ghost use Rattle.vdo_cli.specs.Runs.{EndsSo, RunsScript};
+ghost use Rattle.vdo_cli.specs.Texts.{session_text};
+ghost use Rattle.vdo_cli.specs.Workloads as workloads;
+ghost use Rattle.vdo_cli.specs.Workloads.{EndsWorkload};
 
 use crate::endings::{
     fault_of, growth_fault_of, has_full, put_fault, put_refusal, session_notes, status_of,
@@ -15,13 +22,14 @@ use crate::endings::{
 };
 use crate::new_image::make_image;
 use crate::ready::recovered_of;
+use crate::seeded::{Worked, summary_of, work};
 use crate::session::{NotPlayed, Played, play};
 use crate::words::Served;
 use crate::{Fault, Words};
 use audit::{Report, audit};
 use blk_base::Geometry;
-use command_text::{Line, put_audit, put_run};
-use disk_model::{Disk, Sink, Source, ZoneGate};
+use command_text::{Line, put_audit, put_run, put_summary};
+use disk_model::{Disk, Failed, Sink, Source, ZoneGate};
 use force_rebuild::force;
 use grow_image::grow;
 use image_status::read_status;
@@ -30,7 +38,7 @@ use std::alloc::Global;
 use std::sync::Wait;
 use std::thread::Threads;
 use vdo_model::{ReportList, Requests, RunReport};
-use vdo_words::GrowOptions;
+use vdo_words::{GrowOptions, WorkloadOptions};
 
 /// A run that ended: its status, why no other one, what became of the requests (nothing where no session was begun), and
 /// the device.
@@ -96,24 +104,16 @@ fn refuse_after<D: Disk, K: Sink>(alloc: Global, not: NotPlayed, device: D, out:
     end_with(alloc, status_of(&fault), Some(fault), device)
 }
 
-// Puts the text of a session.
-fn close<D: Disk, K: Sink>(played: Played, device: D, out: &mut K) -> Ended<D>
-    requires { HasRoomFor played.room played.report.requests }
+// How a session ends whose text was put so.
+fn end_session<D: Disk>(report: RunReport, put: Result<(), Failed>, device: D) -> Ended<D>
     ensures device { result.device ≡ device }
-    ensures report { result.report ≡ played.report }
-    ensures closes { Closes K.tells (openings.recovered_of played.found) played.report result.status result.fault
-        (K.seen out.old) (K.seen out.new) }
+    ensures report { result.report ≡ report }
+    ensures closes { (tells : Bool) (text : List ℕ) (before after : SinkSeen)
+        → Puts tells text before after put →
+        Closes tells text report result.status result.fault before after }
 {
-    let Played {
-        found,
-        report,
-        room,
-    } = played;
     let struck = struck_status(&report);
     let full = has_full(report.desk.as_slice());
-    let notes = session_notes(recovered_of(found), &report);
-    let mut room = room;
-    let put = put_run(&report.requests, &report, &notes, &mut room, out);
     let (status, fault) = match (struck, put) {
         (Some(struck), _) => (struck, None),
         (None, Err(_)) => (7, Some(Fault::Sink)),
@@ -125,6 +125,46 @@ fn close<D: Disk, K: Sink>(played: Played, device: D, out: &mut K) -> Ended<D>
         report,
         device,
     }
+}
+
+// Puts the text of a session.
+fn close<D: Disk, K: Sink>(played: Played, device: D, out: &mut K) -> Ended<D>
+    requires { HasRoomFor played.room played.report.requests }
+    ensures device { result.device ≡ device }
+    ensures report { result.report ≡ played.report }
+    ensures closes { Closes K.tells
+        (session_text (openings.recovered_of played.found) played.report) played.report
+        result.status result.fault (K.seen out.old) (K.seen out.new) }
+{
+    let Played {
+        found,
+        report,
+        room,
+    } = played;
+    let notes = session_notes(recovered_of(found), &report);
+    let mut room = room;
+    let put = put_run(&report.requests, &report, &notes, &mut room, out);
+    end_session(report, put, device)
+}
+
+// Puts the summary of a workload.
+fn sum_up<D: Disk, K: Sink>(
+    options: &WorkloadOptions,
+    worked: Worked,
+    device: D,
+    out: &mut K,
+) -> Ended<D>
+    ensures device { result.device ≡ device }
+    ensures report { result.report ≡ worked.report }
+    ensures closes { Closes K.tells
+        (summary_text
+        (workloads.summary_of (openings.recovered_of worked.found) options.now worked.report))
+        worked.report result.status result.fault (K.seen out.old) (K.seen out.new) }
+{
+    let Worked { found, report } = worked;
+    let summary = summary_of(recovered_of(found), options, &report);
+    let put = put_summary(&summary, out);
+    end_session(report, put, device)
 }
 
 // Puts what was found.
@@ -173,6 +213,28 @@ fn run_script<R: Wait, D: Disk, S: Source, K: Sink>(
     let mut device = device;
     match play(rt, alloc, schedule, &mut device, script) {
         Ok(played) => close(played, device, out),
+        Err(not) => refuse_after(alloc, not, device, out),
+    }
+}
+
+// Serves the requests of a seed.
+fn run_workload<R: Wait, D: Disk, S: Source, K: Sink>(
+    rt: &R,
+    alloc: Global,
+    options: &WorkloadOptions,
+    device: D,
+    script: &S,
+    out: &mut K,
+) -> Ended<D>
+    requires { IsWorkload options.now }
+    ensures { EndsWorkload (setting D.tells D.honest S.tells K.tells) options.now
+        (outside (D.seen device) (S.seen script.now) (K.seen out.old))
+        (outside (D.seen result.device) (S.seen script.now) (K.seen out.new))
+        (outcome result.status result.report result.fault) }
+{
+    let mut device = device;
+    match work(rt, alloc, options, &mut device) {
+        Ok(worked) => sum_up(options, worked, device, out),
         Err(not) => refuse_after(alloc, not, device, out),
     }
 }
@@ -297,7 +359,8 @@ fn status_of_device<D: Disk, S: Source, K: Sink>(
 /// served on the device's image by the zones of a core, whose steps and moves come in the order of the schedule N (0
 /// where none is given). An image whose last session wasn't closed is recovered first, and how many entries of its journal were
 /// used is put. Then come the answers, one line for each, and the damage, if a leaf was found that doesn't decode. What earlier
-/// runs wrote is there again. `format`, with the sizes of an image as its options: an empty image
+/// runs wrote is there again. `workload`: the requests of a seed are served so in place of a script's, which isn't looked at, and how
+/// many were answered how is put. `format`, with the sizes of an image as its options: an empty image
 /// is made on the device, and a line says so. `recover`: an image whose last session wasn't closed is closed, and how many
 /// entries of its journal were used is told; a sound one says the same then; nothing is written where it was closed.
 /// `force-rebuild`: each data block gets the number of its mappings as its stored count, whatever the image's counters and
@@ -348,6 +411,7 @@ pub fn run<R: Threads + Wait + Sync, D: Disk + Send + Drop, S: Source, K: Sink, 
     let alloc = words.allocator();
     match words.served() {
         Some(Served::Script(schedule)) => run_script(rt, alloc, schedule, device, script, out),
+        Some(Served::Workload(options)) => run_workload(rt, alloc, &options, device, script, out),
         Some(Served::Format(sizes)) => format(alloc, &sizes, device, script, out),
         Some(Served::Recover) => recover_device(alloc, device, script, out),
         Some(Served::ForceRebuild) => rebuild_device(alloc, device, script, out),

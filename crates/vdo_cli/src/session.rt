@@ -1,17 +1,19 @@
-ghost use Rattle.std.specs.Prelude.{◌≡◌, ◌≤◌, [], Ok, IfOk, IfErr, IsTrue};
+ghost use Rattle.std.specs.Prelude.{◌≡◌, ◌<◌, ◌≤◌, ◌^◌, [], Ok, IfOk, IfErr, IsTrue};
+ghost use Rattle.disk_model.specs.Seen.{Seen};
 ghost use Rattle.stream_text.specs.AnswerRooms.{HasRoomFor};
 ghost use Rattle.stream_text.specs.ReadingBytes.{IsWholeScript};
 ghost use Rattle.stream_text.specs.WholeScript.{whole_script};
-ghost use Rattle.vdo_cli.specs.Endings.{KeepsImage, RunsSession, PlayFails, ScriptFails};
+ghost use Rattle.vdo_cli.specs.Endings.{KeepsImage, RunsSession, ServesRequests, PlayFails, ScriptFails};
+ghost use Rattle.vdo_cli.specs.Openings.{IsReady, IsReadyNow};
 ghost use Rattle.vdo_cli.specs.Outsides.{input_setting, inputs, trust};
 
 use crate::Fault;
 use crate::endings::fault_of;
-use crate::ready::{get_ready, recovered_of};
+use crate::ready::{Ready, get_ready, recovered_of};
 use disk_model::{Disk, Source};
 use rebuild::Recovered;
 use schedule::{Schedule, drive};
-use std::alloc::Global;
+use std::alloc::{AllocError, Global};
 use std::sync::Wait;
 use stream_text::{AnswerRoom, ReadScript, read_script};
 use vdo_core::{Core, Setup};
@@ -52,6 +54,32 @@ fn read_requests<S: Source>(alloc: Global, script: &mut S) -> Result<Requests, F
         Err(ReadScript::Read) => Err(Fault::Read),
         Err(ReadScript::Memory) => Err(Fault::Memory),
     }
+}
+
+/// Serves requests by the schedule of this number on an image that is ready, and tells what became of them. It fails where no
+/// memory is found to begin, and then nothing was done.
+pub(crate) fn serve<R: Wait, D: Disk>(
+    rt: &R,
+    alloc: Global,
+    number: u64,
+    ready: &Ready,
+    requests: Requests,
+    device: &mut D,
+) -> Result<RunReport, AllocError>
+    requires ready { IsReadyNow (trust D.tells D.honest) (D.seen device.old)
+        ready.now.found ready.now.start }
+    requires named { ready.now.start.head.geometry.nonce < 2 ^ 64 }
+    requires whole { IsWholeScript requests }
+    ensures serves { IfOk result (λ report. (before : Seen)
+        → IsReady (trust D.tells D.honest) before (D.seen device.old) ready.now.found ready.now.start
+        → ServesRequests (trust D.tells D.honest)
+        number ready.now.found ready.now.start report before (D.seen device.new)) }
+    ensures requests { IfOk result (λ report. report.requests ≡ requests) }
+    ensures unserved { IfErr result (λ e. D.seen device.new ≡ D.seen device.old) }
+{
+    let mut core = Core::begin(alloc, &SETUP, &ready.start, requests)?;
+    drive(rt, &mut core, &mut Schedule::from_number(number), device);
+    Ok(core.report())
 }
 
 /// Recovers the image where its last session wasn't closed, opens it, reads the script, and serves its requests by the schedule
@@ -95,16 +123,15 @@ pub(crate) fn play<R: Wait, D: Disk, S: Source>(
             fault: Fault::Memory,
         });
     };
-    let Ok(mut core) = Core::begin(alloc, &SETUP, &ready.start, requests) else {
+    let Ok(report) = serve(rt, alloc, number, &ready, requests, device) else {
         return Err(NotPlayed {
             recovered,
             fault: Fault::Memory,
         });
     };
-    drive(rt, &mut core, &mut Schedule::from_number(number), device);
     Ok(Played {
         found: ready.found,
-        report: core.report(),
+        report,
         room,
     })
 }

@@ -1,11 +1,14 @@
-ghost use Rattle.std.specs.Prelude.{◌≡◌, ◌++◌, ◌∷◌, [], OnOk, OnErr};
+ghost use Rattle.std.specs.Prelude.{◌≡◌, ◌++◌, ◌∷◌, [], OnOk, OnErr, IfSome};
+ghost use Rattle.vdo_words.specs.Ranges.{IsCommandWithin};
 ghost use Rattle.vdo_cli.specs.Commands as commands;
-ghost use Rattle.vdo_cli.specs.Commands.{served_of};
+ghost use Rattle.vdo_cli.specs.Commands.{IsServedWithin, served_of};
 
 use blk_base::Geometry;
 use std::alloc::{AllocError, Global};
 use std::marker::Model;
-use vdo_words::{Command, CoreOptions, Drive, FormatOptions, GrowOptions, read_command};
+use vdo_words::{
+    Command, CoreOptions, Drive, FormatOptions, GrowOptions, WorkloadOptions, read_command,
+};
 
 // Whether the options of a core are those that it has without any.
 fn are_default(options: &CoreOptions) -> bool
@@ -23,6 +26,8 @@ fn are_default(options: &CoreOptions) -> bool
 pub(crate) enum Served {
     /// A script is run by the schedule of this number.
     Script(u64),
+    /// The requests of a seed are served.
+    Workload(WorkloadOptions),
     /// An image of these sizes is made.
     Format(Geometry),
     /// An image whose last session wasn't closed is closed.
@@ -55,13 +60,18 @@ fn sizes_of(options: &FormatOptions) -> Geometry
 
 // What a command asks for, where it is served.
 fn served_in(command: Option<Command>) -> Option<Served>
-    ensures { result ≡ commands.served_in command }
+    requires { IfSome command IsCommandWithin }
+    ensures served { result ≡ commands.served_in command }
+    ensures within { IsServedWithin result }
 {
     match command {
         Some(Command::Run(options)) if are_default(&options.core) => match options.drive {
             Drive::Schedule(number) => Some(Served::Script(number)),
             Drive::Threads => None,
         },
+        Some(Command::Workload(options)) if are_default(&options.core) => {
+            Some(Served::Workload(options))
+        }
         Some(Command::Format(options)) => Some(Served::Format(sizes_of(&options))),
         Some(Command::Recover) => Some(Served::Recover),
         Some(Command::ForceRebuild) => Some(Served::ForceRebuild),
@@ -113,7 +123,8 @@ impl Words {
 
     // What the words ask for; `None` where they are nothing that is served.
     pub(crate) fn served(&self) -> Option<Served>
-        ensures { result ≡ served_of self.now }
+        ensures served { result ≡ served_of self.now }
+        ensures within { IsServedWithin result }
     {
         let command = read_command(self.allocator(), &self.texts).ok();
         served_in(command)
