@@ -22,7 +22,7 @@ use Rattle.vdo_cli.specs.Texts.{fault_text}
 use Rattle.vdo_cli.proofs.AuditPins.{bare, begins, looks, no_image, status_in}
 use Rattle.vdo_cli.proofs.CommandPins.{grow_words}
 use Rattle.vdo_cli.proofs.PlayPins.{at, source, sink}
-use Rattle.vdo_cli.proofs.RecoveryPins.{failed, first_of, flushed, not_flushed}
+use Rattle.vdo_cli.proofs.RecoveryPins.{failed, first_of, not_flushed}
 use Rattle.vdo_cli.proofs.RunPins.{Ends, some_report}
 
 -- grow_told_as: by the kind of the fault

@@ -1,5 +1,5 @@
 -- Rows that pin what a run leaves to the next one (`LeavesRunnable`): one that is accepted, and some that break one part alone.
-use Rattle.std.proofs.Common.{◌≡◌, ◌+◌, ◌^◌, ◌++◌, true, List, [], ◌∷◌, length, refl, sym, ap, subst, arith}
+use Rattle.std.proofs.Common.{◌≡◌, ◌^◌, ◌++◌, true, List, [], ◌∷◌, length, refl, sym, ap, subst, arith}
 use Rattle.disk_model.proofs.LookedLaws.{one_in-all}
 use Rattle.disk_model.proofs.OneImageLaws.{one_image-opening, one_image-unique}
 use Rattle.disk_model.specs.declared.call.Call.{Call}

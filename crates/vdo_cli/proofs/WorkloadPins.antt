@@ -1,6 +1,6 @@
 -- Rows that pin how a workload ends (`EndsSo` of the word `workload`, its parts `ServesWorkload`, `WorkloadFails` and
 -- `EndsWorkload`): for each part some that it accepts, and some that break this part alone.
-use Rattle.std.proofs.Common.{ℕ, ◌≡◌, ◌≢◌, true, false, List, [], ◌∷◌, replicate, length, take, Option, Some, None, codes, refl, ap, inl, inr, arith}
+use Rattle.std.proofs.Common.{ℕ, ◌≡◌, ◌≢◌, true, false, List, [], ◌∷◌, replicate, length, take, Option, Some, None, refl, ap, inl, inr, arith}
 use Rattle.blk_base.specs.declared.opened.Opened.{Opened}
 use Rattle.blk_base.specs.declared.request.Answer.TheVariants as reply
 use Rattle.blk_base.specs.declared.request.Request.TheVariants as request

@@ -1,5 +1,5 @@
 -- How the growing of an image ends.
-use Rattle.std.specs.Prelude.{◌≡◌, ◌⊎◌, Option, Some, Ok, Err}
+use Rattle.std.specs.Prelude.{◌≡◌, ◌⊎◌, Some, Ok, Err}
 use Rattle.command_text.specs.Formats.{grown_text}
 use Rattle.grow_image.specs.Growing.{IsGrowing}
 use Rattle.grow_image.specs.declared.fault.GrowFault.{GrowFault}
