@@ -7,7 +7,8 @@
 //! (`tools/image_files.sh`), with texts and statuses as a plain program finds them (`tools/whole_image.py`). Of `run`,
 //! whole scripts with faults, runs one after the other on one device, each refusal of a superblock, and the texts; a leaf
 //! that reads otherwise once the session has written; a script stopped at each call, with the last write old, new, and
-//! torn in some sectors, run again; one output of a script of one stream, and one of two, by the schedules 0 to 7.
+//! torn in some sectors, run again; one output of a script of one stream, and one of two, by the schedules 0 to 7. Of
+//! `workload`, two sessions of one stream on one device, as a plain program counts them, and words that are refused.
 //!
 //! Not there: that a session closes its image. Of an image that isn't sound, or on which writes are pending when it is
 //! opened, those of the index aside, a session says nothing of values, nor of stops.

@@ -5,8 +5,8 @@
 //!
 //! Only tested: a table of command lines.
 //!
-//! Not there: a program that serves more of these commands than `run` with a schedule alone, `format`, `recover`,
-//! `force-rebuild`, `grow`, `audit` and `status`.
+//! Not there: a program that serves more of these commands than `run` and `workload` with a schedule alone, `format`,
+//! `recover`, `force-rebuild`, `grow`, `audit` and `status`.
 #![tactic(auto)]
 
 mod clap_matches;
