@@ -5,3 +5,6 @@ pub mod AddressRows
 pub mod CopyRows
 pub mod ValueRows
 pub mod SearchLaws
+pub mod CutLaws
+pub mod SoundAudits
+pub mod ShownLaws

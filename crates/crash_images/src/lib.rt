@@ -10,13 +10,20 @@
 
 mod addresses;
 mod copies;
+mod cut;
 mod fault;
 mod laws;
 mod leaves;
+mod shown;
 mod values;
 
 pub use addresses::addresses_of;
 pub use copies::copy_of;
+pub use cut::CutDisk;
 pub use fault::ValueFault;
-pub use laws::an_opened_image_has_its_values;
+pub use laws::{
+    a_cut_off_device_keeps_its_calls, a_sound_image_passes_its_audit,
+    an_opened_image_has_its_values,
+};
+pub use shown::{Shown, show, show_pick};
 pub use values::{value_at, values_of};

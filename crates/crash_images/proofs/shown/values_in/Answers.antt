@@ -1,0 +1,7 @@
+use Rattle.crash_images.proofs.ShownLaws.{value_fails}
+use Rattle.crash_images.proofs.shown.values_in.Goals as goal
+
+pub returns-clause-fault : goal.returns-clause-fault
+returns-clause-fault g c =
+    let seen = g.D.Disk.seen in
+    rw c.image_fault_of.ensures (value_fails c.args.start.now c.deref.result.now (seen c.args.device.now) (seen c.values_of.new.device) c.in-Err.why c.in-Err.ensures.refused)
