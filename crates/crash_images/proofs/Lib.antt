@@ -8,3 +8,5 @@ pub mod SearchLaws
 pub mod CutLaws
 pub mod SoundAudits
 pub mod ShownLaws
+pub mod CutRows
+pub mod ShowRows

@@ -2,10 +2,9 @@ ghost use Rattle.std.specs.Prelude.{◌≡◌};
 ghost use Rattle.disk_model.specs.declared.fuse.Fuse.TheVariants as fuse;
 ghost use Rattle.disk_model.specs.Log.{Blocks};
 ghost use Rattle.disk_model.specs.Memory.{fresh};
-ghost use Rattle.crash_images.specs.Cuts.{IsCutOff, stop_of};
+ghost use Rattle.crash_images.specs.Cuts.{IsCutDisk};
 
 use blk_base::{Block, Pbn};
-use command_text::CrashStop;
 use disk_model::{Disk, Failed, MemDisk};
 use std::marker::Model;
 
@@ -47,7 +46,8 @@ impl CutDisk {
 
     /// The device as its calls left it.
     pub fn into_disk(self) -> MemDisk
-        ensures { result ≡ self.disk }
+        ensures disk { result ≡ self.disk }
+        ensures cut { IsCutDisk self.passes self.disk }
     {
         self.disk
     }

@@ -1,11 +1,14 @@
-//! What a crash is tried on, and what it shows: a copy of a device in memory, the addresses that a script names, and the
-//! values that these have on an image that was opened. It writes nothing.
+//! What a crash is tried on, and what it shows: a copy of a device in memory, which is cut off behind its first calls, the
+//! addresses that a script names, and the recovery, the audit and the values of an image that is picked there.
 //!
 //! The values are those of an honest device's image where that is sound and was opened so (`specs/Values`, `OfOpened`):
 //! then nothing is left in its window, and each of its leaves says its mappings. Of any other only the reasons are told
 //! for which no value was read.
 //!
 //! Only tested: the addresses of one script, and their values on a copy of one image.
+//!
+//! No rows yet: of `AreValues`, `HasNoValue`, `IsShown`, `IsNotAudited` and `HasNoValues`, which name what the crates below
+//! promise of the calls.
 #![tactic(auto)]
 
 mod addresses;
