@@ -1,7 +1,7 @@
 -- Rows that pin which words are served, and as what, computed.
 use Rattle.std.proofs.Common.{ℕ, ◌≡◌, true, false, List, [], ◌∷◌, Some, None, codes, refl, arith}
 use Rattle.blk_base.specs.declared.geometry.Geometry.{Geometry}
-use Rattle.vdo_words.specs.declared.commands.Command.TheVariants.{Crash, Run}
+use Rattle.vdo_words.specs.declared.commands.Command.TheVariants.{Crash as CrashCommand, Run}
 use Rattle.vdo_words.specs.declared.commands.Command.TheVariants.{Workload as WorkloadCommand}
 use Rattle.vdo_words.specs.declared.commands.CrashOptions.{CrashOptions}
 use Rattle.vdo_words.specs.declared.commands.Command.TheVariants.{Audit as AuditCommand, ForceRebuild as RebuildCommand, Grow as GrowCommand, Recover as RecoverCommand, Status as StatusCommand}
@@ -11,7 +11,7 @@ use Rattle.vdo_words.specs.declared.commands.GrowOptions.{GrowOptions}
 use Rattle.vdo_words.specs.declared.commands.CoreOptions.{CoreOptions}
 use Rattle.vdo_words.specs.declared.commands.WorkloadOptions.{WorkloadOptions}
 use Rattle.vdo_words.specs.declared.commands.Drive.TheVariants.{Schedule, Threads}
-use Rattle.vdo_cli.specs.declared.words.Served.TheVariants.{Audit, ForceRebuild, Format, Grow, Recover, Script, Status, Workload}
+use Rattle.vdo_cli.specs.declared.words.Served.TheVariants.{Audit, Crash, ForceRebuild, Format, Grow, Recover, Script, Status, Workload}
 use Rattle.vdo_cli.specs.Commands.{IsServedWithin, IsWorkload, are_default, number_of, served_in, served_of, sizes_of}
 
 -- the options of a core that has none
@@ -41,7 +41,7 @@ each_size_is_its_option : sizes_of (record { logical = 1; slabs = 2; slab_blocks
     ≡ record { logical = 1; slabs = 2; slab_blocks = 3; journal = 4; index = 5; slab_journal = 6; height = 7; nonce = 8 }
 each_size_is_its_option = refl
 
--- served_in: `run` and `workload` with such a core and a schedule, `format`, `recover`, `force-rebuild`, `grow`, `audit` and `status`
+-- served_in: `run`, `workload` and `crash` with such a core and a schedule, `format`, `recover`, `force-rebuild`, `grow`, `audit` and `status`
 in_run : (number : ℕ) → served_in (Some (Run (record { drive = Schedule number; core = core }))) ≡ Some (Script number)
 in_run number = refl
 
@@ -76,8 +76,12 @@ in_workload options = refl
 not_in_workload_with_another_core : (options : WorkloadOptions) → served_in (Some (WorkloadCommand (record options { core = record core { depth = 2 } }))) ≡ None
 not_in_workload_with_another_core options = refl
 
-not_in_another_command : (options : CrashOptions) → served_in (Some (Crash options)) ≡ None
-not_in_another_command options = refl
+-- `crash` with such a core
+in_crash : (options : CrashOptions) → served_in (Some (CrashCommand (record options { core = core }))) ≡ Some (Crash (record options { core = core }))
+in_crash options = refl
+
+not_in_crash_with_another_core : (options : CrashOptions) → served_in (Some (CrashCommand (record options { core = record core { depth = 2 } }))) ≡ None
+not_in_crash_with_another_core options = refl
 
 -- IsWorkload, IsServedWithin: 1 to 65,536 requests of 1 to 16 streams
 abbrev pub draws : ℕ → ℕ → WorkloadOptions
@@ -215,6 +219,31 @@ workload_deeper = refl
 
 workload_with_an_image : served_of (codes "workload" ∷ codes "--image" ∷ codes "2" ∷ []) ≡ None
 workload_with_an_image = refl
+
+-- a crash has a number of calls and that of an image, both of them given
+abbrev pub crash_of : ℕ → ℕ → CrashOptions
+crash_of after image = record { schedule = 0; core = core; after = after; image = image }
+
+abbrev pub crash_words : List (List ℕ)
+crash_words = codes "crash" ∷ codes "--after" ∷ codes "5" ∷ codes "--image=7" ∷ []
+
+pub crash : served_of crash_words ≡ Some (Crash (crash_of 5 7))
+crash = refl
+
+crash_by_another_schedule : served_of (codes "crash" ∷ codes "--image" ∷ codes "7" ∷ codes "--schedule=3" ∷ codes "--after=5" ∷ []) ≡ Some (Crash (record (crash_of 5 7) { schedule = 3 }))
+crash_by_another_schedule = refl
+
+crash_without_an_image : served_of (codes "crash" ∷ codes "--after" ∷ codes "5" ∷ []) ≡ None
+crash_without_an_image = refl
+
+crash_without_calls : served_of (codes "crash" ∷ codes "--image" ∷ codes "7" ∷ []) ≡ None
+crash_without_calls = refl
+
+crash_by_threads : served_of (codes "crash" ∷ codes "--after" ∷ codes "5" ∷ codes "--image=7" ∷ codes "--threads" ∷ []) ≡ None
+crash_by_threads = refl
+
+crash_deeper : served_of (codes "crash" ∷ codes "--after" ∷ codes "5" ∷ codes "--image=7" ∷ codes "--depth=2" ∷ []) ≡ None
+crash_deeper = refl
 
 twice : served_of (codes "run" ∷ codes "run" ∷ []) ≡ None
 twice = refl

@@ -10,6 +10,9 @@ pub mod EndingLaws
 pub mod OnwardLaws
 pub mod NextRuns
 pub mod CompleteLaws
+pub mod CrashEnds
+pub mod CrashLaws
+pub mod CrashComplete
 pub mod CommandPins
 pub mod TextPins
 pub mod PlayPins
@@ -28,3 +31,4 @@ pub mod DrivenPins
 pub mod ValuePins
 pub mod NextPins
 pub mod CompletePins
+pub mod CrashPins

@@ -46,7 +46,7 @@ recovered : (tells honest : Bool) (before middle after : Seen) (result : Result 
 recovered tells honest before middle after result recovery reads =
     goes_on tells before middle after (record { stays = recovery.stays; calls = recovery.grows }) (untouched tells middle after reads)
 
-not_ready : (trust : Trust) (before after : Seen) (recovered_so : Option ℕ) (why : ImageFault) → IsUnready trust before after recovered_so why → GoesOn trust.tells before after
+pub not_ready : (trust : Trust) (before after : Seen) (recovered_so : Option ℕ) (why : ImageFault) → IsUnready trust before after recovered_so why → GoesOn trust.tells before after
 not_ready trust before after recovered_so why (inl is) = record { stays = is.recovery.stays; calls = is.recovery.grows }
 not_ready trust before after recovered_so why (inr is) = recovered trust.tells trust.honest before is.middle after (Ok is.found) is.recovery is.opening.untouched
 
@@ -133,6 +133,7 @@ served_goes_on : (s : Setting) (asked : Option Served) (before after : Outside) 
 served_goes_on s None before after outcome ends = same_device s.device.tells before.device after.device ends.device
 served_goes_on s (Some (served.Script schedule)) before after outcome ends = script_goes_on outcome.fault s schedule before after outcome ends
 served_goes_on s (Some (served.Workload options)) before after outcome ends = workload_goes_on outcome.fault s options before after outcome ends.ends
+served_goes_on s (Some (served.Crash options)) before after outcome ends = untouched s.device.tells before.device after.device ends.untouched
 served_goes_on s (Some (served.Format sizes)) before after outcome ends = format_goes_on s sizes before after outcome ends
 served_goes_on s (Some served.Recover) before after outcome ends = recovery_goes_on s before after outcome ends
 served_goes_on s (Some served.ForceRebuild) before after outcome ends = rebuild_goes_on s before after outcome ends

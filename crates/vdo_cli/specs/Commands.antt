@@ -3,7 +3,7 @@ use Rattle.std.specs.Prelude.{ℕ, ◌≤◌, ◌==◌, ◌&&◌, Bool, List, Op
 use Rattle.blk_base.specs.declared.geometry.Geometry.{Geometry}
 use Rattle.vdo_words.specs.Commands.{command_of}
 use Rattle.vdo_words.specs.declared.commands.Command.{Command}
-use Rattle.vdo_words.specs.declared.commands.Command.TheVariants.{Audit, ForceRebuild, Format, Grow, Recover, Run, Status, Workload}
+use Rattle.vdo_words.specs.declared.commands.Command.TheVariants.{Audit, Crash, ForceRebuild, Format, Grow, Recover, Run, Status, Workload}
 use Rattle.vdo_words.specs.declared.commands.CoreOptions.{CoreOptions}
 use Rattle.vdo_words.specs.declared.commands.FormatOptions.{FormatOptions}
 use Rattle.vdo_words.specs.declared.commands.WorkloadOptions.{WorkloadOptions}
@@ -39,10 +39,11 @@ sizes_of o = record {
   nonce = o.nonce;
 }
 
--- `run` and `workload` are served, with a schedule, and `format`, `recover`, `force-rebuild`, `grow`, `audit` and `status`
+-- `run`, `workload` and `crash` are served, with a schedule, and `format`, `recover`, `force-rebuild`, `grow`, `audit` and `status`
 abbrev pub served_in : Option Command → Option Served
 served_in (Some (Run options)) = if are_default options.core then option_map served.Script (number_of options.drive) else None
 served_in (Some (Workload options)) = if are_default options.core then Some (served.Workload options) else None
+served_in (Some (Crash options)) = if are_default options.core then Some (served.Crash options) else None
 served_in (Some (Format options)) = Some (served.Format (sizes_of options))
 served_in (Some Recover) = Some served.Recover
 served_in (Some ForceRebuild) = Some served.ForceRebuild

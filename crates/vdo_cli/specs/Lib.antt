@@ -12,6 +12,7 @@ pub mod Rebuilds
 pub mod Growths
 pub mod Closings
 pub mod Workloads
+pub mod Crashes
 pub mod Runs
 pub mod Onward
 pub mod Complete

@@ -1,6 +1,7 @@
 -- What contracts see of the outside of a run, and what a fault puts there.
 use Rattle.std.specs.Prelude.{ℕ, ◌≡◌, ◌⊎◌, ◌++◌, Bool, IsTrue, List, [], Option, Some, None}
 use Rattle.disk_model.specs.Causes.{Rose}
+use Rattle.disk_model.specs.Memory.{Memory}
 use Rattle.disk_model.specs.Seen.{Seen}
 use Rattle.disk_model.specs.Streams.{PutsPart, SinkSeen, SourceSeen}
 use Rattle.vdo_model.specs.declared.report.RunReport.{RunReport}
@@ -56,14 +57,19 @@ input_setting tells honest source_tells = record { device = trust tells honest; 
 abbrev pub input_setting_of : Setting → InputSetting
 input_setting_of s = record { device = s.device; source_tells = s.source_tells }
 
--- How a run ended: its status, what became of its requests, and why no other status.
+-- How a run ended: its status, what became of its requests, why no other status, and the copy on which a stop was tried.
 pub record Outcome : Type 0 where
   pub status : ℕ
   pub report : RunReport
   pub fault : Option Fault
+  pub copy : Option Memory
 
+abbrev pub outcome_with : ℕ → RunReport → Option Fault → Option Memory → Outcome
+outcome_with status report why copy = record { status = status; report = report; fault = why; copy = copy }
+
+-- without a copy
 abbrev pub outcome : ℕ → RunReport → Option Fault → Outcome
-outcome status report why = record { status = status; report = report; fault = why }
+outcome status report why = outcome_with status report why None
 
 -- a text was put, or a first part of it and the sink failed
 abbrev pub PutsOrFails : Bool → List ℕ → SinkSeen → SinkSeen → Type 0

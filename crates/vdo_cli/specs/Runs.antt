@@ -7,6 +7,7 @@ use Rattle.vdo_cli.specs.declared.words.Served.{Served}
 use Rattle.vdo_cli.specs.declared.words.Served.TheVariants as served
 use Rattle.vdo_cli.specs.Closings.{Closes}
 use Rattle.vdo_cli.specs.Commands.{served_of}
+use Rattle.vdo_cli.specs.Crashes.{EndsCrash}
 use Rattle.vdo_cli.specs.Endings.{KeepsImage, PlayFails, RunsSession}
 use Rattle.vdo_cli.specs.Growths.{EndsGrowth}
 use Rattle.vdo_cli.specs.Inspections.{EndsAudit, EndsStatus}
@@ -54,6 +55,7 @@ abbrev pub EndsAs : Setting → Option Served → Outside → Outside → Outcom
 EndsAs s None before after outcome = IsUsage s before after outcome
 EndsAs s (Some (served.Script schedule)) before after outcome = RunsScript s schedule before after outcome
 EndsAs s (Some (served.Workload options)) before after outcome = EndsWorkload s options before after outcome
+EndsAs s (Some (served.Crash options)) before after outcome = EndsCrash s options before after outcome
 EndsAs s (Some (served.Format sizes)) before after outcome = MakesImage s sizes before after outcome
 EndsAs s (Some served.Recover) before after outcome = EndsRecovery s before after outcome
 EndsAs s (Some served.ForceRebuild) before after outcome = EndsRebuild s before after outcome

@@ -17,7 +17,7 @@ pub enum Fault {
     /// grown. Status 3.
     #[error("device fault")]
     Device,
-    /// An image of the wanted sizes can't be had on the device. Status 8.
+    /// An image of the wanted sizes can't be had on the device, or that is too large for a crash. Status 8.
     #[error("layout: {0}")]
     Layout(LayoutFault),
     /// The device has no image, or one with this fault. Status 4.

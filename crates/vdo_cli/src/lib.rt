@@ -8,16 +8,21 @@
 //! whole scripts with faults, runs one after the other on one device, each refusal of a superblock, and the texts; a leaf
 //! that reads otherwise once the session has written; a script stopped at each call, with the last write old, new, and
 //! torn in some sectors, run again; one output of a script of one stream, and one of two, by the schedules 0 to 7. Of
-//! `workload`, two sessions of one stream on one device, as a plain program counts them, and words that are refused.
+//! `workload`, two sessions of one stream on one device, as a plain program counts them, and words that are refused. Of
+//! `crash`, a stop before the first call and a run to its end, words, a script and devices that are refused, and a short
+//! script stopped at each call of its session, with four images each.
 //!
-//! Not there: that a session closes its image. Of an image that isn't sound, or on which writes are pending when it is
+//! Not there: that a session closes its image; of `crash`, the values of an image of which blocks differ. Of an image that isn't sound, or on which writes are pending when it is
 //! opened, those of the index aside, a session says nothing of values, nor of stops.
 //!
-//! No rows yet: but through the definitions that use them: `IsReady`, `PlayedOut` and `EndsAs`; that a script's answers
+//! No rows yet: but through the definitions that use them: `IsReady`, `PlayedOut`, `EndsAs`, `IsCrashTold` and `ShowsSound`; that a script's answers
 //! are put behind `recovered 30 entries`.
 #![tactic(auto)]
 
 mod adapters;
+mod crash;
+mod crash_end;
+mod crash_laws;
 mod endings;
 mod fault;
 mod laws;
@@ -29,6 +34,7 @@ mod session;
 mod words;
 
 pub use adapters::{StdSink, StdSource};
+pub use crash_laws::{a_crash_shows_a_sound_image, a_crash_without_faults_is_complete};
 pub use endings::put_fault;
 pub use fault::Fault;
 pub use laws::{a_run_without_faults_is_complete, runs_go_on, what_a_run_leaves_can_be_run};

@@ -3,19 +3,21 @@ ghost use Rattle.command_text.specs.Workloads.{summary_text};
 ghost use Rattle.disk_model.specs.Streams.{Puts, SinkSeen};
 ghost use Rattle.stream_text.specs.AnswerRooms.{HasRoomFor};
 ghost use Rattle.vdo_cli.specs.Closings.{Closes};
-ghost use Rattle.vdo_cli.specs.Commands.{IsWorkload};
+ghost use Rattle.vdo_cli.specs.Commands.{IsServedWithin, IsWorkload, served_of};
+ghost use Rattle.vdo_cli.specs.Crashes.{HasCopyOf, IsOnDevice};
 ghost use Rattle.vdo_cli.specs.Growths.{EndsGrowth};
 ghost use Rattle.vdo_cli.specs.Inspections.{EndsAudit, EndsStatus, TellsReport};
 ghost use Rattle.vdo_cli.specs.NewImages.{MakesImage};
 ghost use Rattle.vdo_cli.specs.Openings as openings;
-ghost use Rattle.vdo_cli.specs.Outsides.{Refuses, RefusesAfter, Tells, no_report, outcome, outside, setting};
+ghost use Rattle.vdo_cli.specs.Outsides.{Refuses, RefusesAfter, Tells, no_report, outcome, outcome_with, outside, setting};
 ghost use Rattle.vdo_cli.specs.Rebuilds.{EndsRebuild};
 ghost use Rattle.vdo_cli.specs.Recoveries.{EndsRecovery};
-ghost use Rattle.vdo_cli.specs.Runs.{EndsSo, RunsScript};
+ghost use Rattle.vdo_cli.specs.Runs.{EndsAs, EndsSo, RunsScript};
 ghost use Rattle.vdo_cli.specs.Texts.{session_text};
 ghost use Rattle.vdo_cli.specs.Workloads as workloads;
 ghost use Rattle.vdo_cli.specs.Workloads.{EndsWorkload};
 
+use crate::crash_end::run_crash;
 use crate::endings::{
     fault_of, growth_fault_of, has_full, put_fault, put_refusal, session_notes, status_of,
     struck_status,
@@ -29,7 +31,7 @@ use crate::{Fault, Words};
 use audit::{Report, audit};
 use blk_base::Geometry;
 use command_text::{Line, put_audit, put_run, put_summary};
-use disk_model::{Disk, Failed, Sink, Source, ZoneGate};
+use disk_model::{Disk, Failed, MemDisk, Sink, Source, ZoneGate};
 use force_rebuild::force;
 use grow_image::grow;
 use image_status::read_status;
@@ -41,13 +43,40 @@ use vdo_model::{ReportList, Requests, RunReport};
 use vdo_words::{GrowOptions, WorkloadOptions};
 
 /// A run that ended: its status, why no other one, what became of the requests (nothing where no session was begun), and
-/// the device.
+/// the device; and the copy of it as the run left it, where a stop was tried on one. The report is then that of the run there.
 #[derive(Drop)]
 pub struct Ended<D> {
     pub status: u8,
     pub fault: Option<Fault>,
     pub report: RunReport,
     pub device: D,
+    pub copy: Option<MemDisk>,
+}
+
+// A command that ended on the device itself.
+#[derive(Drop)]
+pub(crate) struct Finished<D> {
+    status: u8,
+    fault: Option<Fault>,
+    report: RunReport,
+    device: D,
+}
+
+/// A command that made no copy.
+pub(crate) fn without_copy<D: Disk>(finished: Finished<D>) -> Ended<D>
+    ensures status { result.status ≡ finished.status }
+    ensures fault { result.fault ≡ finished.fault }
+    ensures report { result.report ≡ finished.report }
+    ensures device { result.device ≡ finished.device }
+    ensures copy { result.copy ≡ None }
+{
+    Ended {
+        status: finished.status,
+        fault: finished.fault,
+        report: finished.report,
+        device: finished.device,
+        copy: None,
+    }
 }
 
 // The report where no session was begun.
@@ -65,13 +94,13 @@ fn empty_report(alloc: Global) -> RunReport
 }
 
 // A command that ended so, without a session.
-fn end_with<D: Disk>(alloc: Global, status: u8, fault: Option<Fault>, device: D) -> Ended<D>
+fn end_with<D: Disk>(alloc: Global, status: u8, fault: Option<Fault>, device: D) -> Finished<D>
     ensures status { result.status ≡ status }
     ensures fault { result.fault ≡ fault }
     ensures report { result.report ≡ no_report }
     ensures device { result.device ≡ device }
 {
-    Ended {
+    Finished {
         status,
         fault,
         report: empty_report(alloc),
@@ -79,8 +108,13 @@ fn end_with<D: Disk>(alloc: Global, status: u8, fault: Option<Fault>, device: D)
     }
 }
 
-// Puts a fault's line.
-fn refuse<D: Disk, K: Sink>(alloc: Global, fault: Fault, device: D, out: &mut K) -> Ended<D>
+/// Puts a fault's line.
+pub(crate) fn refuse<D: Disk, K: Sink>(
+    alloc: Global,
+    fault: Fault,
+    device: D,
+    out: &mut K,
+) -> Finished<D>
     ensures device { result.device ≡ device }
     ensures fault { result.fault ≡ Some fault }
     ensures refuses { Refuses K.tells fault result.status result.report
@@ -92,7 +126,12 @@ fn refuse<D: Disk, K: Sink>(alloc: Global, fault: Fault, device: D, out: &mut K)
 }
 
 // Puts a fault's line where no session was begun, behind how many entries were recovered.
-fn refuse_after<D: Disk, K: Sink>(alloc: Global, not: NotPlayed, device: D, out: &mut K) -> Ended<D>
+fn refuse_after<D: Disk, K: Sink>(
+    alloc: Global,
+    not: NotPlayed,
+    device: D,
+    out: &mut K,
+) -> Finished<D>
     ensures device { result.device ≡ device }
     ensures fault { result.fault ≡ Some not.fault }
     ensures refuses { RefusesAfter K.tells not.recovered not.fault result.status result.report
@@ -105,7 +144,7 @@ fn refuse_after<D: Disk, K: Sink>(alloc: Global, not: NotPlayed, device: D, out:
 }
 
 // How a session ends whose text was put so.
-fn end_session<D: Disk>(report: RunReport, put: Result<(), Failed>, device: D) -> Ended<D>
+fn end_session<D: Disk>(report: RunReport, put: Result<(), Failed>, device: D) -> Finished<D>
     ensures device { result.device ≡ device }
     ensures report { result.report ≡ report }
     ensures closes { (tells : Bool) (text : List ℕ) (before after : SinkSeen)
@@ -119,7 +158,7 @@ fn end_session<D: Disk>(report: RunReport, put: Result<(), Failed>, device: D) -
         (None, Err(_)) => (7, Some(Fault::Sink)),
         (None, Ok(())) => (if full { 1 } else { 0 }, None),
     };
-    Ended {
+    Finished {
         status,
         fault,
         report,
@@ -128,7 +167,7 @@ fn end_session<D: Disk>(report: RunReport, put: Result<(), Failed>, device: D) -
 }
 
 // Puts the text of a session.
-fn close<D: Disk, K: Sink>(played: Played, device: D, out: &mut K) -> Ended<D>
+fn close<D: Disk, K: Sink>(played: Played, device: D, out: &mut K) -> Finished<D>
     requires { HasRoomFor played.room played.report.requests }
     ensures device { result.device ≡ device }
     ensures report { result.report ≡ played.report }
@@ -153,7 +192,7 @@ fn sum_up<D: Disk, K: Sink>(
     worked: Worked,
     device: D,
     out: &mut K,
-) -> Ended<D>
+) -> Finished<D>
     ensures device { result.device ≡ device }
     ensures report { result.report ≡ worked.report }
     ensures closes { Closes K.tells
@@ -168,7 +207,7 @@ fn sum_up<D: Disk, K: Sink>(
 }
 
 // Puts what was found.
-fn tell<L: Line, D: Disk, K: Sink>(alloc: Global, found: &L, device: D, out: &mut K) -> Ended<D>
+fn tell<L: Line, D: Disk, K: Sink>(alloc: Global, found: &L, device: D, out: &mut K) -> Finished<D>
     ensures device { result.device ≡ device }
     ensures report { result.report ≡ no_report }
     ensures tells { Tells K.tells (L.text found.now) result.status result.fault
@@ -181,7 +220,12 @@ fn tell<L: Line, D: Disk, K: Sink>(alloc: Global, found: &L, device: D, out: &mu
 }
 
 // Puts the report of an audit. Where blocks differ the status is theirs, whatever becomes of the text.
-fn tell_report<D: Disk, K: Sink>(alloc: Global, report: &Report, device: D, out: &mut K) -> Ended<D>
+fn tell_report<D: Disk, K: Sink>(
+    alloc: Global,
+    report: &Report,
+    device: D,
+    out: &mut K,
+) -> Finished<D>
     requires { length report.now.differs.items < 2 ^ 32 }
     ensures device { result.device ≡ device }
     ensures report { result.report ≡ no_report }
@@ -204,7 +248,7 @@ fn run_script<R: Wait, D: Disk, S: Source, K: Sink>(
     device: D,
     script: &mut S,
     out: &mut K,
-) -> Ended<D>
+) -> Finished<D>
     ensures { RunsScript (setting D.tells D.honest S.tells K.tells) schedule
         (outside (D.seen device) (S.seen script.old) (K.seen out.old))
         (outside (D.seen result.device) (S.seen script.new) (K.seen out.new))
@@ -225,7 +269,7 @@ fn run_workload<R: Wait, D: Disk, S: Source, K: Sink>(
     device: D,
     script: &S,
     out: &mut K,
-) -> Ended<D>
+) -> Finished<D>
     requires { IsWorkload options.now }
     ensures { EndsWorkload (setting D.tells D.honest S.tells K.tells) options.now
         (outside (D.seen device) (S.seen script.now) (K.seen out.old))
@@ -246,7 +290,7 @@ fn format<D: Disk, S: Source, K: Sink>(
     device: D,
     script: &S,
     out: &mut K,
-) -> Ended<D>
+) -> Finished<D>
     ensures { MakesImage (setting D.tells D.honest S.tells K.tells) sizes.now
         (outside (D.seen device) (S.seen script.now) (K.seen out.old))
         (outside (D.seen result.device) (S.seen script.now) (K.seen out.new))
@@ -265,7 +309,7 @@ fn recover_device<D: Disk, S: Source, K: Sink>(
     device: D,
     script: &S,
     out: &mut K,
-) -> Ended<D>
+) -> Finished<D>
     ensures { EndsRecovery (setting D.tells D.honest S.tells K.tells)
         (outside (D.seen device) (S.seen script.now) (K.seen out.old))
         (outside (D.seen result.device) (S.seen script.now) (K.seen out.new))
@@ -284,7 +328,7 @@ fn rebuild_device<D: Disk, S: Source, K: Sink>(
     device: D,
     script: &S,
     out: &mut K,
-) -> Ended<D>
+) -> Finished<D>
     ensures { EndsRebuild (setting D.tells D.honest S.tells K.tells)
         (outside (D.seen device) (S.seen script.now) (K.seen out.old))
         (outside (D.seen result.device) (S.seen script.now) (K.seen out.new))
@@ -304,7 +348,7 @@ fn grow_device<D: Disk, S: Source, K: Sink>(
     device: D,
     script: &S,
     out: &mut K,
-) -> Ended<D>
+) -> Finished<D>
     ensures { EndsGrowth (setting D.tells D.honest S.tells K.tells) options
         (outside (D.seen device) (S.seen script.now) (K.seen out.old))
         (outside (D.seen result.device) (S.seen script.now) (K.seen out.new))
@@ -323,7 +367,7 @@ fn audit_device<D: Disk, S: Source, K: Sink>(
     device: D,
     script: &S,
     out: &mut K,
-) -> Ended<D>
+) -> Finished<D>
     ensures { EndsAudit (setting D.tells D.honest S.tells K.tells)
         (outside (D.seen device) (S.seen script.now) (K.seen out.old))
         (outside (D.seen result.device) (S.seen script.now) (K.seen out.new))
@@ -342,7 +386,7 @@ fn status_of_device<D: Disk, S: Source, K: Sink>(
     device: D,
     script: &S,
     out: &mut K,
-) -> Ended<D>
+) -> Finished<D>
     ensures { EndsStatus (setting D.tells D.honest S.tells K.tells)
         (outside (D.seen device) (S.seen script.now) (K.seen out.old))
         (outside (D.seen result.device) (S.seen script.now) (K.seen out.new))
@@ -355,12 +399,45 @@ fn status_of_device<D: Disk, S: Source, K: Sink>(
     }
 }
 
+// Does what is served on the device itself.
+fn serve_on_device<R: Wait, D: Disk, S: Source, K: Sink>(
+    rt: &R,
+    alloc: Global,
+    served: Option<Served>,
+    device: D,
+    script: &mut S,
+    out: &mut K,
+) -> Finished<D>
+    requires within { IsServedWithin served }
+    requires here { IsOnDevice served }
+    ensures { EndsAs (setting D.tells D.honest S.tells K.tells) served
+        (outside (D.seen device) (S.seen script.old) (K.seen out.old))
+        (outside (D.seen result.device) (S.seen script.new) (K.seen out.new))
+        (outcome result.status result.report result.fault) }
+{
+    match served {
+        Some(Served::Script(schedule)) => run_script(rt, alloc, schedule, device, script, out),
+        Some(Served::Workload(options)) => run_workload(rt, alloc, &options, device, script, out),
+        Some(Served::Format(sizes)) => format(alloc, &sizes, device, script, out),
+        Some(Served::Recover) => recover_device(alloc, device, script, out),
+        Some(Served::ForceRebuild) => rebuild_device(alloc, device, script, out),
+        Some(Served::Grow(options)) => grow_device(alloc, options, device, script, out),
+        Some(Served::Audit) => audit_device(alloc, device, script, out),
+        Some(Served::Status) => status_of_device(alloc, device, script, out),
+        Some(Served::Crash(_)) => unreachable!(),
+        None => refuse(alloc, Fault::Usage, device, out),
+    }
+}
+
 /// Does what the words say. `run`, or `run --schedule N`: the requests of the script, each stream's in its order, are
 /// served on the device's image by the zones of a core, whose steps and moves come in the order of the schedule N (0
 /// where none is given). An image whose last session wasn't closed is recovered first, and how many entries of its journal were
 /// used is put. Then come the answers, one line for each, and the damage, if a leaf was found that doesn't decode. What earlier
 /// runs wrote is there again. `workload`: the requests of a seed are served so in place of a script's, which isn't looked at, and how
-/// many were answered how is put. `format`, with the sizes of an image as its options: an empty image
+/// many were answered how is put. `crash`, with `--after` and `--image`: the script is run on a copy of the device in memory, of which
+/// so many calls go on and each later one fails, and the image of this number is looked at that a stop may leave there: whether a call
+/// failed is put, then how many entries of its journal were used, the value of each address of the script, and its audit; the device is
+/// read and no more, and the copy comes back with its log. `format`, with the sizes of an image as its options: an empty image
 /// is made on the device, and a line says so. `recover`: an image whose last session wasn't closed is closed, and how many
 /// entries of its journal were used is told; a sound one says the same then; nothing is written where it was closed.
 /// `force-rebuild`: each data block gets the number of its mappings as its stored count, whatever the image's counters and
@@ -384,15 +461,15 @@ fn status_of_device<D: Disk, S: Source, K: Sink>(
 ///
 /// | Status | Comes where |
 /// |---|---|
-/// | 0 | each request was answered Ok, or with bytes; or the image was made; or recovered, or was closed; or rebuilt, or grown; or no block differs, or the status was told |
+/// | 0 | each request was answered Ok, or with bytes; or what a stop leaves was told; or the image was made; or recovered, or was closed; or rebuilt, or grown; or no block differs, or the status was told |
 /// | 1 | a request was answered Full: no journal block was left for its entry or that of a page, or no data block |
 /// | 2 | the words are no command that is served (`Usage`) or a line of the script has a fault (`Script`) |
-/// | 3 | the device failed: before the script was read, or while an image was made, recovered, rebuilt, grown or looked at (`Device`), or a request was answered Stopped or with a read fault |
-/// | 4 | the device has no image, or one with a fault in its window, a page or a count (`Image`); or it isn't closed, or has a mapping in an address that it is to get (`Image`, `Grow`); or a session found damage |
-/// | 5 | memory ran out before the first request was served, or while an image was looked at, or before the first write of a recovery, a rebuild or a growth (`Memory`) |
-/// | 6 | an audit found blocks that differ (`Differs`) |
+/// | 3 | the device failed: before the script was read, or while it was copied, or while an image was made, recovered, rebuilt, grown or looked at (`Device`), or a request was answered Stopped or with a read fault |
+/// | 4 | the device has no image, or the image that was picked is none, or it has a fault in its window, a page or a count (`Image`); or it isn't closed, or has a mapping in an address that it is to get (`Image`, `Grow`); or a session found damage |
+/// | 5 | memory ran out before the first request was served, or at any moment of a crash, or while an image was looked at, or before the first write of a recovery, a rebuild or a growth (`Memory`) |
+/// | 6 | an audit found blocks that differ, also that of a picked image (`Differs`) |
 /// | 7 | the source or the sink failed (`Read`, `Sink`) |
-/// | 8 | an image of these sizes can't be had on the device (`Layout`), or the image is larger (`Grow`) |
+/// | 8 | an image of these sizes can't be had on the device, or it has too many blocks for a crash (`Layout`), or the image is larger (`Grow`) |
 ///
 /// The first that applies is taken in this order: words, superblock, image, script; and of a session 4, 3, 7, 1, 0.
 pub fn run<R: Threads + Wait + Sync, D: Disk + Send + Drop, S: Source, K: Sink, G: ZoneGate + Sync>(
@@ -403,21 +480,15 @@ pub fn run<R: Threads + Wait + Sync, D: Disk + Send + Drop, S: Source, K: Sink, 
     out: &mut K,
     gate: &G,
 ) -> Ended<D>
-    ensures { EndsSo (setting D.tells D.honest S.tells K.tells) words.now
+    ensures ends { EndsSo (setting D.tells D.honest S.tells K.tells) words.now
         (outside (D.seen device) (S.seen script.old) (K.seen out.old))
         (outside (D.seen result.device) (S.seen script.new) (K.seen out.new))
-        (outcome result.status result.report result.fault) }
+        (outcome_with result.status result.report result.fault result.copy) }
+    ensures copy { HasCopyOf (served_of words.now) result.copy }
 {
     let alloc = words.allocator();
     match words.served() {
-        Some(Served::Script(schedule)) => run_script(rt, alloc, schedule, device, script, out),
-        Some(Served::Workload(options)) => run_workload(rt, alloc, &options, device, script, out),
-        Some(Served::Format(sizes)) => format(alloc, &sizes, device, script, out),
-        Some(Served::Recover) => recover_device(alloc, device, script, out),
-        Some(Served::ForceRebuild) => rebuild_device(alloc, device, script, out),
-        Some(Served::Grow(options)) => grow_device(alloc, options, device, script, out),
-        Some(Served::Audit) => audit_device(alloc, device, script, out),
-        Some(Served::Status) => status_of_device(alloc, device, script, out),
-        None => refuse(alloc, Fault::Usage, device, out),
+        Some(Served::Crash(options)) => run_crash(rt, alloc, &options, device, script, out),
+        served => without_copy(serve_on_device(rt, alloc, served, device, script, out)),
     }
 }

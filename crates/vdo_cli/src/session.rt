@@ -40,8 +40,8 @@ pub(crate) struct NotPlayed {
     pub(crate) fault: Fault,
 }
 
-// Reads the requests of the script, and says its refusal as a fault of the run.
-fn read_requests<S: Source>(alloc: Global, script: &mut S) -> Result<Requests, Fault>
+/// Reads the requests of the script, and says its refusal as a fault of the run.
+pub(crate) fn read_requests<S: Source>(alloc: Global, script: &mut S) -> Result<Requests, Fault>
     ensures script { IsTrue S.tells → IfOk result (λ requests.
         (whole_script (S.seen script.old).left ≡ Ok requests) × ((S.seen script.new).left ≡ [])) }
     ensures shape { IfOk result IsWholeScript }

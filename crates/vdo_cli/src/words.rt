@@ -7,7 +7,8 @@ use blk_base::Geometry;
 use std::alloc::{AllocError, Global};
 use std::marker::Model;
 use vdo_words::{
-    Command, CoreOptions, Drive, FormatOptions, GrowOptions, WorkloadOptions, read_command,
+    Command, CoreOptions, CrashOptions, Drive, FormatOptions, GrowOptions, WorkloadOptions,
+    read_command,
 };
 
 // Whether the options of a core are those that it has without any.
@@ -28,6 +29,8 @@ pub(crate) enum Served {
     Script(u64),
     /// The requests of a seed are served.
     Workload(WorkloadOptions),
+    /// A stop of a script is tried on a copy.
+    Crash(CrashOptions),
     /// An image of these sizes is made.
     Format(Geometry),
     /// An image whose last session wasn't closed is closed.
@@ -72,6 +75,7 @@ fn served_in(command: Option<Command>) -> Option<Served>
         Some(Command::Workload(options)) if are_default(&options.core) => {
             Some(Served::Workload(options))
         }
+        Some(Command::Crash(options)) if are_default(&options.core) => Some(Served::Crash(options)),
         Some(Command::Format(options)) => Some(Served::Format(sizes_of(&options))),
         Some(Command::Recover) => Some(Served::Recover),
         Some(Command::ForceRebuild) => Some(Served::ForceRebuild),

@@ -1,0 +1,187 @@
+-- What a crash shows of an honest device with a sound image.
+use Rattle.std.proofs.Common.{ℕ, ◌≡◌, ◌⊎◌, ◌++◌, ◌<◌, ◌≤◌, true, List, [], ◌∷◌, length, map, Option, Some, None, Ok, Err, refl, sym, ◌∙◌, ap, ap₂, subst, inl, inr, arith}
+use Rattle.std.proofs.lemmas.List.{append-nil}
+use Rattle.blk_base.specs.declared.geometry.Geometry.{Geometry}
+use Rattle.blk_base.specs.declared.geometry.Super.{Super}
+use Rattle.blk_base.specs.declared.opened.Opened.{Opened}
+use Rattle.blk_base.specs.declared.place.Lba.{Lba}
+use Rattle.command_text.specs.declared.crashes.AddressValue.{AddressValue}
+use Rattle.crash_images.proofs.CutLaws.{counted_behind}
+use Rattle.crash_images.proofs.SoundAudits.{audit_refused, no_difference}
+use Rattle.crash_images.proofs.ValueLaws.{opened_values}
+use Rattle.crash_images.specs.Addresses.{AreAddresses}
+use Rattle.crash_images.specs.Shows.{AreValues, HasNoValue, HasNoValues, IsNotAudited, IsNoPage, IsPickOf, IsPickRefused, IsPickShown, IsShown, PickFails, ShowsNothing, ShowsValues, ValueFails, ValuesFail}
+use Rattle.crash_images.specs.Values.{address_of, opened_in, value_in}
+use Rattle.crash_images.specs.declared.shown.Shown.{Shown}
+use Rattle.disk_model.proofs.LookedLaws.{one_in-all}
+use Rattle.disk_model.proofs.OneImageLaws.{one_image-opening}
+use Rattle.disk_model.proofs.PickImageLaws.{picked_may_stand}
+use Rattle.disk_model.specs.declared.call.Call.{Call}
+use Rattle.disk_model.specs.Images.{IsImage}
+use Rattle.disk_model.specs.Log.{Blocks}
+use Rattle.disk_model.specs.Memory.{Memory, fresh, seen_of}
+use Rattle.disk_model.specs.Picks.{counted_log}
+use Rattle.disk_model.specs.Seen.{Seen}
+use Rattle.image_model.proofs.FaultLaws.{no_fault}
+use Rattle.image_model.specs.Faults.{IsImageFault}
+use Rattle.image_model.specs.Looked.{looked_in}
+use Rattle.image_model.specs.Sound.{IsSound}
+use Rattle.image_model.specs.declared.fault.ImageFault.{ImageFault}
+use Rattle.image_model.specs.declared.fault.ImageFault.TheVariants as image
+use Rattle.rebuild.specs.Openings.{IsOpening, IsOpeningRefusal, OpensRight}
+use Rattle.rebuild.specs.Recoveries.{IsRecovery, IsTold}
+use Rattle.rebuild.specs.declared.forms.Recovered.{Recovered}
+use Rattle.recovery_laws.specs.Kept.{image_in}
+use Rattle.session_seams.proofs.LogLaws.{same_front}
+use Rattle.vdo_model.specs.Scripts.{Script}
+use Rattle.vdo_model.specs.declared.report.RunReport.{RunReport}
+use Rattle.vdo_words.specs.declared.commands.CrashOptions.{CrashOptions}
+use Rattle.vdo_cli.specs.Crashes.{IsCrashTold, IsNotServed, IsServed, IsServedOrNot, RunsOnCopy, ShowsSound, of_memory}
+use Rattle.vdo_cli.specs.Openings.{HasSequencesLeft}
+use Rattle.vdo_cli.specs.Outsides.{Outcome, Outside, Setting, input_setting_of, inputs_of}
+use Rattle.vdo_cli.proofs.OnwardLaws.{not_ready}
+use Rattle.vdo_cli.proofs.OpenedSessions.{head_of_sound}
+use Rattle.vdo_cli.proofs.RecoveredImages.{IsLeft, left_by, still_told, unready_kept}
+
+-- The image that was picked.
+
+-- a stop of a run on a copy leaves sound images, of the sizes that there were
+module _ (first copy : Memory) (blocks : Blocks) (sound : IsSound blocks) (told : IsTold true true (seen_of first) blocks) (late : HasSequencesLeft blocks sound) (empty : first.log ≡ []) where
+  abbrev IsOne : Blocks → Type 0
+  IsOne picked = (own : IsSound picked) × (own.head.geometry ≡ sound.head.geometry)
+
+  behind : (older : List Call) → older ++ first.log ≡ older
+  behind older = ap (λ (log : List Call). older ++ log) empty ∙ append-nil older
+
+  module _ (newer older : List Call) (parts : copy.log ≡ newer ++ older) (picked : Blocks) (is : IsImage first.opening older picked) where
+    is_behind : IsImage first.opening (older ++ first.log) picked
+    is_behind = subst (λ (log : List Call). IsImage first.opening log picked) (sym (behind older)) is
+
+    parts_behind : copy.log ≡ newer ++ (older ++ first.log)
+    parts_behind = parts ∙ ap (λ (log : List Call). newer ++ log) (sym (behind older))
+
+    left_served : (schedule : ℕ) (report : RunReport) → IsServed of_memory schedule report (seen_of first) (seen_of copy) → IsOne picked
+    left_served schedule report served =
+        let shown = (served.serves.stops blocks told sound late newer older parts_behind picked is_behind).1 in (shown.sound, shown.sizes)
+
+    left_unserved : (report : RunReport) → IsNotServed of_memory report (seen_of first) (seen_of copy) → IsOne picked
+    left_unserved report not =
+        let kept = unready_kept of_memory (seen_of first) (seen_of copy) not.recovered not.why not.unready blocks told sound in
+        let calls_are : kept.0 ≡ newer ++ older = sym (behind kept.0) ∙ sym kept.1 ∙ parts in
+        let shown = (kept.2 newer older calls_are picked is_behind).1 in (shown.sound, shown.sizes)
+
+    left_of_run : (schedule : ℕ) (report : RunReport) → IsServedOrNot of_memory schedule report (seen_of first) (seen_of copy) → IsOne picked
+    left_of_run schedule report (inl served) = left_served schedule report served
+    left_of_run schedule report (inr not) = left_unserved report not
+
+same_opening : (schedule : ℕ) (report : RunReport) (first copy : Memory) → IsServedOrNot of_memory schedule report (seen_of first) (seen_of copy) → copy.opening ≡ first.opening
+same_opening schedule report first copy (inl served) = served.serves.stays.opening
+same_opening schedule report first copy (inr not) = (not_ready of_memory (seen_of first) (seen_of copy) not.recovered not.why not.unready).stays.opening
+
+-- What it shows.
+
+-- two maps that give the same give the same lists
+same_map : {X Y : Type 0} (f g : X → Y) → ((x : X) → f x ≡ g x) → (xs : List X) → map f xs ≡ map g xs
+same_map f g same [] = refl
+same_map f g same (x ∷ xs) = ap₂ (λ y ys. y ∷ ys) (same x) (same_map f g same xs)
+
+module _ (picked : Blocks) (own : IsSound picked) (told : IsTold true true (seen_of (fresh picked)) picked) where
+  abbrev made : Seen
+  made = seen_of (fresh picked)
+
+  pub left : (middle : Seen) (found : Recovered) → IsRecovery true true made middle (Ok found) → IsLeft picked own true true middle
+  left middle found recovery = left_by true true made middle picked own found told recovery
+
+  module _ (middle : Seen) (after : IsLeft picked own true true middle) where
+    -- values that were read of the image are its values
+    module _ (script : Script) (now : Seen) (there : IsTold true true now after.left) (values : List AddressValue) (are : AreValues true true script now values) where
+      abbrev start : Opened
+      start = are.start
+
+      right : OpensRight after.left start
+      right = are.opening.says after.left there
+
+      same_head : own.head.geometry ≡ start.head.geometry
+      same_head = sym after.geometry ∙ ap (λ (h : Super). h.geometry) (head_of_sound after.left after.is_sound start right)
+
+      same_value : (at : Lba) → value_in (opened_in start after.left) at ≡ value_in (image_in picked own) at
+      same_value at =
+          ap (λ (block : List ℕ). record { at = at; block = block }) (opened_values start after.left after.is_sound right at.0 ∙ after.values at.0)
+
+      pub values_named : AreAddresses script own.head.geometry.logical (map address_of values)
+      values_named = subst (λ (g : Geometry). AreAddresses script g.logical (map address_of values)) (sym same_head) are.named
+
+      pub values_right : values ≡ map (value_in (image_in picked own)) (map address_of values)
+      values_right =
+          are.right after.left (still_told true true now are.opened after.left there are.opening.untouched) after.is_sound right
+          ∙ same_map (value_in (opened_in start after.left)) (value_in (image_in picked own)) same_value (map address_of values)
+
+  pub shown_right : (script : Script) (shown : Shown) → IsShown true true script made shown
+      → (addresses : List Lba) × AreAddresses script own.head.geometry.logical addresses × (shown.values.items ≡ map (value_in (image_in picked own)) addresses) × (shown.audit.differs.items ≡ [])
+  shown_right script shown is =
+      let after = left is.middle shown.recovery is.recovery in
+      let none = no_difference true true is.middle after.left after.is_told after.is_sound is.behind shown.audit is.audited in
+      let there = still_told true true is.middle is.behind after.left after.is_told is.untouched in
+      elim is.values [
+        | inl (same, are) ↦ (
+          map address_of shown.values.items,
+          values_named is.middle after script is.behind there shown.values.items are,
+          values_right is.middle after script is.behind there shown.values.items are,
+          none,
+        )
+        | inr (some, empty) ↦ absurd (some none)
+      ]
+
+-- The whole.
+
+-- a device that is made of a picked image has that one image
+pub picked_told : (copy : Memory) (number : ℕ) (picked : Blocks) → IsPickOf copy number picked → IsTold true true (seen_of (fresh picked)) picked
+picked_told copy number picked is = record {
+  told = refl;
+  fair = refl;
+  one =
+      one_in-all (looked_in picked) picked [] picked
+      (one_image-opening picked (λ b below. is.whole b (let size = is.size in omega (arith, size, below))));
+}
+
+module _ (s : Setting) (options : CrashOptions) (before after : Outside) (outcome : Outcome) (copy : Memory) (blocks : Blocks) (sound : IsSound blocks)
+    (told : IsTold s.device.tells s.device.honest before.device blocks) (late : HasSequencesLeft blocks sound) (run : RunsOnCopy (input_setting_of s) options outcome.report (inputs_of before) (inputs_of after) copy) where
+  abbrev first : Memory
+  first = run.first
+
+  no_calls : first.log ≡ []
+  no_calls = ap (λ (memory : Memory). memory.log) run.copied.copied.1
+
+  module _ (picked : Blocks) (is : IsPickOf copy options.image picked) where
+    may_stand : IsImage copy.opening (counted_log copy.fuse copy.log) picked
+    may_stand = picked_may_stand copy.opening (counted_log copy.fuse copy.log) options.image picked is
+
+    pub picked_sound : (own : IsSound picked) × (own.head.geometry ≡ sound.head.geometry)
+    picked_sound =
+        let parts = counted_behind copy.fuse copy.log in
+        left_of_run first copy blocks sound (run.copied.keeps blocks told) late no_calls parts.0 (counted_log copy.fuse copy.log) parts.1 picked
+        (subst (λ (opening : Blocks). IsImage opening (counted_log copy.fuse copy.log) picked) (same_opening options.schedule outcome.report first copy run.tried.runs) may_stand)
+        options.schedule outcome.report run.tried.runs
+
+  pub shows_sound : (shown : Shown) (shows : IsPickShown copy options.image outcome.report.requests shown) → ShowsSound sound.head.geometry outcome.report.requests copy shows.picked shown
+  shows_sound shown shows =
+      let parts = counted_behind copy.fuse copy.log in
+      let own = picked_sound shows.picked shows.is in
+      let right = shown_right shows.picked own.0 (picked_told copy options.image shows.picked shows.is) outcome.report.requests shown shows.shows in
+      record {
+        newer = parts.0;
+        older = counted_log copy.fuse copy.log;
+        parts = parts.1;
+        may_stand = may_stand shows.picked shows.is;
+        sound = own.0;
+        sizes = own.1;
+        addresses = right.0;
+        named = subst (λ (g : Geometry). AreAddresses outcome.report.requests g.logical right.0) own.1 right.1;
+        values = right.2;
+        none = right.3;
+      }
+
+pub crash_shows_sound : (s : Setting) (options : CrashOptions) (before after : Outside) (outcome : Outcome) (copy : Memory) (blocks : Blocks) (sound : IsSound blocks)
+    → IsTold s.device.tells s.device.honest before.device blocks → HasSequencesLeft blocks sound → (told : IsCrashTold s options before after outcome copy)
+    → ShowsSound sound.head.geometry outcome.report.requests copy told.shows.picked told.shown
+crash_shows_sound s options before after outcome copy blocks sound is late told = shows_sound s options before after outcome copy blocks sound is late told.run told.shown told.shows
