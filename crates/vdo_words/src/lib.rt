@@ -5,8 +5,7 @@
 //!
 //! Only tested: a table of command lines.
 //!
-//! Not there: a program that serves more of these commands than `run` and `workload` with a schedule alone, `format`,
-//! `recover`, `force-rebuild`, `grow`, `audit` and `status`.
+//! Not there: a program that serves `run --threads`, or a core with other options than it has without any.
 #![tactic(auto)]
 
 mod clap_matches;
