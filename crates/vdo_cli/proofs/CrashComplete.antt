@@ -1,11 +1,8 @@
 -- Where nothing failed, a crash tells what it shows, or memory ran out.
-use Rattle.std.proofs.Common.{ℕ, ◌≡◌, ◌⊎◌, ◌≤◌, ◌++◌, true, IsTrue, List, [], length, Option, Some, None, IsSome, Ok, Err, refl, sym, ◌∙◌, ap, subst, inl, inr, arith}
-use Rattle.audit.specs.Audits.{AuditFails}
+use Rattle.std.proofs.Common.{ℕ, ◌≡◌, ◌⊎◌, ◌≤◌, true, IsTrue, List, length, Option, Some, None, Ok, Err, refl, sym, ◌∙◌, ap, subst, inl, inr, arith}
 use Rattle.blk_base.specs.declared.geometry.Super.{Super}
 use Rattle.crash_images.proofs.SoundAudits.{audit_refused}
-use Rattle.crash_images.specs.Shows.{HasNoValue, IsNoPage, IsPickRefused, PickFails, ShowsNothing, ValueFails, ValuesFail}
-use Rattle.crash_images.specs.declared.shown.Shown.{Shown}
-use Rattle.disk_model.specs.Causes.{Rose}
+use Rattle.crash_images.specs.Shows.{HasNoValue, IsPickRefused, PickFails, ShowsNothing, ValuesFail}
 use Rattle.disk_model.specs.Log.{Blocks}
 use Rattle.disk_model.specs.Memory.{Memory, fresh, seen_of}
 use Rattle.disk_model.specs.Seen.{Seen}

@@ -1,5 +1,5 @@
 -- How a crash ends, step by step.
-use Rattle.std.proofs.Common.{ℕ, ◌≡◌, ◌<◌, ◌≤◌, nat_lt, Bool, if◌then◌else◌, List, length, reverse, refl, sym, ap, inl, inr, arith}
+use Rattle.std.proofs.Common.{ℕ, ◌≡◌, ◌<◌, ◌≤◌, nat_lt, Bool, if◌then◌else◌, List, length, reverse, sym, ap, inl, inr, arith}
 use Rattle.std.proofs.lemmas.Bool.{cases_Bool, lt-ltb, ltb-true}
 use Rattle.std.proofs.lemmas.List.{length-reverse}
 use Rattle.command_text.specs.declared.crashes.CrashStop.TheVariants.{Stopped, Ended}

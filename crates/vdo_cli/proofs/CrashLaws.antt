@@ -1,5 +1,5 @@
 -- What a crash shows of an honest device with a sound image.
-use Rattle.std.proofs.Common.{ℕ, ◌≡◌, ◌⊎◌, ◌++◌, ◌<◌, ◌≤◌, true, List, [], ◌∷◌, length, map, Option, Some, None, Ok, Err, refl, sym, ◌∙◌, ap, ap₂, subst, inl, inr, arith}
+use Rattle.std.proofs.Common.{ℕ, ◌≡◌, ◌++◌, true, List, [], ◌∷◌, map, Ok, refl, sym, ◌∙◌, ap, ap₂, subst, inl, inr, arith}
 use Rattle.std.proofs.lemmas.List.{append-nil}
 use Rattle.blk_base.specs.declared.geometry.Geometry.{Geometry}
 use Rattle.blk_base.specs.declared.geometry.Super.{Super}
@@ -7,10 +7,10 @@ use Rattle.blk_base.specs.declared.opened.Opened.{Opened}
 use Rattle.blk_base.specs.declared.place.Lba.{Lba}
 use Rattle.command_text.specs.declared.crashes.AddressValue.{AddressValue}
 use Rattle.crash_images.proofs.CutLaws.{counted_behind}
-use Rattle.crash_images.proofs.SoundAudits.{audit_refused, no_difference}
+use Rattle.crash_images.proofs.SoundAudits.{no_difference}
 use Rattle.crash_images.proofs.ValueLaws.{opened_values}
 use Rattle.crash_images.specs.Addresses.{AreAddresses}
-use Rattle.crash_images.specs.Shows.{AreValues, HasNoValue, HasNoValues, IsNotAudited, IsNoPage, IsPickOf, IsPickRefused, IsPickShown, IsShown, PickFails, ShowsNothing, ShowsValues, ValueFails, ValuesFail}
+use Rattle.crash_images.specs.Shows.{AreValues, IsPickOf, IsPickShown, IsShown}
 use Rattle.crash_images.specs.Values.{address_of, opened_in, value_in}
 use Rattle.crash_images.specs.declared.shown.Shown.{Shown}
 use Rattle.disk_model.proofs.LookedLaws.{one_in-all}
@@ -22,17 +22,12 @@ use Rattle.disk_model.specs.Log.{Blocks}
 use Rattle.disk_model.specs.Memory.{Memory, fresh, seen_of}
 use Rattle.disk_model.specs.Picks.{counted_log}
 use Rattle.disk_model.specs.Seen.{Seen}
-use Rattle.image_model.proofs.FaultLaws.{no_fault}
-use Rattle.image_model.specs.Faults.{IsImageFault}
 use Rattle.image_model.specs.Looked.{looked_in}
 use Rattle.image_model.specs.Sound.{IsSound}
-use Rattle.image_model.specs.declared.fault.ImageFault.{ImageFault}
-use Rattle.image_model.specs.declared.fault.ImageFault.TheVariants as image
-use Rattle.rebuild.specs.Openings.{IsOpening, IsOpeningRefusal, OpensRight}
+use Rattle.rebuild.specs.Openings.{OpensRight}
 use Rattle.rebuild.specs.Recoveries.{IsRecovery, IsTold}
 use Rattle.rebuild.specs.declared.forms.Recovered.{Recovered}
 use Rattle.recovery_laws.specs.Kept.{image_in}
-use Rattle.session_seams.proofs.LogLaws.{same_front}
 use Rattle.vdo_model.specs.Scripts.{Script}
 use Rattle.vdo_model.specs.declared.report.RunReport.{RunReport}
 use Rattle.vdo_words.specs.declared.commands.CrashOptions.{CrashOptions}
