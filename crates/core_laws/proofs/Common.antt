@@ -17,11 +17,11 @@ pub use Rattle.blk_base.specs.declared.request.Answer.{Answer}
 pub use Rattle.blk_base.specs.declared.request.Request.{Request}
 pub use Rattle.blk_base.specs.declared.request.Writer.{Writer}
 pub use Rattle.core_model.proofs.FairLaws.{fair_before, fair_part}
-pub use Rattle.core_model.specs.Facts.{Answers, BlockOk, Carries, DataOk, HasAddress, HasEarned, HasLists, HasPendingEntry, Holds, InLine, IsEarned, IsChange, IsEntered, IsForBlock, IsInTurn, IsLogOf, IsPlaced, IsSealed, IsToData, IsToFresh, IsToInside, IsUndrawn, ItemOk, JournalLists, KeptEach, KeptOk, LockOk, LocksOk, Looks, MapOk, MayReply, RestsAt, Rises, StandsAt, VioOk, WaitsOk, WasTold, ZoneOk, arrival, arriving, made_by, name_of, zone_at, zone_of_stage}
-pub use Rattle.core_model.specs.RightTraces.{AllBelow, CommitMayFollow, EntryMayFollow, FailureMayFollow, GiftMayFollow, GivesRight, HasBelow, HasCause, HasPlace, HasFullJournal, IsCommitted, IsFull, IsHeldBack, IsMadeFor, IsOpen, IsPending, IsStoppedAtOnce, IsWrite, MapsTo, MayAnswer, MayFollow, NeedsBlock, PageMayFollow, PassMayFollow, PlaceMayFollow, Quiet, RightTrace, SealMayFollow, SlotMayFollow, StopsAtFailure, TakeMayFollow}
-pub use Rattle.core_model.specs.Sessions.{AreAllThere, AreDistinct, AtRest, ComesLast, HasBlocks, HasHonestReads, IsHonestRead, KeptStands, IsAsOpened, IsFair, IsFresh, IsServed, IsSession, MapStands, NewReads, NewStands, OnBlock, OnItsWay, PagesStand, ReadsAs, ReadsBlock, Session, Shown, Stands, bytes_of, content_of, log, mapped_or, mapping_by, opened_at, opened_image, value_at, value_from}
-pub use Rattle.core_model.specs.Tokens.{AtMost, Balanced, Token, answers_of, as_items, begins_of, block_token, blocks_at, claims, ended_at, entered_at, entry_token, given, has_entry, heard_at, held_at, holder_token, holder_weight, holds, idle_at, in_log, is_answer, is_begin, is_block, is_entry, is_sealed, is_word, journal_token, kept_by, lease_token, lock_weight, locks_at, notice_token, notified_by, of_vio, names, one_journal, one_physical, queued, request_token, room_token, weight}
-pub use Rattle.core_model.specs.Trace.{Aborts, Calls, Commits, Draws, Enters, Fails, Flushes, Gift, Gives, Happening, Harms, Passes, Says, Seals, Sets, Takes, Trace, aborted, all_of, applied, calls, committed, done, dropped, durable, entered, entry_of, filled, gift_of, gifts, has_read_fault, has_stopped, has_taken, is_harmed, is_ok, is_read, journaled, lines, linked, logged_of, marks, moments, new_of, new_pages, newest, of_address, passed, places, remappings, request_in, sealed, taken}
+pub use Rattle.core_model.specs.Facts.{Answers, BlockOk, Carries, ClaimOk, DataOk, HasAddress, HasEarned, HasLists, HasPendingEntry, Holds, InLine, IsChange, IsDecrement, IsEarned, IsEntered, IsForBlock, IsInTurn, IsLogOf, IsPlaced, IsReport, IsSealed, IsToBlock, IsToData, IsToInside, IsUndrawn, ItemOk, JournalLists, KeptEach, KeptOk, LockOk, LocksOk, Looks, MapOk, MayReply, RestsAt, Rises, StandsAt, VioOk, WaitsOk, WasTold, ZoneOk, arrival, arriving, made_by, name_of, zone_at, zone_of_stage}
+pub use Rattle.core_model.specs.RightTraces.{AllBelow, CommitMayFollow, EntryMayFollow, FailureMayFollow, GiftMayFollow, GivesRight, HadNoFree, HasBelow, HasCause, HasFullJournal, HasPlace, IsCommitted, IsHeldBack, IsMadeFor, IsOpen, IsPending, IsReported, IsStoppedAtOnce, IsUnused, IsWrite, MapsTo, MayAnswer, MayFollow, NeedsBlock, PageMayFollow, PassMayFollow, PlaceMayFollow, Quiet, RightTrace, SealMayFollow, SlotMayFollow, StopsAtFailure, TakeMayFollow}
+pub use Rattle.core_model.specs.Sessions.{AreAllThere, AtRest, ComesLast, HasBlocks, HasHonestReads, IsAsOpened, IsFair, IsHonestRead, IsServed, IsSession, KeptStands, MapStands, NewReads, NewStands, OnBlock, OnItsWay, PagesStand, ReadsAs, ReadsBlock, Session, Shown, Stands, bytes_of, content_of, log, mapped_or, mapping_by, opened_at, opened_image, opened_uses, value_at, value_from}
+pub use Rattle.core_model.specs.Tokens.{AtMost, Balanced, Token, answers_of, as_items, begins_of, block_token, claim_token, claim_weight, damage_token, ended_at, entered_at, entry_token, given, has_entry, has_old, heard_at, held_at, holder_token, holder_weight, holds, idle_at, in_log, is_answer, is_begin, is_block, is_committed, is_entry, is_old, is_sealed, is_word, journal_token, kept_by, leads_to, lease_token, lock_weight, locks_at, notice_token, notified_by, of_vio, one_journal, owes, queued, report_token, request_token, room_token, waiter_token, waiter_weight, weight}
+pub use Rattle.core_model.specs.Trace.{Aborts, Adds, Calls, Commits, Draws, Drops, Enters, Fails, Flushes, Gift, Gives, Happening, Harms, Hears, Passes, Removes, Says, Seals, Sets, Strays, Takes, Trace, aborted, added, all_of, applied, calls, claimed, committed, done, dropped, durable, entered, entry_of, filled, gift_of, gifts, has_read_fault, has_stopped, has_taken, is_harmed, is_ok, is_read, journaled, lines, linked, logged_of, marks, moments, new_of, new_pages, newest, of_address, passed, places, remappings, removed, request_in, sealed, strayed, unclaimed}
 pub use Rattle.data_vio.specs.Vios.{Post, all_logged, asked, begun_vio, ended, gift, logged, remapping, request_of, staged, turned}
 pub use Rattle.data_vio.specs.Zones.{IsZone, desk_number, device_number, journal_number, logical_number, logical_zones, notified, notified_zones, physical_number, zone_count, zone_number}
 pub use Rattle.data_vio.specs.declared.items.Asks.{Asks}

@@ -1,4 +1,5 @@
 pub mod BareTrees
+pub mod HearingFacts
 pub mod LockLaws
 pub mod LogicalActs
 pub mod LogicalFacts
@@ -7,3 +8,4 @@ pub mod PagePaths
 pub mod PageFacts
 pub mod PageLists
 pub mod Releases
+pub mod ReportFacts

@@ -4,10 +4,12 @@ pub mod CoveredEntries
 pub mod Cuts
 pub mod DamageOfTrace
 pub mod DeskOfTrace
+pub mod EntriesInTurn
 pub mod EntryMaps
 pub mod Growth
 pub mod HistoriesOfTrace
 pub mod MarksOfTrace
+pub mod NoStrays
 pub mod PassesOfTrace
 pub mod PlacesOfTrace
 pub mod ReportOfTrace

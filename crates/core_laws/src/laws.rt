@@ -32,8 +32,10 @@ ghost use Rattle.data_vio.specs.declared.items.Item.{Item};
 ghost use Rattle.data_vio.specs.declared.sizes.Sizes.{Sizes};
 ghost use Rattle.core_model.specs.Legal.{Legal};
 ghost use Rattle.core_model.specs.Reports.{ShowsValues, opening_values, progress_of, report_of};
-ghost use Rattle.core_model.specs.RightTraces.{AreElsewhere, IsHeldBack, IsWrite, StopsAtFailure};
-ghost use Rattle.core_model.specs.Sessions.{Session, IsFair, IsSession, OnBlock, mapping_by, said_by};
+ghost use Rattle.core_model.specs.RightTraces.{IsHeldBack, IsUnused, IsWrite, StopsAtFailure};
+ghost use Rattle.core_model.specs.Sessions.{Session, IsFair, IsSession, OnBlock, mapping_by, opened_image, said_by};
+ghost use Rattle.blk_base.specs.declared.journal_entry.CommittedEntry.{CommittedEntry};
+ghost use Rattle.count_laws.specs.Turns.{AreInTurn};
 ghost use Rattle.core_model.specs.Start.{IsFirst};
 ghost use Rattle.core_model.specs.Steps.{Act, CallsDevice, Core, HasAct, Leads, MayBegin, MoveOf, StepOf, ZoneStep};
 ghost use Rattle.core_model.specs.Superblocks.{WritesNoOther, superblock_stage};
@@ -133,8 +135,8 @@ pub fn an_entry_says_what_it_replaces()
 {}
 
 /// The entries that a legal core hands in come in turn: each maps an address whose leaf is linked, by the opened image or by older
-/// entries, to a block that no older entry named; or it links a page that no older one puts anywhere, below one that is
-/// linked by these or is a root, at such a block.
+/// entries, to a block that nobody maps, where the session is fair; or it links a page that no older one puts anywhere, below one
+/// that is linked by these or is a root, at such a block.
 pub fn entries_come_in_turn()
     ensures leaf { (s : Session) (core : Core) (newer older : Trace) (e : Remapping) → Legal s core →
         core.trace ≡ newer ++ Enters (Remaps e) ∷ older
@@ -142,7 +144,7 @@ pub fn entries_come_in_turn()
         IsThere s.sizes.geometry.height s.links (journaled older) (leaf_of e.at.0) }
     ensures block { (s : Session) (core : Core) (newer older : Trace) (e : Remapping) → Legal s core →
         core.trace ≡ newer ++ Enters (Remaps e) ∷ older
-        → OnBlock (λ x. AreElsewhere x.0 (journaled older)) e.new }
+        → IsFair s older → OnBlock (IsUnused s older) e.new }
     ensures once { (s : Session) (core : Core) (newer older : Trace) (p : NewPage) → Legal s core →
         core.trace ≡ newer ++ Enters (Makes p) ∷ older
         → page_in s.links (journaled older) p.page ≡ None }
@@ -151,7 +153,13 @@ pub fn entries_come_in_turn()
         → IsThere s.sizes.geometry.height s.links (journaled older) (above p.page) }
     ensures page_block { (s : Session) (core : Core) (newer older : Trace) (p : NewPage) →
         Legal s core → core.trace ≡ newer ++ Enters (Makes p) ∷ older
-        → AreElsewhere p.at.0 (journaled older) }
+        → IsFair s older → IsUnused s older p.at }
+
+    // So all of them do, over the image that was opened.
+    ensures in_turn { (s : Session) (core : Core) (entries : List CommittedEntry) → IsSession s →
+        Legal s core → IsFair s core.trace
+        → map entry_of (journaled core.trace) ≡ said_by entries →
+        AreInTurn (opened_image s) entries }
 {}
 
 /// In a legal core the log of the journal has handed out the entries that are committed, in the order in which they stand

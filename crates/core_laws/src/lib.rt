@@ -1,14 +1,19 @@
 //! The laws of the core: what every event keeps, and what follows of a legal core.
 //!
-//! A balance may be an inequality (`AtMost`): as yet a data block that a stopped write had taken is lost for the
-//! session, so no more than one owner is claimed. A write is done when its slot is set, and answered when its answer is
-//! said: the trace has a list for each.
+//! A balance may be an inequality (`AtMost`): a stopped write whose entry was handed in has spent its claim, which stays
+//! counted, so no more claims are held than are counted. A write is done when its slot is set, and answered when its
+//! answer is said: the trace has a list for each.
 //!
 //! Not there: that a session can begin on an image that a stop leaves (`vdo_cli`).
 #![tactic(auto)]
 
+mod block_laws;
 mod laws;
 
+pub use block_laws::{
+    a_claim_is_held_once, a_free_block_is_mapped_by_nobody,
+    counters_have_the_updates_that_were_taken,
+};
 pub use laws::{
     a_fair_session_finds_no_damage, a_legal_core_goes_on, a_legal_core_is_in_order,
     a_legal_core_is_right_after_a_stop, a_legal_core_reads_right, a_legal_core_stops_at_a_failure,

@@ -13,6 +13,8 @@ use Rattle.core_laws.proofs.kept.ZoneKinds.{journal_sits}
 use Rattle.core_limits.proofs.Rooms.{all_requests, carried}
 use Rattle.core_laws.proofs.trace.DeskOfTrace.{AreApart, entered_apart, entered_writes}
 use Rattle.core_limits.proofs.DeskLimits.{asked_inside, requests_of}
+use Rattle.core_limits.proofs.StrayLimits.{strays_few}
+use Rattle.core_laws.proofs.Common.{PhysicalZone}
 use Rattle.core_limits.proofs.PageLimits.{durable_few, kinds_of, pages_few, remappings_few}
 use Rattle.core_limits.proofs.StreamSums.{Apart, Inside, named, names_few, over_script}
 
@@ -104,6 +106,11 @@ module _ (s : Session) (core : Core) (legal : Legal s core) (n : ℕ) (z : Zone)
 
     pub entered_within : (j : JournalZone) → z.keeps ≡ at.Journal j → length j.entered ≤ most_entries
     entered_within j keeps = let same = ap length (own_ok (at.Journal j) keeps).lists.entered_is in omega (arith, same, journal_few)
+
+    pub strays_within : (p : PhysicalZone) → z.keeps ≡ at.Physical p → length p.strays ≤ most_requests
+    strays_within p keeps =
+        let same = ap (λ (es : List Remapping). length es) (own_ok (at.Physical p) keeps).lists.strays_are in
+        omega (arith, same, strays_few s core.trace legal.right, trace_few)
 
     pub committed_within : (j : JournalZone) → z.keeps ≡ at.Journal j → length j.committed ≤ most_entries
     committed_within j keeps =

@@ -4,20 +4,10 @@ use Rattle.std.proofs.lemmas.Option.{slice_get_within}
 use Rattle.core_laws.proofs.Common.{AllByRecursion, DeskLine, Fails, Flushes, IsDeskLog, IsNextLine, Says, Script, Trace, Writer, answer_of, begun, eqb_tells, is_answer, is_begin, lines, marks, request_at, same_tells, some_of, total}
 use Rattle.vdo_model.specs.declared.report.DeskLine.TheVariants.{Begin, Answer}
 use Rattle.core_model.specs.Limits.{requests_in}
-use Rattle.core_limits.proofs.StreamSums.{Apart, Inside, named, names_few, over, over_le, over_more, over_none, over_script}
-use Rattle.core_limits.proofs.Rooms.{all_begun, stream_there, under_way}
+use Rattle.core_limits.proofs.StreamSums.{Apart, Inside, named, names_few, over, over_le, over_more, over_none, over_script, stream_there}
+use Rattle.core_limits.proofs.Rooms.{all_begun, under_way}
+pub use Rattle.core_limits.proofs.StreamSums.{asked_inside, requests_of}
 use Rattle.core_laws.proofs.trace.Growth.{begun_more}
-
--- how many requests a stream of a script has
-abbrev pub requests_of : Script → ℕ → ℕ
-requests_of script stream = length (get_or script stream [])
-
--- a request of the script stands within its stream
-pub asked_inside : (script : Script) (w : Writer) → IsSome (request_at script w) → Inside (length script) (requests_of script) w
-asked_inside script w some =
-    let r = some_of _ some in
-    let below = slice_get_within (get_or script w.stream []) w.number r.0 r.1 in
-    (stream_there script w.stream (omega (arith, below)), below)
 
 -- no more of a stream are begun than it has
 pub begun_few : (depth : ℕ) (script : Script) (log : List DeskLine) (stream : ℕ) → IsDeskLog depth script log → begun stream log ≤ requests_of script stream

@@ -10,3 +10,5 @@ pub mod WholeZones
 pub mod ZoneLimits
 mod MakingLimits
 mod PageLimits
+pub mod UpdateSums
+pub mod StrayLimits

@@ -7,7 +7,12 @@ use Rattle.data_vio.specs.declared.items.Item.TheVariants as item
 use Rattle.core_model.specs.declared.zones.ZoneData.TheVariants as at
 use Rattle.core_model.specs.Legal.{Legal, share}
 use Rattle.core_model.specs.Steps.{Core}
-use Rattle.core_limits.proofs.StreamSums.{over, over_more, over_none}
+use Rattle.core_limits.proofs.StreamSums.{over, over_more, over_none, stream_there}
+use Rattle.core_limits.proofs.UpdateSums.{IsKnown, all_known, damage_once, entries_few, kept_reports, known_by, reports_wait, updates_in, updates_weigh}
+pub use Rattle.core_limits.proofs.UpdateSums.{carried, split_sum}
+use Rattle.core_laws.proofs.Common.{AllByRecursion, ItemOk, LogicalZone, Writer, every-map}
+use Rattle.core_model.specs.Facts.{ReportOk}
+use Rattle.core_model.specs.Tokens.{damage_token, decrement_weight, is_damage, report_token}
 use Rattle.core_laws.proofs.tokens.Lift.{items_total}
 use Rattle.core_laws.proofs.trace.DeskOfTrace.{desk_log_right}
 use Rattle.core_laws.proofs.kept.ZoneKinds.{desk_sits, device_sits, journal_once, no_words}
@@ -23,12 +28,6 @@ stream_bound depth script (Answer w a ∷ older) stream right = elim (eqb_tells 
   | inl same ↦ let rest = stream_bound depth script older stream right.1 in rw same.0 (omega (arith, rest))
   | inr other ↦ rw other.0 (stream_bound depth script older stream right.1)
 ]
-
--- a stream with a request is one of the script
-pub stream_there : (script : Script) (stream : ℕ) → 0 < length (get_or script stream []) → stream < length script
-stream_there [] stream some = absurd (omega (arith, some))
-stream_there (requests ∷ script) zero some = omega arith
-stream_there (requests ∷ script) (suc stream) some = let rest = stream_there script stream some in omega (arith, rest)
 
 -- what is begun, and what is answered, over all streams
 pub all_begun : (depth : ℕ) (script : Script) (desk : List DeskLine) → IsDeskLog depth script desk → total is_begin desk ≤ over (length script) (λ i. begun i desk)
@@ -66,15 +65,7 @@ under_way depth script desk right =
     let c = all_answered (length script) desk in
     omega (arith, a, b, c)
 
--- what a zone's lanes and lists weigh, apart from its own part
-abbrev pub carried : Token → Zone → ℕ
-carried t z = total t.item z.ports.inbox + total (total t.item) z.ports.outboxes + queued t.item z.keeps
-
-pub split_sum : (t : Token) (zones : List Zone) → total (weight t) zones ≡ total (carried t) zones + total (λ z. t.own z.keeps) zones
-split_sum t [] = refl
-split_sum t (z ∷ zones) = omega (arith, split_sum t zones)
-
-counted : (items : List Item) → length items ≤ total room_token.item items + total is_word items + total is_sealed items
+counted : (items : List Item) → length items ≤ total room_token.item items + total is_word items + total is_sealed items + length (updates_in items) + total is_damage items
 counted [] = omega arith
 counted (item.Request v ∷ items) = omega (arith, counted items)
 counted (other ∷ items) = omega (arith, counted items)
@@ -141,13 +132,31 @@ module _ (s : Session) (core : Core) (legal : Legal s core) where
       let balance = legal.journal in
       omega (arith, here, balance, journal_once s core.trace core.zones legal.each)
 
+  -- decrements and reports, one for each request at most; and damage is told once
+  few_damages : (n : ℕ) (z : Zone) → slice_get core.zones n ≡ Some z → total is_damage z.ports.inbox + total (total is_damage) z.ports.outboxes ≤ 1
+  few_damages n z had =
+      let here = total-get (weight damage_token) core.zones n z had in
+      let once = damage_once s core legal in
+      omega (arith, here, once)
+
+  few_updates : (n : ℕ) (z : Zone) (items : List Item) (m : ℕ) → slice_get core.zones n ≡ Some z → AllByRecursion (ItemOk s core.trace m) items
+      → ((u : Writer) → total (decrement_weight u) items ≤ total (decrement_weight u) z.ports.inbox + total (total (decrement_weight u)) z.ports.outboxes) → length (updates_in items) ≤ length s.script * s.sizes.depth
+  few_updates n z items m had ok among =
+      let few = entries_few s core legal (updates_in items) (all_known s core legal m items ok) (λ u.
+      let here = total-get (carried (report_token u)) core.zones n z had in
+      let part = among u in
+      omega (arith, updates_weigh u items, part, here, reports_wait s core legal u)) in
+      omega (arith, few, all_requests)
+
   pub inbox_room : (n : ℕ) (z : Zone) → slice_get core.zones n ≡ Some z → length z.ports.inbox ≤ share s
   inbox_room n z had =
       let a = few_requests n z had in
       let b = few_notices n z had in
       let c = counted z.ports.inbox in
       let d = few_blocks n z had in
-      omega (arith, a, b, c, d)
+      let e = few_damages n z had in
+      let f = few_updates n z z.ports.inbox n had (legal.each n z had).inbox (λ u. omega arith) in
+      omega (arith, a, b, c, d, e, f)
 
   pub lane_room : (n : ℕ) (z : Zone) (to : ℕ) (lane : List Item) → slice_get core.zones n ≡ Some z → slice_get z.ports.outboxes to ≡ Some lane → length lane ≤ share s
   lane_room n z to lane had there =
@@ -158,7 +167,10 @@ module _ (s : Session) (core : Core) (legal : Legal s core) where
       let e = lane_of is_word z.ports.outboxes to lane there in
       let f = lane_of is_sealed z.ports.outboxes to lane there in
       let g = few_blocks n z had in
-      omega (arith, a, b, c, d, e, f, g)
+      let h = few_damages n z had in
+      let i = lane_of is_damage z.ports.outboxes to lane there in
+      let j = few_updates n z lane to had ((legal.each n z had).outboxes to lane there) (λ u. let part = lane_of (decrement_weight u) z.ports.outboxes to lane there in omega (arith, part)) in
+      omega (arith, a, b, c, d, e, f, g, h, i, j)
 
   pub queue_room : (n : ℕ) (z : Zone) → slice_get core.zones n ≡ Some z → queued (λ it. 1) z.keeps ≤ share s
   queue_room n z had =
@@ -166,3 +178,14 @@ module _ (s : Session) (core : Core) (legal : Legal s core) where
       let b = items_total (λ it. 1) (kept_by z.keeps) in
       let c = items_total room_token.item (kept_by z.keeps) in
       omega (arith, a, b, c)
+
+  -- and no more reports are kept
+  pub kept_few : (n : ℕ) (z : Zone) → slice_get core.zones n ≡ Some z → (l : LogicalZone) → z.keeps ≡ at.Logical l → length l.reported ≤ share s
+  kept_few n z had l keeps =
+      let k = subst (λ (d : ZoneData). DataOk s core.trace n d) keeps (legal.each n z had).own in
+      let known = every-map {P = ReportOk s core.trace l.zone} {Q = IsKnown s core legal} (λ e ok. known_by s core legal e ok.0.decrement) l.reported k.lists.reports_are in
+      let few = entries_few s core legal l.reported known (λ u.
+      let here = total-get (λ (y : Zone). kept_reports u y.keeps) core.zones n z had in
+      let same = ap (kept_reports u) keeps in
+      omega (arith, here, same, reports_wait s core legal u)) in
+      omega (arith, few, all_requests)

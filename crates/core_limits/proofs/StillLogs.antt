@@ -7,7 +7,7 @@ use Rattle.core_model.specs.Limits.{requests_in}
 use Rattle.core_laws.proofs.trace.Growth.{begun_more}
 use Rattle.core_limits.proofs.DeskLimits.{all_counted, answered_apart, answered_names, begun_few, itself, requests_of}
 use Rattle.core_limits.proofs.FullLogs.{asked_there}
-use Rattle.core_limits.proofs.Rooms.{stream_there}
+use Rattle.core_limits.proofs.StreamSums.{stream_there}
 use Rattle.core_limits.proofs.StreamSums.{at, named, once, over, over_le, over_less, over_more, over_ones, over_script}
 
 -- the answers of a stream are counted at their numbers, which are below what is begun of it

@@ -1,11 +1,20 @@
 -- A legal core in which nothing is left to do has answered each request: nobody holds a lock or waits for one, no block of the
 -- journal goes round, and the stop notices of all zones have come if the session is stopped.
-use Rattle.std.proofs.Common.{◌≡◌, ℕ, ◌+◌, ◌≤◌, Bool, true, false, not, cond, Option, Some, List, [], ◌∷◌, ◌++◌, length, slice_get, refl, sym, ap, ◌∙◌, subst, inl, inr, arith}
+use Rattle.std.proofs.Common.{◌≡◌, ℕ, ◌+◌, ◌≤◌, Bool, true, false, not, is_some, cond, Option, None, Some, List, [], ◌∷◌, ◌++◌, length, slice_get, refl, sym, ap, ◌∙◌, subst, inl, inr, arith}
 use Rattle.std.proofs.lemmas.List.{nil_from_length}
 use Rattle.core_laws.proofs.Common.{AllAnswered, AllByRecursion, DataOk, Desk, IsNextLine, Item, JournalZone, KeptOk, LogicalZone, Phase, Session, Token, Vio, WaitsOk, Writer, Zone, ZoneData, as_items, bit, cases_Bool, cases_lt, desk_number, device_number, eqb_tells, given, heard_at, held_at, holder_token, holds, idle_at, is_answer, is_begin, is_sealed, is_word, journal_token, kept_by, lines, notice_token, notified_by, notified_zones, queued, room_token, total, total-get, total_alone, total_zero, weight}
 use Rattle.data_vio.specs.declared.items.Phase.TheVariants as phase
 use Rattle.core_model.specs.declared.zones.ZoneData.TheVariants as at
 use Rattle.core_model.specs.Legal.{Legal}
+use Rattle.blk_base.specs.declared.place.Mapping.{Mapping}
+use Rattle.blk_base.specs.declared.place.Mapping.TheVariants.{Unmapped, Zero, At}
+use Rattle.core_laws.proofs.Common.{IsEntered, IsToBlock, Remapping, same_self, same_tells, zone_number, zone_of}
+use Rattle.core_laws.proofs.logical.ReportFacts.{own_report}
+use Rattle.core_limits.proofs.UpdateSums.{kept_reports, reports_wait}
+use Rattle.core_model.specs.Facts.{AwaitsReport, CarriesFor, ReportOk}
+use Rattle.core_model.specs.LogicalRules.{is_reported}
+use Rattle.core_model.specs.PageLinks.{block_in}
+use Rattle.core_model.specs.Tokens.{decrement_weight, has_old, report_token, waiter_token, waiter_weight}
 use Rattle.blk_base.specs.declared.place.PageId.{PageId}
 use Rattle.core_model.specs.Facts.{Awaits, CarriesPage}
 use Rattle.core_model.specs.LogicalRules.{is_held}
@@ -90,6 +99,69 @@ module _ (s : Session) (core : Core) (legal : Legal s core) (still : IsStill s.s
       let unused = (own n z had (at.Journal j) keeps).sound.1 (one_idle n z had j keeps) in
       ap (λ (vs : List Vio). vs ++ j.waiting) unused.unfilled ∙ unused.unawaited
 
+  -- No decrement is under way, so nobody waits for a report.
+  no_update : (u : Writer) (vs : List Vio) → total (decrement_weight u) (as_items vs) ≡ 0
+  no_update u [] = refl
+  no_update u (v ∷ vs) = omega (arith, no_update u vs)
+
+  none_found : (u : Writer) (reported : List Remapping) → is_reported u reported ≡ false → total (has_old u) reported ≡ 0
+  none_found u [] none = refl
+  none_found u (e ∷ reported) none = elim (same_tells e.request u) [
+    | inl same ↦ absurd (let some = rw same.0 at none in cc)
+    | inr other ↦ let rest = none_found u reported (rw other.0 at none) in rw other.0 (omega (arith, rest))
+  ]
+
+  none_there : (zone : ℕ) (v : Vio) → IsEntered s core.trace v → (zone_of s.sizes.zones v.at.0 ≡ zone → ⊥) → (reported : List Remapping) → AllByRecursion (ReportOk s core.trace zone) reported → total (has_old v.request) reported ≡ 0
+  none_there zone v entered elsewhere [] all = refl
+  none_there zone v entered elsewhere (e ∷ reported) all = elim (same_tells e.request v.request) [
+    | inl same ↦
+        let own = own_report s core.trace zone v e legal.right entered all.0 same.0 in
+        absurd (elsewhere (ap (λ (f : Remapping). zone_of s.sizes.zones f.at.0) (sym own) ∙ all.0.1))
+    | inr other ↦ let rest = none_there zone v entered elsewhere reported all.1 in rw other.0 (omega (arith, rest))
+  ]
+
+  none_settles : (n : ℕ) (z : Zone) → slice_get core.zones n ≡ Some z → (l : LogicalZone) → z.keeps ≡ at.Logical l → l.settling ≡ []
+  none_settles n z had l keeps = by l.settling refl
+    where
+      k : DataOk s core.trace n (at.Logical l)
+      k = own n z had (at.Logical l) keeps
+
+      by : (vs : List Vio) → l.settling ≡ vs → vs ≡ []
+      by [] is = refl
+      by (v ∷ vs) is =
+          let waits = (subst (λ (us : List Vio). AllByRecursion (KeptOk s core.trace phase.Settle) us) is k.kept.2).0 in
+          let awaits = (subst (λ (us : List Vio). AllByRecursion (AwaitsReport l.zone l.reported) us) is k.sound.reports).0 in
+          let u = v.request in
+          let entered : IsEntered s core.trace v = (subst (CarriesFor s core.trace v phase.Settle) awaits.own (carries_at s core.trace v phase.Settle waits.2 waits.1)).0 in
+          let moving = total_zero (carried (report_token u)) core.zones (λ m y there. carried_kept (report_token u) m y there ∙ no_update u (kept_by y.keeps)) in
+          let home : zone_of s.sizes.zones v.at.0 ≡ l.zone = let name = ap (zone_number s.sizes) (sym awaits.at_home ∙ waits.0.home) in omega (arith, name) in
+          let alone = total_alone (λ (y : Zone). kept_reports u y.keeps) core.zones n z had (λ m y there ne. elsewhere v entered home m y.keeps ne (legal.each m y there).own) in
+          let here = ap (kept_reports u) keeps ∙ none_found u l.reported awaits.none in
+          let carried_here = total-get (carried (waiter_token u)) core.zones n z had in
+          let queued_here = carried_kept (waiter_token u) n z had in
+          let line = ap (λ (d : ZoneData). queued (waiter_token u).item d) keeps in
+          let some = weighs v waits.2 awaits.own awaits.replaces in
+          let among = both_items (waiter_token u).item l.waiting (l.lacking ++ l.settling) in
+          let last = both_items (waiter_token u).item l.lacking l.settling in
+          let first = ap (λ (us : List Vio). total (waiter_token u).item (as_items us)) is in
+          absurd (omega (arith, reports_wait s core legal u, moving, alone, here, carried_here, queued_here, line, some, among, last, first))
+        where
+          to_block : (m : Mapping) → IsToBlock m → is_some (block_in m) ≡ true
+          to_block (At x) is = refl
+          to_block Unmapped is = absurd is
+          to_block Zero is = absurd is
+
+          weighs : (v : Vio) → v.phase ≡ phase.Settle → v.page ≡ None → IsToBlock v.old → waiter_weight v.request v ≡ 1
+          weighs v is bare replaces = rw (is, bare, same_self v.request, to_block v.old replaces) refl
+
+          elsewhere : (v : Vio) → IsEntered s core.trace v → zone_of s.sizes.zones v.at.0 ≡ l.zone → (m : ℕ) (d : ZoneData) → (m ≡ n → ⊥) → DataOk s core.trace m d → kept_reports v.request d ≡ 0
+          elsewhere v entered home m (at.Logical other) ne ok =
+              none_there other.zone v entered (λ same. ne (let a = ok.number_is in let b = k.number_is in omega (arith, a, b, same, home))) other.reported ok.lists.reports_are
+          elsewhere v entered home m other ne ok = refl
+
+  settled : (f : Item → ℕ) (n : ℕ) (z : Zone) → slice_get core.zones n ≡ Some z → (l : LogicalZone) → z.keeps ≡ at.Logical l → total f (as_items l.settling) ≡ 0
+  settled f n z had l keeps = ap (λ (vs : List Vio). total f (as_items vs)) (none_settles n z had l keeps)
+
   -- No page is being made, so nobody waits for one.
   no_maker : (page : PageId) (n : ℕ) (z : Zone) → slice_get core.zones n ≡ Some z → queued (making_token page).item z.keeps ≡ 0
   no_maker page n z had = by z.keeps refl
@@ -107,7 +179,7 @@ module _ (s : Session) (core : Core) (legal : Legal s core) (still : IsStill s.s
           let kept = (own n z had (at.Logical l) keeps).kept in
           let waiting = none_makes phase.Wait l.waiting (λ v other no. no) kept.0 in
           let lacking = none_makes phase.Look l.lacking (λ v other no. no) kept.1 in
-          omega (arith, waiting, lacking, both_items (making_token page).item l.waiting l.lacking)
+          omega (arith, waiting, lacking, settled (making_token page).item n z had l keeps, both_items (making_token page).item l.waiting (l.lacking ++ l.settling), both_items (making_token page).item l.lacking l.settling)
       by (at.Journal j) keeps = ap (λ (vs : List Vio). total (making_token page).item (as_items vs)) (journal_keeps_none n z had j keeps)
       by other keeps = refl
 
@@ -136,7 +208,7 @@ module _ (s : Session) (core : Core) (legal : Legal s core) (still : IsStill s.s
       by (at.Logical l) keeps =
           let waiting = no_lock phase.Wait l.waiting refl (kept_in s core.trace (at.Logical l) (own n z had (at.Logical l) keeps).kept).0 in
           let lacking = ap (λ (vs : List Vio). total holder_token.item (as_items vs)) (none_lacks n z had l keeps) in
-          omega (arith, waiting, lacking, both_items holder_token.item l.waiting l.lacking)
+          omega (arith, waiting, lacking, settled holder_token.item n z had l keeps, both_items holder_token.item l.waiting (l.lacking ++ l.settling), both_items holder_token.item l.lacking l.settling)
       by (at.Journal j) keeps = ap (λ (vs : List Vio). total holder_token.item (as_items vs)) (journal_keeps_none n z had j keeps)
       by other keeps = refl
 
@@ -188,7 +260,8 @@ module _ (s : Session) (core : Core) (legal : Legal s core) (still : IsStill s.s
     where
       by : (d : ZoneData) → z.keeps ≡ d → kept_by d ≡ []
       by (at.Desk desk) keeps = none_parked n z had desk keeps
-      by (at.Logical l) keeps = ap (λ (vs : List Vio). vs ++ l.lacking) (none_waits n z had l keeps) ∙ none_lacks n z had l keeps
+      by (at.Logical l) keeps =
+          ap (λ (vs : List Vio). vs ++ (l.lacking ++ l.settling)) (none_waits n z had l keeps) ∙ ap (λ (vs : List Vio). vs ++ l.settling) (none_lacks n z had l keeps) ∙ none_settles n z had l keeps
       by (at.Journal j) keeps = journal_keeps_none n z had j keeps
       by other keeps = refl
 

@@ -1,6 +1,7 @@
 -- Sums over the streams, and over the numbers of a stream; and how many names of requests there are, where none is there twice.
-use Rattle.std.proofs.Common.{◌≡◌, ℕ, zero, suc, ◌+◌, ◌<◌, ◌≤◌, ◌==◌, ◌⊎◌, if◌then◌else◌, List, [], ◌∷◌, length, get_or, refl, subst, inl, inr, arith}
-use Rattle.core_laws.proofs.Common.{AllByRecursion, Script, Writer, bit, eqb_tells, same_self, same_tells, same_writer, total}
+use Rattle.std.proofs.Common.{◌≡◌, ℕ, zero, suc, ◌+◌, ◌<◌, ◌≤◌, ◌==◌, ◌⊎◌, if◌then◌else◌, IsSome, List, [], ◌∷◌, length, get_or, refl, subst, inl, inr, arith}
+use Rattle.std.proofs.lemmas.Option.{slice_get_within}
+use Rattle.core_laws.proofs.Common.{AllByRecursion, Script, Writer, bit, request_at, some_of, eqb_tells, same_self, same_tells, same_writer, total}
 
 -- the sum over the streams below a number
 abbrev pub over : ℕ → (ℕ → ℕ) → ℕ
@@ -80,7 +81,7 @@ module _ {X : Type 0} (name : X → Writer) where
   of_stream bound xs stream = over (bound stream) (λ number. named name (at stream number) xs)
 
   -- each is counted at its number
-  all_named : (k : ℕ) (bound : ℕ → ℕ) (xs : List X) → AllByRecursion (λ x. Inside k bound (name x)) xs → length xs ≤ over k (of_stream bound xs)
+  pub all_named : (k : ℕ) (bound : ℕ → ℕ) (xs : List X) → AllByRecursion (λ x. Inside k bound (name x)) xs → length xs ≤ over k (of_stream bound xs)
   all_named k bound [] inside = omega arith
   all_named k bound (x ∷ xs) inside =
       let rest = all_named k bound xs inside.1 in
@@ -97,3 +98,22 @@ module _ {X : Type 0} (name : X → Writer) where
   names_few k bound xs apart inside =
       let few = over_le k (of_stream bound xs) bound (λ i. over_ones (bound i) (λ n. named name (at i n) xs) (λ n. once (at i n) xs apart)) in
       omega (arith, few, all_named k bound xs inside)
+
+-- The streams of a script.
+
+-- a stream with a request is one of the script
+pub stream_there : (script : Script) (stream : ℕ) → 0 < length (get_or script stream []) → stream < length script
+stream_there [] stream some = absurd (omega (arith, some))
+stream_there (requests ∷ script) zero some = omega arith
+stream_there (requests ∷ script) (suc stream) some = let rest = stream_there script stream some in omega (arith, rest)
+
+-- how many requests a stream of a script has
+abbrev pub requests_of : Script → ℕ → ℕ
+requests_of script stream = length (get_or script stream [])
+
+-- a request of the script stands within its stream
+pub asked_inside : (script : Script) (w : Writer) → IsSome (request_at script w) → Inside (length script) (requests_of script) w
+asked_inside script w some =
+    let r = some_of _ some in
+    let below = slice_get_within (get_or script w.stream []) w.number r.0 r.1 in
+    (stream_there script w.stream (omega (arith, below)), below)

@@ -169,7 +169,7 @@ free_retired at held vs retired free own = λ a among. elim (eqb_tells at.0 a) [
 ]
 
 -- The locks of a zone that has the rest.
-module _ (zone : ℕ) (notified : Bool) (retired : List Lba) (tree : Tree) (making : List PageId) (lacking : List Vio) (unlinkable : List PageId) (slots : List Remapping) where
+module _ (zone : ℕ) (notified : Bool) (retired : List Lba) (tree : Tree) (making : List PageId) (lacking : List Vio) (unlinkable : List PageId) (settling : List Vio) (reported : List Remapping) (slots : List Remapping) where
   abbrev pub shown : List Placed → Holders Vio → LogicalZone
   shown places h = record {
     zone = zone;
@@ -183,6 +183,8 @@ module _ (zone : ℕ) (notified : Bool) (retired : List Lba) (tree : Tree) (maki
     making = making;
     lacking = lacking;
     unlinkable = unlinkable;
+    settling = settling;
+    reported = reported;
     slots = slots;
   }
 

@@ -21,3 +21,4 @@ mod PageRows
 pub mod PageActRows
 mod PageFactRows
 mod SuperblockRows
+mod UseRows

@@ -34,7 +34,7 @@ use Rattle.core_model.specs.declared.zones.SuperblockStage.TheVariants.{AsOpened
 use Rattle.core_model.specs.Superblocks.{superblock_bytes}
 use Rattle.data_vio.specs.Phases.{AtDevice, row, stage_row}
 use Rattle.core_model.specs.PageLinks.{leaf_head}
-use Rattle.core_model.specs.Trace.{Trace, Calls, Fails, Harms, entry_of, first_of}
+use Rattle.core_model.specs.Trace.{Trace, Calls, Fails, Harms, Hears, entry_of, first_of}
 use Rattle.data_vio.specs.Vios.{Post, turned, ended, has_leaf, logged, staged}
 use Rattle.data_vio.specs.Zones.{notified}
 
@@ -56,7 +56,7 @@ abbrev pub notices_after : Bool → Sizes → List Post
 notices_after true sizes = []
 notices_after false sizes = stop_notices (notified sizes)
 
--- a leaf doesn't decode: that stops the session
+-- something is damaged: that stops the session
 abbrev pub harmed : Damage → DeviceZone → DeviceZone
 harmed damage d = record d { stopped = true; damage = first_of d.damage damage }
 
@@ -183,3 +183,9 @@ pub data DeviceWorks (sizes : Sizes) (old : DeviceZone) (b : SealedBlock) (new :
   unmade : (call : Call) (slot : Pbn) (v : Vio) (vs : List Vio) → b.vios ≡ v ∷ vs → call_of sizes b slot false b.stage ≡ Some call → old.stopped ≡ true
       → new ≡ old → made ≡ [] → posts ≡ (id.Journal, item.Block (staged stage.Fail b)) ∷ []
       → DeviceWorks sizes old b new made posts
+
+-- The device's zone is told what another zone found damaged: the session is stopped, where it isn't yet.
+pub record DeviceHears (sizes : Sizes) (old : DeviceZone) (damage : Damage) (new : DeviceZone) (made : Trace) (posts : List Post) : Type 0 where
+  pub new_is : new ≡ harmed damage old
+  pub made_is : made ≡ Hears damage ∷ []
+  pub posts_are : posts ≡ notices_after old.stopped sizes

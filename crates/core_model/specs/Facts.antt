@@ -1,5 +1,5 @@
 -- What a request carries, and what a zone keeps: facts on their own fields and on the trace.
-use Rattle.std.specs.Prelude.{ℕ, ◌+◌, ◌≡◌, ◌⊎◌, ◌<◌, ◌≤◌, Bool, true, false, Option, None, Some, IsNone, List, [], ◌∷◌, ◌++◌, length, drop, map, reverse, slice_get, Contains, if◌then◌else◌}
+use Rattle.std.specs.Prelude.{ℕ, ◌+◌, ◌≡◌, ◌⊎◌, ◌<◌, ◌≤◌, Bool, true, false, Option, None, Some, IsNone, IsTrue, List, [], ◌∷◌, ◌++◌, length, map, reverse, slice_get, Contains, if◌then◌else◌}
 use Rattle.std.specs.List.{AllByRecursion}
 use Rattle.blk_base.specs.declared.place.Lba.{Lba}
 use Rattle.blk_base.specs.declared.place.Mapping.{Mapping}
@@ -44,22 +44,28 @@ use Rattle.core_model.specs.declared.zones.Zone.{Zone}
 use Rattle.core_model.specs.DeskRules.{is_marked, mark_of_vio}
 use Rattle.core_model.specs.DeviceRules.{IsInside, page_at}
 use Rattle.core_model.specs.JournalRules.{is_closed}
-use Rattle.core_model.specs.LogicalRules.{is_among, is_held}
+use Rattle.core_model.specs.LogicalRules.{is_among, is_held, is_reported}
 use Rattle.data_vio.specs.Phases.{row, number_at, stage_row}
-use Rattle.data_vio.specs.Zones.{zone_number, zone_count, notified_zones}
-use Rattle.core_model.specs.RightTraces.{IsLeafy, IsLinkedAt, IsOpen, IsPending, MapsTo, NeedsBlock, Quiet, IsCommitted, AllBelow, HasPlace, HasBelow, HasCause}
-use Rattle.core_model.specs.Sessions.{Session, IsFair, IsFresh, OnBlock, NewReads, NewStands, ReadsAs, AtRest, OnItsWay, ReadsBlock, mapping_by, said_by, value_at}
+use Rattle.data_vio.specs.Zones.{zone_number, zone_count, notified_zones, physical_number, logical_number, device_number}
+use Rattle.core_model.specs.RightTraces.{HearingMayFollow, IsLeafy, IsLinkedAt, IsOpen, IsReported, IsPending, MapsTo, NeedsBlock, Quiet, IsCommitted, AllBelow, HasPlace, HasBelow, HasCause}
+use Rattle.core_model.specs.Sessions.{Session, IsFair, OnBlock, NewReads, NewStands, ReadsAs, AtRest, OnItsWay, ReadsBlock, mapping_by, said_by, value_at}
 use Rattle.block_map_tree.specs.Tree.{Tree, IsLinkable}
 use Rattle.blk_base.specs.Pages.{above}
 use Rattle.blk_base.specs.declared.place.PageId.{PageId}
 use Rattle.image_model.specs.Pages.{is_page, leaf_of}
-use Rattle.core_model.specs.PageLinks.{IsThere, MayLack, page_in}
+use Rattle.core_model.specs.PageLinks.{IsThere, MayLack, block_in, page_in}
 use Rattle.core_model.specs.PageTrees.{IsMapTree, is_listed, link_at, missing_at}
 use Rattle.plain_laws.specs.Sums.{bit, total, Each}
 use Rattle.core_model.specs.Superblocks.{superblock_stage}
 use Rattle.core_model.specs.Tokens.{lock_weight}
-use Rattle.core_model.specs.Trace.{Trace, all_of, filled, sealed, moments, lines, calls, marks, places, journaled, entered, durable, applied, done, dropped, remappings, aborted, taken, has_taken, has_stopped, of_address, newest, logged_of, entry_of, damage_in}
+use Rattle.core_model.specs.Trace.{Trace, all_of, filled, sealed, moments, lines, calls, marks, places, journaled, entered, durable, applied, done, dropped, remappings, aborted, added, strayed, has_taken, has_stopped, of_address, newest, logged_of, entry_of, damage_in}
 use Rattle.data_vio.specs.Vios.{all_logged, asked, logged, request_of, remapping}
+use Rattle.core_model.specs.Uses.{counted, gained, lost, uncounted}
+use Rattle.vdo_model.specs.declared.report.Damage.{Damage}
+use Rattle.zone_counts.specs.ByBlock.{claims_in, counter_in}
+use Rattle.zone_counts.specs.Zone.{IsOfZone, IsZone}
+use Rattle.zone_counts.specs.Zone.{Zone as Counts}
+use Rattle.data_vio.specs.declared.logged.Logged.TheVariants.{Remaps}
 use Rattle.recovery_journal.specs.Log.{Log, head_of}
 
 -- the number of the zone where a phase, and a stage, is done
@@ -85,6 +91,18 @@ pub record IsUnderWay (s : Session) (t : Trace) (w : Writer) (asks : Asks) (at :
 abbrev pub VioOk : Session → Trace → Vio → Type 0
 VioOk s t v = IsUnderWay s t v.request v.asks v.at v.bytes v.home
 
+-- its claim is on the block to which it maps its address, or where its page will stand, in the phases in which it has one
+abbrev pub claim_of : Bool → Mapping → Option Pbn
+claim_of true new = block_in new
+claim_of false new = None
+
+pub record HasClaim (s : Session) (claims : Bool) (claim : Option Pbn) (new : Mapping) : Type 0 where
+  pub claim_is : claim ≡ claim_of claims new
+  pub on_data : IsTrue claims → OnBlock (λ x. IsDataBlock s.sizes.geometry x.0) new
+
+abbrev pub ClaimOk : Session → Vio → Type 0
+ClaimOk s v = HasClaim s (row v.phase).claims v.claim v.new
+
 -- a request for a block: it reads, writes or discards
 abbrev pub IsForBlock : Asks → Type 0
 IsForBlock Flush = ⊥
@@ -96,7 +114,7 @@ IsChange Write = Unit {0}
 IsChange Discard = Unit {0}
 IsChange other = ⊥
 
--- a request for a block that drew no place yet, and took no block
+-- a request for a block that drew no place yet, and claimed no block
 pub record IsUndrawn (t : Trace) (w : Writer) (asks : Asks) : Type 0 where
   pub for_block : IsForBlock asks
   pub unplaced : IsNone (place_of (places t) w)
@@ -161,7 +179,6 @@ pub record HasPendingEntry (s : Session) (t : Trace) (asks : Asks) (bytes : List
   pub pending : IsPending t e
   pub below : AllBelow t e.at.0 e.place
   pub maps : MapsTo asks bytes e.new
-  pub fresh : OnBlock (IsFresh s) e.new
   pub leaf : IsLeafy s t e.at.0
   pub old_data : IsToData s e.old
   pub old_is : IsFair s t → e.old ≡ mapping_by s (applied t) e.at.0
@@ -195,16 +212,16 @@ HasEarned s t m asks r (Some a) = IsEarned s t m r a (is_marked asks a)
 abbrev pub MayReply : Session → Trace → Vio → Option Answer → Type 0
 MayReply s t v answer = HasEarned s t (mark_of_vio v) v.asks (request_of v) answer
 
--- a mapping is to a free data block, or to a block inside the image
-abbrev pub IsToFresh : Session → Mapping → Type 0
-IsToFresh s (At x) = IsFresh s x
-IsToFresh s other = ⊥
+-- a mapping is to a block, or to one inside the image
+abbrev pub IsToBlock : Mapping → Type 0
+IsToBlock (At x) = Unit {0}
+IsToBlock other = ⊥
 
 abbrev pub IsToInside : Session → Mapping → Type 0
 IsToInside s (At x) = IsInside s.sizes x
 IsToInside s other = ⊥
 
--- a write that makes a page: it has the lock of its address, took no block for its data, and lacks the page
+-- a write that makes a page: it has the lock of its address, claimed no block for its data, and lacks the page
 pub record IsMaking (s : Session) (t : Trace) (w : Writer) (asks : Asks) (at : Lba) (bytes : List ℕ) (place : ℕ) (page : PageId) : Type 0 where
   pub turn : HasTurn s t w asks at.0 place
   pub is_write : asks ≡ Write
@@ -227,14 +244,15 @@ pub record HasPageEntry (s : Session) (t : Trace) (e : Logged) (page : PageId) :
 -- what a write carries while it makes a page
 abbrev pub CarriesPage : Session → Trace → Vio → PageId → Phase → Type 0
 CarriesPage s t v page phase.Claim = MakesPage s t v page × IsUnmade s t page
-CarriesPage s t v page phase.Store = MakesPage s t v page × IsUnmade s t page × IsToFresh s v.new
-CarriesPage s t v page phase.Enter = MakesPage s t v page × IsUnmade s t page × IsToFresh s v.new × (IsFair s t → OnBlock (λ x. ReadsAs s t x.0 (page_at s.sizes page x)) v.new)
-CarriesPage s t v page phase.Pending = MakesPage s t v page × IsToFresh s v.new × HasPageEntry s t (logged v) page
-CarriesPage s t v page phase.Settle = MakesPage s t v page × IsToFresh s v.new × HasPageEntry s t (logged v) page × Contains (durable t) (logged v)
+CarriesPage s t v page phase.Store = MakesPage s t v page × IsUnmade s t page × IsToBlock v.new
+CarriesPage s t v page phase.Enter = MakesPage s t v page × IsUnmade s t page × IsToBlock v.new × (IsFair s t → OnBlock (λ x. ReadsAs s t x.0 (page_at s.sizes page x)) v.new)
+CarriesPage s t v page phase.Pending = MakesPage s t v page × IsToBlock v.new × HasPageEntry s t (logged v) page
+CarriesPage s t v page phase.Count = MakesPage s t v page × IsToBlock v.new × HasPageEntry s t (logged v) page × Contains (durable t) (logged v)
+CarriesPage s t v page phase.Settle = MakesPage s t v page × IsToBlock v.new × HasPageEntry s t (logged v) page × Contains (durable t) (logged v) × Contains (added t) (logged v)
 CarriesPage s t v page phase.AbortClaim = MakesPage s t v page × IsUnmade s t page × MayReply s t v v.answer
 CarriesPage s t v page phase.Abort = MakesPage s t v page × IsUnmade s t page × MayReply s t v v.answer
-CarriesPage s t v page phase.AbortEnteredClaim = MakesPage s t v page × IsToFresh s v.new × HasPageEntry s t (logged v) page × MayReply s t v v.answer × (has_stopped t ≡ true)
-CarriesPage s t v page phase.AbortEntered = MakesPage s t v page × IsToFresh s v.new × HasPageEntry s t (logged v) page × MayReply s t v v.answer × (has_stopped t ≡ true)
+CarriesPage s t v page phase.AbortEnteredClaim = MakesPage s t v page × IsToBlock v.new × HasPageEntry s t (logged v) page × MayReply s t v v.answer × (has_stopped t ≡ true)
+CarriesPage s t v page phase.AbortEntered = MakesPage s t v page × IsToBlock v.new × HasPageEntry s t (logged v) page × MayReply s t v v.answer × (has_stopped t ≡ true)
 CarriesPage s t v page other = ⊥
 
 -- What a request carries in each phase, while it is about its own address.
@@ -245,10 +263,11 @@ CarriesOwn s t v phase.Look = IsInTurn s t v × (has_taken t v.request ≡ false
 CarriesOwn s t v phase.LoadLeaf = IsInTurn s t v × (has_taken t v.request ≡ false) × NeedsLeaf s t v.at.0 v.leaf v.latest
 CarriesOwn s t v phase.LoadedLeaf = HasLeaf s t v.request v.asks v.at.0 v.place v.old v.latest × (has_taken t v.request ≡ false)
 CarriesOwn s t v phase.Claim = Holds s t v × (v.asks ≡ Write) × NeedsBlock t v.request v.bytes × IsLeafy s t v.at.0
-CarriesOwn s t v phase.Store = Holds s t v × (v.asks ≡ Write) × IsToFresh s v.new × IsLeafy s t v.at.0
-CarriesOwn s t v phase.Enter = Holds s t v × MapsTo v.asks v.bytes v.new × OnBlock (IsFresh s) v.new × (IsFair s t → OnBlock (λ x. ReadsAs s t x.0 v.bytes) v.new) × IsLeafy s t v.at.0
+CarriesOwn s t v phase.Store = Holds s t v × (v.asks ≡ Write) × IsToBlock v.new × IsLeafy s t v.at.0
+CarriesOwn s t v phase.Enter = Holds s t v × MapsTo v.asks v.bytes v.new × (IsFair s t → OnBlock (λ x. ReadsAs s t x.0 v.bytes) v.new) × IsLeafy s t v.at.0
 CarriesOwn s t v phase.Pending = HasPendingEntry s t v.asks v.bytes (remapping v)
-CarriesOwn s t v phase.Settle = IsEntered s t v × IsCommitted t (remapping v) × AllBelow t v.at.0 v.place × OnBlock (IsFresh s) v.new × IsLeafy s t v.at.0
+CarriesOwn s t v phase.Count = IsEntered s t v × IsCommitted t (remapping v) × AllBelow t v.at.0 v.place × IsToBlock v.new × IsLeafy s t v.at.0
+CarriesOwn s t v phase.Settle = IsEntered s t v × IsCommitted t (remapping v) × AllBelow t v.at.0 v.place × OnBlock (λ x. IsDataBlock s.sizes.geometry x.0 × Contains (added t) (Remaps (remapping v))) v.new × IsLeafy s t v.at.0
 CarriesOwn s t v phase.Load = Looks s t v × IsToInside s v.old
 CarriesOwn s t v phase.Loaded = Looks s t v × (IsFair s t → v.bytes ≡ value_at s t v.at.0)
 CarriesOwn s t v phase.AbortClaim = IsInTurn s t v × MayReply s t v v.answer
@@ -287,15 +306,33 @@ StandsAt s t vios at stage.Fail = (k : IsSealed s t vios at) × (IsFair s t → 
 
 -- a request that a zone keeps, or that is in a block, is in one phase
 abbrev pub KeptOk : Session → Trace → Phase → Vio → Type 0
-KeptOk s t one v = VioOk s t v × Carries s t v v.phase × (v.phase ≡ one)
+KeptOk s t one v = VioOk s t v × Carries s t v v.phase × (v.phase ≡ one) × ClaimOk s v
 
 -- each request of a block has its entry there, this stands on the device, and all blocks of the window are needed yet
 abbrev pub BlockOk : Session → Trace → SealedBlock → Type 0
 BlockOk s t b = AllByRecursion (KeptOk s t phase.Pending) b.vios × StandsAt s t b.vios b.sequence b.stage × (b.head ≡ s.sizes.start)
 
+-- A decrement is that of a committed entry, which replaces the mapping to a data block; a report says that it was taken.
+pub record IsDecrement (s : Session) (t : Trace) (e : Remapping) : Type 0 where
+  pub committed : Contains (durable t) (Remaps e)
+  pub block : Pbn
+  pub old_is : e.old ≡ At block
+  pub is_data : IsDataBlock s.sizes.geometry block.0
+
+pub record IsReport (s : Session) (t : Trace) (e : Remapping) : Type 0 where
+  pub decrement : IsDecrement s t e
+  pub reported : IsReported t e
+
+-- what the device's zone is told is the damage of a decrement that found 0
+abbrev pub IsTold : Trace → Damage → Type 0
+IsTold t damage = HearingMayFollow damage t
+
 -- an item in a lane to the zone of this number
 abbrev pub ItemOk : Session → Trace → ℕ → Item → Type 0
-ItemOk s t to (item.Request v) = VioOk s t v × Carries s t v v.phase × (to ≡ zone_at s.sizes v.home v.phase)
+ItemOk s t to (item.Request v) = VioOk s t v × Carries s t v v.phase × (to ≡ zone_at s.sizes v.home v.phase) × ClaimOk s v
+ItemOk s t to (item.Decrement e) = IsDecrement s t e × (to ≡ physical_number s.sizes)
+ItemOk s t to (item.Report e) = IsReport s t e × (to ≡ logical_number (zone_of s.sizes.zones e.at.0))
+ItemOk s t to (item.Damage damage) = IsTold t damage × (to ≡ device_number s.sizes)
 ItemOk s t to (item.Block b) = BlockOk s t b × (to ≡ zone_of_stage s.sizes b.stage)
 ItemOk s t to item.StopNotice = (has_stopped t ≡ true) × (to ≤ notified_zones s.sizes)
 
@@ -307,7 +344,7 @@ Rises (v ∷ behind) = AllByRecursion (λ w. v.place < w.place) behind × Rises 
 -- this holds of each request that a zone keeps, with the phase that it is in
 abbrev pub KeptEach : (Phase → Vio → Type 0) → ZoneData → Type 0
 KeptEach P (at.Desk desk) = AllByRecursion (P phase.Reply) desk.parked
-KeptEach P (at.Logical l) = AllByRecursion (P phase.Wait) l.waiting × AllByRecursion (P phase.Look) l.lacking
+KeptEach P (at.Logical l) = AllByRecursion (P phase.Wait) l.waiting × AllByRecursion (P phase.Look) l.lacking × AllByRecursion (P phase.Settle) l.settling
 KeptEach P (at.Journal j) = AllByRecursion (P phase.Pending) j.filling × AllByRecursion (P phase.Enter) j.waiting
 KeptEach P other = Unit {0}
 
@@ -324,7 +361,11 @@ pub record DeskLists (t : Trace) (desk : Desk) : Type 0 where
   pub log_is : desk.log ≡ lines t
   pub marks_is : desk.marks ≡ marks t
 
-pub record LogicalLists (s : Session) (t : Trace) (zone next : ℕ) (placed : List Placed) (slots : List Remapping) (tree : Tree) : Type 0 where
+-- a report that was kept is of an address of the zone
+abbrev pub ReportOk : Session → Trace → ℕ → Remapping → Type 0
+ReportOk s t zone e = IsReport s t e × (zone_of s.sizes.zones e.at.0 ≡ zone)
+
+pub record LogicalLists (s : Session) (t : Trace) (zone next : ℕ) (placed : List Placed) (slots reported : List Remapping) (tree : Tree) : Type 0 where
   pub places_is : placed ≡ places_in zone (places t)
   pub next_is : next ≡ drawn zone (places t)
   pub slots_are : (a : ℕ) → zone_of s.sizes.zones a ≡ zone → of_address a slots ≡ of_address a (remappings (applied t))
@@ -332,10 +373,14 @@ pub record LogicalLists (s : Session) (t : Trace) (zone next : ℕ) (placed : Li
   pub below : (a : ℕ) → zone_of s.sizes.zones a ≡ zone → AllBelow t a next
   -- its trees have the pages that are linked
   pub tree_is : IsMapTree s.sizes.geometry zone s.sizes.zones s.links (applied t) tree
+  pub reports_are : AllByRecursion (ReportOk s t zone) reported
 
+-- The counters of a physical zone are those of the opened image with the updates that were taken; and each use of its blocks, by a
+-- mapping or a claim, is one of the trace.
 pub record PhysicalLists (s : Session) (t : Trace) (p : PhysicalZone) : Type 0 where
-  -- those that weren't taken
-  pub left : p.free ≡ drop (taken t) s.free
+  pub counters : (x : Pbn) → IsOfZone p.counts x → counter_in x p.counts.slabs + uncounted t x ≡ counted s t x
+  pub uses : (x : Pbn) → IsOfZone p.counts x → counter_in x p.counts.slabs + claims_in x p.counts.slabs + lost t x ≡ gained s t x
+  pub strays_are : p.strays ≡ strayed t
 
 -- The log has the entries of the blocks that were sealed, and of the one being filled, in their order. No zone lets go of an
 -- entry, so its head is the first sequence.
@@ -366,7 +411,7 @@ pub record DeviceLists (t : Trace) (d : DeviceZone) : Type 0 where
 
 abbrev pub HasLists : Session → Trace → ZoneData → Type 0
 HasLists s t (at.Desk desk) = DeskLists t desk
-HasLists s t (at.Logical l) = LogicalLists s t l.zone l.next l.places l.slots l.tree
+HasLists s t (at.Logical l) = LogicalLists s t l.zone l.next l.places l.slots l.reported l.tree
 HasLists s t (at.Physical p) = PhysicalLists s t p
 HasLists s t (at.Journal j) = JournalLists s t j
 HasLists s t (at.Device d) = DeviceLists t d
@@ -424,16 +469,36 @@ pub record PagesOk (zone : ℕ) (tree : Tree) (making : List PageId) (lacking : 
   pub waits : AllByRecursion (Awaits tree making) lacking
   pub at_home : AllByRecursion (λ v. v.home ≡ id.Logical zone) lacking
 
+-- who waits for the report of its decrement: its home is here, its entry replaces a block, and that report didn't come
+pub record AwaitsReport (zone : ℕ) (reported : List Remapping) (v : Vio) : Type 0 where
+  pub at_home : v.home ≡ id.Logical zone
+  pub own : v.page ≡ None
+  pub replaces : IsToBlock v.old
+  pub none : is_reported v.request reported ≡ false
+
 pub record IsSoundLogical (s : Session) (l : LogicalZone) : Type 0 where
   pub among : l.zone < s.sizes.zones
   pub map : MapOk s l.slots
   pub locks : LocksOk s l.zone l.next l.held l.waiting
   pub pages : PagesOk l.zone l.tree l.making l.lacking
+  pub reports : AllByRecursion (AwaitsReport l.zone l.reported) l.settling
+
+-- While nothing is shared, a block on which there is a claim has no mapping and no other claim.
+abbrev pub AreFirstClaims : Counts → Type 0
+AreFirstClaims z = (x : Pbn) → 0 < claims_in x z.slabs → (counter_in x z.slabs ≡ 0) × (claims_in x z.slabs ≡ 1)
+
+-- It has all slabs of the image, and no ticket is out.
+pub record IsSoundPhysical (s : Session) (p : PhysicalZone) : Type 0 where
+  pub is_zone : IsZone p.counts
+  pub geometry : p.counts.geometry ≡ s.sizes.geometry
+  pub zones : p.counts.zones ≡ 1
+  pub no_ticket : p.counts.desk.out ≡ []
+  pub first_claims : AreFirstClaims p.counts
 
 abbrev pub IsSound : Session → ZoneData → Type 0
 IsSound s (at.Desk desk) = IsSoundDesk s desk
 IsSound s (at.Logical l) = IsSoundLogical s l
-IsSound s (at.Physical p) = AllByRecursion (IsFresh s) p.free
+IsSound s (at.Physical p) = IsSoundPhysical s p
 -- the block being filled has no more entries than a block may; while no block goes round none is filled, and nobody waits
 IsSound s (at.Journal j) = (length j.filling ≤ 192) × (j.busy ≡ false → IsUnused j.filling j.waiting)
 IsSound s other = Unit {0}

@@ -1,6 +1,9 @@
 -- What the journal does: entries are handed in, sealed and committed.
-use Rattle.std.specs.Prelude.{◌+◌, ◌≡◌, ◌<◌, Bool, true, false, ◌||◌, List, [], ◌∷◌, ◌++◌, length, nat_lt}
+use Rattle.std.specs.Prelude.{◌+◌, ◌≡◌, ◌<◌, Bool, true, false, ◌||◌, Option, None, List, [], ◌∷◌, ◌++◌, length, nat_lt}
 use Rattle.blk_base.specs.declared.journal_entry.Entry.{Entry}
+use Rattle.blk_base.specs.declared.place.Mapping.{Mapping}
+use Rattle.blk_base.specs.declared.place.Mapping.TheVariants.{At}
+use Rattle.blk_base.specs.declared.place.PageId.{PageId}
 use Rattle.blk_base.specs.declared.place.ZoneId.TheVariants as id
 use Rattle.blk_base.specs.declared.request.Answer.{Answer}
 use Rattle.blk_base.specs.declared.request.Answer.TheVariants as reply
@@ -10,10 +13,11 @@ use Rattle.data_vio.specs.declared.items.SealedBlock.{SealedBlock}
 use Rattle.data_vio.specs.declared.items.Stage.{Stage}
 use Rattle.data_vio.specs.declared.items.Stage.TheVariants as stage
 use Rattle.data_vio.specs.declared.items.Vio.{Vio}
+use Rattle.data_vio.specs.declared.logged.Remapping.{Remapping}
 use Rattle.data_vio.specs.declared.sizes.Sizes.{Sizes}
 use Rattle.core_model.specs.JournalData.{JournalZone}
 use Rattle.core_model.specs.Trace.{Trace, Enters, Seals, Commits, entry_of}
-use Rattle.data_vio.specs.Vios.{Post, turned, ended, logged}
+use Rattle.data_vio.specs.Vios.{Post, turned, ended, logged, remapping}
 use Rattle.recovery_journal.specs.Log.{Log, head_of, placed}
 
 -- no entry is handed in any more
@@ -112,15 +116,24 @@ pub data JournalServes (sizes : Sizes) (old : JournalZone) (v : Vio) (new : Jour
       → new ≡ record (entered_by v old) { busy = true } → made ≡ Enters (logged v) ∷ [] → posts ≡ (id.Journal, item.Block (next_block old stage.Commit [])) ∷ []
       → JournalServes sizes old v new made posts
 
--- a committed entry goes to its slot
-abbrev pub hands_out : Vio → Post
-hands_out v = (v.home, item.Request (turned phase.Settle v))
+-- A committed entry that has a block goes to be counted, else to its slot. What it replaces, where that has a block, is a decrement,
+-- which goes behind it.
+abbrev pub hands_to : Vio → Mapping → Post
+hands_to v (At x) = (id.Physical 0, item.Request (turned phase.Count v))
+hands_to v other = (v.home, item.Request (turned phase.Settle v))
+
+abbrev pub decrement_for : Option PageId → Remapping → Mapping → List Post
+decrement_for None e (At x) = (id.Physical 0, item.Decrement e) ∷ []
+decrement_for page e other = []
+
+abbrev pub hands_out : Vio → List Post
+hands_out v = hands_to v v.new ∷ decrement_for v.page (remapping v) v.old
 
 pub data JournalEnds (sizes : Sizes) (old : JournalZone) (b : SealedBlock) (new : JournalZone) (made : Trace) (posts : List Post) : Type 0 where
   -- the oldest entry of the block is committed
   commits : (v : Vio) (vs : List Vio) → b.stage ≡ stage.Commit → b.vios ≡ v ∷ vs → HasNext old.log
       → new ≡ committed_by v old → made ≡ Commits (logged v) ∷ []
-      → posts ≡ hands_out v ∷ (id.Journal, item.Block (record b { vios = vs })) ∷ []
+      → posts ≡ hands_out v ++ (id.Journal, item.Block (record b { vios = vs })) ∷ []
       → JournalEnds sizes old b new made posts
   -- all are: the next block is sealed, or there is none
   seals : (v : Vio) (vs : List Vio) → b.stage ≡ stage.Commit → b.vios ≡ [] → old.filling ≡ v ∷ vs → IsSealable old.log

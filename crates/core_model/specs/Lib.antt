@@ -5,6 +5,7 @@ pub mod DeskCounts
 pub mod PageLinks
 pub mod PageTrees
 pub mod Trace
+pub mod CountUpdates
 pub mod Superblocks
 pub mod LogicalData
 pub mod JournalData
@@ -19,11 +20,13 @@ pub mod PortsData
 pub mod Steps
 pub mod Tokens
 pub mod Sessions
+pub mod Uses
 pub mod RightTraces
 pub mod Reports
 pub mod Facts
 pub mod Streams
 pub mod Arrivals
+pub mod UpdateStream
 pub mod Limits
 pub mod Legal
 pub mod Views

@@ -7,6 +7,7 @@ use Rattle.core_model.specs.DeskLines.{AreBegunFirst, is_answer, is_begin}
 use Rattle.core_model.specs.declared.zones.ZoneData.{ZoneData}
 use Rattle.core_model.specs.declared.zones.ZoneData.TheVariants as at
 use Rattle.core_model.specs.declared.zones.DeviceZone.{DeviceZone}
+use Rattle.core_model.specs.declared.zones.PhysicalZone.{PhysicalZone}
 use Rattle.core_model.specs.JournalData.{JournalZone}
 use Rattle.core_model.specs.LogicalData.{LogicalZone}
 use Rattle.core_model.specs.declared.zones.Zone.{Zone}
@@ -40,6 +41,8 @@ pub record IsLogicalWithin (steps : ℕ) (l : LogicalZone) : Type 0 where
   pub making : IsShort l.making
   pub lacking : IsShort l.lacking
   pub unlinkable : length l.unlinkable ≤ most_entries
+  pub settling : IsShort l.settling
+  pub reported : IsShort l.reported
 
 -- Those of the journal: each request hands in one entry for its address at most, and one for each page of its path. The sequence of the block being filled can be spelled.
 pub record IsJournalWithin (j : JournalZone) : Type 0 where
@@ -49,6 +52,10 @@ pub record IsJournalWithin (j : JournalZone) : Type 0 where
   pub entered : length j.entered ≤ most_entries
   pub committed : length j.committed ≤ most_entries
 
+-- The physical zone keeps the entries whose decrement found 0: each request has one at most.
+abbrev pub IsPhysicalWithin : PhysicalZone → Type 0
+IsPhysicalWithin p = length p.strays ≤ most_requests
+
 -- The device's zone makes one call a step at most.
 abbrev pub IsDeviceWithin : ℕ → DeviceZone → Type 0
 IsDeviceWithin steps d = d.calls ≤ steps
@@ -57,9 +64,9 @@ IsDeviceWithin steps d = d.calls ≤ steps
 abbrev pub IsDataWithin : ℕ → ZoneData → Type 0
 IsDataWithin steps (at.Desk desk) = IsDeskWithin desk
 IsDataWithin steps (at.Logical l) = IsLogicalWithin steps l
+IsDataWithin steps (at.Physical p) = IsPhysicalWithin p
 IsDataWithin steps (at.Journal j) = IsJournalWithin j
 IsDataWithin steps (at.Device d) = IsDeviceWithin steps d
-IsDataWithin steps other = Unit {0}
 
 -- A zone keeps within its room.
 pub record IsWithin (z : Zone) : Type 0 where

@@ -9,7 +9,12 @@ use Rattle.block_map_tree.specs.Tree.{Links}
 use Rattle.blk_base.specs.declared.place.Mapping.TheVariants.{Unmapped, Zero, At}
 use Rattle.blk_base.specs.declared.place.ZoneId.TheVariants as id
 use Rattle.blk_base.specs.declared.request.Answer.TheVariants as reply
+use Rattle.blk_base.specs.declared.request.Writer.{Writer}
+use Rattle.vdo_model.specs.Scripts.{same_writer}
 use Rattle.vdo_model.specs.declared.report.Placed.{Placed}
+use Rattle.core_model.specs.PageLinks.{block_in}
+use Rattle.plain_laws.specs.Firsts.{but_first}
+use Rattle.std.specs.List.{find}
 use Rattle.data_vio.specs.declared.items.Asks.{Asks}
 use Rattle.data_vio.specs.declared.items.Asks.TheVariants.{Read, Write, Discard, Flush}
 use Rattle.data_vio.specs.declared.items.Item.TheVariants as item
@@ -187,6 +192,35 @@ dropped page l = record (unmade page l) { unlinkable = l.unlinkable ++ page ∷ 
 abbrev pub with_slot : LogicalZone → Vio → LogicalZone
 with_slot l v = record l { slots = remapping v ∷ l.slots }
 
+-- Whether the report of the decrement of a request came before it; the reports without it; the request that waits for its report;
+-- and those that wait without it.
+abbrev pub is_reported : Writer → List Remapping → Bool
+is_reported w reported = is_some (find (λ e. same_writer e.request w) reported)
+
+abbrev pub without_report : Writer → List Remapping → List Remapping
+without_report w reported = but_first (λ e. same_writer e.request w) reported
+
+abbrev pub settling_of : Writer → List Vio → Option Vio
+settling_of w settling = find (λ v. same_writer v.request w) settling
+
+abbrev pub without_settling : Writer → List Vio → List Vio
+without_settling w settling = but_first (λ v. same_writer v.request w) settling
+
+-- a request waits for the report of its decrement: its entry replaces a block, and that report didn't come yet
+abbrev pub awaits_report : LogicalZone → Vio → Bool
+awaits_report l v = is_some (block_in v.old) && not (is_reported v.request l.reported)
+
+-- the reports that are left once its slot is set: that of its own decrement goes
+abbrev pub reports_left : Vio → List Remapping → List Remapping
+reports_left v reported = if is_some (block_in v.old) then without_report v.request reported else reported
+
+-- its slot is set, and its lock passed on
+abbrev pub settled : LogicalZone → Vio → LogicalZone
+settled l v = released v.at.0 (with_slot l v)
+
+abbrev pub settled_posts : LogicalZone → Vio → List Post
+settled_posts l v = (id.Desk, item.Request (ended phase.Reply reply.Ok v)) ∷ granted v.at.0 l
+
 pub data LogicalServes (sizes : Sizes) (old : LogicalZone) (v : Vio) (new : LogicalZone) (made : Trace) (posts : List Post) : Type 0 where
   -- it draws its place: its address is never released, or free, or held
   arrives_retired : v.phase ≡ phase.Arrive → is_among v.at.0 old.retired ≡ true
@@ -238,10 +272,12 @@ pub data LogicalServes (sizes : Sizes) (old : LogicalZone) (v : Vio) (new : Logi
       → new ≡ woken between → made ≡ Sets (logged v) ∷ []
       → posts ≡ (v.home, item.Request (vios.made v)) ∷ all_again old.lacking
       → LogicalServes sizes old v new made posts
-  -- its slot is set
-  settles : v.phase ≡ phase.Settle → v.page ≡ None
-      → new ≡ released v.at.0 (with_slot old v) → made ≡ Sets (logged v) ∷ []
-      → posts ≡ (id.Desk, item.Request (ended phase.Reply reply.Ok v)) ∷ granted v.at.0 old
+  -- its slot is set; or it waits for the report of its decrement
+  settles : v.phase ≡ phase.Settle → v.page ≡ None → awaits_report old v ≡ false
+      → new ≡ settled (record old { reported = reports_left v old.reported }) v → made ≡ Sets (logged v) ∷ [] → posts ≡ settled_posts old v
+      → LogicalServes sizes old v new made posts
+  awaits : v.phase ≡ phase.Settle → v.page ≡ None → awaits_report old v ≡ true
+      → new ≡ record old { settling = old.settling ++ v ∷ [] } → made ≡ [] → posts ≡ []
       → LogicalServes sizes old v new made posts
   -- it is given its bytes
   gives : v.phase ≡ phase.Loaded
@@ -268,3 +304,12 @@ pub data LogicalServes (sizes : Sizes) (old : LogicalZone) (v : Vio) (new : Logi
       → new ≡ retire v.at.0 old → made ≡ Aborts (logged v) ∷ []
       → posts ≡ (id.Desk, item.Request (turned phase.Reply v)) ∷ all_stopped (all_for v.at.0 old.waiting)
       → LogicalServes sizes old v new made posts
+
+-- The report of a decrement comes: the slot of its request is set, which waits for it; or it is kept until that comes.
+pub data LogicalHears (sizes : Sizes) (old : LogicalZone) (e : Remapping) (new : LogicalZone) (made : Trace) (posts : List Post) : Type 0 where
+  settles : (v : Vio) → settling_of e.request old.settling ≡ Some v
+      → new ≡ settled (record old { settling = without_settling e.request old.settling }) v → made ≡ Sets (logged v) ∷ [] → posts ≡ settled_posts old v
+      → LogicalHears sizes old e new made posts
+  keeps : settling_of e.request old.settling ≡ None
+      → new ≡ record old { reported = old.reported ++ e ∷ [] } → made ≡ [] → posts ≡ []
+      → LogicalHears sizes old e new made posts

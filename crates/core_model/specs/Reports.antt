@@ -13,6 +13,7 @@ use Rattle.vdo_model.specs.declared.report.RunReport.{RunReport}
 use Rattle.data_vio.specs.declared.logged.Remapping.{Remapping}
 use Rattle.core_model.specs.Sessions.{Session, opened_image}
 use Rattle.core_model.specs.Superblocks.{superblock_bytes}
+use Rattle.core_model.specs.Uses.{data_blocks, used_at}
 use Rattle.core_model.specs.Trace.{Trace, lines, marks, places, damage_in, entered, done, logged_of}
 use Rattle.image_model.specs.Windows.{IsWindow}
 use Rattle.image_model.specs.Looked.{is_looked_at}
@@ -50,6 +51,8 @@ report_of s t = record {
   places = listed_places s t;
   histories = histories_of s.script (lines t) (progress_of t) (listed_places s t);
   damage = damage_in t;
+  used = used_at s t;
+  total = data_blocks s.sizes.geometry;
 }
 
 -- an image has a window, with which its addresses have these values

@@ -1,5 +1,5 @@
 -- A right trace: each happening may follow those before it, and at each moment a stop leaves what it may.
-use Rattle.std.specs.Prelude.{ℕ, ◌+◌, ◌≡◌, ◌≢◌, ◌⊎◌, ◌<◌, ◌≤◌, Bool, true, false, Option, None, Some, IsNone, IsSome, List, [], ◌∷◌, ◌++◌, length, slice_get, Contains}
+use Rattle.std.specs.Prelude.{ℕ, ◌+◌, ◌≡◌, ◌≢◌, ◌⊎◌, ◌<◌, ◌≤◌, Bool, true, false, Option, None, Some, IsNone, IsSome, List, [], ◌∷◌, ◌++◌, length, Contains}
 use Rattle.std.specs.List.{AllByRecursion}
 use Rattle.blk_base.specs.Regions.{IsDataBlock}
 use Rattle.blk_base.specs.declared.place.Lba.{Lba}
@@ -33,10 +33,14 @@ use Rattle.core_model.specs.PageLinks.{IsThere, Lacks, MayLack, leaf_head, page_
 use Rattle.blk_base.specs.Pages.{above}
 use Rattle.data_vio.specs.declared.items.Asks.{Asks}
 use Rattle.data_vio.specs.declared.items.Asks.TheVariants as asks
+use Rattle.vdo_model.specs.declared.report.Damage.{Damage}
+use Rattle.vdo_model.specs.declared.report.Damage.TheVariants.{Stray}
+use Rattle.core_model.specs.CountUpdates.{Increment, Decrement, IsNextUpdate}
 use Rattle.core_model.specs.Superblocks.{IsInOrder, superblock_stage}
-use Rattle.core_model.specs.Sessions.{IsFair, IsFresh, OnBlock, Session, Shown, mapping_by, value_at}
+use Rattle.core_model.specs.Sessions.{IsFair, OnBlock, Session, Shown, mapping_by, value_at}
+use Rattle.core_model.specs.Uses.{IsFreeAt, NoneFree, counted, gained, lost, uncounted}
 use Rattle.data_vio.specs.Vios.{asked}
-use Rattle.core_model.specs.Trace.{Happening, Says, Flushes, Draws, Enters, Passes, Seals, Commits, Sets, Gives, Takes, Aborts, Calls, Fails, Harms, Trace, Gift, moments, lines, places, journaled, entered, new_of, remappings, filled, sealed, all_of, durable, committed, applied, done, dropped, aborted, gifts, taken, has_taken, is_read, is_ok, has_stopped, has_read_fault, is_harmed, of_address, logged_of, request_in, gift_of}
+use Rattle.core_model.specs.Trace.{Happening, Says, Flushes, Draws, Enters, Passes, Seals, Commits, Sets, Gives, Takes, Drops, Adds, Removes, Strays, Hears, Aborts, Calls, Fails, Harms, Trace, Gift, added, removed, strayed, moments, lines, places, journaled, entered, new_of, remappings, filled, sealed, all_of, durable, committed, applied, done, dropped, aborted, gifts, has_taken, is_read, is_ok, has_stopped, has_read_fault, is_harmed, of_address, logged_of, request_in, gift_of}
 
 -- a request is begun and not answered
 pub record IsOpen (t : Trace) (w : Writer) : Type 0 where
@@ -96,27 +100,18 @@ pub record FollowsAbort (s : Session) (t : Trace) (w : Writer) (a : ℕ) : Type 
 abbrev pub HasFullJournal : Session → Trace → Type 0
 HasFullJournal s t = s.sizes.geometry.journal ≤ length (sealed t) + 1
 
--- a write of these bytes needs a data block and took none
+-- a write of these bytes needs a data block and claimed none
 pub record NeedsBlock (t : Trace) (w : Writer) (bytes : List ℕ) : Type 0 where
   pub not_zeros : bytes ≢ zero_block
   pub none_taken : has_taken t w ≡ false
 
--- one needs a data block, and all are taken
-abbrev pub HasNoBlock : Session → Trace → Writer → List ℕ → Type 0
-HasNoBlock s t w bytes = NeedsBlock t w bytes × (length s.free ≤ taken t)
-
--- at one moment since a write had its place, a page of the path of its address wasn't there, and all blocks were taken
-pub record HasNoPage (s : Session) (t : Trace) (w : Writer) (a : ℕ) : Type 0 where
+-- at one moment since a request had its place no data block was free
+pub record HadNoFree (s : Session) (t : Trace) (w : Writer) : Type 0 where
   pub newer : Trace
   pub older : Trace
   pub moment : t ≡ newer ++ older
   pub placed : IsSome (place_of (places older) w)
-  pub lacking : Lacks s.sizes.geometry.height s.links (applied older) a
-  pub all_taken : length s.free ≤ taken older
-
--- a write has no place in the journal, or no data block, or none for a page of its path
-abbrev pub IsFull : Session → Trace → Writer → ℕ → List ℕ → Type 0
-IsFull s t w a bytes = HasFullJournal s t ⊎ HasNoBlock s t w bytes ⊎ HasNoPage s t w a
+  pub none_free : NoneFree s older
 
 -- a write or a discard has its place, and no entry of it was handed in; the read of the leaf of its address had this fault
 abbrev pub HasNoLeaf : Trace → Writer → Bool → Type 0
@@ -133,13 +128,15 @@ HasCause s t w (request.Read at) reply.ReadFault = IsSome (place_of (places t) w
 HasCause s t w (request.Read at) reply.Damaged = IsSome (place_of (places t) w) × (is_harmed t w ≡ true)
 HasCause s t w (request.Read at) other = ⊥
 -- a write: its slot was set; its address isn't below the logical size; the session is stopped, and its slot isn't set; the read of
--- the leaf of its address failed, or that doesn't decode; no block is left for it
+-- the leaf of its address failed, or that doesn't decode; no data block was free for it, or for a page of its path; no block of the
+-- journal is left for it
 HasCause s t w (request.Write at bytes fua) reply.Ok = IsSome (logged_of (done t) w)
 HasCause s t w (request.Write at bytes fua) reply.Range = s.sizes.geometry.logical ≤ at.0
 HasCause s t w (request.Write at bytes fua) reply.Stopped = (has_stopped t ≡ true) × IsSome (place_of (places t) w) × IsNone (logged_of (done t) w)
 HasCause s t w (request.Write at bytes fua) reply.ReadFault = HasNoLeaf t w (has_read_fault t w)
 HasCause s t w (request.Write at bytes fua) reply.Damaged = HasNoLeaf t w (is_harmed t w)
-HasCause s t w (request.Write at bytes fua) reply.Full = IsSome (place_of (places t) w) × IsNone (logged_of (entered t) w) × IsFull s t w at.0 bytes
+HasCause s t w (request.Write at bytes fua) reply.NoSpace = IsSome (place_of (places t) w) × IsNone (logged_of (entered t) w) × HadNoFree s t w
+HasCause s t w (request.Write at bytes fua) reply.Full = IsSome (place_of (places t) w) × IsNone (logged_of (entered t) w) × HasFullJournal s t
 HasCause s t w (request.Write at bytes fua) other = ⊥
 -- a discard: the same, but that it needs no data block
 HasCause s t w (request.Discard at) reply.Ok = IsSome (logged_of (done t) w)
@@ -189,6 +186,16 @@ IsLeafy s t a = IsThere s.sizes.geometry.height s.links (applied t) (leaf_of a)
 abbrev pub AreElsewhere : ℕ → List Logged → Type 0
 AreElsewhere x es = AllByRecursion (λ (e : Logged). OnBlock (λ y. x ≢ y.0) (new_of e)) es
 
+-- Nobody maps a block: no address is mapped to it by the committed entries over the opened image, no entry behind these names it,
+-- and no page stands there. So no list of entries that has the committed ones, and some of those behind them, maps it.
+pub record IsUnused (s : Session) (t : Trace) (x : Pbn) : Type 0 where
+  pub newer : List Logged
+  pub parts : journaled t ≡ newer ++ durable t
+  pub unmapped : (a : ℕ) → OnBlock (λ y. x.0 ≢ y.0) (mapping_by s (durable t) a)
+  pub unnamed : AreElsewhere x.0 newer
+  pub no_page : (page : PageId) (y : Pbn) → page.level + 1 < s.sizes.geometry.height → s.links page ≡ Some y → x.0 ≢ y.0
+  pub no_new_page : (p : NewPage) → Contains (durable t) (Makes p) → x.0 ≢ p.at.0
+
 -- an entry may be handed in, be committed, and be done
 pub record EntryMayFollow (s : Session) (e : Remapping) (t : Trace) : Type 0 where
   pub is_open : IsOpen t e.request
@@ -199,10 +206,10 @@ pub record EntryMayFollow (s : Session) (e : Remapping) (t : Trace) : Type 0 whe
   -- a block of the journal is left for it, and that has room
   pub left : length (sealed t) + 1 < s.sizes.geometry.journal
   pub room : length (filled t) < 192
-  -- it maps its address to a data block that was free when the session began, or to none
-  pub new_data : OnBlock (IsFresh s) e.new
-  -- no entry named that before, and the page that has its slot is there
-  pub unused : OnBlock (λ x. AreElsewhere x.0 (journaled t)) e.new
+  -- it maps its address to a data block, or to none
+  pub new_data : OnBlock (λ x. IsDataBlock s.sizes.geometry x.0) e.new
+  -- which nobody maps, where the session is fair; and the page that has its slot is there
+  pub unused : IsFair s t → OnBlock (IsUnused s t) e.new
   pub leaf : IsLeafy s t e.at.0
   -- it says what it replaces: a data block, or none; where the session is fair, what its address is mapped to by the committed entries
   pub old_data : OnBlock (λ x. IsDataBlock s.sizes.geometry x.0) e.old
@@ -218,9 +225,9 @@ pub record PageMayFollow (s : Session) (p : NewPage) (t : Trace) : Type 0 where
   -- a block of the journal is left for it, and that has room
   pub left : length (sealed t) + 1 < s.sizes.geometry.journal
   pub room : length (filled t) < 192
-  -- it stands at a data block that was free when the session began, and that no entry named before
-  pub new_data : IsFresh s p.at
-  pub unused : AreElsewhere p.at.0 (journaled t)
+  pub new_data : IsDataBlock s.sizes.geometry p.at.0
+  -- which nobody maps, where the session is fair
+  pub unused : IsFair s t → IsUnused s t p.at
 
 pub record CommitMayFollow (s : Session) (e : Logged) (t : Trace) : Type 0 where
   pub is_open : IsOpen t (request_in e)
@@ -246,17 +253,25 @@ pub record PassMayFollow (s : Session) (e : Remapping) (t : Trace) : Type 0 wher
   pub lacking : Lacks s.sizes.geometry.height s.links (applied t) e.at.0
   pub first : of_address e.at.0 (remappings (journaled t)) ≡ []
 
+-- the decrement of an entry was taken, or found 0
+abbrev pub IsReported : Trace → Remapping → Type 0
+IsReported t e = Contains (removed t) e ⊎ Contains (strayed t) e
+
 pub record SlotMayFollow (s : Session) (e : Remapping) (t : Trace) : Type 0 where
   pub is_open : IsOpen t e.request
   pub is_committed : IsCommitted t e
   pub below : AllBelow t e.at.0 e.place
   pub unaborted : IsNone (logged_of (aborted t) e.request)
   pub leaf : IsLeafy s t e.at.0
+  -- its increment was taken, and its decrement reported
+  pub counted : OnBlock (λ x. Contains (added t) (Remaps e)) e.new
+  pub reported : OnBlock (λ x. IsReported t e) e.old
 
--- a page whose entry is committed may be linked, once
+-- a page whose entry is committed and counted may be linked, once
 pub record LinkMayFollow (s : Session) (p : NewPage) (t : Trace) : Type 0 where
   pub is_open : IsOpen t p.request
   pub is_committed : Contains (durable t) (Makes p)
+  pub counted : Contains (added t) (Makes p)
   pub unlinked : page_in s.links (applied t) p.page ≡ None
   pub undropped : Contains (dropped t) (Makes p) → ⊥
 
@@ -284,11 +299,42 @@ abbrev pub NeedsFor : Session → Trace → Writer → Option PageId → Type 0
 NeedsFor s t w None = (at : Lba) × (bytes : List ℕ) × (request_at s.script w ≡ Some (request.Write at bytes false)) × NeedsBlock t w bytes
 NeedsFor s t w (Some page) = NeedsPage s t w page
 
--- one that needs a data block may take the next free one
+-- one that needs a data block may claim a free one
 pub record TakeMayFollow (s : Session) (w : Writer) (page : Option PageId) (x : Pbn) (t : Trace) : Type 0 where
   pub is_open : IsOpen t w
   pub asked : NeedsFor s t w page
-  pub next : slice_get s.free (taken t) ≡ Some x
+  pub is_data : IsDataBlock s.sizes.geometry x.0
+  pub is_free : IsFreeAt s t x
+
+-- a use of a data block may go, where there is one
+pub record LossMayFollow (s : Session) (x : Pbn) (t : Trace) : Type 0 where
+  pub is_data : IsDataBlock s.sizes.geometry x.0
+  pub some : lost t x < gained s t x
+
+-- an update is taken in its turn: a mapping more, or one less; or one less finds that none was counted
+pub record AddMayFollow (s : Session) (e : Logged) (t : Trace) : Type 0 where
+  pub is_open : IsOpen t (request_in e)
+  pub next : IsNextUpdate (durable t) t (Increment e)
+
+pub record RemoveMayFollow (s : Session) (e : Remapping) (t : Trace) : Type 0 where
+  pub next : IsNextUpdate (durable t) t (Decrement e)
+  pub block : Pbn
+  pub old_is : e.old ≡ At block
+  pub loss : LossMayFollow s block t
+
+pub record StrayMayFollow (s : Session) (e : Remapping) (t : Trace) : Type 0 where
+  pub next : IsNextUpdate (durable t) t (Decrement e)
+  pub block : Pbn
+  pub old_is : e.old ≡ At block
+  pub none_counted : counted s t block ≡ uncounted t block
+
+-- the damage that the device's zone is told of is that of such a decrement
+pub record HearingMayFollow (damage : Damage) (t : Trace) : Type 0 where
+  pub entry : Remapping
+  pub strays : Contains (strayed t) entry
+  pub block : Pbn
+  pub old_is : entry.old ≡ At block
+  pub damage_is : damage ≡ Stray block 0
 
 -- a read may be given its bytes
 pub record GiftMayFollow (s : Session) (g : Gift) (t : Trace) : Type 0 where
@@ -358,6 +404,11 @@ MayFollow s (Sets (Remaps e)) t = SlotMayFollow s e t
 MayFollow s (Sets (Makes p)) t = LinkMayFollow s p t
 MayFollow s (Gives g) t = GiftMayFollow s g t
 MayFollow s (Takes w page x) t = TakeMayFollow s w page x t
+MayFollow s (Drops w x) t = IsOpen t w × LossMayFollow s x t
+MayFollow s (Adds e) t = AddMayFollow s e t
+MayFollow s (Removes e) t = RemoveMayFollow s e t
+MayFollow s (Strays e) t = StrayMayFollow s e t
+MayFollow s (Hears damage) t = HearingMayFollow damage t
 MayFollow s (Aborts (Remaps e)) t = AbortMayFollow s e t
 MayFollow s (Aborts (Makes p)) t = DropMayFollow s p t
 MayFollow s (Calls c) t = CallMayFollow s c t

@@ -23,8 +23,8 @@ most_zones = 4
 abbrev pub most_entries : ℕ
 most_entries = 3 * most_requests
 
--- how many requests are under way at most, how many zones are notified of a stop, and how many items there are: requests,
--- stop notices, and a block of the journal
+-- how many requests are under way at most, how many zones are notified of a stop, and how many items there are: requests, a
+-- decrement or its report for each, stop notices, a block of the journal, and damage
 abbrev pub most_under_way : ℕ
 most_under_way = most_streams * most_depth
 
@@ -32,7 +32,7 @@ abbrev pub most_notices : ℕ
 most_notices = 2 + most_zones
 
 abbrev pub most_items : ℕ
-most_items = most_under_way + most_notices + 1
+most_items = 2 * most_under_way + most_notices + 2
 
 -- how many requests a script has
 abbrev pub requests_in : Script → ℕ

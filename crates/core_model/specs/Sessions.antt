@@ -1,9 +1,11 @@
 -- What a session is over, what stands on its device, and which values its addresses have.
-use Rattle.std.specs.Prelude.{ℕ, ◌+◌, ◌≡◌, ◌≢◌, ◌⊎◌, ◌<◌, ◌≤◌, ◌^◌, true, false, Option, None, Some, List, [], ◌∷◌, ◌++◌, length, map, reverse, Contains, IsSome, IsTrue}
+use Rattle.std.specs.Prelude.{ℕ, ◌+◌, ◌*◌, ◌≡◌, ◌⊎◌, ◌<◌, ◌≤◌, ◌^◌, true, false, Option, None, Some, List, [], ◌∷◌, ◌++◌, length, map, reverse, slice_index, IsSome, IsTrue}
 use Rattle.std.specs.List.{AllByRecursion}
+use Rattle.blk_base.specs.Counters.{limit_of}
 use Rattle.blk_base.specs.Limits.{IsGeometry}
 use Rattle.blk_base.specs.Regions.{IsDataBlock, needed_blocks}
 use Rattle.blk_base.specs.Pages.{above}
+use Rattle.blk_base.specs.declared.geometry.Geometry.{Geometry}
 use Rattle.blk_base.specs.declared.journal_entry.Entry.{Entry}
 use Rattle.blk_base.specs.declared.place.Mapping.{Mapping}
 use Rattle.blk_base.specs.declared.place.Mapping.TheVariants.{At}
@@ -16,6 +18,8 @@ use Rattle.disk_model.specs.Log as device
 use Rattle.disk_model.specs.declared.call.Call.{Call}
 use Rattle.disk_model.specs.declared.call.Call.TheVariants.{Read}
 use Rattle.disk_model.specs.OneImages.{HasOneImageIn}
+use Rattle.image_model.specs.Counts.{HasMappings}
+use Rattle.image_model.specs.Sound.{AreUnshared}
 use Rattle.image_model.specs.Maps.{ArePagesGood, Image, image_with, mapping_of, page_at, value_of}
 use Rattle.stop_laws.specs.Journals.{Surely}
 use Rattle.vdo_model.specs.Scripts.{Script, request_at, value_written}
@@ -25,26 +29,25 @@ use Rattle.data_vio.specs.declared.logged.Logged.TheVariants.{Remaps, Makes}
 use Rattle.data_vio.specs.declared.logged.NewPage.{NewPage}
 use Rattle.data_vio.specs.declared.logged.Remapping.{Remapping}
 use Rattle.core_model.specs.PageLinks.{IsThere, empty_page}
-use Rattle.plain_laws.specs.Sums.{total}
 use Rattle.core_model.specs.SessionLimits.{IsLimited}
 use Rattle.core_model.specs.declared.zones.SuperblockStage.{SuperblockStage}
 use Rattle.core_model.specs.declared.zones.SuperblockStage.TheVariants.{AsOpened, Written, Durable}
 use Rattle.core_model.specs.Superblocks.{superblock_bytes, superblock_stage}
-use Rattle.core_model.specs.Tokens.{is_block}
+use Rattle.zone_counts.specs.Openings.{opened_count}
 use Rattle.core_model.specs.Trace.{Calls, Harms, Trace, all_of, calls, durable, done, filled, sealed, of_address, newest, new_of, new_pages, remappings, entry_of}
 use Rattle.journal_stops.specs.Rings.{IsAtRest, IsUnderWay, IsWritten}
 use Rattle.journal_stops.specs.Sealed.{Sealed}
 use Rattle.image_model.specs.Looked.{is_looked_at}
 use Rattle.blk_base.specs.declared.journal_entry.CommittedEntry.{CommittedEntry}
 
--- What is fixed: the sizes, the script, where the image that was opened links its pages, and its free data blocks; the blocks that
--- the device had when its log began, its log before the session, and the one image, the index aside, that a stop left then. Of the
--- device and its image all is said where the session is fair, and nothing else.
+-- What is fixed: the sizes, the script, where the image that was opened links its pages, and the counter of each of its data
+-- blocks; the blocks that the device had when its log began, its log before the session, and the one image, the index aside, that
+-- a stop left then. Of the device and its image all is said where the session is fair, and nothing else.
 pub record Session : Type 0 where
   pub sizes : Sizes
   pub script : Script
   pub links : PageId → Option Pbn
-  pub free : List Pbn
+  pub counters : List ℕ
   pub blocks : device.Blocks
   pub before : List Call
   pub image : device.Blocks
@@ -56,19 +59,18 @@ IsServed (request.Write at bytes fua) = (length bytes ≡ 4096) × (fua ≡ fals
 IsServed (request.Discard at) = Unit {0}
 IsServed request.Flush = Unit {0}
 
--- a data block that was free when the session began
-pub record IsFresh (s : Session) (x : Pbn) : Type 0 where
-  pub is_data : IsDataBlock s.sizes.geometry x.0
-  pub is_free : Contains s.free x
-  pub inside : x.0 < needed_blocks s.sizes.geometry
+-- how many mappings a block had when the session began
+abbrev pub opened_uses : Session → Pbn → ℕ
+opened_uses s x = opened_count s.sizes.geometry s.counters x
 
 -- the entries without their points
 abbrev pub said_by : List CommittedEntry → List Entry
 said_by committed = map (λ (c : CommittedEntry). c.entry) committed
 
--- no block is there twice
-abbrev pub AreDistinct : List Pbn → Type 0
-AreDistinct blocks = (x : ℕ) → total (is_block x) blocks ≤ 1
+-- there is a counter for each data block, and none is above the limit
+pub record AreCounters (g : Geometry) (counters : List ℕ) : Type 0 where
+  pub each : length counters ≡ g.slabs * g.slab_blocks
+  pub limit : (k : ℕ) → slice_index counters k ≤ limit_of g
 
 -- the session can be served, whatever the device does
 pub record IsSession (s : Session) : Type 0 where
@@ -83,8 +85,7 @@ pub record IsSession (s : Session) : Type 0 where
   -- a page that is linked stands at a data block, and the page above it is a root or linked
   pub linked : (page : PageId) (x : Pbn) → s.links page ≡ Some x → IsDataBlock s.sizes.geometry x.0
   pub rooted : (page : PageId) → IsSome (s.links page) → IsThere s.sizes.geometry.height s.links [] (above page)
-  pub free : AllByRecursion (IsFresh s) s.free
-  pub distinct : AreDistinct s.free
+  pub counters : AreCounters s.sizes.geometry s.counters
 
 -- the image that was opened: a closed one has no window
 abbrev pub opened_image : Session → Image
@@ -95,15 +96,16 @@ abbrev pub opened_at : Session → ℕ → Mapping
 opened_at s a = mapping_of (opened_image s) a
 
 -- The image is as it was opened: the device has room for it and had no other, the index aside; no block of its journal is as late
--- as the session; its pages can be read, and are linked as the session knows; and a free block has no page and no address.
+-- as the session; its pages can be read, and are linked as the session knows; each block has as many mappings as its counter
+-- says, and the block of a page has no address.
 pub record IsAsOpened (s : Session) : Type 0 where
   pub room : needed_blocks s.sizes.geometry ≤ length s.blocks
   pub one_image : HasOneImageIn (is_looked_at s.sizes.geometry) s.blocks s.before s.image
   pub journal : IsAtRest s.image [] s.sizes.geometry s.sizes.start []
   pub pages : ArePagesGood (opened_image s)
   pub links : (page : PageId) → page.level + 1 < s.sizes.geometry.height → s.links page ≡ page_at (opened_image s) page
-  pub unpaged : (x at : Pbn) (page : PageId) → Contains s.free x → page_at (opened_image s) page ≡ Some at → at.0 ≢ x.0
-  pub unmapped : (x at : Pbn) (a : ℕ) → Contains s.free x → opened_at s a ≡ At at → at.0 ≢ x.0
+  pub counts : (x : Pbn) → HasMappings (opened_image s) x (opened_uses s x)
+  pub unshared : AreUnshared (opened_image s)
 
 -- the device's log
 abbrev pub log : Session → Trace → List Call
@@ -229,12 +231,13 @@ SuperblockStands s t AsOpened = HasSuperblock s t
 SuperblockStands s t Written = HasSuperblock s t × ReadsAs s t 0 (superblock_bytes s.sizes)
 SuperblockStands s t Durable = Stands s t 0 (superblock_bytes s.sizes)
 
--- a block that the session leaves as it was: it is none of the index, the superblock, the journal, and wasn't free
+-- a block that the session leaves as it was: it is none of the index, the superblock and the journal, and no data block but one
+-- that has a page of the opened image
 pub record IsKept (s : Session) (x : ℕ) : Type 0 where
   pub inside : x < needed_blocks s.sizes.geometry
   pub looked : IsTrue (is_looked_at s.sizes.geometry x)
   pub behind : s.sizes.geometry.journal < x
-  pub taken : (y : Pbn) → Contains s.free y → y.0 ≢ x
+  pub unfreed : IsDataBlock s.sizes.geometry x → (page : PageId) × (page.level + 1 < s.sizes.geometry.height) × (s.links page ≡ Some (record { 0 = x }))
 
 -- each of these stands as it was opened
 abbrev pub KeptStands : Session → Trace → Type 0

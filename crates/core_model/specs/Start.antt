@@ -12,7 +12,10 @@ use Rattle.core_model.specs.declared.zones.PhysicalZone.{PhysicalZone}
 use Rattle.core_model.specs.declared.zones.Zone.{Zone}
 use Rattle.data_vio.specs.Zones.{desk_number, logical_number, physical_number, journal_number, device_number, zone_count}
 use Rattle.core_model.specs.PageTrees.{IsMapTree}
-use Rattle.core_model.specs.Sessions.{Session}
+use Rattle.blk_base.specs.declared.place.Pbn.{Pbn}
+use Rattle.core_model.specs.Sessions.{Session, opened_uses}
+use Rattle.zone_counts.specs.ByBlock.{claims_in, counter_in}
+use Rattle.zone_counts.specs.Zone.{IsOfZone, IsZone}
 use Rattle.core_model.specs.Steps.{Core}
 use Rattle.data_vio.specs.declared.sizes.Sizes.{Sizes}
 use Rattle.plain_laws.specs.Sums.{Each}
@@ -41,13 +44,21 @@ pub record IsFirstLogical (s : Session) (number : ℕ) (l : LogicalZone) : Type 
   pub making : l.making ≡ []
   pub lacking : l.lacking ≡ []
   pub unlinkable : l.unlinkable ≡ []
+  pub settling : l.settling ≡ []
+  pub reported : l.reported ≡ []
   pub slots : l.slots ≡ []
 
--- the physical zone has all the free data blocks
+-- the physical zone has all slabs, with the counters of the opened image, no claim and no ticket
 pub record IsFirstPhysical (s : Session) (number : ℕ) (p : PhysicalZone) : Type 0 where
   pub number_is : number ≡ physical_number s.sizes
   pub notified : p.notified ≡ false
-  pub free : p.free ≡ s.free
+  pub strays : p.strays ≡ []
+  pub is_zone : IsZone p.counts
+  pub geometry : p.counts.geometry ≡ s.sizes.geometry
+  pub zones : p.counts.zones ≡ 1
+  pub counters : (x : Pbn) → IsOfZone p.counts x → counter_in x p.counts.slabs ≡ opened_uses s x
+  pub claims : (x : Pbn) → claims_in x p.counts.slabs ≡ 0
+  pub no_ticket : p.counts.desk.out ≡ []
 
 -- The log of a session is empty. The logical zones and the physical zone say what they need of it.
 abbrev pub first_log : Sizes → Log

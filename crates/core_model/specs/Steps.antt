@@ -4,11 +4,14 @@ use Rattle.blk_base.specs.declared.place.ZoneId.TheVariants as id
 use Rattle.blk_base.specs.declared.request.Answer.TheVariants as reply
 use Rattle.blk_base.specs.declared.request.Writer.{Writer}
 use Rattle.vdo_model.specs.DeskLog.{IsNextLine}
+use Rattle.vdo_model.specs.declared.report.Damage.{Damage}
 use Rattle.vdo_model.specs.declared.report.DeskLine.TheVariants as line
 use Rattle.data_vio.specs.declared.items.Item.{Item}
-use Rattle.data_vio.specs.declared.items.Item.TheVariants.{Request, Block, StopNotice}
+use Rattle.data_vio.specs.declared.items.Item.TheVariants.{Request, Block, Decrement, Report, StopNotice}
+use Rattle.data_vio.specs.declared.items.Item.TheVariants as item
 use Rattle.data_vio.specs.declared.items.SealedBlock.{SealedBlock}
 use Rattle.data_vio.specs.declared.items.Vio.{Vio}
+use Rattle.data_vio.specs.declared.logged.Remapping.{Remapping}
 use Rattle.data_vio.specs.declared.sizes.Sizes.{Sizes}
 use Rattle.core_model.specs.declared.zones.ZoneData.{ZoneData}
 use Rattle.core_model.specs.declared.zones.ZoneData.TheVariants as at
@@ -21,10 +24,10 @@ use Rattle.core_model.specs.declared.zones.Zone.{Zone}
 use Rattle.core_model.specs.Trace.{Trace}
 use Rattle.data_vio.specs.Vios.{Post}
 use Rattle.core_model.specs.DeskRules.{DeskBegins, DeskServes, with_notice, woken}
-use Rattle.core_model.specs.LogicalRules.{LogicalServes}
-use Rattle.core_model.specs.PhysicalRules.{PhysicalServes}
+use Rattle.core_model.specs.LogicalRules.{LogicalServes, LogicalHears}
+use Rattle.core_model.specs.PhysicalRules.{PhysicalServes, PhysicalTakes}
 use Rattle.core_model.specs.JournalRules.{JournalServes, JournalEnds, all_refused}
-use Rattle.core_model.specs.DeviceRules.{DeviceServes, DeviceWorks}
+use Rattle.core_model.specs.DeviceRules.{DeviceServes, DeviceWorks, DeviceHears}
 use Rattle.data_vio.specs.Zones.{zone_number}
 use Rattle.plain_laws.specs.Sums.{Each}
 
@@ -35,8 +38,10 @@ pub data Act (sizes : Sizes) : ZoneData → List Item → ZoneData → Trace →
   answers : {old new : Desk} {v : Vio} {made : Trace} {posts : List Post} → DeskServes sizes old v new made posts → Act sizes (at.Desk old) (Request v ∷ []) (at.Desk new) made posts
   hears : {old : Desk} → Act sizes (at.Desk old) (StopNotice ∷ []) (at.Desk (with_notice old)) [] (woken old.parked)
   serves : {old new : LogicalZone} {v : Vio} {made : Trace} {posts : List Post} → LogicalServes sizes old v new made posts → Act sizes (at.Logical old) (Request v ∷ []) (at.Logical new) made posts
+  settles : {old new : LogicalZone} {e : Remapping} {made : Trace} {posts : List Post} → LogicalHears sizes old e new made posts → Act sizes (at.Logical old) (Report e ∷ []) (at.Logical new) made posts
   serves_notice : {old : LogicalZone} → Act sizes (at.Logical old) (StopNotice ∷ []) (at.Logical (record old { notified = true })) [] ((id.Desk, StopNotice) ∷ [])
   takes : {old new : PhysicalZone} {v : Vio} {made : Trace} {posts : List Post} → PhysicalServes sizes old v new made posts → Act sizes (at.Physical old) (Request v ∷ []) (at.Physical new) made posts
+  updates : {old new : PhysicalZone} {e : Remapping} {made : Trace} {posts : List Post} → PhysicalTakes sizes old e new made posts → Act sizes (at.Physical old) (Decrement e ∷ []) (at.Physical new) made posts
   takes_notice : {old : PhysicalZone} → Act sizes (at.Physical old) (StopNotice ∷ []) (at.Physical (record old { notified = true })) [] ((id.Desk, StopNotice) ∷ [])
   enters : {old new : JournalZone} {v : Vio} {made : Trace} {posts : List Post} → JournalServes sizes old v new made posts → Act sizes (at.Journal old) (Request v ∷ []) (at.Journal new) made posts
   ends : {old new : JournalZone} {b : SealedBlock} {made : Trace} {posts : List Post} → JournalEnds sizes old b new made posts → Act sizes (at.Journal old) (Block b ∷ []) (at.Journal new) made posts
@@ -44,6 +49,7 @@ pub data Act (sizes : Sizes) : ZoneData → List Item → ZoneData → Trace →
       ((id.Desk, StopNotice) ∷ all_refused sizes reply.Stopped old.waiting)
   calls : {old new : DeviceZone} {v : Vio} {made : Trace} {posts : List Post} → DeviceServes sizes old v new made posts → Act sizes (at.Device old) (Request v ∷ []) (at.Device new) made posts
   works : {old new : DeviceZone} {b : SealedBlock} {made : Trace} {posts : List Post} → DeviceWorks sizes old b new made posts → Act sizes (at.Device old) (Block b ∷ []) (at.Device new) made posts
+  halts : {old new : DeviceZone} {damage : Damage} {made : Trace} {posts : List Post} → DeviceHears sizes old damage new made posts → Act sizes (at.Device old) (item.Damage damage ∷ []) (at.Device new) made posts
 
 -- a rule applies to it
 abbrev pub HasAct : Sizes → ZoneData → List Item → Type 0

@@ -1,5 +1,5 @@
 -- Tokens: what is given out once and held once. Of each token as many are held as were given.
-use Rattle.std.specs.Prelude.{ℕ, ◌+◌, ◌≡◌, ◌≤◌, ◌==◌, Bool, false, ◌&&◌, not, Option, None, Some, is_some, List, [], ◌∷◌, ◌++◌, length, cond}
+use Rattle.std.specs.Prelude.{ℕ, ◌+◌, ◌≡◌, ◌≤◌, ◌==◌, Bool, true, false, ◌&&◌, not, Option, None, Some, is_some, List, [], ◌∷◌, ◌++◌, length, cond, if◌then◌else◌}
 use Rattle.blk_base.specs.declared.place.Mapping.{Mapping}
 use Rattle.blk_base.specs.declared.place.Mapping.TheVariants.{At}
 use Rattle.blk_base.specs.declared.place.PageId.{PageId}
@@ -10,20 +10,26 @@ use Rattle.vdo_model.specs.Scripts.{same_writer}
 use Rattle.vdo_model.specs.declared.report.DeskLine.{DeskLine}
 use Rattle.vdo_model.specs.declared.report.DeskLine.TheVariants.{Begin, Answer}
 use Rattle.data_vio.specs.declared.items.Item.{Item}
-use Rattle.data_vio.specs.declared.items.Item.TheVariants.{Request, Block, StopNotice}
+use Rattle.data_vio.specs.declared.items.Item.TheVariants.{Request, Block, Decrement, Report, Damage, StopNotice}
 use Rattle.data_vio.specs.declared.items.Phase.{Phase}
+use Rattle.data_vio.specs.declared.items.Phase.TheVariants as phase
 use Rattle.data_vio.specs.declared.items.Vio.{Vio}
 use Rattle.data_vio.specs.declared.sizes.Sizes.{Sizes}
 use Rattle.core_model.specs.declared.zones.ZoneData.{ZoneData}
 use Rattle.core_model.specs.declared.zones.ZoneData.TheVariants as at
 use Rattle.core_model.specs.LogicalData.{Lock}
 use Rattle.data_vio.specs.declared.logged.Logged.{Logged}
+use Rattle.data_vio.specs.declared.logged.Remapping.{Remapping}
+use Rattle.core_model.specs.PageLinks.{block_in}
 use Rattle.core_model.specs.Trace.{new_of, new_pages, remappings}
 use Rattle.core_model.specs.declared.zones.Zone.{Zone}
 pub use Rattle.core_model.specs.DeskLines.{is_answer, is_begin}
 use Rattle.data_vio.specs.Phases.{row}
+use Rattle.data_vio.specs.Vios.{remapping}
 use Rattle.data_vio.specs.Zones.{notified_zones}
 use Rattle.plain_laws.specs.Sums.{total, bit}
+use Rattle.slab_counts.specs.Calls.{one_of}
+use Rattle.zone_counts.specs.ByBlock.{claims_in, counter_in, is_at}
 
 -- a kind of token: what an item weighs, what a zone's data weighs beside the items that it keeps, and what it gave out
 pub record Token : Type 0 where
@@ -34,7 +40,7 @@ pub record Token : Type 0 where
 -- the requests that a zone keeps beside its lanes, all that it keeps, and what that weighs
 abbrev pub kept_by : ZoneData → List Vio
 kept_by (at.Desk desk) = desk.parked
-kept_by (at.Logical l) = l.waiting ++ l.lacking
+kept_by (at.Logical l) = l.waiting ++ (l.lacking ++ l.settling)
 kept_by (at.Journal j) = j.filling ++ j.waiting
 kept_by other = []
 
@@ -141,35 +147,111 @@ pages_entered_at other = 0
 abbrev pub page_entry_token : Token
 page_entry_token = record { item = of_vio (λ v. bit (has_entry v.phase && is_some v.page)); own = unlinkable_at; gave = pages_entered_at }
 
--- Data blocks: one that is free, or taken by a write whose entry wasn't handed in, or named by an entry, is so once.
-abbrev pub claims : Phase → Bool
-claims p = (row p).claims
+-- Data blocks: each claim whose entry isn't handed in, each mapping of the opened image, each entry that was handed in, and each
+-- decrement under way, or that found 0, against the counters, the claims, and the committed entries that map their addresses away.
+-- `opened` has the opened counters.
+abbrev pub owes : Phase → Bool
+owes p = (row p).owes
 
--- whether a mapping names a block
-abbrev pub names : ℕ → Mapping → Bool
-names x (At p) = p.0 == x
-names x other = false
+-- 1 where a mapping leads to a block; where this is the block; where an entry maps an address to it, or puts a page there; and
+-- where it maps an address away from it
+abbrev pub leads_to : Pbn → Mapping → ℕ
+leads_to x (At y) = one_of y x
+leads_to x other = 0
 
-abbrev pub claim_weight : ℕ → Vio → ℕ
-claim_weight x v = bit (claims v.phase && names x v.new)
+abbrev pub is_block : Pbn → Pbn → ℕ
+is_block x y = one_of y x
 
-abbrev pub is_block : ℕ → Pbn → ℕ
-is_block x p = bit (p.0 == x)
+abbrev pub is_entry : Pbn → Logged → ℕ
+is_entry x e = leads_to x (new_of e)
 
-abbrev pub is_entry : ℕ → Logged → ℕ
-is_entry x e = bit (names x (new_of e))
+abbrev pub is_old : Pbn → Remapping → ℕ
+is_old x e = leads_to x e.old
 
-abbrev pub blocks_at : ℕ → ZoneData → ℕ
-blocks_at x (at.Physical p) = total (is_block x) p.free
-blocks_at x (at.Journal j) = total (is_entry x) j.entered
-blocks_at x other = 0
+-- the claim of a request on a block, and that where no entry of it was handed in
+abbrev pub claim_weight : Pbn → Vio → ℕ
+claim_weight x v = is_at x v.claim
 
-abbrev pub one_physical : ZoneData → ℕ
-one_physical (at.Physical p) = 1
-one_physical other = 0
+abbrev pub unowed_weight : Pbn → Vio → ℕ
+unowed_weight x v = if owes v.phase then 0 else claim_weight x v
 
-abbrev pub block_token : ℕ → Token
-block_token x = record { item = of_vio (claim_weight x); own = blocks_at x; gave = one_physical }
+abbrev pub block_item : Pbn → Item → ℕ
+block_item x (Decrement e) = is_old x e
+block_item x other = of_vio (unowed_weight x) other
+
+abbrev pub entries_at : (Pbn → ℕ) → Pbn → ZoneData → ℕ
+entries_at opened x (at.Journal j) = opened x + total (is_entry x) j.entered
+entries_at opened x (at.Physical p) = total (is_old x) p.strays
+entries_at opened x other = 0
+
+abbrev pub uses_at : Pbn → ZoneData → ℕ
+uses_at x (at.Physical p) = counter_in x p.counts.slabs + claims_in x p.counts.slabs
+uses_at x (at.Journal j) = total (is_old x) (remappings j.committed)
+uses_at x other = 0
+
+abbrev pub block_token : (Pbn → ℕ) → Pbn → Token
+block_token opened x = record { item = block_item x; own = entries_at opened x; gave = uses_at x }
+
+-- Claims: each that a request has is counted; those that were spent for good are counted too.
+abbrev pub claims_at : Pbn → ZoneData → ℕ
+claims_at x (at.Physical p) = claims_in x p.counts.slabs
+claims_at x other = 0
+
+abbrev pub claim_token : Pbn → Token
+claim_token x = record { item = of_vio (claim_weight x); own = none; gave = claims_at x }
+
+-- Decrements: that of each committed entry of a request is under way, or its report is, or that came before its request, or
+-- the slot is set. And so is the request itself.
+abbrev pub has_old : Writer → Remapping → ℕ
+has_old w e = bit (same_writer e.request w && is_some (block_in e.old))
+
+abbrev pub decrement_weight : Writer → Item → ℕ
+decrement_weight w (Decrement e) = has_old w e
+decrement_weight w (Report e) = has_old w e
+decrement_weight w other = 0
+
+abbrev pub settled_at : Writer → ZoneData → ℕ
+settled_at w (at.Logical l) = total (has_old w) l.slots
+settled_at w other = 0
+
+abbrev pub reported_at : Writer → ZoneData → ℕ
+reported_at w (at.Logical l) = total (has_old w) l.slots + total (has_old w) l.reported
+reported_at w other = 0
+
+abbrev pub committed_at : Writer → ZoneData → ℕ
+committed_at w (at.Journal j) = total (has_old w) (remappings j.committed)
+committed_at w other = 0
+
+abbrev pub report_token : Writer → Token
+report_token w = record { item = decrement_weight w; own = reported_at w; gave = committed_at w }
+
+-- whether the entry of a request is committed, and what it is set or linked by isn't done
+abbrev pub is_committed : Phase → Bool
+is_committed phase.Count = true
+is_committed phase.Settle = true
+is_committed other = false
+
+abbrev pub waiter_weight : Writer → Vio → ℕ
+waiter_weight w v = if is_committed v.phase && not (is_some v.page) then has_old w (remapping v) else 0
+
+abbrev pub waiter_token : Writer → Token
+waiter_token w = record { item = of_vio (waiter_weight w); own = settled_at w; gave = committed_at w }
+
+-- Damage: a physical zone tells of it once.
+abbrev pub is_damage : Item → ℕ
+is_damage (Damage d) = 1
+is_damage other = 0
+
+abbrev pub some_stray : List Remapping → ℕ
+some_stray [] = 0
+some_stray (e ∷ strays) = 1
+
+abbrev pub strayed_at : ZoneData → ℕ
+strayed_at (at.Physical p) = some_stray p.strays
+strayed_at other = 0
+
+abbrev pub damage_token : Token
+damage_token = record { item = is_damage; own = none; gave = strayed_at }
 
 -- The journal: one block is under way, sealed or to be sealed, or none.
 abbrev pub is_sealed : Item → ℕ

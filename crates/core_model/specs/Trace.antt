@@ -1,6 +1,6 @@
 -- What happens in a session, in order: its trace. The newest happening stands first. Each list that a zone only adds to
 -- is a part of the trace.
-use Rattle.std.specs.Prelude.{ℕ, suc, ◌==◌, Bool, true, false, not, ◌&&◌, ◌||◌, Option, None, Some, List, [], ◌∷◌, ◌++◌, if◌then◌else◌}
+use Rattle.std.specs.Prelude.{ℕ, ◌==◌, Bool, true, false, not, ◌&&◌, ◌||◌, Option, None, Some, List, [], ◌∷◌, ◌++◌, if◌then◌else◌}
 use Rattle.blk_base.specs.declared.place.Mapping.{Mapping}
 use Rattle.blk_base.specs.declared.place.Mapping.TheVariants.{At}
 use Rattle.blk_base.specs.declared.place.PageId.{PageId}
@@ -41,8 +41,15 @@ pub data Happening : Type 0 where
   Seals : Happening
   -- a read is given its bytes
   Gives : Gift → Happening
-  -- a write takes a free data block, for the page that it makes, or for its data
+  -- a write claims a free data block, for the page that it makes, or for its data; its claim is dropped
   Takes : Writer → Option PageId → Pbn → Happening
+  Drops : Writer → Pbn → Happening
+  -- the increment of a committed entry is taken; and its decrement, or that finds the counter at 0
+  Adds : Logged → Happening
+  Removes : Remapping → Happening
+  Strays : Remapping → Happening
+  -- the device's zone is told what another zone found damaged
+  Hears : Damage → Happening
   -- a request whose entry was handed in is aborted: the slot of that is never set
   Aborts : Logged → Happening
   -- the device is called, and the call succeeds
@@ -168,13 +175,34 @@ gifts [] = []
 gifts (Gives g ∷ t) = g ∷ gifts t
 gifts (other ∷ t) = gifts t
 
--- how many free data blocks were taken
-abbrev pub taken : Trace → ℕ
-taken [] = 0
-taken (Takes w page x ∷ t) = suc (taken t)
-taken (other ∷ t) = taken t
+-- the data blocks that were claimed, and those of the claims that were dropped
+abbrev pub claimed : Trace → List Pbn
+claimed [] = []
+claimed (Takes w page x ∷ t) = x ∷ claimed t
+claimed (other ∷ t) = claimed t
 
--- whether a write took one for its data
+abbrev pub unclaimed : Trace → List Pbn
+unclaimed [] = []
+unclaimed (Drops w x ∷ t) = x ∷ unclaimed t
+unclaimed (other ∷ t) = unclaimed t
+
+-- the entries whose increments were taken; those whose decrements were, and those whose decrements found 0
+abbrev pub added : Trace → List Logged
+added [] = []
+added (Adds e ∷ t) = e ∷ added t
+added (other ∷ t) = added t
+
+abbrev pub removed : Trace → List Remapping
+removed [] = []
+removed (Removes e ∷ t) = e ∷ removed t
+removed (other ∷ t) = removed t
+
+abbrev pub strayed : Trace → List Remapping
+strayed [] = []
+strayed (Strays e ∷ t) = e ∷ strayed t
+strayed (other ∷ t) = strayed t
+
+-- whether a write claimed one for its data
 abbrev pub has_taken : Trace → Writer → Bool
 has_taken [] w = false
 has_taken (Takes v None x ∷ t) w = same_writer v w || has_taken t w
@@ -190,11 +218,13 @@ is_ok (Read at bytes ok) = ok
 is_ok (Write at bytes ok) = ok
 is_ok (Flush ok) = ok
 
--- the session is stopped: a write or flush of the device failed, or a leaf that was read doesn't decode
+-- the session is stopped: a write or flush of the device failed, or a leaf that was read doesn't decode, or the device's zone
+-- was told of other damage
 abbrev pub has_stopped : Trace → Bool
 has_stopped [] = false
 has_stopped (Fails w call kept ∷ t) = not (is_read call) || has_stopped t
 has_stopped (Harms w at bytes fault ∷ t) = true
+has_stopped (Hears damage ∷ t) = true
 has_stopped (other ∷ t) = has_stopped t
 
 -- a read of the device that was made for a request failed
@@ -217,6 +247,7 @@ first_of None later = Some later
 abbrev pub damage_in : Trace → Option Damage
 damage_in [] = None
 damage_in (Harms w at bytes fault ∷ t) = first_of (damage_in t) (Page at fault)
+damage_in (Hears damage ∷ t) = first_of (damage_in t) damage
 damage_in (other ∷ t) = damage_in t
 
 -- those of one address

@@ -89,6 +89,7 @@ fn blank() -> Vio {
         old: Mapping::Unmapped,
         latest: None,
         new: Mapping::Unmapped,
+        claim: None,
         answer: None,
         calls: 0,
     }

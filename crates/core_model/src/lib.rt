@@ -2,8 +2,7 @@
 //! which states are legal.
 //!
 //! As yet a session seals each block of the journal with its first sequence as the head (`sealed_with`), so no block is
-//! let go of. There is one physical zone, each write but one of zeros takes a fresh data block, and no block becomes
-//! free again.
+//! let go of. There is one physical zone, which gives no tickets: a write that finds no free data block is answered at once.
 //!
 //! `Phases` of `data_vio` and the files `..Rules` are the rules; `Trace`, `RightTraces` what happens and may happen; `Tokens`,
 //! `Facts`, `Legal` the invariant; `Sessions`, `Start`, `Limits` what a session is; `Views`, `Streams` what threads
@@ -22,7 +21,6 @@ mod page_list;
 mod ports;
 mod scripts;
 mod slots;
-mod supply;
 mod zones;
 
 pub use desk::{Desk, DeskReport};
@@ -33,5 +31,4 @@ pub use page_list::PageList;
 pub use ports::{Lane, Ports};
 pub use scripts::is_limited;
 pub use slots::Slots;
-pub use supply::Supply;
 pub use zones::{DeviceZone, PhysicalZone, SuperblockStage, Zone, ZoneData};

@@ -1,4 +1,4 @@
-ghost use Rattle.std.specs.Prelude.{◌↔◌, IsTrue, ◌≡◌, ◌+◌, ◌-◌, ◌^◌, ◌<◌, ◌≤◌, [], ◌∷◌, ◌++◌, IfOk, IfSome, IfNone, None, true, false, length, reverse};
+ghost use Rattle.std.specs.Prelude.{◌↔◌, IsTrue, ◌≡◌, ◌+◌, ◌-◌, ◌^◌, ◌<◌, ◌≤◌, [], ◌∷◌, ◌++◌, IfOk, IfSome, IfNone, None, true, false, length, position, reverse};
 ghost use Rattle.logical_locks.specs.Holders.{HasRoom};
 ghost use Rattle.core_model.specs.Limits.{IsLogicalWithin};
 ghost use Rattle.core_model.specs.LogicalRules as rows;
@@ -6,10 +6,11 @@ ghost use Rattle.core_model.specs.PageTrees.{HasPath, MayLink, but_page, is_list
 ghost use Rattle.core_model.specs.SessionLimits.{most_entries, most_items, most_requests};
 ghost use Rattle.core_model.specs.Waiters.{AreOwn, IsFree, vios};
 ghost use Rattle.data_vio.specs.Vios.{turned};
+ghost use Rattle.vdo_model.specs.Scripts.{same_writer};
 ghost use Rattle.data_vio.specs.declared.items.Phase.TheVariants as phase;
 
 use crate::{MapTree, PageList, Slots};
-use blk_base::{Lba, PageId, Pbn};
+use blk_base::{Lba, PageId, Pbn, Writer};
 use data_vio::{
     BoxedVio, ENTRY_ROOM, Fifo, LANE_ROOM, LOCK_ROOM, MAKING_ROOM, Phase, REQUEST_ROOM, Register,
     Remapping,
@@ -37,12 +38,16 @@ pub struct LogicalZone {
     lacking: Fifo<BoxedVio, LANE_ROOM>,
     // The pages whose entry was handed in and that are never linked.
     unlinkable: PageList<ENTRY_ROOM>,
+    // Who waits for the report of its decrement, and the entries of which that came before their request.
+    settling: Vec<BoxedVio>,
+    reported: Vec<Remapping>,
     slots: Slots,
 }
 
 impl Model for LogicalZone {
-    ghost use Rattle.std.specs.Prelude.{◌≡◌, ◌+◌, ◌*◌, reverse};
+    ghost use Rattle.std.specs.Prelude.{◌≡◌, ◌+◌, ◌*◌, ◌≤◌, reverse, vec_capacity};
     ghost use Rattle.core_model.specs.LogicalData.{LogicalZone as LogicalData};
+    ghost use Rattle.core_model.specs.PortsData.{lane_room};
     ghost use Rattle.core_model.specs.SessionLimits.{most_items};
     ghost use Rattle.core_model.specs.Waiters.{AreFree, AreOwn, vios};
 
@@ -60,6 +65,8 @@ impl Model for LogicalZone {
       making = l.making;
       lacking = l.lacking;
       unlinkable = l.unlinkable;
+      settling = l.settling.items;
+      reported = l.reported.items;
       slots = l.slots;
     } };
 
@@ -67,6 +74,8 @@ impl Model for LogicalZone {
       room : l.locks.room ≡ 2 * most_items + 1;
       own : AreOwn l.locks.waiting;
       free : AreFree (reverse l.locks.held) (vios l.locks.waiting) l.retired;
+      settling : lane_room ≤ vec_capacity l.settling;
+      reported : lane_room ≤ vec_capacity l.reported;
     } };
 }
 
@@ -86,6 +95,8 @@ impl LogicalZone {
           making = [];
           lacking = [];
           unlinkable = [];
+          settling = [];
+          reported = [];
           slots = [];
         }) }
     {
@@ -95,6 +106,8 @@ impl LogicalZone {
         let making = PageList::new(alloc)?;
         let lacking = Fifo::new(alloc)?;
         let unlinkable = PageList::new(alloc)?;
+        let settling = Vec::with_capacity(alloc, LANE_ROOM as usize)?;
+        let reported = Vec::with_capacity(alloc, LANE_ROOM as usize)?;
         let slots = Slots::new(alloc)?;
         Ok(LogicalZone {
             zone,
@@ -106,6 +119,8 @@ impl LogicalZone {
             making,
             lacking,
             unlinkable,
+            settling,
+            reported,
             slots,
         })
     }
@@ -211,6 +226,47 @@ impl LogicalZone {
     {
         self.making.strike(page);
         self.unlinkable.push(page);
+    }
+
+    /// A request waits for the report of its decrement.
+    pub fn await_report(&mut self, vio: BoxedVio)
+        requires { length self.old.settling < LANE_ROOM }
+        ensures { self.new ≡ record self.old { settling = self.old.settling ++ vio ∷ [] } }
+    {
+        self.settling.push_reserved(vio);
+    }
+
+    /// The request that waits for the report of its decrement comes out.
+    pub fn take_settling(&mut self, request: Writer) -> Option<BoxedVio>
+        ensures vio { result ≡ rows.settling_of request self.old.settling }
+        ensures zone { self.new
+            ≡ record self.old { settling = rows.without_settling request self.old.settling } }
+    {
+        let place = settling_at(&self.settling, request)?;
+        Some(self.settling.remove(place))
+    }
+
+    /// The report of a decrement came before its request.
+    pub fn keep_report(&mut self, entry: Remapping)
+        requires { length self.old.reported < LANE_ROOM }
+        ensures { self.new ≡ record self.old { reported = self.old.reported ++ entry ∷ [] } }
+    {
+        self.reported.push_reserved(entry);
+    }
+
+    /// Whether the report of the decrement of a request came before it; it is kept no longer.
+    pub fn take_report(&mut self, request: Writer) -> bool
+        ensures told { result ≡ rows.is_reported request self.old.reported }
+        ensures zone { self.new
+            ≡ record self.old { reported = rows.without_report request self.old.reported } }
+    {
+        match reported_at(&self.reported, request) {
+            Some(place) => {
+                let _ = self.reported.remove(place);
+                true
+            }
+            None => false,
+        }
     }
 
     /// Whether the lock of an address is never released.
@@ -334,4 +390,18 @@ fn is_among(at: Lba, retired: &[Lba]) -> bool
         found = *other == at || found;
     }
     found
+}
+
+// Where the request stands among those that wait for a report.
+fn settling_at(settling: &[BoxedVio], request: Writer) -> Option<usize>
+    ensures { result ≡ position (λ v. same_writer v.request request) settling.now }
+{
+    settling.iter().position(|vio| vio.get().request == request)
+}
+
+// Where the report of its decrement stands among those that came.
+fn reported_at(reported: &[Remapping], request: Writer) -> Option<usize>
+    ensures { result ≡ position (λ e. same_writer e.request request) reported.now }
+{
+    reported.iter().position(|entry| entry.request == request)
 }

@@ -1,13 +1,17 @@
-use crate::{Desk, JournalZone, LogicalZone, Ports, Supply};
+use crate::{Desk, JournalZone, LogicalZone, Ports};
+use data_vio::{REQUEST_ROOM, Register, Remapping};
 use vdo_model::Damage;
+use zone_counts::ZoneCounts;
 
 /// The data blocks.
 #[derive(Drop)]
 pub struct PhysicalZone {
     /// The stop notice has come.
     pub notified: bool,
-    /// The blocks that nobody has taken.
-    pub free: Supply,
+    /// The entries whose decrement found the counter of its block at 0, the newest first; the device's zone was told of the first.
+    pub strays: Register<Remapping, REQUEST_ROOM>,
+    /// The counters of its blocks, and the claims on them.
+    pub counts: ZoneCounts,
 }
 
 /// How far the superblock of a session has come, which says that the session isn't closed.
@@ -29,7 +33,7 @@ pub struct DeviceZone {
     pub calls: u64,
     /// Nothing else is written before this is durable.
     pub superblock: SuperblockStage,
-    /// The first leaf that was read and doesn't decode.
+    /// What was found damaged first: a leaf that doesn't decode, or what a zone told of.
     pub damage: Option<Damage>,
 }
 

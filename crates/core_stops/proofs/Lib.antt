@@ -1,4 +1,3 @@
-pub mod SessionTurns
 pub mod OpenedStands
 pub mod StandingBlocks
 pub mod SoundStops

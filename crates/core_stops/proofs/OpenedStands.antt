@@ -1,14 +1,13 @@
 -- What a session leaves as it was stands as it was opened: its pages, with no entries, and its counts.
-use Rattle.std.proofs.Common.{ℕ, ◌/◌, ◌%◌, ◌≡◌, ◌≢◌, ◌<◌, ◌≤◌, Bool, true, Some, List, [], Contains, refl, sym, ◌∙◌, subst, arith}
+use Rattle.std.proofs.Common.{ℕ, ◌/◌, ◌%◌, ◌≡◌, ◌<◌, ◌≤◌, Bool, true, Some, List, [], refl, sym, ◌∙◌, subst, arith}
 use Rattle.blk_base.proofs.RegionLaws.{apart, inside}
-use Rattle.blk_base.specs.Regions.{DataBlock, Place, ReferenceBlock, SlabJournalSlot, IsPlace, block_of, references_of}
+use Rattle.blk_base.specs.Regions.{DataBlock, IsDataBlock, Place, ReferenceBlock, SlabJournalSlot, IsPlace, block_of, references_of}
 use Rattle.blk_base.specs.Sectors.{sector}
 use Rattle.blk_base.specs.declared.geometry.Geometry.{Geometry}
 use Rattle.blk_base.specs.declared.layout.DataPlace.{DataPlace}
 use Rattle.blk_base.specs.declared.place.Pbn.{Pbn}
 use Rattle.byte_fields.specs.Fields.{number_at}
-use Rattle.core_laws.proofs.Common.{IsAsOpened, IsFresh, IsSession, KeptStands, Session, Trace, log, opened_image}
-use Rattle.core_laws.proofs.device.LeafReads.{each_of}
+use Rattle.core_laws.proofs.Common.{IsAsOpened, IsSession, KeptStands, Session, Trace, log, opened_image}
 use Rattle.core_laws.proofs.kept.OpenedBlocks.{page_left}
 use Rattle.core_model.specs.Sessions.{IsKept}
 use Rattle.count_laws.proofs.KeepLaws.{counts_begin}
@@ -69,19 +68,16 @@ module _ (s : Session) (u : Trace) (session : IsSession s) (opened : IsAsOpened 
 
   -- The counts.
 
-  -- a block of a slab that is no data block isn't free
-  not_free : (place : Place) → IsPlace g place → ((slab offset : ℕ) → DataBlock slab offset ≡ place → ⊥) → (y : Pbn) → Contains s.free y → y.0 ≢ block_of g place
-  not_free place is other y free same =
-      let fresh = each_of (IsFresh s) s.free y session.free free in
-      let data_is = fresh.is_data in
-      other data_is.slab data_is.offset (apart g (DataBlock data_is.slab data_is.offset) place data_is.inside is (data_is.stands ∙ same))
+  -- a block of a slab at another place is no data block
+  no_data : (place : Place) → IsPlace g place → ((slab offset : ℕ) → DataBlock slab offset ≡ place → ⊥) → IsDataBlock g (block_of g place) → ⊥
+  no_data place is other data_is = other data_is.slab data_is.offset (apart g (DataBlock data_is.slab data_is.offset) place data_is.inside is data_is.stands)
 
   reference_kept : (slab i : ℕ) → slab < g.slabs → i < references_of g → IsKept s (block_of g (ReferenceBlock slab i))
   reference_kept slab i in_slab below = record {
     inside = inside g (ReferenceBlock slab i) (in_slab, below);
     looked = looked_high g (block_of g (ReferenceBlock slab i)) (omega arith);
     behind = omega arith;
-    taken = not_free (ReferenceBlock slab i) (in_slab, below) (λ of_slab offset same. cc);
+    unfreed = λ data_is. absurd (no_data (ReferenceBlock slab i) (in_slab, below) (λ of_slab offset same. cc) data_is);
   }
 
   slot_kept : (slab slot : ℕ) → slab < g.slabs → slot < g.slab_journal → IsKept s (block_of g (SlabJournalSlot slab slot))
@@ -89,7 +85,7 @@ module _ (s : Session) (u : Trace) (session : IsSession s) (opened : IsAsOpened 
     inside = inside g (SlabJournalSlot slab slot) (in_slab, below);
     looked = looked_high g (block_of g (SlabJournalSlot slab slot)) (omega arith);
     behind = omega arith;
-    taken = not_free (SlabJournalSlot slab slot) (in_slab, below) (λ of_slab offset same. cc);
+    unfreed = λ data_is. absurd (no_data (SlabJournalSlot slab slot) (in_slab, below) (λ of_slab offset same. cc) data_is);
   }
 
   module _ (closed : (place : DataPlace) (point : ℕ) → IsDataPlace g place → IsUpdate (opened_image s) place point → point ≤ commit_of (opened_image s) place) where

@@ -43,7 +43,7 @@ use Rattle.session_stops.specs.Pages.{EmptyPageStands, NewPagesStand, PagesStand
 use Rattle.session_stops.specs.Sessions.{AreFew, IsBehind, StandsAtRest, StandsUnderWay, entries_next, window_from}
 use Rattle.stop_laws.specs.Journals.{Surely}
 use Rattle.core_stops.proofs.OpenedStands.{counts_opened, pages_opened}
-use Rattle.core_stops.proofs.SessionTurns.{AreOrdered, in_turn, older_ordered, ordered}
+use Rattle.core_laws.proofs.trace.EntriesInTurn.{AreOrdered, in_turn, older_ordered, ordered}
 
 -- Lists.
 

@@ -18,34 +18,37 @@ pub data Where : Type 0 where
   AtDevice : Where
   InNoLane : Where
 
--- Where a phase is done; whether the request holds the lock of its address, has a data block that no entry names, has yet to
--- draw its place, and has an entry that was handed in and of which neither the slot is set nor the address retired.
+-- Where a phase is done; whether the request holds the lock of its address, has a claim on the block to which it maps that,
+-- owes the increment of an entry that was handed in, has yet to draw its place, and has an entry that was handed in and of
+-- which neither the slot is set nor the address retired.
 pub record PhaseRow : Type 0 where
   pub zone : Where
   pub locks : Bool
   pub claims : Bool
+  pub owes : Bool
   pub arrives : Bool
   pub entered : Bool
 
 abbrev pub row : Phase → PhaseRow
-row phase.Arrive = record { zone = AtHome; locks = false; claims = false; arrives = true; entered = false }
-row phase.Wait = record { zone = InNoLane; locks = false; claims = false; arrives = false; entered = false }
-row phase.Look = record { zone = AtHome; locks = true; claims = false; arrives = false; entered = false }
-row phase.LoadLeaf = record { zone = AtDevice; locks = true; claims = false; arrives = false; entered = false }
-row phase.LoadedLeaf = record { zone = AtHome; locks = true; claims = false; arrives = false; entered = false }
-row phase.Claim = record { zone = AtPhysical; locks = true; claims = false; arrives = false; entered = false }
-row phase.Store = record { zone = AtDevice; locks = true; claims = true; arrives = false; entered = false }
-row phase.Enter = record { zone = AtJournal; locks = true; claims = true; arrives = false; entered = false }
-row phase.Pending = record { zone = InNoLane; locks = true; claims = false; arrives = false; entered = true }
-row phase.Settle = record { zone = AtHome; locks = true; claims = false; arrives = false; entered = true }
-row phase.Load = record { zone = AtDevice; locks = true; claims = false; arrives = false; entered = false }
-row phase.Loaded = record { zone = AtHome; locks = true; claims = false; arrives = false; entered = false }
-row phase.AbortClaim = record { zone = AtPhysical; locks = true; claims = false; arrives = false; entered = false }
-row phase.Abort = record { zone = AtHome; locks = true; claims = false; arrives = false; entered = false }
-row phase.AbortEnteredClaim = record { zone = AtPhysical; locks = true; claims = false; arrives = false; entered = true }
-row phase.AbortEntered = record { zone = AtHome; locks = true; claims = false; arrives = false; entered = true }
-row phase.Flush = record { zone = AtDevice; locks = false; claims = false; arrives = false; entered = false }
-row phase.Reply = record { zone = AtDesk; locks = false; claims = false; arrives = false; entered = false }
+row phase.Arrive = record { zone = AtHome; locks = false; claims = false; owes = false; arrives = true; entered = false }
+row phase.Wait = record { zone = InNoLane; locks = false; claims = false; owes = false; arrives = false; entered = false }
+row phase.Look = record { zone = AtHome; locks = true; claims = false; owes = false; arrives = false; entered = false }
+row phase.LoadLeaf = record { zone = AtDevice; locks = true; claims = false; owes = false; arrives = false; entered = false }
+row phase.LoadedLeaf = record { zone = AtHome; locks = true; claims = false; owes = false; arrives = false; entered = false }
+row phase.Claim = record { zone = AtPhysical; locks = true; claims = false; owes = false; arrives = false; entered = false }
+row phase.Store = record { zone = AtDevice; locks = true; claims = true; owes = false; arrives = false; entered = false }
+row phase.Enter = record { zone = AtJournal; locks = true; claims = true; owes = false; arrives = false; entered = false }
+row phase.Pending = record { zone = InNoLane; locks = true; claims = true; owes = true; arrives = false; entered = true }
+row phase.Count = record { zone = AtPhysical; locks = true; claims = true; owes = true; arrives = false; entered = true }
+row phase.Settle = record { zone = AtHome; locks = true; claims = false; owes = false; arrives = false; entered = true }
+row phase.Load = record { zone = AtDevice; locks = true; claims = false; owes = false; arrives = false; entered = false }
+row phase.Loaded = record { zone = AtHome; locks = true; claims = false; owes = false; arrives = false; entered = false }
+row phase.AbortClaim = record { zone = AtPhysical; locks = true; claims = true; owes = false; arrives = false; entered = false }
+row phase.Abort = record { zone = AtHome; locks = true; claims = false; owes = false; arrives = false; entered = false }
+row phase.AbortEnteredClaim = record { zone = AtPhysical; locks = true; claims = true; owes = true; arrives = false; entered = true }
+row phase.AbortEntered = record { zone = AtHome; locks = true; claims = false; owes = false; arrives = false; entered = true }
+row phase.Flush = record { zone = AtDevice; locks = false; claims = false; owes = false; arrives = false; entered = false }
+row phase.Reply = record { zone = AtDesk; locks = false; claims = false; owes = false; arrives = false; entered = false }
 
 -- the number of the zone there, for a request of this home; where it is in no lane, none to a zone's number
 abbrev pub number_at : Sizes → ZoneId → Where → ℕ

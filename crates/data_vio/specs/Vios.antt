@@ -70,6 +70,7 @@ begun_vio sizes w asks at bytes =
       old = Unmapped;
       latest = None;
       new = Unmapped;
+      claim = None;
       answer = None;
       calls = 0;
     }
@@ -81,6 +82,14 @@ turned next v = record v { phase = next }
 -- it is to be answered so, and goes on to another phase
 abbrev pub ended : Phase → Answer → Vio → Vio
 ended next answer v = record v { phase = next; answer = Some answer }
+
+-- it has a claim on this block, for its data or for the page that it makes
+abbrev pub claiming : Pbn → Vio → Vio
+claiming x v = record v { phase = phase.Store; new = At x; claim = Some x }
+
+-- it has no claim any more, and goes on to another phase
+abbrev pub unclaiming : Phase → Vio → Vio
+unclaiming next v = record v { phase = next; claim = None }
 
 -- the leaf of its address, at this block, is read first
 abbrev pub reads_leaf : Pbn → Vio → Vio
@@ -100,6 +109,10 @@ made v = record v { phase = phase.Look; page = None; new = Unmapped }
 -- or it makes it no more, and is answered
 abbrev pub gives_up : Vio → Vio
 gives_up v = record v { phase = phase.Reply; page = None }
+
+-- the logical zone of the address of an entry
+abbrev pub home_of : Sizes → Remapping → ZoneId
+home_of sizes e = id.Logical (zone_of sizes.zones e.at.0)
 
 -- how it maps its address anew
 abbrev pub remapping : Vio → Remapping

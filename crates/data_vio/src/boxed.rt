@@ -1,10 +1,11 @@
 ghost use Rattle.std.specs.Prelude.{◌≡◌, None, Some, IfOk};
 ghost use Rattle.blk_base.specs.declared.request.Answer.TheVariants as reply;
 ghost use Rattle.data_vio.specs.declared.items.Phase.TheVariants as phase;
-ghost use Rattle.data_vio.specs.Vios.{ended, entry_of, gives_up, has_leaf, logged, made, makes, reads_leaf, remapping, turned};
+ghost use Rattle.data_vio.specs.Vios.{claiming, ended, entry_of, gives_up, has_leaf, logged, made, makes, reads_leaf, remapping, turned};
 
 use crate::{Logged, NewPage, Phase, Remapping, Vio};
 use blk_base::{Answer, Block, Entry, Mapping, PageId, Pbn};
+use slab_counts::Claim;
 use std::alloc::{AllocError, Global};
 use std::marker::Model;
 
@@ -109,7 +110,25 @@ impl BoxedVio {
         self
     }
 
-    /// A write makes a page, for which it takes a block.
+    /// A write has this claim, for its data or for the page that it makes.
+    pub fn claim(mut self, claim: Claim) -> BoxedVio
+        ensures { result ≡ claiming claim self }
+    {
+        self.vio.phase = Phase::Store;
+        self.vio.new = Mapping::At(claim.block());
+        self.vio.claim = Some(claim);
+        self
+    }
+
+    /// Its claim, which leaves it.
+    pub fn take_claim(&mut self) -> Option<Claim>
+        ensures claim { result ≡ self.old.claim }
+        ensures left { self.new ≡ record self.old { claim = None } }
+    {
+        self.vio.claim.take()
+    }
+
+    /// A write makes a page, for which it claims a block.
     pub fn make(mut self, page: PageId) -> BoxedVio
         ensures { result ≡ makes page self }
     {

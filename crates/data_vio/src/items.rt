@@ -1,5 +1,7 @@
 use crate::{BLOCK_ENTRIES, BoxedVio, Fifo, Remapping};
 use blk_base::{Answer, Block, Lba, Mapping, PageId, Pbn, Writer, ZoneId};
+use slab_counts::Claim;
+use vdo_model::Damage;
 
 /// What a request asks for.
 #[derive(Clone, Copy)]
@@ -24,7 +26,7 @@ pub enum Phase {
     LoadLeaf,
     /// Logical: it has the lock, and its leaf said what is mapped at its address: that says where it goes.
     LoadedLeaf,
-    /// Physical: a write takes a free data block, for its data or for the page that it makes.
+    /// Physical: a write claims a free data block, for its data or for the page that it makes.
     Claim,
     /// Device: the data of a write, or its page, is written to its block.
     Store,
@@ -32,17 +34,20 @@ pub enum Phase {
     Enter,
     /// Journal: its entry stands in the block being filled, or in one that is sealed and not committed.
     Pending,
-    /// Logical: the entry is committed: the slot of the address is set, and the lock released; or the page is linked.
+    /// Physical: the entry is committed: the increment of its block is taken, and the claim spent.
+    Count,
+    /// Logical: the entry is committed and counted: once its decrement is reported, the slot of the address is set, and the
+    /// lock released; or the page is linked.
     Settle,
     /// Device: the block of a read is read.
     Load,
     /// Logical: a read has its bytes, and the lock is released.
     Loaded,
-    /// Physical: a write that took a block is aborted, and passes by. Its block stays taken.
+    /// Physical: a request whose entry wasn't handed in is aborted: its claim is dropped, where it has one.
     AbortClaim,
     /// Logical: a request is aborted: it releases the lock.
     Abort,
-    /// Physical: a write whose entry was handed in is aborted, and passes by. Its block stays taken.
+    /// Physical: a request whose entry was handed in is aborted: its claim, where it has one, is spent and stays counted.
     AbortEnteredClaim,
     /// Logical: a write whose entry was handed in is aborted: the lock of its address is never released.
     AbortEntered,
@@ -75,9 +80,11 @@ pub struct Vio {
     pub old: Mapping,
     /// The last write of its address that was done in this session by then.
     pub latest: Option<Remapping>,
-    /// What a write or a discard maps its address to, or where its page stands: the data block that it has taken, or none;
+    /// What a write or a discard maps its address to, or where its page stands: the data block that it has claimed, or none;
     /// `Unmapped` until that is known.
     pub new: Mapping,
+    /// Its claim on that block, until the increment is taken, or the claim is dropped.
+    pub claim: Option<Claim>,
     /// What it is answered with, once that is known.
     pub answer: Option<Answer>,
     /// Of a flush, how many calls of the device had succeeded when its own returned; 0 until then.
@@ -114,6 +121,12 @@ pub struct SealedBlock {
 pub enum Item {
     Request(BoxedVio),
     Block(SealedBlock),
+    /// A committed entry maps its address away from a data block: the decrement of that, for its physical zone.
+    Decrement(Remapping),
+    /// The decrement of this entry was taken: the report of it, for the logical zone of its address.
+    Report(Remapping),
+    /// What a zone found damaged, for the device's zone, which stops the session.
+    Damage(Damage),
     /// A stop notice: the session is stopped. The device zone sends it to the zones, and each of them to the desk.
     StopNotice,
 }

@@ -20,8 +20,9 @@ pub const MOST_ENTRIES: usize = 3 * MOST_REQUESTS;
 /// How many zones may be notified of a stop: the logical zones, the physical zone and the journal.
 pub const MOST_NOTICES: u32 = 6;
 
-/// How many items may be under way: requests, stop notices, and a block of the journal.
-pub const MOST_ITEMS: usize = MOST_UNDER_WAY + MOST_NOTICES as usize + 1;
+/// How many items may be under way: requests, a decrement or its report for each, stop notices, a block of the journal, and
+/// damage.
+pub const MOST_ITEMS: usize = 2 * MOST_UNDER_WAY + MOST_NOTICES as usize + 2;
 
 /// How many entries a block of the journal has at most.
 pub const BLOCK_ENTRIES: u32 = 192;

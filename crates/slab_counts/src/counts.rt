@@ -1,7 +1,6 @@
 ghost use Rattle.std.specs.Prelude.{◌≡◌, ◌+◌, ◌<◌, ◌≤◌, ◌⊎◌, ◌↔◌, ◌*◌, All, length, false, IsTrue, IfOk, IfErr, IfSome, IfNone, OnOk, OnErr};
 ghost use Rattle.blk_base.specs.Counters.{limit_of};
 ghost use Rattle.blk_base.specs.Limits.{IsGeometry};
-ghost use Rattle.blk_base.specs.Points.{half_of};
 ghost use Rattle.slab_counts.specs.Counts.{IsOpening, IsOfSlab, IsFree, IsPage, IsClaimed, HasRoom, HasNoFree, ClaimsFree, Shares, IsRefused, Takes, IsStray, offset_of, counter_of, used_of, claimed, unclaimed, with_page};
 ghost use Rattle.lane_kernels.specs.Kernels.{IsFreeAt, IsLeastFree};
 ghost use Rattle.slab_counts.specs.Kept.{IsWithin, NoneFreeBelow};
@@ -10,7 +9,7 @@ ghost use Rattle.blk_base.specs.declared.point.Half.TheVariants.{Increment, Decr
 
 use crate::opening_counts::{opening_counters, opening_pages, repeated};
 use crate::{Claim, Refusal, Stray};
-use blk_base::{Geometry, Half, Layout, Opened, Pbn, Update};
+use blk_base::{Geometry, Half, Layout, Opened, Pbn};
 use lane_kernels::first_free;
 use std::alloc::{AllocError, Global};
 use std::marker::Model;
@@ -174,25 +173,24 @@ impl SlabCounts {
         at
     }
 
-    /// Takes an update of a block of this slab. It is refused, with the counter, exactly where a decrement finds 0, or an
-    /// increment finds the limit or no claim.
-    pub fn apply(&mut self, update: &Update) -> Result<(), Stray>
-        requires { IsOfSlab self.old update.now.at }
-        ensures taken { OnOk result
-            (Takes (half_of update.now.point.0) self.old self.new update.now.at) }
-        ensures stray { OnErr result (IsStray (half_of update.now.point.0) self.old update.now.at) }
-        ensures count { IfErr result (λ stray. stray.count ≡ counter_of self.old update.now.at) }
+    /// Takes an update of a block of this slab: an increment, or a decrement. It is refused, with the counter, exactly where a
+    /// decrement finds 0, or an increment finds the limit or no claim.
+    pub fn apply(&mut self, half: Half, at: Pbn) -> Result<(), Stray>
+        requires { IsOfSlab self.old at }
+        ensures taken { OnOk result (Takes half self.old self.new at) }
+        ensures stray { OnErr result (IsStray half self.old at) }
+        ensures count { IfErr result (λ stray. stray.count ≡ counter_of self.old at) }
         ensures same { OnErr result (self.new ≡ self.old) }
     {
-        let taken = match update.point.half() {
-            Half::Increment => self.map_once_more(update.at),
-            Half::Decrement => self.map_once_less(update.at),
+        let taken = match half {
+            Half::Increment => self.map_once_more(at),
+            Half::Decrement => self.map_once_less(at),
         };
         if taken {
             Ok(())
         } else {
             Err(Stray {
-                count: self.count(update.at),
+                count: self.count(at),
             })
         }
     }

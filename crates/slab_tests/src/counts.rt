@@ -1,8 +1,8 @@
 ghost use Rattle.std.specs.Prelude.{◌≡◌, ◌+◌, ◌<◌, IfOk};
 ghost use Rattle.slab_tests.specs.Tested.{IsFirstSlab};
 
-use crate::images::{FIRST, SIZES, opened_image};
-use blk_base::{Pbn, Point, Update};
+use crate::images::{SIZES, opened_image};
+use blk_base::{Half, Pbn};
 use slab_counts::{Claim, Receipt, Refusal, SlabCounts, Stray, Ticket};
 use std::alloc::{AllocError, Global};
 use std::test::Fail;
@@ -12,26 +12,6 @@ fn opened_counts(alloc: Global) -> Result<SlabCounts, AllocError>
 {
     let opened = opened_image(alloc)?;
     SlabCounts::new(alloc, &SIZES, 0, &opened)
-}
-
-fn increment(offset: u32) -> Update
-    requires { offset < 64 }
-    ensures { result.at.0 ≡ 85 + offset }
-{
-    Update {
-        at: Pbn(FIRST + offset),
-        point: Point(1024),
-    }
-}
-
-fn decrement(offset: u32) -> Update
-    requires { offset < 64 }
-    ensures { result.at.0 ≡ 85 + offset }
-{
-    Update {
-        at: Pbn(FIRST + offset),
-        point: Point(1025),
-    }
 }
 
 // The block of a claim that was given.
@@ -84,11 +64,11 @@ fn a_block_is_used_again(rt: HostRuntime) -> Result<(), Fail> {
     };
     let at = counts.spend(first);
     counts.drop_claim(more);
-    let taken = counts.apply(&increment(6));
-    let stray = counts.apply(&increment(6));
+    let taken = counts.apply(Half::Increment, Pbn(91));
+    let stray = counts.apply(Half::Increment, Pbn(91));
     let mapped = seen(&counts);
-    let taken_off = counts.apply(&decrement(6));
-    let stray_too = counts.apply(&decrement(6));
+    let taken_off = counts.apply(Half::Decrement, Pbn(91));
+    let stray_too = counts.apply(Half::Decrement, Pbn(91));
     let unmapped = seen(&counts);
     let again = counts.claim_free().map(|claim| claim.block());
     let answers = [taken, stray, taken_off, stray_too];
@@ -115,7 +95,7 @@ fn a_page_is_not_shared(rt: HostRuntime) -> Result<(), Fail> {
     let mut counts = opened_counts(rt.alloc())?;
     let claim = counts.claim_free().ok_or("first")?;
     let at = counts.spend_page(claim);
-    let counted = counts.apply(&increment(6));
+    let counted = counts.apply(Half::Increment, Pbn(91));
     let refused = block_of(counts.claim_share(at));
     let counters = (counts.counters().len(), counts.counters().get(6).copied());
     let wanted = (91, Ok(()), Err(Refusal::NotData), (64, Some(1)));

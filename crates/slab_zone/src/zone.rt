@@ -242,7 +242,7 @@ impl SlabZone {
         ensures same { OnErr result (self.new ≡ self.old) }
     {
         let place = self.counts.place(update.at);
-        self.counts.apply(update)?;
+        self.counts.apply(update.point.half(), update.at)?;
         let slab = &mut self.writes[place];
         slab.take(update);
         Ok(())

@@ -49,9 +49,11 @@ pub struct FlushMark {
 pub enum Damage {
     /// The page of the block map at this block doesn't decode.
     Page { at: Pbn, fault: PageFault },
+    /// A decrement of the counter of this data block doesn't fit it: it is this number.
+    Stray { at: Pbn, count: u16 },
 }
 
-/// What a run did: the requests of its script, and what became of them. Where no session was begun, all lists are empty.
+/// What a run did: the requests of its script, and what became of them. Where no session was begun, all lists are empty, and no block is counted.
 #[derive(Drop)]
 pub struct RunReport {
     pub requests: Requests,
@@ -65,4 +67,8 @@ pub struct RunReport {
     pub histories: ReportList<HistoryEntry>,
     /// The first damage that was found in the session, which stopped it.
     pub damage: Option<Damage>,
+    /// How many data blocks have a counter above 0 at its end.
+    pub used: u32,
+    /// How many data blocks there are.
+    pub total: u32,
 }

@@ -1,7 +1,6 @@
 ghost use Rattle.std.specs.Prelude.{◌≡◌, ◌<◌, ◌≤◌, ◌*◌, ◌/◌, ◌%◌, ◌↔◌, ℕ, All, length, false, IsTrue, IfErr, IfNone, IfOk, IfSome, OnOk, OnErr};
 ghost use Rattle.blk_base.specs.Counters.{limit_of};
 ghost use Rattle.blk_base.specs.Limits.{IsGeometry};
-ghost use Rattle.blk_base.specs.Points.{half_of};
 ghost use Rattle.slab_counts.specs.Counts.{Counts, IsFree, HasRoom, Takes, IsStray, counter_of, claimed, unclaimed, with_page};
 ghost use Rattle.slab_counts.specs.declared.refusals.Refusal.TheVariants.{Full};
 ghost use Rattle.slab_tickets.specs.Tickets.{IsNow, IsBelow, IsOutAt, HasRoom as HasTicket};
@@ -13,7 +12,7 @@ use crate::opened_slabs::opening_slabs;
 use crate::places::{find_slab, place_of};
 use crate::search::{claim_lowest, has_free, serve};
 use crate::used::used_in;
-use blk_base::{Layout, Opened, Pbn, Update, Writer};
+use blk_base::{Half, Layout, Opened, Pbn, Writer};
 use slab_counts::{Claim, Refusal, SlabCounts, Stray, Ticket};
 use slab_tickets::{Tickets, Withdrawn};
 use std::alloc::{AllocError, Global};
@@ -245,23 +244,22 @@ impl ZoneCounts {
         slab.spend_page(claim)
     }
 
-    /// Takes an update of a block of this zone. It is refused, with the counter, exactly where a decrement finds 0, or an
-    /// increment finds the limit or no claim. If the block becomes free, it goes to the oldest ticket without one.
-    pub fn apply(&mut self, update: &Update) -> Result<(), Stray>
-        requires { IsOfZone self.old update.now.at }
+    /// Takes an update of a block of this zone: an increment, or a decrement. It is refused, with the counter, exactly where a
+    /// decrement finds 0, or an increment finds the limit or no claim. If the block becomes free, it goes to the oldest ticket
+    /// without one.
+    pub fn apply(&mut self, half: Half, at: Pbn) -> Result<(), Stray>
+        requires { IsOfZone self.old at }
         ensures taken { OnOk result
             ((slab : Counts)
-            × Takes (half_of update.now.point.0) (slab_of self.old update.now.at) slab update.now.at
-            × Changes self.old self.new update.now.at slab) }
-        ensures stray { OnErr result
-            (IsStray (half_of update.now.point.0) (slab_of self.old update.now.at) update.now.at) }
-        ensures count { IfErr result (λ stray.
-            stray.count ≡ counter_of (slab_of self.old update.now.at) update.now.at) }
+            × Takes half (slab_of self.old at) slab at
+            × Changes self.old self.new at slab) }
+        ensures stray { OnErr result (IsStray half (slab_of self.old at) at) }
+        ensures count { IfErr result (λ stray. stray.count ≡ counter_of (slab_of self.old at) at) }
         ensures same { OnErr result (self.new ≡ self.old) }
     {
-        let place = place_of(&self.layout, self.zone, self.zones, &self.slabs, update.at);
+        let place = place_of(&self.layout, self.zone, self.zones, &self.slabs, at);
         let slab = &mut self.slabs[place];
-        slab.apply(update)?;
+        slab.apply(half, at)?;
         self.mark = self.mark.min(place);
         serve(&mut self.slabs, &mut self.mark, &mut self.tickets);
         Ok(())
@@ -326,5 +324,12 @@ impl ZoneCounts {
         ensures right { IsZone self.now }
     {
         used_in(&self.slabs)
+    }
+
+    /// How many data blocks the image has, those of other zones among them.
+    pub fn total(&self) -> u32
+        ensures { result ≡ self.now.geometry.slabs * self.now.geometry.slab_blocks }
+    {
+        self.layout.geometry.slabs * self.layout.geometry.slab_blocks
     }
 }

@@ -1,6 +1,6 @@
 -- What the acts of the desk owe.
 use Rattle.std.proofs.Common.{◌≡◌, ℕ, ◌+◌, ◌<◌, ◌≤◌, if◌then◌else◌, Bool, true, false, nat_lt, Option, None, Some, IsNone, List, [], ◌∷◌, refl, ap, sym, ◌∙◌, subst, inl, inr, arith, ◌||◌, not}
-use Rattle.core_laws.proofs.Common.{AllByRecursion, Answer as Reply, Asks, Desk, DeskLine, Flushes, FlushMark, HasAddress, HasCause, IsEarned, IsNextLine, IsOpen, IsSession, KeptOk, Lba, MayAnswer, MayReply, Phase, Post, Request, RightTrace, Says, Session, Sizes, Trace, Vio, Writer, answer_of, asked, begun, begun_vio, cases_Bool, desk_number, done, eqb_tells, every-append, fair_before, has_stopped, lines, logged_of, ltb-false, ltb-true, moments, none_is, notified_zones, option_cases, request_at, request_of, same_Some, same_tells, zone_at, zone_of, IsForBlock, Fails, Harms, is_harmed, is_read}
+use Rattle.core_laws.proofs.Common.{AllByRecursion, Answer as Reply, Asks, Desk, DeskLine, Flushes, FlushMark, HasAddress, HasCause, IsEarned, IsNextLine, IsOpen, IsSession, KeptOk, Lba, MayAnswer, MayReply, Phase, Post, Request, RightTrace, Says, Session, Sizes, Trace, Vio, Writer, answer_of, asked, begun, begun_vio, cases_Bool, desk_number, done, eqb_tells, every-append, fair_before, has_stopped, lines, logged_of, ltb-false, ltb-true, moments, none_is, notified_zones, option_cases, request_at, request_of, same_Some, same_tells, zone_at, zone_of, IsForBlock, Fails, Harms, Hears, is_harmed, is_read}
 use Rattle.blk_base.specs.Sectors.{zero_block}
 use Rattle.blk_base.specs.declared.place.ZoneId.TheVariants as id
 use Rattle.blk_base.specs.declared.request.Answer.TheVariants as reply
@@ -96,6 +96,7 @@ module _ (s : Session) (t : Trace) (w : Writer) (is : IsSession s) (right : Righ
           record { asked = asks; is_open = begins_open; address = address q; home = refl },
           record { for_block = block; unplaced = unborn_place s t w right late; not_entered = unborn_entry s t w right late; none_taken = unborn_take s t w right late },
           refl,
+          record { claim_is = refl; on_data = λ holds. absurd cc },
         ),
       )
     where
@@ -114,7 +115,7 @@ module _ (s : Session) (t : Trace) (w : Writer) (is : IsSession s) (right : Righ
       let once : at_once s.sizes notified Write at.0 ≡ None = rw (← same_Some _ _ served) at none in
       subst (λ (u : Vio). PostOk s (Says (line.Begin w) ∷ t) (first_zone u, item.Request u)) (same_Some _ _ served) (begins_block Write at bytes tt asks (sent_below at.0 s.sizes.geometry.logical _ once))
   begins_post notified request.Flush v served asks none =
-      subst (λ (u : Vio). PostOk s (Says (line.Begin w) ∷ t) (first_zone u, item.Request u)) (same_Some _ _ served) (omega arith, (record { asked = asks; is_open = begins_open; address = tt; home = refl }, refl, refl))
+      subst (λ (u : Vio). PostOk s (Says (line.Begin w) ∷ t) (first_zone u, item.Request u)) (same_Some _ _ served) (omega arith, (record { asked = asks; is_open = begins_open; address = tt; home = refl }, refl, refl, record { claim_is = refl; on_data = λ holds. absurd cc }))
   begins_post notified (request.Write at bytes true) v served asks none = absurd cc
   begins_post notified (request.Discard at) v served asks none =
       let once : at_once s.sizes notified Discard at.0 ≡ None = rw (← same_Some _ _ served) at none in
@@ -209,6 +210,7 @@ either false = refl
 harm_stops : (t : Trace) (w : Writer) → is_harmed t w ≡ true → has_stopped t ≡ true
 harm_stops [] w harmed = absurd cc
 harm_stops (Harms v x bytes fault ∷ t) w harmed = refl
+harm_stops (Hears damage ∷ t) w harmed = refl
 harm_stops (Fails v c kept ∷ t) w harmed = rw (harm_stops t w harmed) (either (not (is_read c)))
 harm_stops (other ∷ t) w harmed = harm_stops t w harmed
 
@@ -258,7 +260,7 @@ module _ {s : Session} {t : Trace} {n : ℕ} {old : Desk} {v : Vio} (known : Kno
           stops_notified = own.sound.stops_notified;
           parked_early = λ some. let few = ltb-false (1 + s.sizes.zones) old.notices unnotified in omega (arith, few);
         };
-        kept = every-append (KeptOk s t phase.Reply) old.parked (v ∷ []) own.kept (((vio_ok known), known.front_ok.0.1, is), tt);
+        kept = every-append (KeptOk s t phase.Reply) old.parked (v ∷ []) own.kept (((vio_ok known), known.front_ok.0.1, is, known.front_ok.0.3), tt);
         answers = tt;
         told = λ heard. earned_stopped a stopped (earned is a answer);
       }) tt)
@@ -302,7 +304,7 @@ module _ {s : Session} {t : Trace} {n : ℕ} {old : Desk} {v : Vio} (known : Kno
 -- those that wait go to the desk itself
 woken_ok : (s : Session) (t : Trace) (vs : List Vio) → AllByRecursion (KeptOk s t phase.Reply) vs → AllByRecursion (PostOk s t) (woken vs)
 woken_ok s t [] all = tt
-woken_ok s t (v ∷ vs) all = ((omega arith, (all.0.0, all.0.1, subst (λ (q : Phase). desk_number ≡ zone_at s.sizes v.home q) (sym all.0.2) refl)), woken_ok s t vs all.1)
+woken_ok s t (v ∷ vs) all = ((omega arith, (all.0.0, all.0.1, subst (λ (q : Phase). desk_number ≡ zone_at s.sizes v.home q) (sym all.0.2) refl, all.0.3)), woken_ok s t vs all.1)
 
 -- The desk gets the stop notice of a zone.
 pub desk_hears : {s : Session} {t : Trace} {n : ℕ} {old : Desk} → Known s t n (at.Desk old) (item.StopNotice ∷ []) → ActKept s t n (at.Desk old) (item.StopNotice ∷ []) (at.Desk (with_notice old)) [] (woken old.parked)

@@ -1,6 +1,6 @@
 -- The device's calls: what they write, what reads give, and which data blocks they are of.
 use Rattle.std.proofs.Common.{◌≡◌, ◌≢◌, ℕ, zero, suc, ◌*◌, ◌/◌, ◌%◌, ◌<◌, ◌≤◌, ◌^◌, Bool, Some, List, [], ◌∷◌, ◌++◌, length, length-append, get_or, subst, inl, inr, arith, ◌⊎◌, false, Option, None, ap, sym, ◌∙◌, ◌+◌, true, refl}
-use Rattle.core_laws.proofs.Common.{all_of, AllByRecursion, AreAllThere, asked, Asks, AtRest, Call, Calls, ComesLast, device_number, Entry, entry_of, eqb_tells, every-front, every-get, every-map, filled, Geometry, Happening, HasBlocks, IsAsOpened, IsFair, IsFresh, IsServed, IsSession, IsWrite, Lba, log, Remapping, Mapping, MayFollow, newest, NewStands, of_address, OnBlock, OnItsWay, Pbn, Quiet, ReadsAs, ReadsBlock, Request, request_at, RightTrace, sealed, Session, Shown, Stands, Trace, value_from, value_written, Writer, Logged, Makes, Remaps, remappings, durable, journaled, new_of, NewPage as MadePage, applied, passed, mapped_or, mapping_by, opened_at}
+use Rattle.core_laws.proofs.Common.{all_of, AllByRecursion, AreAllThere, asked, Asks, AtRest, Call, Calls, ComesLast, device_number, Entry, entry_of, eqb_tells, every-front, every-get, every-map, filled, Geometry, Happening, HasBlocks, IsAsOpened, IsFair, IsServed, IsSession, IsWrite, Lba, log, Remapping, Mapping, MayFollow, newest, NewStands, of_address, OnBlock, OnItsWay, Pbn, Quiet, ReadsAs, ReadsBlock, Request, request_at, RightTrace, sealed, Session, Shown, Stands, Trace, value_from, value_written, Writer, Logged, Makes, Remaps, remappings, durable, journaled, new_of, NewPage as MadePage, applied, passed, mapped_or, mapping_by, opened_at}
 use Rattle.core_laws.proofs.trace.PassesOfTrace.{cut_passed}
 use Rattle.std.proofs.Math.Nat.{div-le_self, mod-lt, mul-le-mul_left}
 use Rattle.std.proofs.lemmas.List.Elements.{All-from_recursion}
@@ -19,9 +19,10 @@ use Rattle.image_model.specs.Pages.{IsBelowRoot}
 use Rattle.core_laws.proofs.trace.DeskOfTrace.{HasBlock, journaled_data, changes_append, AreData, done_writes, each_of_address, shown_of}
 use Rattle.byte_fields.specs.Mappings.{HoldsMapping}
 use Rattle.journal_codec.specs.Grammar.{HoldsEntry}
+use Rattle.core_model.specs.RightTraces.{IsUnused}
 use Rattle.core_laws.proofs.kept.ActKept.{shown_kept}
 use Rattle.core_laws.proofs.kept.Keys.{Key, OfBlock, OfJournal, Spares, Clears, OfAddress, OfPage, OfRequest}
-use Rattle.core_laws.proofs.kept.StandsOn.{AreElsewhere, IsCallOf, SparesBlocks, block_spared, call_sealed, entered_parts, failed, harmed, journal_spared, left_kept, map_kept, new_kept, new_reads_kept, on_each, pages_kept, spares_all, succeeded, write_spares, SparesBlock, superblock_kept}
+use Rattle.core_laws.proofs.kept.StandsOn.{IsCallOf, SparesBlock, SparesBlocks, SparesKept, SparesMap, SparesMapped, SparesPages, block_spared, call_sealed, entered_parts, failed, harmed, journal_spared, left_kept, map_kept, mapped_all, mapped_more, new_kept, new_reads_kept, on_each, pages_kept, succeeded, superblock_kept, unused_spared}
 use Rattle.blk_base.specs.declared.request.Request.TheVariants as request
 use Rattle.disk_model.specs.Log as device
 use Rattle.data_vio.specs.declared.items.Asks.TheVariants as asks
@@ -168,7 +169,7 @@ module _ (s : Session) (t : Trace) (session : IsSession s) (right : RightTrace s
 -- Calls that write nothing, and writes of data.
 
 -- what a call is about: no request, no address
-pub call_clears : {s : Session} {t : Trace} {n : ℕ} {mine : Key → Type 0} {h : Happening} {c : Call} → IsCallOf h c → n ≡ device_number s.sizes → ((x : ℕ) → mine (OfBlock x) ⊎ Spares s t h (OfBlock x)) → mine OfJournal ⊎ Spares s t h OfJournal
+pub call_clears : {s : Session} {t : Trace} {n : ℕ} {mine : Key → Type 0} {h : Happening} {c : Call} → IsCallOf h c → n ≡ device_number s.sizes → ((x : Pbn) → mine (OfBlock x) ⊎ Spares s t h (OfBlock x)) → mine OfJournal ⊎ Spares s t h OfJournal
     → Clears s n mine h t
 call_clears succeeded here block journal = record { zone = here; request = tt; address = tt; page = tt; block = block; journal = journal }
 call_clears failed here block journal = record { zone = here; request = tt; address = tt; page = tt; block = block; journal = journal }
@@ -182,27 +183,47 @@ call_filled t harmed = refl
 
 -- a call that writes nothing
 pub quiet_journal : (s : Session) (t : Trace) {h : Happening} (c : Call) → IsCallOf h c → ((x : ℕ) → Misses c x) → Spares s t h OfJournal
-quiet_journal s t {h} c is misses = (call_sealed s t is, journal_spared s is (λ slot below. misses (block_of_slot slot)), ((λ x left. block_spared is x (misses x)), spares_all h (λ x. block_spared is x (misses x)) (journaled t)))
+quiet_journal s t {h} c is misses = (call_sealed s t is, journal_spared s is (λ slot below. misses (block_of_slot slot)), λ fair newer parts. mapped_all s h (λ x. block_spared is x (misses x)) newer (durable t))
 
 pub quiet_call : (s : Session) (t : Trace) {h : Happening} (c : Call) → IsCallOf h c → MayFollow s h t → ((x : ℕ) → Misses c x) → RightTrace s t → RightTrace s (h ∷ t)
 quiet_call s t {h} c is may misses right =
     let same = quiet_journal s t c is misses in
     (may, shown_kept s h t same.0 (call_filled t is) same.1 same.2 (block_spared is 0 (misses 0)) (shown_of s t right), right)
 
+-- One that writes no data block, and none that the session leaves as it was, spares all of entries that map to data blocks.
+module _ (s : Session) (h : Happening) (opened : IsAsOpened s) (data_missed : (x : ℕ) → IsDataBlock s.sizes.geometry x → SparesBlock h x) where
+  entries_missed : (es : List Logged) → AllByRecursion (HasBlock s) es → SparesBlocks h es
+  entries_missed [] all = tt
+  entries_missed (e ∷ es) all = (on_each (new_of e) (λ x to is_data. data_missed x.0 is_data) all.0, entries_missed es all.1)
+
+  pages_missed : (es : List Logged) → AllByRecursion (HasBlock s) es → SparesPages h es
+  pages_missed [] all = tt
+  pages_missed (Remaps e ∷ es) all = pages_missed es all.1
+  pages_missed (Makes p ∷ es) all = (data_missed p.at.0 all.0, pages_missed es all.1)
+
+  map_missed : (es : List Logged) → AllByRecursion (HasBlock s) es → SparesMapped s h es
+  map_missed [] all = λ a. on_opened a (opened_at s a) refl
+    where
+      on_opened : (a : ℕ) (m : Mapping) → opened_at s a ≡ m → OnBlock (λ x. SparesBlock h x.0) m
+      on_opened a (At x) is = data_missed x.0 (opened_data s opened a x is)
+      on_opened a other is = tt
+  map_missed (e ∷ es) all = mapped_more s h (e ∷ []) es (on_each (new_of e) (λ x to is_data. data_missed x.0 is_data) all.0, tt) (map_missed es all.1)
+
+  pub data_spared_all : SparesKept s h → (newer older : List Logged) → AllByRecursion (HasBlock s) (newer ++ older) → SparesMap s h newer older
+  data_spared_all left newer older all =
+      let both = every-front (HasBlock s) newer older all in
+      (left, entries_missed newer both.0, map_missed older both.1, pages_missed older both.1)
+
 -- A call that writes block 0 alone is about nothing else.
 module _ (s : Session) (t : Trace) {h : Happening} {c : Call} (is : IsCallOf h c) (session : IsSession s) (right : RightTrace s t) (misses : (x : ℕ) → x ≢ 0 → Misses c x) where
   data_missed : (x : ℕ) → IsDataBlock s.sizes.geometry x → SparesBlock h x
   data_missed x is_data = block_spared is x (misses x (data_not_first s.sizes.geometry x is_data))
 
-  entries_missed : (es : List Logged) → AllByRecursion (HasBlock s) es → SparesBlocks h es
-  entries_missed [] all = tt
-  entries_missed (e ∷ es) all = (on_each (new_of e) (λ x to is_data. data_missed x.0 is_data) all.0, entries_missed es all.1)
-
   pub first_journal : Spares s t h OfJournal
   first_journal = (
     call_sealed s t is,
     journal_spared s is (λ slot below. misses (block_of_slot slot) (λ same. omega (arith, same))),
-    ((λ x left. block_spared is x (misses x (λ same. let behind = left.behind in omega (arith, same, behind)))), entries_missed (journaled t) (journaled_data s t right)),
+    λ fair newer parts. data_spared_all s h fair.opened data_missed (λ x left. block_spared is x (misses x (λ same. let behind = left.behind in omega (arith, same, behind)))) newer (durable t) (subst (AllByRecursion (HasBlock s)) parts (journaled_data s t right)),
   )
 
   pub first_spares : (k : Key) → Spares s t h k
@@ -218,7 +239,7 @@ module _ (s : Session) (t : Trace) {h : Happening} {c : Call} (is : IsCallOf h c
       by succeeded = tt
       by failed = tt
       by harmed = tt
-  first_spares (OfBlock x) = data_missed x
+  first_spares (OfBlock x) = data_missed x.0
   first_spares (OfPage page) = by is
     where
       by : {g : Happening} {d : Call} → IsCallOf g d → SparesPage g page
@@ -228,12 +249,12 @@ module _ (s : Session) (t : Trace) {h : Happening} {c : Call} (is : IsCallOf h c
   first_spares OfJournal = first_journal
 
 -- the data of a write
-pub store_call : (s : Session) (t : Trace) {h : Happening} (x : Pbn) (bytes : List ℕ) (ok : Bool) → IsCallOf h (Write x bytes ok) → MayFollow s h t → IsFresh s x → AreElsewhere x.0 (journaled t)
+pub store_call : (s : Session) (t : Trace) {h : Happening} (x : Pbn) (bytes : List ℕ) (ok : Bool) → IsCallOf h (Write x bytes ok) → MayFollow s h t → IsDataBlock s.sizes.geometry x.0 → (IsFair s t → IsUnused s t x)
     → RightTrace s t → RightTrace s (h ∷ t)
-store_call s t {h} x bytes ok is may fresh apart right = (
+store_call s t {h} x bytes ok is may is_data unused right = (
   may,
-  shown_kept s h t (call_sealed s t is) (call_filled t is) (journal_spared s is (data_misses s.sizes.geometry x bytes ok fresh.is_data)) ((λ y left. block_spared is y (left.taken x fresh.is_free)), write_spares is (journaled t) apart)
-      (block_spared is 0 (data_not_first s.sizes.geometry x.0 fresh.is_data)) (shown_of s t right),
+  shown_kept s h t (call_sealed s t is) (call_filled t is) (journal_spared s is (data_misses s.sizes.geometry x bytes ok is_data)) (λ fair. unused_spared s t x bytes ok is is_data (unused fair))
+      (block_spared is 0 (data_not_first s.sizes.geometry x.0 is_data)) (shown_of s t right),
   right,
 )
 
@@ -256,9 +277,6 @@ data_held g sizes (At x) inside =
     let fits = blocks_fit g sizes in
     (omega (arith, high), omega (arith, low, fits))
 
-pub fresh_held : (s : Session) → IsGeometry s.sizes.geometry → (m : Mapping) → OnBlock (IsFresh s) m → HoldsMapping m
-fresh_held s sizes m fresh = data_held s.sizes.geometry sizes m (on_each m (λ x to free. free.is_data) fresh)
-
 data_led : (g : Geometry) (m : Mapping) → OnBlock (λ x. IsDataBlock g x.0) m → LeadsToData g m
 data_led g Unmapped inside = tt
 data_led g Zero inside = tt
@@ -268,21 +286,21 @@ data_led g (At x) inside = inside
 pub record IsSpelled (s : Session) (e : Remapping) : Type 0 where
   pub below : e.at.0 < s.sizes.geometry.logical
   pub old_data : OnBlock (λ x. IsDataBlock s.sizes.geometry x.0) e.old
-  pub fresh : OnBlock (IsFresh s) e.new
+  pub new_data : OnBlock (λ x. IsDataBlock s.sizes.geometry x.0) e.new
 
 -- and that of a new page
 pub record IsSpelledPage (s : Session) (p : MadePage) : Type 0 where
   pub below : IsBelowRoot s.sizes.geometry p.page
-  pub fresh : IsFresh s p.at
+  pub new_data : IsDataBlock s.sizes.geometry p.at.0
 
 abbrev pub CanStand : Session → Logged → Type 0
 CanStand s (Remaps e) = IsSpelled s e
 CanStand s (Makes p) = IsSpelledPage s p
 
--- its block is a fresh one
-pub can_fresh : (s : Session) (e : Logged) → CanStand s e → OnBlock (IsFresh s) (new_of e)
-can_fresh s (Remaps e) is = is.fresh
-can_fresh s (Makes p) is = is.fresh
+-- its block is a data block
+pub can_data : (s : Session) (e : Logged) → CanStand s e → HasBlock s e
+can_data s (Remaps e) is = is.new_data
+can_data s (Makes p) is = is.new_data
 
 module _ (s : Session) (session : IsSession s) where
   spelled_page : (p : MadePage) → IsSpelledPage s p → HoldsEntry (entry_of (Makes p))
@@ -299,7 +317,7 @@ module _ (s : Session) (session : IsSession s) where
       let level = is.below.level in
       let height = session.sizes.height.1 in
       let most : address / 812 % 60 < 60 = mod-lt (address / 812) (omega arith) in
-      (omega (arith, tree, most), omega (arith, level, height), omega (arith, index, few, in_tree, in_leaf, inside, limit, small), fresh_held s session.sizes (At p.at) is.fresh)
+      (omega (arith, tree, most), omega (arith, level, height), omega (arith, index, few, in_tree, in_leaf, inside, limit, small), data_held s.sizes.geometry session.sizes (At p.at) is.new_data)
 
   spelled_entry : (e : Logged) → CanStand s e → HoldsEntry (entry_of e)
   spelled_entry (Makes p) is = spelled_page p is
@@ -307,11 +325,11 @@ module _ (s : Session) (session : IsSession s) where
       let small = logical_small s.sizes.geometry.height in
       let limit = session.sizes.logical.1 in
       let below = is.below in
-      (omega (arith, below, limit, small), data_held s.sizes.geometry session.sizes e.old is.old_data, fresh_held s session.sizes e.new is.fresh)
+      (omega (arith, below, limit, small), data_held s.sizes.geometry session.sizes e.old is.old_data, data_held s.sizes.geometry session.sizes e.new is.new_data)
 
   spelled_of_image : (e : Logged) → CanStand s e → IsOfImage s.sizes.geometry (entry_of e)
-  spelled_of_image (Makes p) is = (is.below, is.fresh.is_data)
-  spelled_of_image (Remaps e) is = (is.below, data_led s.sizes.geometry e.old is.old_data, data_led s.sizes.geometry e.new (on_each e.new (λ x to fresh. fresh.is_data) is.fresh))
+  spelled_of_image (Makes p) is = (is.below, is.new_data)
+  spelled_of_image (Remaps e) is = (is.below, data_led s.sizes.geometry e.old is.old_data, data_led s.sizes.geometry e.new is.new_data)
 
   -- their block can be sealed behind these
   pub spelled_sealed : (older : List (List Logged)) (es : List Logged) → AllByRecursion (CanStand s) es → length es ≤ 192 → length older + 1 < s.sizes.geometry.journal
@@ -337,7 +355,7 @@ module _ (s : Session) (session : IsSession s) where
       }
 
 -- The slot of the next block is written.
-module _ (s : Session) (t : Trace) (older : List (List Logged)) (es : List Logged) (slot : Pbn) (bytes : List ℕ) (session : IsSession s) (fresh : AllByRecursion (λ (e : Logged). OnBlock (IsFresh s) (new_of e)) es)
+module _ (s : Session) (t : Trace) (older : List (List Logged)) (es : List Logged) (slot : Pbn) (bytes : List ℕ) (session : IsSession s) (fresh : AllByRecursion (HasBlock s) es)
     (can_seal : IsSealed s.sizes.geometry s.sizes.start (blocks_of s older) (sealed_with s es))
     (place : slot.0 ≡ place_of s.sizes.geometry (next_of s.sizes.start (blocks_of s older)))
     (says : IsWhole s.sizes.geometry (next_of s.sizes.start (blocks_of s older)) (sealed_with s es) bytes)
@@ -367,11 +385,12 @@ module _ (s : Session) (t : Trace) (older : List (List Logged)) (es : List Logge
 
   pub slot_way : (ok : Bool) → OnItsWay s (Calls (Write slot bytes ok) ∷ t) older es
   slot_way ok =
-      let h = Calls (Write slot bytes ok) in (
+      let h = Calls (Write slot bytes ok) in
+      let spares = data_spared_all s h opened (λ x inside. misses x inside) (λ x left. left_apart x left) es (all_of older) parts.1 in (
         begins s.blocks (log s t) s.sizes.geometry s.sizes.start (blocks_of s older) (sealed_with s es) slot bytes ok place can_seal says rest.0,
-        map_kept s h t (all_of older) opened (left_apart, data_spared h ok succeeded (all_of older) older_data) rest.1,
-        pages_kept s h t (all_of older) (data_spared h ok succeeded (all_of older) older_data) rest.2,
-        new_kept s h t es (data_spared h ok succeeded es (every-map {P = λ (e : Logged). OnBlock (IsFresh s) (new_of e)} {Q = HasBlock s} (λ e has. on_each (new_of e) (λ x to free. free.is_data) has) es fresh)) keeps,
+        map_kept s h t (all_of older) spares.2 rest.1,
+        pages_kept s h t (all_of older) spares.3 rest.2,
+        new_kept s h t es spares.1 keeps,
       )
 
   pub slot_reads : ReadsBlock s (Calls (Write slot bytes true) ∷ t) older es

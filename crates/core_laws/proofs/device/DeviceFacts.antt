@@ -1,6 +1,6 @@
 -- What the acts of the device zone owe: it stores, loads and flushes for requests, and flushes and writes for sealed blocks.
 use Rattle.std.proofs.Common.{◌≡◌, ℕ, zero, suc, ◌+◌, ◌<◌, ◌≤◌, Bool, true, false, Some, IsNone, IsSome, slice_index_or, List, [], ◌∷◌, ◌++◌, map, refl, ap, sym, ◌∙◌, subst, inl, inr, arith, ◌⊎◌, Option, None, ◌≢◌}
-use Rattle.core_laws.proofs.Common.{all_logged, all_of, AllByRecursion, asked, Asks, AtRest, Call, calls, Calls, DataOk, DeviceZone, each_at, ended, Entry, entry_of, eqb_tells, every-map, Fails, FailureMayFollow, fair_before, Happening, has_read_fault, has_stopped, HasAddress, HasCause, is_ok, is_read, IsAsOpened, IsChange, IsEarned, IsFair, IsFresh, IsMadeFor, IsOpen, IsSealed, IsSession, IsToFresh, KeptOk, Lba, log, logged, logical_zones, Mapping, MapsTo, moments, NewReads, NewStands, notified, OnBlock, OnItsWay, Pbn, place_of, places, Post, ReadsAs, ReadsBlock, request_of, RightTrace, same_self, same_Some, SealedBlock, Session, Shown, Sizes, some_is, Stage, StandsAt, Trace, value_at, value_from, Vio, VioOk, Writer, zone_count, zone_number, applied, journaled, Logged, new_of, remappings, passed, every-front, MayReply, turned, Item, ItemOk, SuperblockStage, superblock_stage, mapped_or, opened_at, Harms, is_harmed, IsForBlock, IsPlaced, entered, logged_of}
+use Rattle.core_laws.proofs.Common.{all_logged, all_of, AllByRecursion, asked, Asks, AtRest, Call, calls, Calls, DataOk, DeviceZone, each_at, ended, Entry, entry_of, eqb_tells, every-map, Fails, IsToBlock, Phase, FailureMayFollow, fair_before, Happening, has_read_fault, has_stopped, HasAddress, HasCause, is_ok, is_read, IsAsOpened, IsChange, IsEarned, IsFair, IsMadeFor, IsOpen, IsSealed, IsSession, KeptOk, Lba, log, logged, logical_zones, Mapping, MapsTo, moments, NewReads, NewStands, notified, OnBlock, OnItsWay, Pbn, place_of, places, Post, ReadsAs, ReadsBlock, request_of, RightTrace, same_self, same_Some, SealedBlock, Session, Shown, Sizes, some_is, Stage, StandsAt, Trace, value_at, value_from, Vio, VioOk, Writer, zone_count, zone_number, applied, journaled, Logged, new_of, remappings, passed, every-front, MayReply, turned, Item, ItemOk, SuperblockStage, superblock_stage, mapped_or, opened_at, Harms, is_harmed, IsForBlock, IsPlaced, entered, logged_of}
 use Rattle.core_laws.proofs.trace.PassesOfTrace.{value_past}
 use Rattle.vdo_model.specs.FlushMarks.{IsMark, successes}
 use Rattle.blk_base.specs.declared.place.PageId.{PageId}
@@ -18,10 +18,15 @@ use Rattle.vdo_model.specs.declared.report.Damage.TheVariants.{Page}
 use Rattle.data_vio.specs.Vios.{has_leaf, logged_for}
 use Rattle.data_vio.specs.declared.items.Asks.TheVariants.{Read, Write, Discard, Flush}
 use Rattle.core_model.specs.DeskRules.{is_marked, mark_of_vio}
-use Rattle.core_model.specs.DeviceRules.{DeviceServes, counted, harmed, notices_after, page_at, stop_notices, stored, stored_for, DeviceWorks, journal_bytes, IsItsSlot, call_of, next_stage, next_zone, Announces, next_superblock, superblock_call}
-use Rattle.core_laws.proofs.kept.ActKept.{Known, Mine, weighed, PostOk, ActKept, act_none, act_one, vio_ok, in_bare, in_phase, carries_at, carries_own, unentered_slot, shown_with}
-use Rattle.core_laws.proofs.kept.Keys.{OfBlock, Clears, claim_one, OfJournal}
-use Rattle.core_laws.proofs.device.DeviceCalls.{CanStand, can_fresh, call_clears, data_misses, quiet_call, quiet_journal, read_value, slot_misses, slot_reads, slot_shown, slot_way, spelled_sealed, store_call, store_reads, call_filled, data_not_first, first_journal, first_spares}
+use Rattle.core_model.specs.DeviceRules.{DeviceHears, DeviceServes, counted, harmed, notices_after, page_at, stop_notices, stored, stored_for, DeviceWorks, journal_bytes, IsItsSlot, call_of, next_stage, next_zone, Announces, next_superblock, superblock_call}
+use Rattle.core_laws.proofs.kept.ActKept.{Known, Mine, weighed, PostOk, ActKept, act_none, act_one, claim_data, claim_in, claim_unused, own_block, vio_ok, in_bare, in_phase, carries_at, carries_own, unentered_slot, shown_with, plain_clears, shown_plain}
+use Rattle.core_model.specs.Trace.{Hears}
+use Rattle.vdo_model.specs.declared.report.Damage.{Damage}
+use Rattle.core_laws.proofs.kept.Keys.{OfBlock, Clears, OfJournal}
+use Rattle.core_model.specs.RightTraces.{IsUnused}
+use Rattle.core_model.specs.Facts.{HasClaim}
+use Rattle.data_vio.specs.Phases.{row}
+use Rattle.core_laws.proofs.device.DeviceCalls.{CanStand, can_data, call_clears, data_misses, quiet_call, quiet_journal, read_value, slot_misses, slot_reads, slot_shown, slot_way, spelled_sealed, store_call, store_reads, call_filled, data_not_first, first_journal, first_spares}
 use Rattle.core_laws.proofs.journal.SealedBlocks.{blocks_length, entries_in_order, every_logged, logged_length}
 use Rattle.disk_model.specs.Log.{Misses}
 use Rattle.core_laws.proofs.kept.Carried.{by_all, looks_kept, pending_over, sealed_kept, turn_kept, vio_kept, item_kept}
@@ -29,7 +34,7 @@ use Rattle.core_laws.proofs.journal.JournalFacts.{home_within, may_stop, writes_
 use Rattle.core_model.specs.Superblocks.{IsInOrder, stage_after}
 use Rattle.core_model.specs.Sessions.{SuperblockStands}
 use Rattle.core_model.specs.declared.zones.SuperblockStage.TheVariants.{AsOpened, Written, Durable}
-use Rattle.core_laws.proofs.kept.StandsOn.{AreElsewhere, IsCallOf, block_spared, call_sealed, failed, harmed as is_harm, journal_spared, map_kept, map_more, new_kept, on_each, pages_kept, pages_more, rests_kept, rests_unlogged, spares_all, succeeded, way_kept, write_spares}
+use Rattle.core_laws.proofs.kept.StandsOn.{IsCallOf, block_spared, call_sealed, failed, harmed as is_harm, journal_spared, map_kept, map_more, mapped_all, new_kept, on_each, pages_kept, pages_more, rests_kept, rests_unlogged, spares_all, succeeded, unused_spared, way_kept}
 use Rattle.blk_base.specs.Regions.{journal_slot_of, IsDataBlock}
 use Rattle.journal_codec.specs.Spelling.{block_bytes}
 use Rattle.stop_laws.specs.Journals.{block_of_slot}
@@ -48,7 +53,7 @@ use Rattle.journal_stops.specs.Rings.{IsWhole, place_of as slot_place}
 use Rattle.journal_stops.specs.Sealed.{next_of}
 use Rattle.journal_stops.proofs.StepLaws.{spelled_whole, ends}
 use Rattle.core_model.specs.Sessions.{blocks_of, sealed_with}
-use Rattle.core_laws.proofs.trace.DeskOfTrace.{shown_of}
+use Rattle.core_laws.proofs.trace.DeskOfTrace.{HasBlock, shown_of}
 use Rattle.journal_stops.specs.Sealed.{IsSealed as IsSealedBlock}
 
 -- the stop notices
@@ -70,8 +75,8 @@ cause_fault s t w q at bytes is some faulty = rw is (some, faulty)
 cause_unflushed : (s : Session) (t : Trace) (w : Writer) (q : Asks) (at : Lba) (bytes : List ℕ) → q ≡ Flush → has_stopped t ≡ true → HasCause s t w (asked q at bytes) reply.Stopped
 cause_unflushed s t w q at bytes is stopped = rw is stopped
 
-unflushed_post : (s : Session) (t : Trace) (v : Vio) → has_stopped t ≡ true → VioOk s t v → v.asks ≡ Flush → v.page ≡ None → PostOk s t (id.Desk, item.Request (ended phase.Reply reply.Stopped v))
-unflushed_post s t v stopped ok is bare = (omega arith, (ok, carries_own s t (ended phase.Reply reply.Stopped v) phase.Reply bare (cause_unflushed s t v.request v.asks v.at v.bytes is stopped), refl))
+unflushed_post : (s : Session) (t : Trace) (v : Vio) → has_stopped t ≡ true → VioOk s t v → v.asks ≡ Flush → v.page ≡ None → HasClaim s false v.claim v.new → PostOk s t (id.Desk, item.Request (ended phase.Reply reply.Stopped v))
+unflushed_post s t v stopped ok is bare claim = (omega arith, (ok, carries_own s t (ended phase.Reply reply.Stopped v) phase.Reply bare (cause_unflushed s t v.request v.asks v.at v.bytes is stopped), refl, claim))
 
 abbrev answered_flush : DeviceZone → Vio → Vio
 answered_flush d v = record v { phase = phase.Reply; answer = Some reply.Ok; calls = d.calls + 1 }
@@ -253,32 +258,29 @@ module _ {s : Session} {t : Trace} {n : ℕ} {old : DeviceZone} {v : Vio} (known
 
   -- a call that writes nothing is about nothing
   quiet : {h : Happening} (c : Call) → IsCallOf h c → ((x : ℕ) → Misses c x) → Clears s n (Mine s t (at.Device old) (item.Request v ∷ [])) h t
-  quiet c is misses = call_clears is known.own.number_is (λ x. inr (λ inside. block_spared is x (misses x))) (inr (quiet_journal s t c is misses))
+  quiet c is misses = call_clears is known.own.number_is (λ x. inr (λ inside. block_spared is x.0 (misses x.0))) (inr (quiet_journal s t c is misses))
 
   -- the data of a write
-  unnamed : (x : Pbn) → v.phase ≡ phase.Store → v.new ≡ At x → AreElsewhere x.0 (journaled t)
-  unnamed x is to = known.unnamed old v x refl refl (rw is refl) to
+  store_unused : (x : Pbn) → v.phase ≡ phase.Store → v.new ≡ At x → IsFair s t → IsUnused s t x
+  store_unused x store to = claim_unused known phase.Store x store refl to refl
 
-  store_clears : {h : Happening} (x : Pbn) (bytes : List ℕ) (success : Bool) → IsCallOf h (call.Write x bytes success) → v.phase ≡ phase.Store → v.new ≡ At x → IsFresh s x
+  store_clears : {h : Happening} (x : Pbn) (bytes : List ℕ) (success : Bool) → IsCallOf h (call.Write x bytes success) → v.phase ≡ phase.Store → v.new ≡ At x
       → Clears s n (Mine s t (at.Device old) (item.Request v ∷ [])) h t
-  store_clears x bytes success is store to fresh = call_clears is known.own.number_is
-      (λ y. elim (eqb_tells x.0 y) [
-        | inl same ↦ inl (subst (λ (z : ℕ). Mine s t (at.Device old) (item.Request v ∷ []) (OfBlock z)) same.1 (weighed (omega (arith, claim_one v x (rw store refl) to))))
-        | inr other ↦ inr (λ inside. block_spared is y other.1)
+  store_clears x bytes success is store to =
+      let is_data = claim_data known phase.Store x store refl to in
+      call_clears is known.own.number_is
+      (λ y. elim (eqb_tells x.0 y.0) [
+        | inl same ↦ let one : x ≡ y = ap (λ (k : ℕ). record { 0 = k }) same.1 in inl (subst (λ (z : Pbn). Mine s t (at.Device old) (item.Request v ∷ []) (OfBlock z)) one (own_block known phase.Store x store refl to))
+        | inr other ↦ inr (λ inside. block_spared is y.0 other.1)
       ])
-      (inr (call_sealed s t is, journal_spared s is (data_misses s.sizes.geometry x bytes success fresh.is_data), ((λ y left. block_spared is y (left.taken x fresh.is_free)), write_spares is (journaled t) (unnamed x store to))))
-
-  -- its block is a fresh one, whatever it stores
-  store_fresh : (x : Pbn) (o : Option PageId) → CarriesFor s t v phase.Store o → v.new ≡ At x → IsFresh s x
-  store_fresh x None k to = subst (IsToFresh s) to k.2
-  store_fresh x (Some page) k to = subst (IsToFresh s) to k.2
+      (inr (call_sealed s t is, journal_spared s is (data_misses s.sizes.geometry x bytes success is_data), λ fair. unused_spared s t x bytes success is is_data (store_unused x store to fair)))
 
   -- what it carries then to the journal: that a read gives its data, or the page that it makes
-  data_stored : (u : Trace) (x : Pbn) (q : Asks) (m : Mapping) → q ≡ Write → m ≡ At x → IsFresh s x → ReadsAs s u x.0 v.bytes → MapsTo q v.bytes m × OnBlock (IsFresh s) m × (IsFair s u → OnBlock (λ y. ReadsAs s u y.0 v.bytes) m)
-  data_stored u x q m is to fresh reads = rw (is, to) (tt, fresh, λ fair. reads)
+  data_stored : (u : Trace) (x : Pbn) (q : Asks) (m : Mapping) → q ≡ Write → m ≡ At x → ReadsAs s u x.0 v.bytes → MapsTo q v.bytes m × (IsFair s u → OnBlock (λ y. ReadsAs s u y.0 v.bytes) m)
+  data_stored u x q m is to reads = rw (is, to) (tt, λ fair. reads)
 
   stored_carries : (u : Trace) (x : Pbn) (o : Option PageId) → CarriesFor s u v phase.Store o → v.new ≡ At x → ReadsAs s u x.0 (stored_for s.sizes o v.bytes x) → CarriesFor s u (turned phase.Enter v) phase.Enter o
-  stored_carries u x None k to reads = let on = data_stored u x v.asks v.new k.1 to (subst (IsToFresh s) to k.2) reads in (k.0, on.0, on.1, on.2, k.3)
+  stored_carries u x None k to reads = let on = data_stored u x v.asks v.new k.1 to reads in (k.0, on.0, on.1, k.3)
   stored_carries u x (Some page) k to reads = (k.0, k.1, k.2, λ fair. subst (OnBlock (λ y. ReadsAs s u y.0 (page_at s.sizes page y))) (sym to) reads)
 
   -- and to the zone of its claim, where the session is stopped
@@ -288,8 +290,8 @@ module _ {s : Session} {t : Trace} {n : ℕ} {old : DeviceZone} {v : Vio} (known
   refused_carries u (Some page) right stopped k =
       let placed = k.0.turn.is_placed in (k.0, k.1, may_stop s u v (writes_change v.asks k.0.is_write) stopped placed.placed (unentered_slot s u v.request right placed.not_entered))
 
-  refused_post : (u : Trace) → RightTrace s u → has_stopped u ≡ true → VioOk s u v → CarriesFor s u v phase.Store v.page → PostOk s u (id.Physical 0, item.Request (ended phase.AbortClaim reply.Stopped v))
-  refused_post u right stopped ok k = (omega arith, (ok, refused_carries u v.page right stopped k, refl))
+  refused_post : (u : Trace) → RightTrace s u → has_stopped u ≡ true → VioOk s u v → HasClaim s true v.claim v.new → CarriesFor s u v phase.Store v.page → PostOk s u (id.Physical 0, item.Request (ended phase.AbortClaim reply.Stopped v))
+  refused_post u right stopped ok claim k = (omega arith, (ok, refused_carries u v.page right stopped k, refl, claim))
 
   -- what it carries to the device stays over its call
   store_over : {h : Happening} {c : Call} → IsCallOf h c → CarriesFor s t v phase.Store v.page → CarriesFor s (h ∷ t) v phase.Store v.page
@@ -298,11 +300,11 @@ module _ {s : Session} {t : Trace} {n : ℕ} {old : DeviceZone} {v : Vio} (known
   store_over {h} is_harm k = by_all s h t v phase.Store v.page tt (λ held. tt) (λ page is. tt) (λ enters. absurd cc) k
 
   -- it comes once the superblock is durable, and writes another block
-  in_order : (x : Pbn) (bytes : List ℕ) (success : Bool) → IsFresh s x → old.superblock ≡ Durable → IsInOrder s.sizes (superblock_stage t) (call.Write x bytes success)
-  in_order x bytes success fresh durable = inr (sym known.own.lists.superblock_is ∙ durable, data_not_first s.sizes.geometry x.0 fresh.is_data)
+  in_order : (x : Pbn) (bytes : List ℕ) (success : Bool) → IsDataBlock s.sizes.geometry x.0 → old.superblock ≡ Durable → IsInOrder s.sizes (superblock_stage t) (call.Write x bytes success)
+  in_order x bytes success is_data durable = inr (sym known.own.lists.superblock_is ∙ durable, data_not_first s.sizes.geometry x.0 is_data)
 
-  passes : (x : Pbn) (bytes : List ℕ) → IsFresh s x → stage_after (call.Write x bytes true) (superblock_stage t) ≡ superblock_stage t
-  passes x bytes fresh = elim (eqb_tells x.0 0) [ inl same ↦ absurd (data_not_first s.sizes.geometry x.0 fresh.is_data same.1) | inr other ↦ rw other.0 refl ]
+  passes : (x : Pbn) (bytes : List ℕ) → IsDataBlock s.sizes.geometry x.0 → stage_after (call.Write x bytes true) (superblock_stage t) ≡ superblock_stage t
+  passes x bytes is_data = elim (eqb_tells x.0 0) [ inl same ↦ absurd (data_not_first s.sizes.geometry x.0 is_data same.1) | inr other ↦ rw other.0 refl ]
 
   flush_passes : old.superblock ≡ Durable → stage_after (call.Flush true) (superblock_stage t) ≡ superblock_stage t
   flush_passes durable = let is : superblock_stage t ≡ Durable = sym known.own.lists.superblock_is ∙ durable in rw is refl
@@ -363,22 +365,22 @@ module _ {s : Session} {t : Trace} {n : ℕ} {old : DeviceZone} {v : Vio} (known
       let c = call.Write x bytes true in
       let h = Calls c in
       let carries = in_phase known phase.Store is in
-      let fresh = store_fresh x v.page carries to in
-      rw (e, m, p) (act_one known h (store_clears x bytes true succeeded is to fresh) (λ g fair. g (fair_before s h t fair))
-      (store_call s t x bytes true succeeded (record { succeeds = refl; goes_on = λ writes. goes runs; in_order = in_order x bytes true fresh durable }) fresh (unnamed x is to) known.right)
-      (after_call known.own c refl (passes x bytes fresh))
-      ((omega arith, (vio_kept s h t v tt (vio_ok known), stored_carries (h ∷ t) x v.page (store_over succeeded carries) to (store_reads s t x bytes), refl)), tt))
+      let is_data = claim_data known phase.Store x is refl to in
+      rw (e, m, p) (act_one known h (store_clears x bytes true succeeded is to) (λ g fair. g (fair_before s h t fair))
+      (store_call s t x bytes true succeeded (record { succeeds = refl; goes_on = λ writes. goes runs; in_order = in_order x bytes true is_data durable }) is_data (store_unused x is to) known.right)
+      (after_call known.own c refl (passes x bytes is_data))
+      ((omega arith, (vio_kept s h t v tt (vio_ok known), stored_carries (h ∷ t) x v.page (store_over succeeded carries) to (store_reads s t x bytes), refl, claim_in known phase.Store is)), tt))
   device_serves new made posts (device.store_fails x kept is to runs durable inside e m p) =
       let bytes = stored s.sizes v x in
       let c = call.Write x bytes false in
       let h = Fails v.request c kept in
       let carries = in_phase known phase.Store is in
-      let fresh = store_fresh x v.page carries to in
-      let now = store_call s t x bytes false failed (record { is_open = (vio_ok known).is_open; fails = refl; goes_on = λ writes. goes runs; made_for = tt; in_order = in_order x bytes false fresh durable }) fresh (unnamed x is to) known.right in
-      rw (e, m, p) (act_one known h (store_clears x bytes false failed is to fresh) (λ g fair. g (fair_before s h t fair)) now (after_failure known.own v.request c kept true refl refl)
-      (refused_post (h ∷ t) now refl (vio_kept s h t v tt (vio_ok known)) (store_over failed carries), notices_ok s (h ∷ t) refl))
+      let is_data = claim_data known phase.Store x is refl to in
+      let now = store_call s t x bytes false failed (record { is_open = (vio_ok known).is_open; fails = refl; goes_on = λ writes. goes runs; made_for = tt; in_order = in_order x bytes false is_data durable }) is_data (store_unused x is to) known.right in
+      rw (e, m, p) (act_one known h (store_clears x bytes false failed is to) (λ g fair. g (fair_before s h t fair)) now (after_failure known.own v.request c kept true refl refl)
+      (refused_post (h ∷ t) now refl (vio_kept s h t v tt (vio_ok known)) (claim_in known phase.Store is) (store_over failed carries), notices_ok s (h ∷ t) refl))
   device_serves new made posts (device.store_unmade is halts e m p) =
-      rw (e, m, p) (act_none known known.own (refused_post t known.right (sym known.own.lists.stopped_is ∙ halts) (vio_ok known) (in_phase known phase.Store is), tt))
+      rw (e, m, p) (act_none known known.own (refused_post t known.right (sym known.own.lists.stopped_is ∙ halts) (vio_ok known) (claim_in known phase.Store is) (in_phase known phase.Store is), tt))
   device_serves new made posts (device.loads x bytes is from ready inside e m p) =
       let c = call.Read x bytes true in
       let carries = (looks_at is).1 in
@@ -392,6 +394,7 @@ module _ {s : Session} {t : Trace} {n : ℕ} {old : DeviceZone} {v : Vio} (known
             record { asked = here.asked ∙ ap Some (asks_same v.asks v.at v.bytes bytes carries.0.is_read); is_open = here.is_open; address = here.address; home = here.home },
             carries_own s (Calls c ∷ t) (record v { phase = phase.Loaded; bytes = bytes }) phase.Loaded (looks_at is).0 looked,
             refl,
+            claim_in known phase.Load is,
           ),
         ),
         tt,
@@ -404,14 +407,14 @@ module _ {s : Session} {t : Trace} {n : ℕ} {old : DeviceZone} {v : Vio} (known
       = (k.held.turn, cause_fault s (h ∷ t) v.request v.asks v.at v.bytes k.is_read (some_is _ _ k.held.turn.is_placed.placed) (rw (same_self v.request) refl)) in
       let may : FailureMayFollow s v.request c t = record { is_open = (vio_ok known).is_open; fails = refl; goes_on = λ (writes : true ≡ false). absurd cc; made_for = made_for x bytes false is from; in_order = tt } in
       rw (e, m, p) (act_one known h (quiet c failed (λ x. tt)) (λ g fair. g (fair_before s h t fair)) (quiet_call s t c failed may (λ x. tt) known.right) (after_failure known.own v.request c kept old.stopped refl known.own.lists.stopped_is)
-      ((home, (vio_kept s h t v tt (vio_ok known), carries_own s (h ∷ t) (ended phase.Abort reply.ReadFault v) phase.Abort (looks_at is).0 aborted, refl)), tt))
+      ((home, (vio_kept s h t v tt (vio_ok known), carries_own s (h ∷ t) (ended phase.Abort reply.ReadFault v) phase.Abort (looks_at is).0 aborted, refl, claim_in known phase.Load is)), tt))
   device_serves new made posts (device.loads_leaf x bytes mappings is at ready inside page e m p) =
       let c = call.Read x bytes true in
       let here = vio_kept s (Calls c) t v tt (vio_ok known) in
       let found = has_leaf (slice_index_or mappings (slot_of_address v.at.0) Unmapped) v in
       rw (e, m, p) (act_one known (Calls c) (quiet c succeeded (λ y. tt)) (λ g fair. g (fair_before s (Calls c) t fair))
       (quiet_call s t c succeeded (record { succeeds = refl; goes_on = λ (writes : true ≡ false). absurd cc; in_order = tt }) (λ x. tt) known.right) (after_call known.own c refl refl)
-      ((home, (here, carries_own s (Calls c ∷ t) found phase.LoadedLeaf (needs_at is).0 (leaf_carried x bytes mappings is at page), refl)), tt))
+      ((home, (here, carries_own s (Calls c ∷ t) found phase.LoadedLeaf (needs_at is).0 (leaf_carried x bytes mappings is at page), refl, claim_in known phase.LoadLeaf is)), tt))
   device_serves new made posts (device.leaf_fails x bytes kept is at ready inside e m p) =
       let c = call.Read x bytes false in
       let h = Fails v.request c kept in
@@ -420,7 +423,7 @@ module _ {s : Session} {t : Trace} {n : ℕ} {old : DeviceZone} {v : Vio} (known
       let aborted : CarriesOwn s (h ∷ t) (ended phase.Abort reply.ReadFault v) phase.Abort
       = (turn_kept s h t v tt tt needs.0, leaf_fault s (h ∷ t) v reply.ReadFault (inl (refl, rw (same_self v.request) refl)) (turn_kept s h t v tt tt needs.0).is_placed) in
       rw (e, m, p) (act_one known h (quiet c failed (λ x. tt)) (λ g fair. g (fair_before s h t fair)) (quiet_call s t c failed may (λ x. tt) known.right) (after_failure known.own v.request c kept old.stopped refl known.own.lists.stopped_is)
-      ((home, (vio_kept s h t v tt (vio_ok known), carries_own s (h ∷ t) (ended phase.Abort reply.ReadFault v) phase.Abort (needs_at is).0 aborted, refl)), tt))
+      ((home, (vio_kept s h t v tt (vio_ok known), carries_own s (h ∷ t) (ended phase.Abort reply.ReadFault v) phase.Abort (needs_at is).0 aborted, refl, claim_in known phase.LoadLeaf is)), tt))
   device_serves new made posts (device.harms x bytes fault is at ready inside damaged e m p) =
       let c = call.Read x bytes true in
       let h = Harms v.request x bytes fault in
@@ -429,7 +432,7 @@ module _ {s : Session} {t : Trace} {n : ℕ} {old : DeviceZone} {v : Vio} (known
       let aborted : CarriesOwn s (h ∷ t) (ended phase.Abort reply.Damaged v) phase.Abort
       = (turn_kept s h t v tt tt needs.0, leaf_fault s (h ∷ t) v reply.Damaged (inr (refl, rw (same_self v.request) refl)) (turn_kept s h t v tt tt needs.0).is_placed) in
       rw (e, m, p) (act_one known h (quiet c is_harm (λ x. tt)) (λ g fair. g (fair_before s h t fair)) (quiet_call s t c is_harm may (λ x. tt) known.right) (after_harm known.own v.request x bytes fault)
-      ((home, (vio_kept s h t v tt (vio_ok known), carries_own s (h ∷ t) (ended phase.Abort reply.Damaged v) phase.Abort (needs_at is).0 aborted, refl)), notices_after_ok s (h ∷ t) old.stopped refl))
+      ((home, (vio_kept s h t v tt (vio_ok known), carries_own s (h ∷ t) (ended phase.Abort reply.Damaged v) phase.Abort (needs_at is).0 aborted, refl, claim_in known phase.LoadLeaf is)), notices_after_ok s (h ∷ t) old.stopped refl))
   device_serves new made posts (device.flushes is runs durable e m p) =
       let c = call.Flush true in
       let h = Calls c in
@@ -439,15 +442,15 @@ module _ {s : Session} {t : Trace} {n : ℕ} {old : DeviceZone} {v : Vio} (known
       = subst (λ (q : Asks). IsEarned s (h ∷ t) (mark_of_vio (answered_flush old v)) (request_of v) reply.Ok (is_marked q reply.Ok)) (sym (flushes_at is).1) mark in
       rw (e, m, p) (act_one known h (quiet c succeeded (λ x. tt)) (λ g fair. g (fair_before s h t fair)) (quiet_call s t c succeeded (record { succeeds = refl; goes_on = λ writes. goes runs; in_order = tt }) (λ x. tt) known.right)
       (after_call known.own c refl (flush_passes durable))
-      ((omega arith, (vio_kept s h t v tt (vio_ok known), carries_own s (h ∷ t) (answered_flush old v) phase.Reply (flushes_at is).0 earned, refl)), tt))
+      ((omega arith, (vio_kept s h t v tt (vio_ok known), carries_own s (h ∷ t) (answered_flush old v) phase.Reply (flushes_at is).0 earned, refl, claim_in known phase.Flush is)), tt))
   device_serves new made posts (device.flush_fails kept is runs durable e m p) =
       let c = call.Flush false in
       let h = Fails v.request c kept in
       let may : FailureMayFollow s v.request c t = record { is_open = (vio_ok known).is_open; fails = refl; goes_on = λ writes. goes runs; made_for = tt; in_order = tt } in
       rw (e, m, p) (act_one known h (quiet c failed (λ x. tt)) (λ g fair. g (fair_before s h t fair)) (quiet_call s t c failed may (λ x. tt) known.right) (after_failure known.own v.request c kept true refl refl)
-      (unflushed_post s (h ∷ t) v refl (vio_kept s h t v tt (vio_ok known)) (flushes_at is).1 (flushes_at is).0, notices_ok s (h ∷ t) refl))
+      (unflushed_post s (h ∷ t) v refl (vio_kept s h t v tt (vio_ok known)) (flushes_at is).1 (flushes_at is).0 (claim_in known phase.Flush is), notices_ok s (h ∷ t) refl))
   device_serves new made posts (device.flush_unmade is halts e m p) =
-      rw (e, m, p) (act_none known known.own (unflushed_post s t v (sym known.own.lists.stopped_is ∙ halts) (vio_ok known) (flushes_at is).1 (flushes_at is).0, tt))
+      rw (e, m, p) (act_none known known.own (unflushed_post s t v (sym known.own.lists.stopped_is ∙ halts) (vio_ok known) (flushes_at is).1 (flushes_at is).0 (claim_in known phase.Flush is), tt))
 
 -- the requests of a block over a call
 vios_over : (s : Session) (t : Trace) {h : Happening} {c : Call} → IsCallOf h c → (vs : List Vio) → AllByRecursion (KeptOk s t phase.Pending) vs → AllByRecursion (KeptOk s (h ∷ t) phase.Pending) vs
@@ -463,10 +466,10 @@ sealed_over s t {h} is vs n k = sealed_kept s h t vs n (call_sealed s t is) k
 
 -- a flush keeps what stands, whether it fails or not
 flush_rest : (s : Session) (t : Trace) {h : Happening} {ok : Bool} (blocks : List (List Logged)) → IsAsOpened s → IsCallOf h (call.Flush ok) → AtRest s t blocks → AtRest s (h ∷ t) blocks
-flush_rest s t {h} blocks opened is k = rests_kept s h t blocks opened (journal_spared s is (λ slot below. tt)) ((λ x left. block_spared is x tt), spares_all h (λ x. block_spared is x tt) (all_of blocks)) k
+flush_rest s t {h} blocks opened is k = rests_kept s h t blocks (journal_spared s is (λ slot below. tt)) (mapped_all s h (λ x. block_spared is x tt) [] (all_of blocks)) k
 
 flush_way : (s : Session) (t : Trace) {h : Happening} {ok : Bool} (older : List (List Logged)) (es : List Logged) → IsAsOpened s → IsCallOf h (call.Flush ok) → OnItsWay s t older es → OnItsWay s (h ∷ t) older es
-flush_way s t {h} older es opened is k = way_kept s h t older es opened (journal_spared s is (λ slot below. tt)) ((λ x left. block_spared is x tt), spares_all h (λ x. block_spared is x tt) (es ++ all_of older)) k
+flush_way s t {h} older es opened is k = way_kept s h t older es (journal_spared s is (λ slot below. tt)) (mapped_all s h (λ x. block_spared is x tt) es (all_of older)) k
 
 -- one that returns makes what reads give stand
 flushed : (s : Session) (t : Trace) (es : List Logged) → NewReads s t es → NewStands s (Calls (call.Flush true) ∷ t) es
@@ -488,17 +491,20 @@ below_root s other at bytes page is lacked below = absurd cc
 spelled : (s : Session) (t : Trace) (v : Vio) → KeptOk s t phase.Pending v → CanStand s (logged v)
 spelled s t v k = by v.page v.new refl (carries_at s t v phase.Pending k.2 k.1)
   where
+    at_data : OnBlock (λ x. IsDataBlock s.sizes.geometry x.0) v.new
+    at_data = k.3.on_data (ap (λ (q : Phase). (row q).claims) k.2)
+
     by : (o : Option PageId) (m : Mapping) → v.new ≡ m → CarriesFor s t v phase.Pending o → CanStand s (logged_for v o m)
     by None m to has = record {
       below = below_logical s v v.asks has.is_entered.is_change k.0.address;
       old_data = has.old_data;
-      fresh = has.fresh;
+      new_data = at_data;
     }
     by (Some page) (At x) to has = record {
       below = below_root s v.asks v.at v.bytes page has.0.is_write has.0.lacked (below_logical s v v.asks (writes_change v.asks has.0.is_write) k.0.address);
-      fresh = subst (IsToFresh s) to has.1;
+      new_data = subst (OnBlock (λ x. IsDataBlock s.sizes.geometry x.0)) to at_data;
     }
-    by (Some page) other to has = absurd (subst (IsToFresh s) to has.1)
+    by (Some page) other to has = absurd (subst IsToBlock to has.1)
 
 module _ (s : Session) (t : Trace) (b : SealedBlock) (session : IsSession s) (vios : AllByRecursion (KeptOk s t phase.Pending) b.vios) (right : RightTrace s t) (k : IsSealed s t b.vios b.sequence)
     (head : b.head ≡ s.sizes.start) where
@@ -511,8 +517,8 @@ module _ (s : Session) (t : Trace) (b : SealedBlock) (session : IsSession s) (vi
   all_spelled : AllByRecursion (CanStand s) es
   all_spelled = every_logged (CanStand s) b.vios (every-map {P = KeptOk s t phase.Pending} {Q = λ v. CanStand s (logged v)} (λ v ok. spelled s t v ok) b.vios vios)
 
-  all_fresh : AllByRecursion (λ (e : Logged). OnBlock (IsFresh s) (new_of e)) es
-  all_fresh = every-map {P = CanStand s} {Q = λ (e : Logged). OnBlock (IsFresh s) (new_of e)} (can_fresh s) es all_spelled
+  all_data : AllByRecursion (HasBlock s) es
+  all_data = every-map {P = CanStand s} {Q = HasBlock s} (can_data s) es all_spelled
 
   -- its block can be sealed behind those that are committed
   can_seal : IsSealedBlock s.sizes.geometry s.sizes.start (blocks_of s k.older) (sealed_with s es)
@@ -537,15 +543,15 @@ module _ (s : Session) (t : Trace) (b : SealedBlock) (session : IsSession s) (vi
   -- the slot is written, where the session is fair
   module _ (right : RightTrace s t) (k : IsSealed s t b.vios b.sequence) (slot : Pbn) (place : IsItsSlot s.sizes b slot) (fair : IsFair s t) (rest : AtRest s t k.older) (new : NewStands s t (all_logged b.vios)) where
     way_on : (ok : Bool) → OnItsWay s (Calls (call.Write slot (journal_bytes s.sizes b) ok) ∷ t) k.older (all_logged b.vios)
-    way_on ok = slot_way s t k.older (all_logged b.vios) slot (journal_bytes s.sizes b) session (all_fresh s t b session vios right k head) (can_seal s t b session vios right k head)
+    way_on ok = slot_way s t k.older (all_logged b.vios) slot (journal_bytes s.sizes b) session (all_data s t b session vios right k head) (can_seal s t b session vios right k head)
         (place_is s t b session vios right k head slot place) (says s t b session vios right k head) right fair.opened k.sealed_is rest new ok
 
     reads_on : ReadsBlock s (Calls (call.Write slot (journal_bytes s.sizes b) true) ∷ t) k.older (all_logged b.vios)
-    reads_on = slot_reads s t k.older (all_logged b.vios) slot (journal_bytes s.sizes b) session (all_fresh s t b session vios right k head) (can_seal s t b session vios right k head)
+    reads_on = slot_reads s t k.older (all_logged b.vios) slot (journal_bytes s.sizes b) session (all_data s t b session vios right k head) (can_seal s t b session vios right k head)
         (place_is s t b session vios right k head slot place) (says s t b session vios right k head) right fair.opened k.sealed_is rest new
 
     shown_on : (h : Happening) (ok : Bool) → IsCallOf h (call.Write slot (journal_bytes s.sizes b) ok) → AtRest s (h ∷ t) k.older ⊎ OnItsWay s (h ∷ t) k.older (all_logged b.vios) → Shown s (h ∷ t)
-    shown_on h ok is stands = slot_shown s t k.older (all_logged b.vios) slot (journal_bytes s.sizes b) session (all_fresh s t b session vios right k head) (can_seal s t b session vios right k head)
+    shown_on h ok is stands = slot_shown s t k.older (all_logged b.vios) slot (journal_bytes s.sizes b) session (all_data s t b session vios right k head) (can_seal s t b session vios right k head)
         (place_is s t b session vios right k head slot place) (says s t b session vios right k head) right fair.opened k.sealed_is rest new h ok is stands
         k.committed_is (shown_of s t right fair)
 
@@ -590,8 +596,8 @@ module _ (s : Session) (t : Trace) (b : SealedBlock) (session : IsSession s) (vi
         let way = before.0 in
         let new = new_kept s h t (all_logged b.vios) (spares_all h (λ x. tt) (all_logged b.vios)) way.3 in (
           ends s.blocks (log s t) s.sizes.geometry s.sizes.start (blocks_of s k.older) (sealed_with s (all_logged b.vios)) before.1 way.0,
-          map_more s (h ∷ t) (all_logged b.vios) (all_of k.older) (map_kept s h t (all_of k.older) fair.opened ((λ x left. tt), spares_all h (λ x. tt) (all_of k.older)) way.1) new,
-          pages_more s (h ∷ t) (all_logged b.vios) (all_of k.older) (pages_kept s h t (all_of k.older) (spares_all h (λ x. tt) (all_of k.older)) way.2) new,
+          map_more s (h ∷ t) (all_logged b.vios) (all_of k.older) (map_kept s h t (all_of k.older) (mapped_all s h (λ x. tt) [] (all_of k.older)).2 way.1) new,
+          pages_more s (h ∷ t) (all_logged b.vios) (all_of k.older) (pages_kept s h t (all_of k.older) (mapped_all s h (λ x. tt) [] (all_of k.older)).3 way.2) new,
         )) in
         rw (sym (same_Some _ _ is)) (record {
           right = quiet_call s t (call.Flush true) succeeded (record { succeeds = refl; goes_on = λ writes. goes; in_order = tt }) (λ x. tt) right;
@@ -674,7 +680,7 @@ module _ {s : Session} {t : Trace} {n : ℕ} {old : DeviceZone} {b : SealedBlock
 
   clears : {h : Happening} (slot : Pbn) (success : Bool) (c : Call) → IsCallOf h c → IsItsSlot s.sizes b slot → call_of s.sizes b slot success b.stage ≡ Some c → Clears s n (Mine s t (at.Device old) (item.Block b ∷ [])) h t
   clears slot success c is place of_stage = call_clears is known.own.number_is
-      (λ x. inr (λ inside. block_spared is x (misses_data s b b.stage slot success c (let some = known.session.sizes.journal.0 in omega (arith, some)) place of_stage x inside))) (inl (weighed (omega arith)))
+      (λ x. inr (λ inside. block_spared is x.0 (misses_data s b b.stage slot success c (let some = known.session.sizes.journal.0 in omega (arith, some)) place of_stage x.0 inside))) (inl (weighed (omega arith)))
 
   durable_now : old.superblock ≡ Durable → superblock_stage t ≡ Durable
   durable_now durable = sym known.own.lists.superblock_is ∙ durable
@@ -707,3 +713,21 @@ module _ {s : Session} {t : Trace} {n : ℕ} {old : DeviceZone} {b : SealedBlock
       ((omega arith, ((vios_over s t {h = h} failed b.vios vios_ok, now.stands, head_is), refl)), notices_ok s (h ∷ t) stops))
   device_works new made posts (device.unmade c slot v vs first is halts e m p) =
       rw (e, m, p) (act_none known known.own ((omega arith, ((vios_ok, unmade_by s t b b.stage c slot (sym known.own.lists.stopped_is ∙ halts) is stands, head_is), refl)), tt))
+
+-- The device's zone is told what another zone found damaged.
+pub device_hears : {s : Session} {t : Trace} {n : ℕ} {old : DeviceZone} {damage : Damage} → Known s t n (at.Device old) (item.Damage damage ∷ []) → (new : DeviceZone) (made : Trace) (posts : List Post)
+    → DeviceHears s.sizes old damage new made posts → ActKept s t n (at.Device old) (item.Damage damage ∷ []) (at.Device new) made posts
+device_hears {s} {t} {n} {old} {damage} known new made posts act =
+    let h = Hears damage in
+    let own = known.own in
+    rw (act.new_is, act.made_is, act.posts_are) (act_one known h (plain_clears known h t tt own.number_is tt tt tt) (λ g fair. g (fair_before s h t fair))
+    (known.front_ok.0.0, shown_plain s t h tt (shown_of s t known.right), known.right)
+    (record {
+      number_is = own.number_is;
+      lists = record { calls_is = own.lists.calls_is; stopped_is = refl; superblock_is = own.lists.superblock_is; damage_is = ap (λ d. first_of d damage) own.lists.damage_is };
+      sound = tt;
+      kept = tt;
+      answers = tt;
+      told = tt;
+    })
+    (notices_after_ok s (h ∷ t) old.stopped refl))

@@ -125,7 +125,7 @@ module _ (s : Session) (t : Trace) (session : IsSession s) (right : RightTrace s
             inside = data_block_inside s.sizes.geometry x.0 is_data;
             looked = looked_high s.sizes.geometry x.0 high;
             behind = omega (arith, high);
-            taken = λ y free same. fair.opened.unpaged y x (leaf_of a) free opened_there (sym same);
+            unfreed = λ is_data. (leaf_of a, leaf_below, linked);
           }
 
       -- a read of it gives the block of the opened image

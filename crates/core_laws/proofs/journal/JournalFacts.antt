@@ -1,12 +1,12 @@
 -- What the acts of the journal owe: entries are handed in, wait, or are refused; a block is sealed, and its entries are
 -- committed, or it failed.
-use Rattle.std.proofs.Common.{◌≡◌, ◌≢◌, ◌++◌, ◌≤◌, suc, Option, None, append_assoc, length-append, ℕ, ◌<◌, true, Some, IsNone, IsSome, List, [], ◌∷◌, refl, ap, arith, ◌+◌, Bool, false, length, sym, ◌∙◌, inl, inr, subst}
-use Rattle.core_laws.proofs.Common.{all_logged, all_of, AllByRecursion, Answer, asked, Asks, AtRest, bit, BlockOk, Carries, Commits, committed, DataOk, done, each_at, ended, entered, Enters, entry_of, every-append, fair_before, filled, Happening, has_stopped, HasCause, HasFullJournal, HasPendingEntry, HasPlace, holder_weight, IsChange, IsFair, IsFull, IsOpen, IsPlaced, IsSession, JournalLists, JournalZone, KeptEach, KeptOk, Lba, logged, logged_of, ltb-false, ltb-true, Mapping, MapsTo, MayReply, NewReads, OnBlock, or_parts, Pbn, place_of, places, Post, ReadsAs, Request, RestsAt, RightTrace, same_self, same_tells, same_writer, sealed, SealedBlock, Seals, Session, Shown, some_is, Stage, StandsAt, total, Trace, turned, value_written, Vio, VioOk, Writer, zone_count, zone_number, zone_of, zone_of_stage, applied, durable, journaled, remapping, Logged, Remaps, Makes, passed, remappings}
+use Rattle.std.proofs.Common.{◌≡◌, Contains, ◌≢◌, ◌++◌, ◌≤◌, suc, Option, None, append_assoc, length-append, ℕ, ◌<◌, true, Some, IsNone, IsSome, List, [], ◌∷◌, refl, ap, arith, ◌+◌, Bool, false, length, sym, ◌∙◌, inl, inr, subst}
+use Rattle.core_laws.proofs.Common.{all_logged, all_of, AllBelow, AllByRecursion, Answer, asked, Asks, AtRest, bit, BlockOk, Carries, Commits, committed, DataOk, done, each_at, ended, entered, Enters, entry_of, every-append, fair_before, filled, Happening, has_stopped, HasCause, HasFullJournal, HasPendingEntry, HasPlace, holder_weight, IsChange, IsFair, IsOpen, IsPlaced, IsSession, JournalLists, JournalZone, KeptEach, KeptOk, Lba, logged, logged_of, ltb-false, ltb-true, Mapping, MapsTo, MayReply, NewReads, OnBlock, or_parts, Pbn, place_of, places, Post, ReadsAs, Request, RestsAt, RightTrace, same_self, same_tells, same_writer, sealed, SealedBlock, Seals, Session, Shown, some_is, Stage, StandsAt, total, Trace, turned, value_written, Vio, VioOk, Writer, zone_count, zone_number, zone_of, zone_of_stage, applied, durable, journaled, remapping, Logged, Remaps, Makes, passed, remappings, Phase, IsCommitted}
 use Rattle.core_laws.proofs.trace.PassesOfTrace.{cut_passed}
 use Rattle.std.proofs.Math.Nat.{mod-lt}
 use Rattle.data_vio.specs.declared.items.Asks.TheVariants.{Read, Write, Discard, Flush}
 use Rattle.core_model.specs.JournalRules.{JournalEnds, JournalServes, all_again, all_dropped, all_refused, entered_by, hands_out, has_block, has_room, is_closed, next_block, refused}
-use Rattle.core_laws.proofs.kept.ActKept.{PostOk, carries_at, unentered_slot, Known, Mine, weighed, ActKept, act_none, act_one, own_request, own_address, own_page, carries_own, line_kept, vio_over, vio_ok, in_phase}
+use Rattle.core_laws.proofs.kept.ActKept.{carries_page, claim_at, claim_in, claim_unused, PostOk, carries_at, unentered_slot, Known, Mine, weighed, ActKept, act_none, act_one, own_request, own_address, own_page, carries_own, line_kept, vio_over, vio_ok, in_phase}
 use Rattle.core_laws.proofs.lists.Changes.{maps_change}
 use Rattle.core_laws.proofs.trace.DeskOfTrace.{shown_of}
 use Rattle.core_laws.proofs.trace.AbortsOfTrace.{unentered_abort}
@@ -14,13 +14,12 @@ use Rattle.core_laws.proofs.kept.Keys.{Clears, IfAny, Key, OfAddress, OfBlock, O
 use Rattle.core_laws.proofs.journal.LogLaws.{filling_length, log_committed, log_entered, log_sealed}
 use Rattle.core_laws.proofs.journal.SealedBlocks.{logged_length}
 use Rattle.core_laws.proofs.kept.Spared.{OffNumber, below_kept, leafy_kept, mapping_same, of_same, quiet_kept}
-use Rattle.core_laws.proofs.kept.BlockNames.{entries_apart}
-use Rattle.core_laws.proofs.kept.StandsOn.{AreElsewhere, SparesBlock, SparesMap, journal_kept, left_kept, new_reads_kept, on_each, reads_kept, rests_kept, spares_all, superblock_kept}
+use Rattle.core_laws.proofs.kept.StandsOn.{journal_kept, left_kept, mapped_all, new_reads_kept, on_each, reads_kept, rests_kept, spares_all, superblock_kept}
 use Rattle.core_laws.proofs.kept.Carried.{logged_request, pending_over}
 use Rattle.blk_base.specs.declared.place.Mapping.TheVariants.{At, Unmapped, Zero}
 use Rattle.blk_base.specs.declared.place.PageId.{PageId}
 use Rattle.core_model.specs.Facts.{CarriesFor, CarriesOwn, CarriesPage, MakesPage}
-use Rattle.core_laws.proofs.journal.LoggedEntries.{fresh_at, logged_makes, logged_own, on_address, on_page}
+use Rattle.core_laws.proofs.journal.LoggedEntries.{block_at, logged_makes, logged_own, on_address, on_page}
 use Rattle.core_laws.proofs.journal.PageEntries.{page_pending, page_right}
 use Rattle.blk_base.specs.declared.request.Answer.TheVariants as reply
 use Rattle.data_vio.specs.declared.items.Phase.TheVariants as phase
@@ -29,6 +28,11 @@ use Rattle.data_vio.specs.declared.items.Item.TheVariants as item
 use Rattle.data_vio.specs.declared.items.Stage.TheVariants as stage
 use Rattle.core_model.specs.declared.zones.ZoneData.TheVariants as at
 use Rattle.core_model.specs.JournalRules as journal
+use Rattle.blk_base.specs.Regions.{IsDataBlock}
+use Rattle.core_model.specs.RightTraces.{HadNoFree, IsLeafy, IsUnused}
+use Rattle.core_model.specs.PageLinks.{block_in}
+use Rattle.core_model.specs.Facts.{HasClaim, IsEntered}
+use Rattle.core_model.specs.JournalRules.{decrement_for, hands_to}
 use Rattle.recovery_journal.specs.Log.{head_of}
 
 -- once the session is stopped, a write or a discard whose slot isn't set may be answered so; where no block is left for it, one
@@ -42,21 +46,21 @@ cause_stopped s t w Flush at bytes is stopped placed none = absurd is
 
 cause_full : (s : Session) (t : Trace) (w : Writer) (q : Asks) (at : Lba) (bytes : List ℕ) → IsChange q → IsNone (logged_of (entered t) w) → IsSome (place_of (places t) w) → HasFullJournal s t
     → HasCause s t w (asked q at bytes) reply.Full
-cause_full s t w Write at bytes is none some full = (some, none, inl full)
+cause_full s t w Write at bytes is none some full = (some, none, full)
 cause_full s t w Discard at bytes is none some full = (some, none, full)
 cause_full s t w Read at bytes is none some full = absurd is
 cause_full s t w Flush at bytes is none some full = absurd is
 
--- a write, where no data block is left
-cause_taken : (s : Session) (t : Trace) (w : Writer) (q : Asks) (at : Lba) (bytes : List ℕ) → q ≡ Write → IsNone (logged_of (entered t) w) → IsSome (place_of (places t) w) → IsFull s t w at.0 bytes
-    → HasCause s t w (asked q at bytes) reply.Full
-cause_taken s t w q at bytes is none some full = rw is (some, none, full)
+-- a write, where no data block was free since it had its place
+cause_no_space : (s : Session) (t : Trace) (w : Writer) (q : Asks) (at : Lba) (bytes : List ℕ) → q ≡ Write → IsNone (logged_of (entered t) w) → IsSome (place_of (places t) w) → HadNoFree s t w
+    → HasCause s t w (asked q at bytes) reply.NoSpace
+cause_no_space s t w q at bytes is none some no_free = rw is (some, none, no_free)
 
 pub may_stop : (s : Session) (t : Trace) (v : Vio) → IsChange v.asks → has_stopped t ≡ true → HasPlace s t v.request v.at.0 v.place → IsNone (logged_of (done t) v.request) → MayReply s t v (Some reply.Stopped)
 may_stop s t v is stopped placed none = cause_stopped s t v.request v.asks v.at v.bytes is stopped (some_is _ _ placed) none
 
-pub write_full : (s : Session) (t : Trace) (v : Vio) → v.asks ≡ Write → IsPlaced s t v → IsFull s t v.request v.at.0 v.bytes → MayReply s t v (Some reply.Full)
-write_full s t v is k full = cause_taken s t v.request v.asks v.at v.bytes is k.not_entered (some_is _ _ k.placed) full
+pub write_no_space : (s : Session) (t : Trace) (v : Vio) → v.asks ≡ Write → IsPlaced s t v → HadNoFree s t v.request → MayReply s t v (Some reply.NoSpace)
+write_no_space s t v is k no_free = cause_no_space s t v.request v.asks v.at v.bytes is k.not_entered (some_is _ _ k.placed) no_free
 
 pub may_fill : (s : Session) (t : Trace) (v : Vio) → IsChange v.asks → IsPlaced s t v → HasFullJournal s t → MayReply s t v (Some reply.Full)
 may_fill s t v is k full = cause_full s t v.request v.asks v.at v.bytes is k.not_entered (some_is _ _ k.placed) full
@@ -80,17 +84,17 @@ module _ (s : Session) (t : Trace) where
       by None k = (k.0.turn, may k.0.turn.is_placed (maps_change v.asks v.bytes v.new k.1))
       by (Some page) k = (k.0, k.1, may k.0.turn.is_placed (writes_change v.asks k.0.is_write))
 
-  pub stopped_post : (v : Vio) → RightTrace s t → has_stopped t ≡ true → VioOk s t v → Carries s t v phase.Enter → PostOk s t (refused s.sizes reply.Stopped v)
-  stopped_post v right stopped ok carries =
-      (omega arith, (ok, refused_carries v reply.Stopped carries (λ placed is. may_stop s t v is stopped placed.placed (unentered_slot s t v.request right placed.not_entered)), refl))
+  pub stopped_post : (v : Vio) → RightTrace s t → has_stopped t ≡ true → VioOk s t v → Carries s t v phase.Enter → HasClaim s true v.claim v.new → PostOk s t (refused s.sizes reply.Stopped v)
+  stopped_post v right stopped ok carries claim =
+      (omega arith, (ok, refused_carries v reply.Stopped carries (λ placed is. may_stop s t v is stopped placed.placed (unentered_slot s t v.request right placed.not_entered)), refl, claim))
 
-  pub full_post : (v : Vio) → HasFullJournal s t → VioOk s t v → Carries s t v phase.Enter → PostOk s t (refused s.sizes reply.Full v)
-  full_post v full ok carries = (omega arith, (ok, refused_carries v reply.Full carries (λ placed is. may_fill s t v is placed full), refl))
+  pub full_post : (v : Vio) → HasFullJournal s t → VioOk s t v → Carries s t v phase.Enter → HasClaim s true v.claim v.new → PostOk s t (refused s.sizes reply.Full v)
+  full_post v full ok carries claim = (omega arith, (ok, refused_carries v reply.Full carries (λ placed is. may_fill s t v is placed full), refl, claim))
 
   -- all that wait do
   pub stopped_posts : (vs : List Vio) → RightTrace s t → has_stopped t ≡ true → AllByRecursion (KeptOk s t phase.Enter) vs → AllByRecursion (PostOk s t) (all_refused s.sizes reply.Stopped vs)
   stopped_posts [] right stopped all = tt
-  stopped_posts (v ∷ vs) right stopped all = (stopped_post v right stopped all.0.0 (carries_at s t v phase.Enter all.0.2 all.0.1), stopped_posts vs right stopped all.1)
+  stopped_posts (v ∷ vs) right stopped all = (stopped_post v right stopped all.0.0 (carries_at s t v phase.Enter all.0.2 all.0.1) (claim_at s v phase.Enter all.0.2 all.0.3), stopped_posts vs right stopped all.1)
 
 -- The block being filled.
 
@@ -121,10 +125,6 @@ logged_last : (vs : List Vio) (v : Vio) → all_logged (vs ++ v ∷ []) ≡ logg
 logged_last [] v = refl
 logged_last (u ∷ vs) v = ap (λ (es : List Logged). es ++ logged u ∷ []) (logged_last vs v)
 
--- a happening that is about none of the blocks of the device
-silent : (s : Session) (t : Trace) (h : Happening) → ((x : ℕ) → SparesBlock h x) → (es : List Logged) → SparesMap s h es
-silent s t h none es = ((λ x left. none x), spares_all h none es)
-
 -- what a request writes is read, by the script
 reads_now : (s : Session) (t : Trace) (q : Asks) (place : Lba) (bytes : List ℕ) (m : Mapping) → MapsTo q bytes m → OnBlock (λ x. ReadsAs s t x.0 bytes) m
     → OnBlock (λ x. ReadsAs s t x.0 (value_written (Some (asked q place bytes)))) m
@@ -136,7 +136,7 @@ reads_now s t Read place bytes m maps reads = absurd maps
 reads_now s t Flush place bytes m maps reads = absurd maps
 
 -- The entry of a write or a discard is handed in, of its own address.
-module _ (s : Session) (t : Trace) (v : Vio) (right : RightTrace s t) (ok : VioOk s t v) (bare : v.page ≡ None) (carries : CarriesOwn s t v phase.Enter) (unused : OnBlock (λ x. AreElsewhere x.0 (journaled t)) v.new)
+module _ (s : Session) (t : Trace) (v : Vio) (right : RightTrace s t) (ok : VioOk s t v) (bare : v.page ≡ None) (carries : CarriesOwn s t v phase.Enter) (claim : HasClaim s true v.claim v.new) (unused : IsFair s t → OnBlock (IsUnused s t) v.new)
     (left : length (sealed t) + 1 < s.sizes.geometry.journal) (room : length (filled t) < 192) where
   abbrev enters : Happening
   enters = Enters (Remaps (remapping v))
@@ -148,10 +148,10 @@ module _ (s : Session) (t : Trace) (v : Vio) (right : RightTrace s t) (ok : VioO
       record {
         superblock = superblock_kept s enters t tt stood.superblock;
         kept = left_kept s enters t (λ x left. tt) stood.kept;
-        journal = journal_kept s enters t fair.opened (record { sealed_same = refl; committed_same = refl }) tt (silent s t enters (λ x. tt) (all_of (sealed t))) stood.journal;
+        journal = journal_kept s enters t (record { sealed_same = refl; committed_same = refl }) tt (λ newer parts. mapped_all s enters (λ x. tt) newer (durable t)) stood.journal;
         filling = (
           on_each v.new (λ x to reads. reads_kept s enters t x.0 _ tt reads)
-              (subst (λ (r : Option Request). OnBlock (λ x. ReadsAs s t x.0 (value_written r)) v.new) (sym ok.asked) (reads_now s t v.asks v.at v.bytes v.new carries.1 (carries.3 before))),
+              (subst (λ (r : Option Request). OnBlock (λ x. ReadsAs s t x.0 (value_written r)) v.new) (sym ok.asked) (reads_now s t v.asks v.at v.bytes v.new carries.1 (carries.2 before))),
           new_reads_kept s enters t (filled t) (spares_all enters (λ x. tt) (filled t)) stood.filling,
         );
       }
@@ -166,9 +166,9 @@ module _ (s : Session) (t : Trace) (v : Vio) (right : RightTrace s t) (ok : VioO
       below = carries.0.turn.below;
       left = left;
       room = room;
-      new_data = carries.2;
+      new_data = claim.on_data refl;
       unused = unused;
-      leaf = carries.4;
+      leaf = carries.3;
       old_data = carries.0.old_data;
       old_is = λ fair. carries.0.old_is fair ∙ mapping_same s (applied t) (durable t) v.at.0 (sym (cut_passed v.at.0 (remappings (durable t)) (remappings (applied t)) (passed t) carries.0.turn.quiet.all_done));
     },
@@ -190,16 +190,16 @@ module _ (s : Session) (t : Trace) (v : Vio) (right : RightTrace s t) (ok : VioO
       pending = record { last = of_same (remapping v) (entered t) ∙ ap (λ es. remapping v ∷ es) carries.0.turn.quiet.all_committed; others = carries.0.turn.quiet.all_done };
       below = record { writes = carries.0.turn.below.writes; reads = carries.0.turn.below.reads };
       maps = carries.1;
-      fresh = carries.2;
-      leaf = carries.4;
+      leaf = carries.3;
       old_data = carries.0.old_data;
       old_is = λ fair. carries.0.old_is (fair_before s enters t fair);
     }),
     refl,
+    claim,
   )
 
 -- or of the page that it makes
-module _ (s : Session) (t : Trace) (v : Vio) (right : RightTrace s t) (ok : VioOk s t v) (carries : Carries s t v phase.Enter) (unused : OnBlock (λ x. AreElsewhere x.0 (journaled t)) v.new)
+module _ (s : Session) (t : Trace) (v : Vio) (right : RightTrace s t) (ok : VioOk s t v) (carries : Carries s t v phase.Enter) (claim : HasClaim s true v.claim v.new) (unused : IsFair s t → OnBlock (IsUnused s t) v.new)
     (left : length (sealed t) + 1 < s.sizes.geometry.journal) (room : length (filled t) < 192) where
   abbrev Handed : Logged → Type 0
   Handed e = RightTrace s (Enters e ∷ t) × KeptOk s (Enters e ∷ t) phase.Pending (turned phase.Pending v)
@@ -208,10 +208,11 @@ module _ (s : Session) (t : Trace) (v : Vio) (right : RightTrace s t) (ok : VioO
   handed_in = by v.page refl carries
     where
       by : (o : Option PageId) → v.page ≡ o → CarriesFor s t v phase.Enter o → Handed (logged v)
-      by None bare k = subst Handed (sym (logged_own v bare)) (own_right s t v right ok bare k unused left room, own_pending s t v right ok bare k unused left room)
+      by None bare k = subst Handed (sym (logged_own v bare)) (own_right s t v right ok bare k claim unused left room, own_pending s t v right ok bare k claim unused left room)
       by (Some page) some k =
-          let block = fresh_at s v.new k.2 in
-          subst Handed (sym (logged_makes v page block.0 some block.1)) (page_right s t v page block.0 right ok some block.1 k (subst (OnBlock (λ x. AreElsewhere x.0 (journaled t))) block.1 unused) left room, page_pending s t v page block.0 right ok some block.1 k (subst (OnBlock (λ x. AreElsewhere x.0 (journaled t))) block.1 unused) left room)
+          let block = block_at v.new k.2 in
+          let free = λ (fair : IsFair s t). subst (OnBlock (IsUnused s t)) block.1 (unused fair) in
+          subst Handed (sym (logged_makes v page block.0 some block.1)) (page_right s t v page block.0 right ok some block.1 k claim free left room, page_pending s t v page block.0 right ok some block.1 k claim free left room)
 
   pub enter_right : RightTrace s (Enters (logged v) ∷ t)
   enter_right = handed_in.0
@@ -258,15 +259,12 @@ module _ {s : Session} {t : Trace} {n : ℕ} {old : JournalZone} {v : Vio} (know
     room_left : length (filled t) < 192
     room_left = let less = ltb-true (length old.log.filling) 192 room in omega (arith, less, filling_length s t old.log known.own.lists.log_is)
 
-    -- no entry names its block, which it has alone
-    its_block : OnBlock (λ x. AreElsewhere x.0 (journaled t)) v.new
-    its_block = by v.new refl
+    -- nobody maps its block
+    its_block : IsFair s t → OnBlock (IsUnused s t) v.new
+    its_block fair = by v.new refl
       where
-        by : (m : Mapping) → v.new ≡ m → OnBlock (λ x. AreElsewhere x.0 (journaled t)) m
-        by (At x) to =
-            let most = known.most (OfBlock x.0) in
-            let own = claim_one v x (rw is refl) to in
-            subst (AreElsewhere x.0) known.own.lists.entered_is (entries_apart x.0 old.entered (omega (arith, most, own)))
+        by : (m : Mapping) → v.new ≡ m → OnBlock (IsUnused s t) m
+        by (At x) to = claim_unused known phase.Enter x is refl to refl fair
         by other to = tt
 
     entry_clears : Clears s n (Mine s t (at.Journal old) (item.Request v ∷ [])) (Enters (logged v)) t
@@ -276,11 +274,11 @@ module _ {s : Session} {t : Trace} {n : ℕ} {old : JournalZone} {v : Vio} (know
       address = on_address (IfAny (λ a. Mine s t (at.Journal old) (item.Request v ∷ []) (OfAddress a))) v (own_address known phase.Enter is refl) tt;
       page = on_page (IfAny (λ p. Mine s t (at.Journal old) (item.Request v ∷ []) (OfPage p))) v (own_page known) tt;
       block = λ x. inr (λ inside. tt);
-      journal = inr (record { sealed_same = refl; committed_same = refl }, tt, silent s t (Enters (logged v)) (λ x. tt) (journaled t));
+      journal = inr (record { sealed_same = refl; committed_same = refl }, tt, λ fair newer parts. mapped_all s (Enters (logged v)) (λ x. tt) newer (durable t));
     }
 
     entry_right : RightTrace s (Enters (logged v) ∷ t)
-    entry_right = enter_right s t v known.right (vio_ok known) (in_phase known phase.Enter is) its_block block_left room_left
+    entry_right = enter_right s t v known.right (vio_ok known) (in_phase known phase.Enter is) (claim_in known phase.Enter is) its_block block_left room_left
 
     -- what the zone keeps then
     entry_data : (busy : Bool) → busy ≡ true → RestsAt s (Enters (logged v) ∷ t) busy old.broken → DataOk s (Enters (logged v) ∷ t) n (at.Journal (record (entered_by v old) { busy = busy }))
@@ -304,7 +302,7 @@ module _ {s : Session} {t : Trace} {n : ℕ} {old : JournalZone} {v : Vio} (know
           );
           kept = (
             every-append (KeptOk s (Enters (logged v) ∷ t) phase.Pending) old.filling (turned phase.Pending v ∷ []) kept.0
-                (enter_pending s t v known.right (vio_ok known) (in_phase known phase.Enter is) its_block block_left room_left, tt),
+                (enter_pending s t v known.right (vio_ok known) (in_phase known phase.Enter is) (claim_in known phase.Enter is) its_block block_left room_left, tt),
             kept.1,
           );
           answers = answers;
@@ -313,9 +311,9 @@ module _ {s : Session} {t : Trace} {n : ℕ} {old : JournalZone} {v : Vio} (know
 
   pub journal_serves : (new : JournalZone) (made : Trace) (posts : List Post) → JournalServes s.sizes old v new made posts → ActKept s t n (at.Journal old) (item.Request v ∷ []) (at.Journal new) made posts
   journal_serves new made posts (journal.is_stopped is closed e m p) =
-      rw (e, m, p) (act_none known known.own (stopped_post s t v known.right (known.own.told closed) (vio_ok known) (in_phase known phase.Enter is), tt))
+      rw (e, m, p) (act_none known known.own (stopped_post s t v known.right (known.own.told closed) (vio_ok known) (in_phase known phase.Enter is) (claim_in known phase.Enter is), tt))
   journal_serves new made posts (journal.is_full is closed full e m p) =
-      rw (e, m, p) (act_none known known.own (full_post s t v (full_now s t old known.own.lists full) (vio_ok known) (in_phase known phase.Enter is), tt))
+      rw (e, m, p) (act_none known known.own (full_post s t v (full_now s t old known.own.lists full) (vio_ok known) (in_phase known phase.Enter is) (claim_in known phase.Enter is), tt))
   journal_serves new made posts (journal.waits is closed block full e m p) =
       let k = known.own in
       rw (e, m, p) (act_none known (record {
@@ -328,7 +326,7 @@ module _ {s : Session} {t : Trace} {n : ℕ} {old : JournalZone} {v : Vio} (know
           log_is = k.lists.log_is;
         };
         sound = (k.sound.0, λ idle. absurd (crowded s t old k.lists (or_parts old.notified old.broken closed).1 full (k.sound.1 idle).unfilled));
-        kept = (k.kept.0, every-append (KeptOk s t phase.Enter) old.waiting (v ∷ []) k.kept.1 ((vio_ok known, known.front_ok.0.1, is), tt));
+        kept = (k.kept.0, every-append (KeptOk s t phase.Enter) old.waiting (v ∷ []) k.kept.1 ((vio_ok known, known.front_ok.0.1, is, known.front_ok.0.3), tt));
         answers = k.answers;
         told = k.told;
       }) tt)
@@ -341,7 +339,7 @@ module _ {s : Session} {t : Trace} {n : ℕ} {old : JournalZone} {v : Vio} (know
       let rest = rests_idle s t old.busy old.broken idle (sound is closed block room) known.own.answers in
       rw (e, m, p) (act_one known h (entry_clears is closed block room) (λ g fair. g (fair_before s (Enters (logged v)) t fair)) (entry_right is closed block room)
       (entry_data is closed block room true refl (sound is closed block room))
-      ((omega arith, ((tt, (rest.0, λ fair. rests_kept s h t (sealed t) fair.opened tt (silent s t h (λ x. tt) (all_of (sealed t))) (rest.1 (fair_before s h t fair))), known.own.lists.log_is.head_is), refl)), tt))
+      ((omega arith, ((tt, (rest.0, λ fair. rests_kept s h t (sealed t) tt (mapped_all s h (λ x. tt) [] (all_of (sealed t))) (rest.1 (fair_before s h t fair))), known.own.lists.log_is.head_is), refl)), tt))
 
 -- The journal hears that the session is stopped.
 pub journal_notified : {s : Session} {t : Trace} {n : ℕ} {old : JournalZone} → Known s t n (at.Journal old) (item.StopNotice ∷ [])
@@ -398,12 +396,12 @@ dropped_carries s t v right stopped carries = by v.page carries
 dropped_posts : (s : Session) (t : Trace) (vs : List Vio) → RightTrace s t → has_stopped t ≡ true → AllByRecursion (KeptOk s t phase.Pending) vs → AllByRecursion (PostOk s t) (all_dropped vs)
 dropped_posts s t [] right stopped all = tt
 dropped_posts s t (v ∷ vs) right stopped all =
-    ((omega arith, (all.0.0, dropped_carries s t v right stopped (carries_at s t v phase.Pending all.0.2 all.0.1), refl)), dropped_posts s t vs right stopped all.1)
+    ((omega arith, (all.0.0, dropped_carries s t v right stopped (carries_at s t v phase.Pending all.0.2 all.0.1), refl, claim_at s v phase.Pending all.0.2 all.0.3)), dropped_posts s t vs right stopped all.1)
 
 -- those that waited come again
 again_posts : (s : Session) (t : Trace) (vs : List Vio) → AllByRecursion (KeptOk s t phase.Enter) vs → AllByRecursion (PostOk s t) (all_again vs)
 again_posts s t [] all = tt
-again_posts s t (v ∷ vs) all = ((omega arith, (all.0.0, all.0.1, rw all.0.2 refl)), again_posts s t vs all.1)
+again_posts s t (v ∷ vs) all = ((omega arith, (all.0.0, all.0.1, rw all.0.2 refl, all.0.3)), again_posts s t vs all.1)
 
 module _ {s : Session} {t : Trace} {n : ℕ} {old : JournalZone} {b : SealedBlock} (known : Known s t n (at.Journal old) (item.Block b ∷ [])) where
   abbrev After : JournalZone → Trace → List Post → Type 0
@@ -443,7 +441,7 @@ module _ {s : Session} {t : Trace} {n : ℕ} {old : JournalZone} {b : SealedBloc
     next = stands.0 ∙ ap (λ (us : List Vio). all_logged us ++ durable t) vios ∙ append_assoc (all_logged vs) (logged v ∷ []) (durable t)
 
     rest_on : IsFair s (commits ∷ t) → AtRest s (commits ∷ t) (sealed t)
-    rest_on fair = rests_kept s commits t (sealed t) fair.opened tt (silent s t commits (λ x. tt) (all_of (sealed t))) (stands.1 (fair_before s commits t fair))
+    rest_on fair = rests_kept s commits t (sealed t) tt (mapped_all s commits (λ x. tt) [] (all_of (sealed t))) (stands.1 (fair_before s commits t fair))
 
     commit_shown : IsFair s (commits ∷ t) → Shown s (commits ∷ t)
     commit_shown fair =
@@ -471,19 +469,34 @@ module _ {s : Session} {t : Trace} {n : ℕ} {old : JournalZone} {b : SealedBloc
       journal = inl (weighed (omega arith));
     }
 
-    -- its slot is to be set
-    own_settles : v.page ≡ None → HasPendingEntry s t v.asks v.bytes (remapping v) → CarriesOwn s (commits ∷ t) (turned phase.Settle v) phase.Settle
-    own_settles bare k = subst (λ (e : Logged). CarriesOwn s (Commits e ∷ t) (turned phase.Settle v) phase.Settle) (sym (logged_own v bare)) (
+    claim : HasClaim s true v.claim v.new
+    claim = claim_at s v phase.Pending mine.0.2 mine.0.3
+
+    -- it is to be counted, or where it has no block its slot is to be set
+    own_committed : v.page ≡ None → HasPendingEntry s t v.asks v.bytes (remapping v)
+        → IsEntered s (commits ∷ t) v × IsCommitted (commits ∷ t) (remapping v) × AllBelow (commits ∷ t) v.at.0 v.place × IsLeafy s (commits ∷ t) v.at.0
+    own_committed bare k = subst (λ (e : Logged). IsEntered s (Commits e ∷ t) v × IsCommitted (Commits e ∷ t) (remapping v) × AllBelow (Commits e ∷ t) v.at.0 v.place × IsLeafy s (Commits e ∷ t) v.at.0) (sym (logged_own v bare)) (
       record { is_change = k.is_entered.is_change; placed = k.is_entered.placed; entry = k.is_entered.entry; unset = k.is_entered.unset; unaborted = k.is_entered.unaborted },
       record { all_committed = k.pending.last ∙ sym (of_same (remapping v) (committed t)); last = of_same (remapping v) (committed t) ∙ ap (λ es. remapping v ∷ es) k.pending.others },
       record { writes = k.below.writes; reads = k.below.reads },
-      k.fresh,
       leafy_kept s (Commits (Remaps (remapping v))) t v.at.0 k.leaf,
     )
 
-    -- or its page is to be linked
-    page_settles : (page : PageId) (x : Pbn) → v.page ≡ Some page → v.new ≡ At x → CarriesPage s t v page phase.Pending → CarriesPage s (commits ∷ t) (turned phase.Settle v) page phase.Settle
-    page_settles page x some to k =
+    -- one without a block has no claim
+    no_claim : (m : Mapping) → v.new ≡ m → block_in m ≡ None → HasClaim s false v.claim v.new
+    no_claim m to none = record { claim_is = claim.claim_is ∙ ap block_in to ∙ none; on_data = λ holds. absurd cc }
+
+    own_hands : v.page ≡ None → HasPendingEntry s t v.asks v.bytes (remapping v) → (m : Mapping) → v.new ≡ m → PostOk s (commits ∷ t) (hands_to v m)
+    own_hands bare k (At x) to = let c = own_committed bare k in
+        (omega arith, (vio_over s commits t v refl mine.0.0, carries_own s (commits ∷ t) (turned phase.Count v) phase.Count bare (c.0, c.1, c.2, rw to tt, c.3), refl, claim))
+    own_hands bare k Unmapped to = let c = own_committed bare k in
+        (home_within s t v known.session mine.0.0, (vio_over s commits t v refl mine.0.0, carries_own s (commits ∷ t) (turned phase.Settle v) phase.Settle bare (c.0, c.1, c.2, rw to tt, c.3), refl, no_claim Unmapped to refl))
+    own_hands bare k Zero to = let c = own_committed bare k in
+        (home_within s t v known.session mine.0.0, (vio_over s commits t v refl mine.0.0, carries_own s (commits ∷ t) (turned phase.Settle v) phase.Settle bare (c.0, c.1, c.2, rw to tt, c.3), refl, no_claim Zero to refl))
+
+    -- or its page is to be counted
+    page_counts : (page : PageId) (x : Pbn) → v.page ≡ Some page → v.new ≡ At x → CarriesPage s t v page phase.Pending → CarriesPage s (commits ∷ t) (turned phase.Count v) page phase.Count
+    page_counts page x some to k =
         let turn = k.0.turn in
         let entry = logged_makes v page x some to in
         let making : MakesPage s (Commits (Makes (record { request = v.request; page = page; at = x })) ∷ t) v page = record {
@@ -503,12 +516,39 @@ module _ {s : Session} {t : Trace} {n : ℕ} {old : JournalZone} {b : SealedBloc
           (0, omega arith, refl),
         )
 
-    settles_for : (o : Option PageId) → v.page ≡ o → CarriesFor s t v phase.Pending o → CarriesFor s (commits ∷ t) (turned phase.Settle v) phase.Settle o
-    settles_for None bare k = own_settles bare k
-    settles_for (Some page) some k = let block = fresh_at s v.new k.1 in page_settles page block.0 some block.1 k
+    page_hands : (page : PageId) → v.page ≡ Some page → CarriesPage s t v page phase.Pending → PostOk s (commits ∷ t) (hands_to v v.new)
+    page_hands page some k =
+        let (x, to) = block_at v.new k.1 in
+        subst (λ (m : Mapping). PostOk s (commits ∷ t) (hands_to v m)) (sym to)
+        (omega arith, (vio_over s commits t v refl mine.0.0, carries_page s (commits ∷ t) (turned phase.Count v) page phase.Count some (page_counts page x some to k), refl, claim))
 
-    settle_post : PostOk s (commits ∷ t) (hands_out v)
-    settle_post = (home_within s t v known.session mine.0.0, (vio_over s commits t v refl mine.0.0, settles_for v.page refl has, refl))
+    hands_for : (o : Option PageId) → v.page ≡ o → CarriesFor s t v phase.Pending o → PostOk s (commits ∷ t) (hands_to v v.new)
+    hands_for None bare k = own_hands bare k v.new refl
+    hands_for (Some page) some k = page_hands page some k
+
+    -- the decrement of what it replaces
+    decrements_for : (o : Option PageId) (m : Mapping) → v.page ≡ o → v.old ≡ m → CarriesFor s t v phase.Pending o → AllByRecursion (PostOk s (commits ∷ t)) (decrement_for o (remapping v) m)
+    decrements_for None (At x) bare from k = (
+      (
+        omega arith,
+        (
+          record {
+            committed = subst (λ (e : Logged). Contains (e ∷ durable t) (Remaps (remapping v))) (sym (logged_own v bare)) (0, omega arith, refl);
+            block = x;
+            old_is = from;
+            is_data = subst (OnBlock (λ y. IsDataBlock s.sizes.geometry y.0)) from k.old_data;
+          },
+          refl,
+        ),
+      ),
+      tt,
+    )
+    decrements_for None Unmapped bare from k = tt
+    decrements_for None Zero bare from k = tt
+    decrements_for (Some page) m some from k = tt
+
+    hands_posts : AllByRecursion (PostOk s (commits ∷ t)) (hands_out v)
+    hands_posts = (hands_for v.page refl has, decrements_for v.page v.old refl refl has)
 
     others : AllByRecursion (KeptOk s (commits ∷ t) phase.Pending) vs
     others =
@@ -531,7 +571,7 @@ module _ {s : Session} {t : Trace} {n : ℕ} {old : JournalZone} {b : SealedBloc
     left = filled_left s t known.right (omega (arith, count))
 
     rest_sealed : IsFair s (Seals ∷ t) → AtRest s (Seals ∷ t) (sealed t)
-    rest_sealed fair = rests_kept s Seals t (sealed t) fair.opened tt (silent s t Seals (λ x. tt) (all_of (sealed t))) (all_there.1 (fair_before s Seals t fair))
+    rest_sealed fair = rests_kept s Seals t (sealed t) tt (mapped_all s Seals (λ x. tt) [] (all_of (sealed t))) (all_there.1 (fair_before s Seals t fair))
 
     seal_shown : IsFair s (Seals ∷ t) → Shown s (Seals ∷ t)
     seal_shown fair = record {
@@ -592,7 +632,7 @@ module _ {s : Session} {t : Trace} {n : ℕ} {old : JournalZone} {b : SealedBloc
         answers = busy_on s t (h ∷ t) old.busy old.broken busy k.answers;
         told = k.told;
       })
-      (settle_post v vs is vios, ((omega arith, ((others v vs is vios, subst (StandsAt s (h ∷ t) vs b.sequence) (sym is) (next v vs is vios, rest_on v vs is vios), head_is), ap (zone_of_stage s.sizes) (sym is))), tt)))
+      (every-append (PostOk s (h ∷ t)) (hands_out v) ((id.Journal, item.Block (record b { vios = vs })) ∷ []) (hands_posts v vs is vios) ((omega arith, ((others v vs is vios, subst (StandsAt s (h ∷ t) vs b.sequence) (sym is) (next v vs is vios, rest_on v vs is vios), head_is), ap (zone_of_stage s.sizes) (sym is))), tt)))
   journal_ends new made posts (journal.seals v vs is done_with filling due e m p) =
       let k = known.own in
       let kept = kept_sealed v vs is done_with filling in

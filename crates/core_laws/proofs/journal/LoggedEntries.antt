@@ -1,6 +1,6 @@
 -- The entry that a request hands in: of its own address, or of the page that it makes.
 use Rattle.std.proofs.Common.{◌≡◌, ℕ, Option, None, Some, refl}
-use Rattle.core_laws.proofs.Common.{IsToFresh, Makes, Mapping, Pbn, Remaps, Session, Vio, logged, new_of, remapping}
+use Rattle.core_laws.proofs.Common.{IsToBlock, Makes, Mapping, Pbn, Remaps, Vio, logged, new_of, remapping}
 use Rattle.blk_base.specs.declared.place.Mapping.TheVariants.{Unmapped, Zero, At}
 use Rattle.blk_base.specs.declared.place.PageId.{PageId}
 use Rattle.data_vio.specs.Vios.{logged_for}
@@ -12,10 +12,10 @@ logged_own v bare = rw bare refl
 pub logged_makes : (v : Vio) (page : PageId) (x : Pbn) → v.page ≡ Some page → v.new ≡ At x → logged v ≡ Makes (record { request = v.request; page = page; at = x })
 logged_makes v page x some to = rw (some, to) refl
 
--- the block of a mapping to a free one
-pub fresh_at : (s : Session) (m : Mapping) → IsToFresh s m → (x : Pbn) × (m ≡ At x)
-fresh_at s (At x) fresh = (x, refl)
-fresh_at s other fresh = absurd fresh
+-- the block of a mapping to one
+pub block_at : (m : Mapping) → IsToBlock m → (x : Pbn) × (m ≡ At x)
+block_at (At x) some = (x, refl)
+block_at other some = absurd some
 
 -- what it names as new is what the request does
 pub logged_new : (v : Vio) → new_of (logged v) ≡ v.new

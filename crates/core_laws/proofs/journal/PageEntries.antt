@@ -1,16 +1,18 @@
 -- The entry of a page is handed in: it is the first that puts the page anywhere.
-use Rattle.std.proofs.Common.{◌≡◌, ◌+◌, ◌<◌, Some, ◌∷◌, length, refl, sym, subst, arith}
-use Rattle.core_laws.proofs.Common.{Enters, Happening, IsFair, IsFresh, IsToFresh, KeptOk, Logged, Makes, Mapping, NewPage, OnBlock, Pbn, ReadsAs, RightTrace, Session, Shown, Trace, Vio, VioOk, all_of, asked, fair_before, filled, journaled, sealed, turned, some_is}
+use Rattle.std.proofs.Common.{◌≡◌, true, ◌+◌, ◌<◌, Some, ◌∷◌, length, refl, sym, subst, arith}
+use Rattle.core_laws.proofs.Common.{Enters, Happening, IsFair, KeptOk, Logged, Makes, Mapping, NewPage, OnBlock, Pbn, ReadsAs, RightTrace, Session, Shown, Trace, Vio, VioOk, asked, durable, fair_before, filled, journaled, sealed, turned, some_is}
 use Rattle.blk_base.specs.declared.place.Mapping.TheVariants.{At}
 use Rattle.blk_base.specs.declared.place.PageId.{PageId}
 use Rattle.data_vio.specs.declared.items.Phase.TheVariants as phase
-use Rattle.core_model.specs.Facts.{CarriesPage, HasPageEntry, MakesPage}
+use Rattle.blk_base.specs.Regions.{IsDataBlock}
+use Rattle.core_model.specs.RightTraces.{IsUnused}
+use Rattle.core_model.specs.Facts.{CarriesPage, HasClaim, HasPageEntry, MakesPage}
 use Rattle.core_model.specs.PageLinks.{empty_page}
 use Rattle.core_model.specs.DeviceRules.{page_at}
 use Rattle.core_laws.proofs.journal.LoggedEntries.{logged_makes}
 use Rattle.core_laws.proofs.kept.ActKept.{carries_page, vio_over}
 use Rattle.core_laws.proofs.kept.Spared.{below_kept, quiet_kept}
-use Rattle.core_laws.proofs.kept.StandsOn.{AreElsewhere, SparesMap, journal_kept, left_kept, new_reads_kept, reads_kept, spares_all, superblock_kept}
+use Rattle.core_laws.proofs.kept.StandsOn.{SparesJournaled, journal_kept, left_kept, mapped_all, new_reads_kept, reads_kept, spares_all, superblock_kept}
 use Rattle.core_laws.proofs.trace.DeskOfTrace.{shown_of}
 use Rattle.core_laws.proofs.trace.PagesOfTrace.{dropped_entered, put_there, unlinked_still}
 
@@ -19,7 +21,7 @@ page_bytes_are : (s : Session) (p : NewPage) → page_at s.sizes p.page p.at ≡
 unfolding empty_page
 page_bytes_are s p = refl
 
-module _ (s : Session) (t : Trace) (v : Vio) (page : PageId) (x : Pbn) (right : RightTrace s t) (ok : VioOk s t v) (some : v.page ≡ Some page) (to : v.new ≡ At x) (carries : CarriesPage s t v page phase.Enter) (unused : AreElsewhere x.0 (journaled t))
+module _ (s : Session) (t : Trace) (v : Vio) (page : PageId) (x : Pbn) (right : RightTrace s t) (ok : VioOk s t v) (some : v.page ≡ Some page) (to : v.new ≡ At x) (carries : CarriesPage s t v page phase.Enter) (claim : HasClaim s true v.claim v.new) (unused : IsFair s t → IsUnused s t x)
     (left : length (sealed t) + 1 < s.sizes.geometry.journal) (room : length (filled t) < 192) where
   abbrev made : NewPage
   made = record { request = v.request; page = page; at = x }
@@ -27,8 +29,8 @@ module _ (s : Session) (t : Trace) (v : Vio) (page : PageId) (x : Pbn) (right : 
   abbrev enters : Happening
   enters = Enters (Makes made)
 
-  spared : SparesMap s enters (all_of (sealed t))
-  spared = ((λ y left. tt), spares_all enters (λ y. tt) (all_of (sealed t)))
+  spared : SparesJournaled s enters t
+  spared newer parts = mapped_all s enters (λ y. tt) newer (durable t)
 
   read_now : IsFair s t → ReadsAs s t x.0 (empty_page s.sizes.geometry made)
   read_now fair = subst (ReadsAs s t x.0) (page_bytes_are s made) (at_block v.new to (carries.3 fair))
@@ -43,7 +45,7 @@ module _ (s : Session) (t : Trace) (v : Vio) (page : PageId) (x : Pbn) (right : 
       record {
         superblock = superblock_kept s enters t tt stood.superblock;
         kept = left_kept s enters t (λ x left. tt) stood.kept;
-        journal = journal_kept s enters t fair.opened (record { sealed_same = refl; committed_same = refl }) tt spared stood.journal;
+        journal = journal_kept s enters t (record { sealed_same = refl; committed_same = refl }) tt spared stood.journal;
         filling = (reads_kept s enters t x.0 _ tt (read_now before), new_reads_kept s enters t (filled t) (spares_all enters (λ y. tt) (filled t)) stood.filling);
       }
 
@@ -57,15 +59,15 @@ module _ (s : Session) (t : Trace) (v : Vio) (page : PageId) (x : Pbn) (right : 
       once = carries.1;
       left = left;
       room = room;
-      new_data = fresh;
+      new_data = is_data;
       unused = unused;
     },
     shown_on,
     right,
   )
     where
-      fresh : IsFresh s x
-      fresh = subst (IsToFresh s) to carries.2
+      is_data : IsDataBlock s.sizes.geometry x.0
+      is_data = subst (OnBlock (λ y. IsDataBlock s.sizes.geometry y.0)) to (claim.on_data refl)
 
   page_making : MakesPage s (enters ∷ t) v page
   page_making =
@@ -95,4 +97,5 @@ module _ (s : Session) (t : Trace) (v : Vio) (page : PageId) (x : Pbn) (right : 
     carries_page s (enters ∷ t) (turned phase.Pending v) page phase.Pending some
         (page_making, carries.2, subst (λ (e : Logged). HasPageEntry s (enters ∷ t) e page) (sym (logged_makes v page x some to)) own_entry),
     refl,
+    claim,
   )

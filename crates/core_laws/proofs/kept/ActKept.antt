@@ -1,22 +1,30 @@
 -- What each act may use and what it owes.
-use Rattle.std.proofs.Common.{◌≡◌, ℕ, ◌+◌, ◌<◌, ◌≤◌, true, Option, None, Some, IsNone, List, [], ◌∷◌, ◌++◌, refl, sym, subst, inl, inr, arith, false}
-use Rattle.core_laws.proofs.Common.{all_of, AllByRecursion, begun, Calls, Carries, claims, Commits, DataOk, DeviceZone, done, entered, Enters, Fails, fair_before, filled, GivesRight, Happening, holds, IsFair, IsSession, IsWrite, Item, ItemOk, kept_by, KeptEach, KeptOk, lines, logged_of, LogicalZone, none_is, not_both, option_cases, Pbn, Phase, place_of, Placed, places, Post, RightTrace, same_Some, same_tells, sealed, Seals, Session, Shown, total, Trace, Vio, VioOk, Writer, zone_count, zone_number, ZoneData, cases_Bool, has_taken, Harms, Says, Flushes, Takes, journaled, superblock_stage}
+use Rattle.std.proofs.Common.{◌≡◌, ℕ, ◌+◌, ◌<◌, ◌≤◌, Bool, true, Option, None, Some, IsNone, List, [], ◌∷◌, ◌++◌, refl, ap, sym, ◌∙◌, subst, inl, inr, arith, false}
+use Rattle.core_laws.proofs.Common.{all_of, AllByRecursion, begun, Calls, Carries, Commits, DataOk, DeviceZone, done, entered, Enters, Fails, fair_before, filled, GivesRight, Happening, holds, IsFair, IsSession, IsWrite, Item, ItemOk, kept_by, KeptEach, KeptOk, lines, logged_of, LogicalZone, none_is, not_both, OnBlock, option_cases, Pbn, Phase, place_of, Placed, places, Post, RightTrace, same_Some, same_tells, sealed, Seals, Session, Shown, total, of_vio, Trace, Vio, VioOk, Writer, zone_count, zone_number, ZoneData, cases_Bool, has_taken, Harms, Says, Flushes, Takes, durable, journaled, superblock_stage}
 use Rattle.blk_base.specs.declared.place.Mapping.TheVariants.{At}
 use Rattle.data_vio.specs.declared.items.Item.TheVariants as item
 use Rattle.data_vio.specs.declared.items.Phase.TheVariants as phase
 use Rattle.core_model.specs.declared.zones.ZoneData.TheVariants as at
 use Rattle.blk_base.specs.declared.place.PageId.{PageId}
-use Rattle.core_model.specs.Facts.{CarriesFor, CarriesOwn, CarriesPage}
+use Rattle.blk_base.specs.Regions.{IsDataBlock}
+use Rattle.data_vio.specs.Phases.{row}
+use Rattle.core_model.specs.Facts.{CarriesFor, CarriesOwn, CarriesPage, ClaimOk, HasClaim, claim_of}
 use Rattle.core_model.specs.Legal.{ComesAfter}
 use Rattle.core_model.specs.Sessions.{SuperblockStands}
 use Rattle.core_laws.proofs.trace.DeskOfTrace.{logged_has, entered_writes, done_is_entered}
 use Rattle.core_laws.proofs.trace.PlacesOfTrace.{IsBegun, places_begun}
 use Rattle.core_laws.proofs.trace.Growth.{begun_stays}
 use Rattle.core_laws.proofs.kept.Frame.{kept_each}
-use Rattle.core_laws.proofs.kept.Keys.{Key, OfRequest, OfAddress, OfJournal, OfPage, token_of, Spares, happens_in, IfAny, Clears, clears_with, mine_or_spared, own_name, holder_one, maker_one}
+use Rattle.core_laws.proofs.kept.Keys.{Key, OfRequest, OfAddress, OfBlock, OfJournal, OfPage, claim_one, token_of, Spares, happens_in, IfAny, Clears, clears_with, mine_or_spared, own_name, holder_one, maker_one}
 use Rattle.core_laws.proofs.kept.Spared.{about}
-use Rattle.core_laws.proofs.tokens.Known.{LeasedIn}
-use Rattle.core_laws.proofs.kept.StandsOn.{AreElsewhere, SparesBlock, SparesBlocks, SparesJournal, SparesMap, SparesSealed, entered_parts, journal_kept, left_kept, new_reads_kept, spares_all, spares_parts, superblock_kept}
+use Rattle.core_laws.proofs.tokens.Known.{LeasedIn, SettlingLeased}
+use Rattle.core_laws.proofs.kept.StandsOn.{SparesBlock, SparesJournal, SparesJournaled, SparesSealed, filling_spared, journal_kept, kept_spared, left_kept, mapped_all, new_reads_kept, superblock_kept}
+use Rattle.core_model.specs.CountUpdates.{CountUpdate, updates_of, updates_taken}
+use Rattle.core_model.specs.RightTraces.{IsUnused}
+use Rattle.core_model.specs.Streams.{counted}
+use Rattle.core_model.specs.UpdateStream.{updating}
+use Rattle.core_model.specs.declared.zones.PhysicalZone.{PhysicalZone}
+use Rattle.core_model.specs.Tokens.{owes, unowed_weight}
 
 -- In the hands of an act is what the front of the inbox weighs for, and what the zone's own data does. A request that isn't
 -- begun is in nobody's.
@@ -43,9 +51,12 @@ pub record Known (s : Session) (t : Trace) (n : ℕ) (d : ZoneData) (front : Lis
   pub none_unborn : (w : Writer) → begun w.stream (lines t) ≤ w.number → line_of s (OfRequest w) (kept_by d) ≡ 0
   -- the holder of a lock in front of its home has the lock's place; an arrival comes in turn
   pub leased : LeasedIn d front
+  pub settling_leased : SettlingLeased d front
   pub in_turn : (l : LogicalZone) (v : Vio) → d ≡ at.Logical l → front ≡ item.Request v ∷ [] → v.phase ≡ phase.Arrive → AllByRecursion (ComesAfter l.zone v.request) (places t)
-  -- no entry names a block that a write at the device has taken
-  pub unnamed : (z : DeviceZone) (v : Vio) (x : Pbn) → d ≡ at.Device z → front ≡ item.Request v ∷ [] → claims v.phase ≡ true → v.new ≡ At x → AreElsewhere x.0 (journaled t)
+  -- what is in front of the physical zone has the next updates of the committed entries
+  pub next_updates : (p : PhysicalZone) → d ≡ at.Physical p → (rest : List CountUpdate) × (updates_of (durable t) ≡ updates_taken t ++ (counted updating front ++ rest))
+  -- a block on which there is a claim, whose entry isn't handed in, is mapped by nobody
+  pub unused : (x : Pbn) → 1 ≤ total (of_vio (unowed_weight x)) front + total (unowed_weight x) (kept_by d) → IsFair s t → IsUnused s t x
 
 -- what happens is about what it has in its hands
 abbrev pub Owns : Session → Trace → ℕ → ZoneData → List Item → Trace → Type 0
@@ -82,22 +93,23 @@ plain_journal s t Seals is = absurd is
 plain_journal s t (Calls c) is = absurd is
 plain_journal s t (Fails w c kept) is = absurd is
 plain_journal s t (Harms w x bytes fault) is = absurd is
-plain_journal s t other is = (record { sealed_same = refl; committed_same = refl }, tt, ((λ x is. tt), spares_all other (λ x. tt) (journaled t)))
+plain_journal s t other is = (record { sealed_same = refl; committed_same = refl }, tt, λ fair newer parts. mapped_all s other (λ x. tt) newer (durable t))
 
 -- What stands where the session is fair stands after a happening that writes no block of it, and adds nothing to the journal.
-pub shown_with : (s : Session) (h : Happening) (t : Trace) → SparesSealed s h t → filled (h ∷ t) ≡ filled t → SparesJournal s h → SparesMap s h (journaled t)
+pub shown_with : (s : Session) (h : Happening) (t : Trace) → SparesSealed s h t → filled (h ∷ t) ≡ filled t → SparesJournal s h → (IsFair s t → SparesJournaled s h t)
     → (SuperblockStands s t (superblock_stage t) → SuperblockStands s (h ∷ t) (superblock_stage (h ∷ t))) → (IsFair s t → Shown s t) → IsFair s (h ∷ t) → Shown s (h ∷ t)
 shown_with s h t same filling journal blocks superblock before fair =
-    let k = before (fair_before s h t fair) in
-    let entries = spares_parts h (filled t) (all_of (sealed t)) (subst (SparesBlocks h) (entered_parts t) blocks.1) in
+    let fair_then = fair_before s h t fair in
+    let k = before fair_then in
+    let spares = blocks fair_then in
     record {
       superblock = superblock k.superblock;
-      kept = left_kept s h t blocks.0 k.kept;
-      journal = journal_kept s h t fair.opened same journal (blocks.0, entries.1) k.journal;
-      filling = rw filling (new_reads_kept s h t (filled t) entries.0 k.filling);
+      kept = left_kept s h t (kept_spared s h t spares k.journal) k.kept;
+      journal = journal_kept s h t same journal spares k.journal;
+      filling = rw filling (new_reads_kept s h t (filled t) (filling_spared s h t spares k.journal) k.filling);
     }
 
-pub shown_kept : (s : Session) (h : Happening) (t : Trace) → SparesSealed s h t → filled (h ∷ t) ≡ filled t → SparesJournal s h → SparesMap s h (journaled t) → SparesBlock h 0 → (IsFair s t → Shown s t)
+pub shown_kept : (s : Session) (h : Happening) (t : Trace) → SparesSealed s h t → filled (h ∷ t) ≡ filled t → SparesJournal s h → (IsFair s t → SparesJournaled s h t) → SparesBlock h 0 → (IsFair s t → Shown s t)
     → IsFair s (h ∷ t) → Shown s (h ∷ t)
 shown_kept s h t same filling journal blocks first = shown_with s h t same filling journal blocks (superblock_kept s h t first)
 
@@ -117,6 +129,10 @@ vio_over s h t v same ok = record { asked = ok.asked; is_open = record { is_begu
 -- What its phase says that it carries.
 pub carries_at : (s : Session) (t : Trace) (v : Vio) (q : Phase) → v.phase ≡ q → Carries s t v v.phase → Carries s t v q
 carries_at s t v q is k = subst (λ (p : Phase). Carries s t v p) is k
+
+-- what its phase says of its claim
+pub claim_at : (s : Session) (v : Vio) (q : Phase) → v.phase ≡ q → ClaimOk s v → HasClaim s (row q).claims v.claim v.new
+claim_at s v q is k = subst (λ (p : Phase). HasClaim s (row p).claims v.claim v.new) is k
 
 -- In a phase where none makes a page it makes none; and what it carries of its own, or of its page, it carries.
 pub bare_of : (s : Session) (t : Trace) (v : Vio) (q : Phase) → ((page : PageId) → CarriesPage s t v page q → ⊥) → Carries s t v q → (v.page ≡ None) × CarriesOwn s t v q
@@ -159,7 +175,7 @@ module _ {s : Session} {t : Trace} {n : ℕ} {d : ZoneData} {front : List Item} 
       → IfAny (λ p. Mine s t d front (OfPage p)) (about h).page → Clears s n (Mine s t d front) h u
   plain_clears h u plain here request address page = record { zone = here; request = request; address = address; page = page; block = λ x. inr (λ inside. no_block h plain x); journal = inr (plain_journal s u h plain) }
     where
-      no_block : (g : Happening) → IsPlain g → (x : ℕ) → SparesBlock g x
+      no_block : (g : Happening) → IsPlain g → (x : Pbn) → SparesBlock g x.0
       no_block (Calls c) is x = absurd is
       no_block (Fails w c logged) is x = absurd is
       no_block (Harms w y bytes fault) is x = absurd is
@@ -172,6 +188,28 @@ module _ {s : Session} {t : Trace} {n : ℕ} {d : ZoneData} {v : Vio} (known : K
 
   pub in_phase : (q : Phase) → v.phase ≡ q → Carries s t v q
   in_phase q is = carries_at s t v q is known.front_ok.0.1
+
+  -- its claim, by its phase
+  pub claim_in : (q : Phase) → v.phase ≡ q → HasClaim s (row q).claims v.claim v.new
+  claim_in q is = claim_at s v q is known.front_ok.0.3
+
+  -- where it has one, it is on the data block that its entry names, and it is its own
+  module _ (q : Phase) (x : Pbn) (is : v.phase ≡ q) (claims : (row q).claims ≡ true) (to : v.new ≡ At x) where
+    pub claim_is : v.claim ≡ Some x
+    claim_is = (claim_in q is).claim_is ∙ ap (λ (b : Bool). claim_of b v.new) claims ∙ ap (claim_of true) to
+
+    pub claim_data : IsDataBlock s.sizes.geometry x.0
+    claim_data = subst (OnBlock (λ y. IsDataBlock s.sizes.geometry y.0)) to ((claim_in q is).on_data claims)
+
+    pub own_block : Mine s t d (item.Request v ∷ []) (OfBlock x)
+    own_block = weighed (omega (arith, claim_one v x claim_is))
+
+    -- and nobody maps that, while its entry isn't handed in
+    pub claim_unused : owes q ≡ false → IsFair s t → IsUnused s t x
+    claim_unused free fair = known.unused x (omega (arith, weighs)) fair
+      where
+        weighs : unowed_weight x v ≡ 1
+        weighs = let none : owes v.phase ≡ false = ap owes is ∙ free in rw none (claim_one v x claim_is)
 
   pub own_request : Mine s t d (item.Request v ∷ []) (OfRequest v.request)
   own_request = weighed (omega (arith, own_name v))

@@ -1,6 +1,6 @@
 -- What each act owes of the arrivals: the desk alone sends requests that have yet to draw a place, and their logical zone takes them.
 use Rattle.std.proofs.Common.{◌∙◌, ◌≡◌, ◌<◌, ◌≤◌, ℕ, ◌⊎◌, Bool, true, false, cond, Option, None, Some, IsSome, List, [], ◌∷◌, ◌++◌, nat_eq, refl, sym, subst, ap, inl, inr, arith}
-use Rattle.core_laws.proofs.Common.{AllByRecursion, Answer, Asks, Carries, DataOk, Desk, DeviceZone, Happening, HasAddress, HasCause, IsEarned, Item, ItemOk, JournalZone, LogicalZone, Mapping, MayFollow, MayReply, Phase, PhysicalZone, Placed, Post, Request, RightTrace, Says, SealedBlock, Session, Sizes, Trace, Vio, VioOk, Writer, ZoneData, ZoneId, append-nil, arrival, arriving, asked, begun, desk_number, device_number, eqb_tells, every-append, every-front, every-map, lines, logical_number, none_of, notified, place_of, places, request_at, request_of, same_Some, same_tells, some_of, zone_number, zone_of}
+use Rattle.core_laws.proofs.Common.{AllByRecursion, Answer, Asks, Carries, DataOk, Desk, DeviceZone, Happening, HasAddress, HasCause, IsEarned, Item, ItemOk, JournalZone, LogicalZone, Mapping, MayFollow, MayReply, Phase, PhysicalZone, Placed, Post, Request, RightTrace, Says, SealedBlock, Session, Sizes, Trace, Vio, VioOk, Writer, ZoneData, ZoneId, append-nil, arrival, arriving, asked, begun, desk_number, device_number, eqb_tells, every-append, every-front, every-map, lines, logical_number, none_of, notified, place_of, places, request_at, request_of, same_Some, same_tells, some_of, zone_number, zone_of, Pbn, Remapping, remapping}
 use Rattle.blk_base.specs.declared.place.Mapping.TheVariants.{Unmapped, Zero, At}
 use Rattle.blk_base.specs.declared.place.ZoneId.TheVariants as id
 use Rattle.blk_base.specs.declared.request.Request.TheVariants as request
@@ -17,14 +17,15 @@ use Rattle.core_model.specs.DeviceRules.{Announces, DeviceServes, DeviceWorks, n
 use Rattle.data_vio.specs.Phases.{AtDevice, row}
 use Rattle.core_model.specs.JournalRules as journal
 use Rattle.core_model.specs.PhysicalRules as physical
-use Rattle.core_model.specs.PhysicalRules.{PhysicalServes}
+use Rattle.core_model.specs.PhysicalRules.{PhysicalServes, PhysicalTakes}
 use Rattle.core_model.specs.JournalRules.{JournalServes, JournalEnds, all_again, all_dropped, all_refused}
 use Rattle.core_model.specs.LogicalRules as logical
-use Rattle.core_model.specs.LogicalRules.{LogicalServes, goes_on, passes_on, read_next, looked, first_for, all_for, all_stopped, placed, place_of_vio}
+use Rattle.core_model.specs.LogicalRules.{LogicalHears, LogicalServes, goes_on, passes_on, read_next, looked, first_for, all_for, all_stopped, placed, place_of_vio}
 use Rattle.core_model.specs.Legal.{ComesAfter}
 use Rattle.core_model.specs.Steps.{Act}
 use Rattle.core_model.specs.Steps as steps
 use Rattle.core_model.specs.Streams.{counted}
+use Rattle.blk_base.specs.declared.place.PageId.{PageId}
 use Rattle.core_laws.proofs.desk.DeskFacts.{begun_now}
 use Rattle.core_laws.proofs.kept.ActKept.{bare_of, unborn_place}
 use Rattle.core_laws.proofs.kept.Streams.{Keeps, items_to}
@@ -77,6 +78,17 @@ after_still sizes false = notices_still (notified sizes)
 dropped_still : (vs : List Vio) → AllByRecursion Still (all_dropped vs)
 dropped_still [] = tt
 dropped_still (v ∷ vs) = (refl, dropped_still vs)
+
+hands_still : (v : Vio) (m : Mapping) → Still (journal.hands_to v m)
+hands_still v (At x) = refl
+hands_still v Unmapped = refl
+hands_still v Zero = refl
+
+decrement_still : (page : Option PageId) (e : Remapping) (m : Mapping) → AllByRecursion Still (journal.decrement_for page e m)
+decrement_still None e (At x) = (refl, tt)
+decrement_still None e Unmapped = tt
+decrement_still None e Zero = tt
+decrement_still (Some page) e m = tt
 
 again_still : (vs : List Vio) → AllByRecursion (IsIn phase.Enter) vs → AllByRecursion Still (all_again vs)
 again_still [] h = tt
@@ -131,7 +143,8 @@ module _ (s : Session) (t : Trace) where
   logical_course old v new made posts kept (logical.needs_leaf x p path stays leaf unknown there n m q) = still (past v p) (rw q (refl, tt)) (rw m refl) (λ zone. rw m refl)
   logical_course old v new made posts kept (logical.leafed post p goes n m q) = still (past v p) (rw q (goes_still v post goes, tt)) (rw m refl) (λ zone. rw m refl)
   logical_course old v new made posts kept (logical.passes p path passes n m q) = still (past v p) (rw q (refl, passes_still (first_for v.at.0 old.waiting))) (rw m refl) (λ zone. rw m refl)
-  logical_course old v new made posts kept (logical.settles p bare n m q) = still (past v p) (rw q (refl, passes_still (first_for v.at.0 old.waiting))) (rw m refl) (λ zone. rw m refl)
+  logical_course old v new made posts kept (logical.settles p bare none n m q) = still (past v p) (rw q (refl, passes_still (first_for v.at.0 old.waiting))) (rw m refl) (λ zone. rw m refl)
+  logical_course old v new made posts kept (logical.awaits p bare some n m q) = still (past v p) (rw q tt) (rw m refl) (λ zone. rw m refl)
   logical_course old v new made posts kept (logical.gives p n m q) = still (past v p) (rw q (refl, passes_still (first_for v.at.0 old.waiting))) (rw m refl) (λ zone. rw m refl)
   logical_course old v new made posts kept (logical.aborts p bare n m q) = still (past v p) (rw q (refl, passes_still (first_for v.at.0 old.waiting))) (rw m refl) (λ zone. rw m refl)
   logical_course old v new made posts kept (logical.aborts_entered p bare n m q) = still (past v p) (rw q (refl, stopped_still (all_for v.at.0 old.waiting))) (rw m refl) (λ zone. rw m refl)
@@ -145,10 +158,25 @@ module _ (s : Session) (t : Trace) where
       still (past v p) (rw q (refl, every-append Still (logical.granted v.at.0 old) (logical.all_again old.lacking) (passes_still (first_for v.at.0 old.waiting)) (looks_still old.lacking kept.1))) (rw m refl) (λ zone. rw m refl)
 
   physical_course : (old : PhysicalZone) (v : Vio) (new : PhysicalZone) (made : Trace) (posts : List Post) → PhysicalServes s.sizes old v new made posts → Course s t (at.Physical old) (item.Request v ∷ []) made posts
-  physical_course old v new made posts (physical.claims x xs p f n m q) = still (past v p) (rw q (refl, tt)) (rw m refl) (λ zone. rw m refl)
-  physical_course old v new made posts (PhysicalServes.is_full p f n m q) = still (past v p) (rw q (refl, tt)) (rw m refl) (λ zone. rw m refl)
-  physical_course old v new made posts (physical.aborts_claim p n m q) = still (past v p) (rw q (refl, tt)) (rw m refl) (λ zone. rw m refl)
-  physical_course old v new made posts (physical.aborts_entered_claim p n m q) = still (past v p) (rw q (refl, tt)) (rw m refl) (λ zone. rw m refl)
+  physical_course old v new made posts (physical.claims x z p f n m q) = still (past v p) (rw q (refl, tt)) (rw m refl) (λ zone. rw m refl)
+  physical_course old v new made posts (PhysicalServes.has_no_space p f n m q) = still (past v p) (rw q (refl, tt)) (rw m refl) (λ zone. rw m refl)
+  physical_course old v new made posts (PhysicalServes.counts x slab z p claim own fits change n m q) = still (past v p) (rw q (refl, tt)) (rw m refl) (λ zone. rw m refl)
+  physical_course old v new made posts (PhysicalServes.drops x z p claim own change n m q) = still (past v p) (rw q (refl, tt)) (rw m refl) (λ zone. rw m refl)
+  physical_course old v new made posts (PhysicalServes.drops_none p none n m q) = still (past v p) (rw q (refl, tt)) (rw m refl) (λ zone. rw m refl)
+  physical_course old v new made posts (PhysicalServes.spends p n m q) = still (past v p) (rw q (refl, tt)) (rw m refl) (λ zone. rw m refl)
+
+  -- a decrement, its report, and what is told of damage are no requests
+  update_course : (old : PhysicalZone) (e : Remapping) (new : PhysicalZone) (made : Trace) (posts : List Post) → PhysicalTakes s.sizes old e new made posts → Course s t (at.Physical old) (item.Decrement e ∷ []) made posts
+  update_course old e new made posts (PhysicalTakes.removes x slab z from own fits change n m q) = still refl (rw q (refl, tt)) (rw m refl) (λ zone. rw m refl)
+  update_course old e new made posts (PhysicalTakes.is_stray x from own stray n m q) = still refl (rw q (refl, told old.strays x)) (rw m refl) (λ zone. rw m refl)
+    where
+      told : (strays : List Remapping) (x : Pbn) → AllByRecursion Still (physical.tells strays x)
+      told [] x = (refl, tt)
+      told (f ∷ strays) x = tt
+
+  heard_course : (old : LogicalZone) (e : Remapping) (new : LogicalZone) (made : Trace) (posts : List Post) → LogicalHears s.sizes old e new made posts → Course s t (at.Logical old) (item.Report e ∷ []) made posts
+  heard_course old e new made posts (LogicalHears.settles v is n m q) = still refl (rw q (refl, passes_still (first_for v.at.0 old.waiting))) (rw m refl) (λ zone. rw m refl)
+  heard_course old e new made posts (LogicalHears.keeps none n m q) = still refl (rw q tt) (rw m refl) (λ zone. rw m refl)
 
   journal_course : (old : JournalZone) (v : Vio) (new : JournalZone) (made : Trace) (posts : List Post) → JournalServes s.sizes old v new made posts → Course s t (at.Journal old) (item.Request v ∷ []) made posts
   journal_course old v new made posts (journal.is_stopped p c n m q) = still (past v p) (rw q (refl, tt)) (rw m refl) (λ zone. rw m refl)
@@ -159,7 +187,8 @@ module _ (s : Session) (t : Trace) where
 
   end_course : (old : JournalZone) (b : SealedBlock) (new : JournalZone) (made : Trace) (posts : List Post) → KeptIn (at.Journal old) → JournalEnds s.sizes old b new made posts
       → Course s t (at.Journal old) (item.Block b ∷ []) made posts
-  end_course old b new made posts kept (journal.commits v vs c f d n m q) = still refl (rw q (refl, (refl, tt))) (rw m refl) (λ zone. rw m refl)
+  end_course old b new made posts kept (journal.commits v vs c f d n m q) =
+      still refl (rw q (every-append Still (journal.hands_out v) ((id.Journal, item.Block (record b { vios = vs })) ∷ []) (hands_still v v.new, decrement_still v.page (remapping v) v.old) (refl, tt))) (rw m refl) (λ zone. rw m refl)
   end_course old b new made posts kept (journal.seals v vs c f g d n m q) = still refl (rw q (refl, again_still old.waiting kept.1)) (rw m refl) (λ zone. rw m refl)
   end_course old b new made posts kept (journal.rests c f g n m q) = still refl (rw q (again_still old.waiting kept.1)) (rw m refl) (λ zone. rw m refl)
   end_course old b new made posts kept (journal.fails c n m q) =
@@ -263,6 +292,10 @@ module _ (s : Session) (t : Trace) (right : RightTrace s t) where
   course n old front new made posts (steps.answers {v = v} act) ok fronts kept = desk_course _ v _ _ _ (subst (λ (m : ℕ). ItemOk s t m (item.Request v)) ok.number_is fronts.0) act
   course n old front new made posts (steps.hears {old = d}) ok fronts kept = still refl (woken_still d.parked kept) refl (λ zone. refl)
   course n old front new made posts (steps.serves act) ok fronts kept = logical_course s t _ _ _ _ _ kept act
+  course n old front new made posts (steps.settles act) ok fronts kept = heard_course s t _ _ _ _ _ act
+  course n old front new made posts (steps.updates act) ok fronts kept = update_course s t _ _ _ _ _ act
+  course n old front new made posts (steps.halts {old = d} act) ok fronts kept =
+      still refl (subst (AllByRecursion Still) (sym act.posts_are) (after_still s.sizes d.stopped)) (ap (λ (made : Trace). places (made ++ t)) act.made_is) (λ zone. ap (λ (made : Trace). sent_to_zone s zone (made ++ t)) act.made_is)
   course n old front new made posts steps.serves_notice ok fronts kept = still refl (refl, tt) refl (λ zone. refl)
   course n old front new made posts (steps.takes act) ok fronts kept = physical_course s t _ _ _ _ _ act
   course n old front new made posts steps.takes_notice ok fronts kept = still refl (refl, tt) refl (λ zone. refl)

@@ -1,6 +1,6 @@
 -- What requests and sealed blocks carry stays where the next happening is about something else.
 use Rattle.std.proofs.Common.{◌≡◌, ℕ, ◌≤◌, Bool, true, false, Option, None, Some, List, [], ◌∷◌, ◌++◌, refl, ap, sym, ◌∙◌, subst, arith}
-use Rattle.core_laws.proofs.Common.{AllByRecursion, Answer, BlockOk, Carries, Happening, HasCause, Holds, IsEarned, IsEntered, IsInTurn, IsFresh, IsPlaced, IsSealed, IsToFresh, IsUndrawn, Item, ItemOk, KeptOk, Looks, MayReply, Pbn, Phase, Request, SealedBlock, Session, Stage, StandsAt, Trace, Vio, VioOk, Writer, all_logged, all_of, done, entered, fair_before, gift_of, gifts, has_taken, holds, logged_of, newest, place_of, places, request_of, sealed, total, applied, remapping, request_in, Logged, Mapping, OnBlock, logged}
+use Rattle.core_laws.proofs.Common.{AllByRecursion, Answer, BlockOk, Carries, Happening, HasCause, Holds, IsEarned, IsEntered, IsInTurn, IsFair, IsPlaced, IsSealed, IsUndrawn, Item, ItemOk, KeptOk, Looks, MayReply, Pbn, Phase, Remapping, Request, SealedBlock, Session, Stage, StandsAt, Trace, Vio, VioOk, Writer, all_logged, all_of, done, entered, fair_before, gift_of, gifts, has_taken, holds, logged_of, newest, place_of, places, request_of, sealed, total, applied, remapping, request_in, Logged, Mapping, OnBlock, logged}
 use Rattle.blk_base.specs.declared.place.Mapping.TheVariants.{At}
 use Rattle.blk_base.specs.declared.request.Answer.TheVariants as reply
 use Rattle.blk_base.specs.declared.request.Request.TheVariants as request
@@ -12,23 +12,18 @@ use Rattle.blk_base.specs.declared.place.PageId.{PageId}
 use Rattle.data_vio.specs.Vios.{logged_for}
 use Rattle.core_model.specs.DeskRules.{is_marked, mark_of_vio}
 use Rattle.core_model.specs.DeviceRules.{page_at}
-use Rattle.core_model.specs.Facts.{CarriesFor, CarriesOwn, CarriesPage, HasLeaf, HasPageEntry, IsUnmade, MakesPage, NeedsLeaf}
+use Rattle.blk_base.specs.Regions.{IsDataBlock}
+use Rattle.data_vio.specs.Phases.{row}
+use Rattle.data_vio.specs.declared.logged.Logged.TheVariants.{Remaps}
+use Rattle.core_model.specs.Facts.{CarriesFor, CarriesOwn, CarriesPage, ClaimOk, IsDecrement, ReportOk, claim_of, HasLeaf, HasPageEntry, IsUnmade, MakesPage, NeedsLeaf}
 use Rattle.image_model.specs.Pages.{leaf_of}
 use Rattle.core_laws.proofs.kept.Keys.{Key, OfRequest, OfAddress, OfBlock, OfJournal, OfPage, token_of, Spares, own_name, holder_one, claim_one, maker_one}
-use Rattle.core_laws.proofs.kept.Spared.{applied_at, SparesRequest, SparesAddress, SparesPage, open_kept, durable_has, leafy_kept, journaled_has, link_same, put_same, there_kept, undropped_kept, place_same, entry_same, slot_same, abort_same, gift_same, take_same, stop_kept, fault_kept, harm_kept, linked_at_kept, abort_kept, full_kept, needs_kept, journal_full_kept, mapping_same, quiet_kept, committed_kept, below_kept, pending_kept, mark_kept, value_same}
-use Rattle.core_laws.proofs.kept.StandsOn.{SparesBlocks, SparesJournal, SparesKept, SparesMap, SparesSealed, block_reads_kept, comes_stands, new_kept, new_reads_kept, on_both, reads_kept, rests_kept, sealed_spared, spares_parts, way_kept}
+use Rattle.core_laws.proofs.kept.Spared.{applied_at, SparesRequest, SparesAddress, SparesPage, open_kept, durable_has, leafy_kept, journaled_has, link_same, put_same, there_kept, undropped_kept, place_same, entry_same, slot_same, abort_same, gift_same, take_same, stop_kept, fault_kept, harm_kept, linked_at_kept, abort_kept, needs_kept, journal_full_kept, mapping_same, quiet_kept, committed_kept, below_kept, pending_kept, mark_kept, value_same, added_has, hearing_kept, no_free_kept, reported_kept}
+use Rattle.core_laws.proofs.kept.StandsOn.{SparesBlock, SparesJournal, SparesJournaled, SparesMap, SparesSealed, block_reads_kept, comes_stands, last_spared, new_kept, new_reads_kept, on_each, reads_kept, rest_spared, rests_kept, way_kept}
 
 none_weigh : (vs : List Vio) → total (λ v. 0) vs ≡ 0
 none_weigh [] = refl
 none_weigh (v ∷ vs) = omega (arith, none_weigh vs)
-
--- What spares all sealed blocks spares the last one and the others.
-last_spared : (s : Session) (h : Happening) (t : Trace) (vs : List Vio) (n : ℕ) (k : IsSealed s t vs n) → SparesMap s h (all_of (sealed t)) → SparesMap s h (all_logged vs ++ all_of k.older)
-last_spared s h t vs n k map = subst (λ (blocks : List (List Logged)). SparesMap s h (all_of blocks)) k.sealed_is map
-
-blocks_spared : (s : Session) (h : Happening) (t : Trace) (vs : List Vio) (n : ℕ) (k : IsSealed s t vs n) → SparesMap s h (all_of (sealed t))
-    → SparesKept s h × (SparesBlocks h (all_logged vs) × SparesBlocks h (all_of k.older))
-blocks_spared s h t vs n k map = let last = last_spared s h t vs n k map in (last.0, spares_parts h (all_logged vs) (all_of k.older) last.1)
 
 -- the entry that a request hands in is its own
 pub logged_request : (v : Vio) → request_in (logged v) ≡ v.request
@@ -45,17 +40,13 @@ page_locks s t v page phase.Claim k = refl
 page_locks s t v page phase.Store k = refl
 page_locks s t v page phase.Enter k = refl
 page_locks s t v page phase.Pending k = refl
+page_locks s t v page phase.Count k = refl
 page_locks s t v page phase.Settle k = refl
 page_locks s t v page phase.AbortClaim k = refl
 page_locks s t v page phase.Abort k = refl
 page_locks s t v page phase.AbortEnteredClaim k = refl
 page_locks s t v page phase.AbortEntered k = refl
 page_locks s t v page other k = absurd k
-
--- what holds of the block of a mapping that has one, or follows from what holds of it
-pub on_fresh : {s : Session} {Q R : Pbn → Type 0} (m : Mapping) → ((x : Pbn) → m ≡ At x → IsFresh s x → Q x → R x) → IsToFresh s m → OnBlock Q m → OnBlock R m
-on_fresh (At x) so fresh q = so x refl fresh q
-on_fresh other so fresh q = absurd fresh
 
 -- the parts of the trace say the same of a request
 pub record SaysSame (h : Happening) (t : Trace) (w : Writer) : Type 0 where
@@ -80,7 +71,8 @@ module _ (s : Session) (h : Happening) (t : Trace) where
   cause_kept w (request.Write at bytes fua) reply.Ok same k = rw (same.of_slot) k
   cause_kept w (request.Write at bytes fua) reply.Range same k = k
   cause_kept w (request.Write at bytes fua) reply.Stopped same k = (stop_kept h t k.0, rw (same.of_place) k.1, rw (same.of_slot) k.2)
-  cause_kept w (request.Write at bytes fua) reply.Full same k = (rw (same.of_place) k.0, rw (same.of_entry) k.1, full_kept s h t w at.0 bytes same.of_take k.2)
+  cause_kept w (request.Write at bytes fua) reply.NoSpace same k = (rw (same.of_place) k.0, rw (same.of_entry) k.1, no_free_kept s h t w k.2)
+  cause_kept w (request.Write at bytes fua) reply.Full same k = (rw (same.of_place) k.0, rw (same.of_entry) k.1, journal_full_kept s h t k.2)
   cause_kept w (request.Write at bytes fua) reply.ReadFault same k = (rw (same.of_place) k.0, rw (same.of_entry) k.1, fault_kept h t w k.2)
   cause_kept w (request.Write at bytes fua) reply.Damaged same k = (rw (same.of_place) k.0, rw (same.of_entry) k.1, harm_kept h t w k.2)
   cause_kept w (request.Write at bytes fua) other same k = absurd k
@@ -168,7 +160,7 @@ module _ (s : Session) (h : Happening) (t : Trace) where
   }
 
   -- by the phase, while it is about its own address
-  by_phase : (v : Vio) (q : Phase) → SparesRequest h v.request → (holds q ≡ true → SparesAddress h v.at.0) → (q ≡ phase.Enter → (x : Pbn) → v.new ≡ At x → Spares s t h (OfBlock x.0))
+  by_phase : (v : Vio) (q : Phase) → SparesRequest h v.request → (holds q ≡ true → SparesAddress h v.at.0) → (q ≡ phase.Enter → (x : Pbn) → v.new ≡ At x → SparesBlock h x.0)
       → CarriesOwn s t v q → CarriesOwn s (h ∷ t) v q
   by_phase v phase.Arrive r a b k = unplaced_kept v r k
   by_phase v phase.Wait r a b k = (placed_kept v r k.0, take_same h t v.request r ∙ k.1)
@@ -180,21 +172,26 @@ module _ (s : Session) (h : Happening) (t : Trace) where
   by_phase v phase.Enter r a b k = (
     holds_kept v r (a refl) k.0,
     k.1,
-    k.2,
-    (λ fair. on_both v.new (λ x to fresh reads. reads_kept s h t x.0 v.bytes (b refl x to fresh.is_data) reads) k.2 (k.3 (fair_before s h t fair))),
-    leafy_kept s h t v.at.0 k.4,
+    (λ fair. on_each v.new (λ x to reads. reads_kept s h t x.0 v.bytes (b refl x to) reads) (k.2 (fair_before s h t fair))),
+    leafy_kept s h t v.at.0 k.3,
   )
   by_phase v phase.Pending r a b k = record {
     is_entered = entered_kept v r k.is_entered;
     pending = pending_kept h t (remapping v) (a refl) k.pending;
     below = below_kept h t v.at.0 v.place (a refl) k.below;
     maps = k.maps;
-    fresh = k.fresh;
     leaf = leafy_kept s h t v.at.0 k.leaf;
     old_data = k.old_data;
     old_is = λ fair. k.old_is (fair_before s h t fair) ∙ sym (mapping_same s (applied (h ∷ t)) (applied t) v.at.0 (applied_at h t v.at.0 (a refl)));
   }
-  by_phase v phase.Settle r a b k = (entered_kept v r k.0, committed_kept h t (remapping v) (a refl) k.1, below_kept h t v.at.0 v.place (a refl) k.2, k.3, leafy_kept s h t v.at.0 k.4)
+  by_phase v phase.Count r a b k = (entered_kept v r k.0, committed_kept h t (remapping v) (a refl) k.1, below_kept h t v.at.0 v.place (a refl) k.2, k.3, leafy_kept s h t v.at.0 k.4)
+  by_phase v phase.Settle r a b k = (
+    entered_kept v r k.0,
+    committed_kept h t (remapping v) (a refl) k.1,
+    below_kept h t v.at.0 v.place (a refl) k.2,
+    on_each v.new (λ x to both. (both.0, added_has h t (Remaps (remapping v)) both.1)) k.3,
+    leafy_kept s h t v.at.0 k.4,
+  )
   by_phase v phase.Load r a b k = (looks_kept v r (a refl) k.0, k.1)
   by_phase v phase.Loaded r a b k = (looks_kept v r (a refl) k.0, λ fair. k.1 (fair_before s h t fair) ∙ sym (value_same s h t v.at.0 (a refl)))
   by_phase v phase.AbortClaim r a b k = (turn_kept v r (a refl) k.0, reply_kept v v.answer r k.1)
@@ -225,17 +222,18 @@ module _ (s : Session) (h : Happening) (t : Trace) where
       undropped = undropped_kept h t (logged v) (subst (SparesRequest h) (sym (logged_request v)) r) k.undropped;
     }
 
-    by_page : (q : Phase) → (q ≡ phase.Enter → (x : Pbn) → v.new ≡ At x → Spares s t h (OfBlock x.0)) → CarriesPage s t v page q → CarriesPage s (h ∷ t) v page q
+    by_page : (q : Phase) → (q ≡ phase.Enter → (x : Pbn) → v.new ≡ At x → SparesBlock h x.0) → CarriesPage s t v page q → CarriesPage s (h ∷ t) v page q
     by_page phase.Claim b k = (making_kept k.0, unmade_kept k.1)
     by_page phase.Store b k = (making_kept k.0, unmade_kept k.1, k.2)
     by_page phase.Enter b k = (
       making_kept k.0,
       unmade_kept k.1,
       k.2,
-      λ fair. on_fresh v.new (λ x to fresh reads. reads_kept s h t x.0 (page_at s.sizes page x) (b refl x to fresh.is_data) reads) k.2 (k.3 (fair_before s h t fair)),
+      λ fair. on_each v.new (λ x to reads. reads_kept s h t x.0 (page_at s.sizes page x) (b refl x to) reads) (k.3 (fair_before s h t fair)),
     )
     by_page phase.Pending b k = (making_kept k.0, k.1, page_entry_kept k.2)
-    by_page phase.Settle b k = (making_kept k.0, k.1, page_entry_kept k.2, durable_has h t (logged v) k.3)
+    by_page phase.Count b k = (making_kept k.0, k.1, page_entry_kept k.2, durable_has h t (logged v) k.3)
+    by_page phase.Settle b k = (making_kept k.0, k.1, page_entry_kept k.2, durable_has h t (logged v) k.3, added_has h t (logged v) k.4)
     by_page phase.AbortClaim b k = (making_kept k.0, unmade_kept k.1, reply_kept v v.answer r k.2)
     by_page phase.Abort b k = (making_kept k.0, unmade_kept k.1, reply_kept v v.answer r k.2)
     by_page phase.AbortEnteredClaim b k = (making_kept k.0, k.1, page_entry_kept k.2, reply_kept v v.answer r k.3, stop_kept h t k.4)
@@ -243,7 +241,7 @@ module _ (s : Session) (h : Happening) (t : Trace) where
     by_page other b k = absurd k
 
   pub by_all : (v : Vio) (q : Phase) (o : Option PageId) → SparesRequest h v.request → (holds q ≡ true → SparesAddress h v.at.0) → ((page : PageId) → o ≡ Some page → SparesPage h page)
-      → (q ≡ phase.Enter → (x : Pbn) → v.new ≡ At x → Spares s t h (OfBlock x.0)) → CarriesFor s t v q o → CarriesFor s (h ∷ t) v q o
+      → (q ≡ phase.Enter → (x : Pbn) → v.new ≡ At x → SparesBlock h x.0) → CarriesFor s t v q o → CarriesFor s (h ∷ t) v q o
   by_all v q None r a p b k = by_phase v q r a b k
   by_all v q (Some page) r a p b k = by_page v page r (a (page_locks s t v page q k)) (p page refl) q b k
 
@@ -254,14 +252,22 @@ module _ (s : Session) (h : Happening) (t : Trace) where
   own_spared : (v : Vio) → SparesItem (item.Request v) → SparesRequest h v.request
   own_spared v spares = spares (OfRequest v.request) (omega (arith, own_name v))
 
-  carries_kept : (v : Vio) → SparesItem (item.Request v) → Carries s t v v.phase → Carries s (h ∷ t) v v.phase
-  carries_kept v spares k =
+  -- who has yet to hand in its entry has the claim on the block that this names
+  claim_spared : (v : Vio) → SparesItem (item.Request v) → ClaimOk s v → v.phase ≡ phase.Enter → (x : Pbn) → v.new ≡ At x → SparesBlock h x.0
+  claim_spared v spares claim is x to =
+      let claims : (row v.phase).claims ≡ true = ap (λ (q : Phase). (row q).claims) is in
+      let has : v.claim ≡ Some x = claim.claim_is ∙ ap (λ (b : Bool). claim_of b v.new) claims ∙ ap (claim_of true) to in
+      let at_data : OnBlock (λ y. IsDataBlock s.sizes.geometry y.0) v.new = claim.on_data claims in
+      spares (OfBlock x) (omega (arith, claim_one v x has)) (subst (OnBlock (λ y. IsDataBlock s.sizes.geometry y.0)) to at_data)
+
+  carries_kept : (v : Vio) → SparesItem (item.Request v) → ClaimOk s v → Carries s t v v.phase → Carries s (h ∷ t) v v.phase
+  carries_kept v spares claim k =
       by_all v v.phase v.page (own_spared v spares) (λ held. spares (OfAddress v.at.0) (omega (arith, holder_one v held)))
       (λ page is. spares (OfPage page) (omega (arith, maker_one s.sizes v page is)))
-      (λ is x to. spares (OfBlock x.0) (omega (arith, claim_one v x (rw is refl) to))) k
+      (claim_spared v spares claim) k
 
   pub kept_kept : (q : Phase) (v : Vio) → SparesItem (item.Request v) → KeptOk s t q v → KeptOk s (h ∷ t) q v
-  kept_kept q v spares k = (vio_kept v (own_spared v spares) k.0, carries_kept v spares k.1, k.2)
+  kept_kept q v spares k = (vio_kept v (own_spared v spares) k.0, carries_kept v spares k.3 k.1, k.2, k.3)
 
   -- one whose entry is pending, where the happening is about another request, another address and another page
   pub pending_over : (v : Vio) → SparesRequest h v.request → SparesAddress h v.at.0 → ((page : PageId) → v.page ≡ Some page → SparesPage h page) → KeptOk s t phase.Pending v → KeptOk s (h ∷ t) phase.Pending v
@@ -269,6 +275,7 @@ module _ (s : Session) (h : Happening) (t : Trace) where
     vio_kept v own k.0,
     subst (λ (q : Phase). Carries s (h ∷ t) v q) (sym k.2) (by_all v phase.Pending v.page own (λ held. address) pages (λ is. absurd cc) (subst (λ (q : Phase). Carries s t v q) k.2 k.1)),
     k.2,
+    k.3,
   )
 
   -- the requests of a block, and the block
@@ -288,34 +295,41 @@ module _ (s : Session) (h : Happening) (t : Trace) where
     left = k.left;
   }
 
-  by_stage : (vs : List Vio) (n : ℕ) (q : Stage) → SparesSealed s h t → SparesJournal s h → SparesMap s h (all_of (sealed t)) → StandsAt s t vs n q → StandsAt s (h ∷ t) vs n q
+  -- the entries of the block, and the map of the older ones
+  last_of : (vs : List Vio) (n : ℕ) (k : IsSealed s t vs n) → SparesJournaled s h t → SparesMap s h (all_logged vs) (all_of k.older)
+  last_of vs n k apart = last_spared s h t (all_logged vs) k.older k.sealed_is k.committed_is apart
+
+  by_stage : (vs : List Vio) (n : ℕ) (q : Stage) → SparesSealed s h t → SparesJournal s h → (IsFair s t → SparesJournaled s h t) → StandsAt s t vs n q → StandsAt s (h ∷ t) vs n q
   by_stage vs n stage.Cover same journal map (k, stands) = (
     sealed_kept vs n same k,
     λ fair.
-        let apart = blocks_spared s h t vs n k map in
-        let before = stands (fair_before s h t fair) in
-        (rests_kept s h t k.older fair.opened journal (apart.0, apart.1.1) before.0, new_reads_kept s h t (all_logged vs) apart.1.0 before.1),
+        let before = fair_before s h t fair in
+        let stood = stands before in
+        let apart = last_of vs n k (map before) in
+        (rests_kept s h t k.older journal (apart.0, tt, apart.2, apart.3) stood.0, new_reads_kept s h t (all_logged vs) apart.1 stood.1),
   )
   by_stage vs n stage.Write same journal map (k, stands) = (
     sealed_kept vs n same k,
     λ fair.
-        let apart = blocks_spared s h t vs n k map in
-        let before = stands (fair_before s h t fair) in
-        (rests_kept s h t k.older fair.opened journal (apart.0, apart.1.1) before.0, new_kept s h t (all_logged vs) apart.1.0 before.1),
+        let before = fair_before s h t fair in
+        let stood = stands before in
+        let apart = last_of vs n k (map before) in
+        (rests_kept s h t k.older journal (apart.0, tt, apart.2, apart.3) stood.0, new_kept s h t (all_logged vs) apart.1 stood.1),
   )
   by_stage vs n stage.Harden same journal map (k, stands) = (
     sealed_kept vs n same k,
     λ fair.
-        let before = stands (fair_before s h t fair) in
-        (way_kept s h t k.older (all_logged vs) fair.opened journal (last_spared s h t vs n k map) before.0, block_reads_kept s h t k.older (all_logged vs) journal before.0 before.1),
+        let before = fair_before s h t fair in
+        let stood = stands before in
+        (way_kept s h t k.older (all_logged vs) journal (last_of vs n k (map before)) stood.0, block_reads_kept s h t k.older (all_logged vs) journal stood.0 stood.1),
   )
   by_stage vs n stage.Commit same journal map (all, stands) = (
     ap all_of same.sealed_same ∙ all ∙ ap (λ es. all_logged vs ++ es) (sym same.committed_same),
-    λ fair. rw same.sealed_same (rests_kept s h t (sealed t) fair.opened journal map (stands (fair_before s h t fair))),
+    λ fair. let before = fair_before s h t fair in rw same.sealed_same (rests_kept s h t (sealed t) journal (rest_spared s h t (all_logged vs) all (map before)) (stands before)),
   )
   by_stage vs n stage.Fail same journal map (k, stands, stopped) = (
     sealed_kept vs n same k,
-    λ fair. comes_stands s h t k.older (all_logged vs) fair.opened journal (last_spared s h t vs n k map) (stands (fair_before s h t fair)),
+    λ fair. let before = fair_before s h t fair in comes_stands s h t k.older (all_logged vs) journal (last_of vs n k (map before)) (stands before),
     stop_kept h t stopped,
   )
 
@@ -329,9 +343,19 @@ module _ (s : Session) (h : Happening) (t : Trace) where
   block_kept : (b : SealedBlock) → SparesItem (item.Block b) → BlockOk s t b → BlockOk s (h ∷ t) b
   block_kept b spares k =
       let journal = spares OfJournal (omega arith) in
-      (vios_kept b.vios (λ key some. spares key (omega (arith, some, block_weighs b key))) k.0, by_stage b.vios b.sequence b.stage journal.0 journal.1 (sealed_spared s h t journal.2) k.1, k.2)
+      (vios_kept b.vios (λ key some. spares key (omega (arith, some, block_weighs b key))) k.0, by_stage b.vios b.sequence b.stage journal.0 journal.1 journal.2 k.1, k.2)
+
+  -- a decrement, and the report of one
+  decrement_kept : (e : Remapping) → IsDecrement s t e → IsDecrement s (h ∷ t) e
+  decrement_kept e k = record { committed = durable_has h t (Remaps e) k.committed; block = k.block; old_is = k.old_is; is_data = k.is_data }
+
+  pub report_kept : (e : Remapping) (zone : ℕ) → ReportOk s t zone e → ReportOk s (h ∷ t) zone e
+  report_kept e zone k = (record { decrement = decrement_kept e k.0.decrement; reported = reported_kept h t e k.0.reported }, k.1)
 
   pub item_kept : (to : ℕ) (it : Item) → SparesItem it → ItemOk s t to it → ItemOk s (h ∷ t) to it
-  item_kept to (item.Request v) spares k = (vio_kept v (own_spared v spares) k.0, carries_kept v spares k.1, k.2)
+  item_kept to (item.Request v) spares k = (vio_kept v (own_spared v spares) k.0, carries_kept v spares k.3 k.1, k.2, k.3)
+  item_kept to (item.Decrement e) spares k = (decrement_kept e k.0, k.1)
+  item_kept to (item.Report e) spares k = (record { decrement = decrement_kept e k.0.decrement; reported = reported_kept h t e k.0.reported }, k.1)
+  item_kept to (item.Damage damage) spares k = (hearing_kept h t damage k.0, k.1)
   item_kept to (item.Block b) spares k = (block_kept b spares k.0, k.1)
   item_kept to item.StopNotice spares k = (stop_kept h t k.0, k.1)

@@ -1,11 +1,11 @@
 -- A logical zone draws one place a step at most, and the device's zone makes one call.
 use Rattle.std.proofs.Common.{ℕ, ◌+◌, ◌≡◌, ◌≤◌, Option, None, Some, List, refl, ap, arith}
-use Rattle.core_laws.proofs.Common.{DeviceZone, Item, LogicalZone, Post, SealedBlock, Sizes, Trace, Vio, ZoneData, made_by, Writer}
+use Rattle.core_laws.proofs.Common.{DeviceZone, Item, LogicalZone, Post, SealedBlock, Sizes, Trace, Vio, ZoneData, made_by, Writer, Remapping}
 use Rattle.core_model.specs.DeviceRules as device
 use Rattle.core_model.specs.DeviceRules.{Announces, DeviceServes, DeviceWorks}
 use Rattle.data_vio.specs.declared.items.Item.TheVariants as item
 use Rattle.core_model.specs.LogicalRules as logical
-use Rattle.core_model.specs.LogicalRules.{LogicalServes, first_for, passed_to}
+use Rattle.core_model.specs.LogicalRules.{LogicalHears, LogicalServes, first_for, passed_to}
 use Rattle.core_model.specs.Steps as steps
 use Rattle.core_model.specs.Steps.{Act}
 
@@ -28,10 +28,16 @@ module _ (sizes : Sizes) where
   logical_once old v new made posts (logical.links page x between p some to may linked n m q) = let same = ap (λ (l : LogicalZone). l.next) linked.rest in rw n (omega (arith, same))
   logical_once old v new made posts (logical.unmakes page p some n m q) = rw n (omega (arith, passed_next v.at.0 old (first_for v.at.0 old.waiting)))
   logical_once old v new made posts (logical.drops page p some n m q) = rw n (omega (arith, passed_next v.at.0 old (first_for v.at.0 old.waiting)))
-  logical_once old v new made posts (logical.settles p bare n m q) = rw n (omega (arith, passed_next v.at.0 (logical.with_slot old v) (first_for v.at.0 old.waiting)))
+  logical_once old v new made posts (logical.settles p bare none n m q) = rw n (omega (arith, passed_next v.at.0 (logical.with_slot (record old { reported = logical.reports_left v old.reported }) v) (first_for v.at.0 old.waiting)))
+  logical_once old v new made posts (logical.awaits p bare some n m q) = rw n (omega arith)
   logical_once old v new made posts (logical.gives p n m q) = rw n (omega (arith, passed_next v.at.0 old (first_for v.at.0 old.waiting)))
   logical_once old v new made posts (logical.aborts p bare n m q) = rw n (omega (arith, passed_next v.at.0 old (first_for v.at.0 old.waiting)))
   logical_once old v new made posts (logical.aborts_entered p bare n m q) = rw n (omega arith)
+
+  heard_once : (old : LogicalZone) (e : Remapping) (new : LogicalZone) (made : Trace) (posts : List Post) → LogicalHears sizes old e new made posts → new.next ≤ old.next + 1
+  heard_once old e new made posts (logical.LogicalHears.settles v is n m q) =
+      rw n (omega (arith, passed_next v.at.0 (logical.with_slot (record old { settling = logical.without_settling e.request old.settling }) v) (first_for v.at.0 old.waiting)))
+  heard_once old e new made posts (logical.LogicalHears.keeps none n m q) = rw n (omega arith)
 
   announced_once : (old : DeviceZone) (front : Item) (w : Writer) (new : DeviceZone) (made : Trace) (posts : List Post) → Announces sizes old front w new made posts → new.calls ≤ old.calls + 1
   announced_once old front w new made posts (Announces.succeeds call is going n m q) = rw n (omega arith)
@@ -59,6 +65,8 @@ module _ (sizes : Sizes) where
 
   pub made_once : {old new : ZoneData} {front : List Item} {made : Trace} {posts : List Post} → Act sizes old front new made posts → made_by new ≤ made_by old + 1
   made_once (steps.serves act) = logical_once _ _ _ _ _ act
+  made_once (steps.settles act) = heard_once _ _ _ _ _ act
   made_once (steps.calls act) = device_once _ _ _ _ _ act
   made_once (steps.works act) = work_once _ _ _ _ _ act
+  made_once (steps.halts act) = let same = ap (λ (d : DeviceZone). d.calls) act.new_is in omega (arith, same)
   made_once other = omega arith

@@ -1,7 +1,7 @@
 -- One session that can be served, over a new image, and the core at its start: so that there is a legal core, and a fair
 -- session.
-use Rattle.std.proofs.Common.{◌≡◌, ℕ, zero, suc, ◌+◌, ◌<◌, ◌≤◌, false, Contains, None, List, [], ◌∷◌, length, replicate, slice_index_or, refl, sym, subst, ap, ◌∙◌, inl, inr, arith}
-use Rattle.core_laws.proofs.Common.{AllByRecursion, AreDistinct, Desk, DeviceZone, Each, Geometry, IsFair, IsFresh, IsSession, Item, JournalZone, LogicalZone, Pbn, PhysicalZone, Request, Session, Sizes, Zone, ZoneData, eqb_tells, is_block, same_Some, total, zone_count}
+use Rattle.std.proofs.Common.{◌≡◌, ℕ, zero, suc, ◌+◌, ◌-◌, ◌*◌, ◌<◌, ◌≤◌, false, None, List, [], ◌∷◌, replicate, slice_index, refl, sym, subst, ap, ◌∙◌, inl, inr, arith}
+use Rattle.core_laws.proofs.Common.{AllByRecursion, Desk, DeviceZone, Each, Geometry, IsFair, IsSession, Item, JournalZone, LogicalZone, Pbn, PhysicalZone, Request, Session, Sizes, Zone, ZoneData, cases_lt, get_or-replicate, get_or_past, length-replicate, same_Some, zone_count}
 use Rattle.blk_base.specs.Sectors.{zero_block}
 use Rattle.blk_base.specs.declared.request.Request.TheVariants as request
 use Rattle.disk_model.specs.Log.{block_at}
@@ -13,7 +13,16 @@ use Rattle.core_model.specs.Legal.{Legal}
 use Rattle.core_model.specs.Start.{first_log, IsFirstLogical, IsFirstData, IsFirstZone, IsFirst}
 use Rattle.core_model.specs.Steps.{Core}
 use Rattle.core_laws.proofs.kept.FirstState.{legal_first}
-use Rattle.core_laws.proofs.kept.NewImages.{new_fair}
+use Rattle.core_laws.proofs.kept.NewImages.{IsNew, new_fair, none_counted}
+use Rattle.blk_base.specs.Regions.{slab_start_of}
+use Rattle.slab_counts.specs.Counts.{Counts, claims_of, counter_of}
+use Rattle.slab_counts.specs.Kept.{IsWithin}
+use Rattle.slab_tickets.specs.Tickets.{empty_desk}
+use Rattle.zone_counts.proofs.BlockLaws.{foreign_is, home_is}
+use Rattle.zone_counts.proofs.FitLaws.{own_or_not}
+use Rattle.zone_counts.specs.ByBlock.{claims_in, counter_in}
+use Rattle.zone_counts.specs.Zone.{IsZone, place_of, slab_at}
+use Rattle.zone_counts.specs.Zone.{Zone as Counted}
 use Rattle.core_laws.proofs.lists.Zeros.{zeros_length}
 use Rattle.core_laws.proofs.logical.BareTrees.{bare, bare_is}
 
@@ -25,51 +34,12 @@ sizes = record { geometry = small; start = 1; zones = 2; depth = 2 }
 abbrev script : List (List Request)
 script = (request.Write (record { 0 = 5 }) zero_block false ∷ request.Read (record { 0 = 5 }) ∷ request.Flush ∷ []) ∷ []
 
--- all data blocks of its slab are free
-abbrev run : ℕ → ℕ → List Pbn
-run first zero = []
-run first (suc n) = record { 0 = first } ∷ run (suc first) n
-
-run_length : (first n : ℕ) → length (run first n) ≡ n
-run_length first zero = refl
-run_length first (suc n) = ap suc (run_length (suc first) n)
-
-run_at : (first n k : ℕ) (d : Pbn) → k < n → slice_index_or (run first n) k d ≡ record { 0 = first + k }
-run_at first zero k d below = absurd (omega (arith, below))
-run_at first (suc n) zero d below = ap (λ (x : ℕ). record { 0 = x }) (omega arith)
-run_at first (suc n) (suc k) d below = run_at (suc first) n k d (omega (arith, below)) ∙ ap (λ (x : ℕ). record { 0 = x }) (omega arith)
-
-run_has : (first n k : ℕ) → k < n → Contains (run first n) (record { 0 = first + k })
-run_has first n k below = (k, (let size = run_length first n in omega (arith, size, below)), run_at first n k (record { 0 = first + k }) below)
-
 -- over the empty image of these sizes
 abbrev pub small_session : Session
-small_session = record { sizes = sizes; script = script; links = λ page. None; free = run 85 64; blocks = empty_image; before = []; image = empty_image }
+small_session = record { sizes = sizes; script = script; links = λ page. None; counters = replicate 64 0; blocks = empty_image; before = []; image = empty_image }
 
-run_above : (x first n : ℕ) → x < first → total (is_block x) (run first n) ≡ 0
-run_above x first zero above = refl
-run_above x first (suc n) above = elim (eqb_tells first x) [
-  | inl same ↦ let e = same.1 in absurd (omega (arith, e))
-  | inr other ↦ rw other.0 (omega (arith, run_above x (suc first) n (omega arith)))
-]
-
-run_distinct : (first n : ℕ) → AreDistinct (run first n)
-run_distinct first zero x = omega arith
-run_distinct first (suc n) x = elim (eqb_tells first x) [
-  | inl same ↦ let e = same.1 in rw same.0 (omega (arith, run_above x (suc first) n (omega (arith, e))))
-  | inr other ↦ rw other.0 (omega (arith, run_distinct (suc first) n x))
-]
-
-run_fresh : (offset first n : ℕ) → first ≡ 85 + offset → offset + n ≤ 64 → AllByRecursion (IsFresh small_session) (run first n)
-run_fresh offset first zero at_offset inside = tt
-run_fresh offset first (suc n) at_offset inside = (
-  record {
-    is_data = record { slab = 0; offset = offset; inside = (omega arith, omega arith); stands = sym at_offset };
-    is_free = subst (λ (x : ℕ). Contains (run 85 64) (record { 0 = x })) (sym at_offset) (run_has 85 64 offset (omega (arith, inside)));
-    inside = omega arith;
-  },
-  run_fresh (suc offset) (suc first) n (omega arith) (omega arith),
-)
+zero_at : (n k : ℕ) → slice_index (replicate n 0) k ≡ 0
+zero_at n k = elim (cases_lt k n) [ inl low ↦ get_or-replicate n k 0 0 low | inr past ↦ get_or_past (replicate n 0) k 0 (omega (arith, past, length-replicate {A = ℕ} n 0)) ]
 
 pub small_served : IsSession small_session
 small_served = record {
@@ -81,13 +51,16 @@ small_served = record {
   served = (((zeros_length, refl), (tt, (tt, tt))), tt);
   linked = λ page x none. absurd cc;
   rooted = λ page none. absurd cc;
-  free = run_fresh 0 85 64 (omega arith) (omega arith);
-  distinct = run_distinct 85 64;
+  counters = record { each = refl; limit = λ k. let none = zero_at 64 k in omega (arith, none) };
 }
+
+-- over a new image
+small_new : IsNew small_session
+small_new = record { empty = empty_is; room = omega (arith, empty_size); whole = λ b below. empty_whole b (omega (arith, below, empty_size)); blocks = refl; unwritten = refl; links = λ page. refl; uncounted = zero_at 64 }
 
 -- and it is fair when it begins
 pub small_fair : IsFair small_session []
-small_fair = new_fair small_session small_served (record { empty = empty_is; room = omega (arith, empty_size); whole = λ b below. empty_whole b (omega (arith, below, empty_size)); blocks = refl; unwritten = refl; links = λ page. refl })
+small_fair = new_fair small_session small_served small_new
 
 -- the core
 
@@ -102,13 +75,47 @@ abbrev empty_zone : ℕ → ZoneData → Zone
 empty_zone number keeps = record { number = number; steps = 0; keeps = keeps; ports = record { inbox = []; outboxes = no_lanes } }
 
 abbrev logical : ℕ → LogicalZone
-logical zone = record { zone = zone; notified = false; next = 0; places = []; held = []; waiting = []; retired = []; tree = bare small zone 2; making = []; lacking = []; unlinkable = []; slots = [] }
+logical zone = record { zone = zone; notified = false; next = 0; places = []; held = []; waiting = []; retired = []; tree = bare small zone 2; making = []; lacking = []; settling = []; unlinkable = []; slots = []; reported = [] }
 
 abbrev small_desk : Desk
 small_desk = record { requests = script; log = []; marks = []; notices = 0; parked = [] }
 
+-- its slab, of which no block is used, and the zone of that
+abbrev small_slab : Counts
+small_slab = record { geometry = small; slab = 0; counters = replicate 64 0; claims = replicate 64 0; pages = replicate 64 false }
+
+abbrev small_counts : Counted
+small_counts = record { geometry = small; zone = 0; zones = 1; slabs = small_slab ∷ []; desk = empty_desk 0 64 }
+
+small_within : IsWithin small_slab
+small_within = record { geometry = small_is; slab = omega arith; counters = refl; claims = refl; pages = refl; limit = λ k. let none = zero_at 64 k in omega (arith, none) }
+
+small_zone : IsZone small_counts
+small_zone = record {
+  slabs = record { sizes = small_is; number = omega arith; all = λ n inside own. omega (arith, inside); each = each };
+  desk = refl;
+  settled = inl refl;
+}
+  where
+    each : (k : ℕ) → k < 1 → ((slab_at (small_slab ∷ []) k).slab ≡ k * 1 + 0) × ((slab_at (small_slab ∷ []) k).geometry ≡ small) × IsWithin (slab_at (small_slab ∷ []) k)
+    each zero inside = (refl, refl, small_within)
+    each (suc k) inside = absurd (omega (arith, inside))
+
+none_there : (k : ℕ) (x : Pbn) → (counter_of (slab_at (small_slab ∷ []) k) x ≡ 0) × (claims_of (slab_at (small_slab ∷ []) k) x ≡ 0)
+none_there zero x = (zero_at 64 (x.0 - slab_start_of small 0), zero_at 64 (x.0 - slab_start_of small 0))
+none_there (suc k) x = (refl, refl)
+
+small_unused : (x : Pbn) → (counter_in x small_counts.slabs ≡ 0) × (claims_in x small_counts.slabs ≡ 0)
+small_unused x = elim (own_or_not small_counts x) [
+  | inl own ↦
+      let home = home_is small_counts x small_zone own in
+      let none = none_there (place_of small_counts x) x in
+      (home.0 ∙ none.0, home.1 ∙ none.1)
+  | inr out ↦ foreign_is small_counts x small_zone out
+]
+
 abbrev small_physical : PhysicalZone
-small_physical = record { notified = false; free = run 85 64 }
+small_physical = record { notified = false; strays = []; counts = small_counts }
 
 abbrev small_journal : JournalZone
 small_journal = record { notified = false; busy = false; broken = false; log = first_log sizes; filling = []; waiting = []; entered = []; committed = [] }
@@ -143,7 +150,7 @@ empty_first : (number : ℕ) (keeps : ZoneData) → IsFirstData small_session nu
 empty_first number keeps own = record { number_is = refl; steps = refl; lanes = refl; inbox = refl; outboxes = all_empty (zone_count sizes); own = own }
 
 logical_first : (zone : ℕ) → zone < 2 → IsFirstLogical small_session (1 + zone) (logical zone)
-logical_first zone below = record { number_is = refl; among = below; notified = refl; next = refl; places = refl; held = refl; waiting = refl; retired = refl; tree = bare_is small zone 2 small_is below (omega arith) refl; making = refl; lacking = refl; unlinkable = refl; slots = refl }
+logical_first zone below = record { number_is = refl; among = below; notified = refl; next = refl; places = refl; held = refl; waiting = refl; retired = refl; tree = bare_is small zone 2 small_is below (omega arith) refl; making = refl; lacking = refl; unlinkable = refl; settling = refl; reported = refl; slots = refl }
 
 -- The core of this session at its start ..
 pub small_first : IsFirst small_session small_core
@@ -156,7 +163,17 @@ small_first = record {
       (
         empty_first 2 (at.Logical (logical 1)) (logical_first 1 (omega arith)),
         (
-          empty_first 3 (at.Physical small_physical) (record { number_is = refl; notified = refl; free = refl }),
+          empty_first 3 (at.Physical small_physical) (record {
+            number_is = refl;
+            notified = refl;
+            strays = refl;
+            is_zone = small_zone;
+            geometry = refl;
+            zones = refl;
+            counters = λ x own. (small_unused x).0 ∙ sym (none_counted small_session small_served small_new x);
+            claims = λ x. (small_unused x).1;
+            no_ticket = refl;
+          }),
           (
             empty_first 4 (at.Journal small_journal) (record { number_is = refl; notified = refl; busy = refl; broken = refl; log = refl; filling = refl; waiting = refl; entered = refl; committed = refl }),
             (empty_first 5 (at.Device small_device) (record { number_is = refl; stopped = refl; calls = refl; superblock = refl; damage = refl }), tt),

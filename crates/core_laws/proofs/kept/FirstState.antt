@@ -1,12 +1,24 @@
 -- A core at its start is legal, with an empty trace.
-use Rattle.std.proofs.Common.{◌≡◌, ℕ, suc, ◌⊎◌, ◌≤◌, Bool, false, not, List, [], ◌∷◌, ◌++◌, length, refl, sym, ◌∙◌, ap, subst, inl, inr, arith}
+use Rattle.std.proofs.Common.{◌≡◌, ℕ, suc, ◌⊎◌, ◌≤◌, Bool, false, not, List, [], ◌∷◌, ◌++◌, length, refl, sym, ◌∙◌, ap, subst, inl, inr, arith, ◌%◌}
 use Rattle.core_laws.proofs.journal.LogLaws.{log_at_start}
-use Rattle.core_laws.proofs.Common.{all_logged, AllByRecursion, answers_of, arrival, as_items, AtMost, AtRest, Balanced, begins_of, bit, block_token, blocks_at, DataOk, desk_number, DeskLine, Each, entry_token, every-get, given, HasBlocks, holder_token, in_log, is_answer, is_begin, is_block, is_entry, IsAsOpened, IsFresh, IsSession, Item, ItemOk, journal_token, KeptEach, KeptOk, Lba, lease_token, Lock, lock_weight, LocksOk, Remapping, logical_number, LogicalZone, made_by, MapOk, Mapping, newest, notice_token, notified_by, of_address, OnBlock, one_physical, Pbn, queued, request_token, RestsAt, room_token, Session, Shown, Stands, Token, total, Trace, Vio, weight, Zone, zone_count, ZoneData, ZoneOk, Logged, remappings, opened_at, KeptStands}
+use Rattle.core_laws.proofs.Common.{all_logged, AllByRecursion, answers_of, arrival, as_items, AtMost, AtRest, Balanced, begins_of, bit, DataOk, desk_number, DeskLine, Each, entry_token, every-get, given, HasBlocks, holder_token, in_log, is_answer, is_begin, is_block, is_entry, IsAsOpened, IsSession, Item, ItemOk, journal_token, KeptEach, KeptOk, Lba, lease_token, Lock, lock_weight, LocksOk, Remapping, logical_number, LogicalZone, made_by, MapOk, Mapping, newest, notice_token, notified_by, of_address, OnBlock, Pbn, queued, request_token, RestsAt, room_token, Session, Shown, Stands, Token, total, Trace, Vio, weight, Zone, zone_count, ZoneData, ZoneOk, Logged, remappings, opened_at, KeptStands, Writer, physical_number, journal_number, total_alone, Geometry}
+use Rattle.blk_base.specs.Regions.{IsDataBlock}
+use Rattle.core_laws.proofs.kept.ZoneKinds.{Sits, journal_sits, physical_sits}
+use Rattle.core_model.specs.Sessions.{opened_uses}
+use Rattle.core_model.specs.Start.{IsFirstJournal, IsFirstPhysical}
+use Rattle.std.proofs.Math.Nat.{mod-one}
+use Rattle.zone_counts.proofs.BlockLaws.{foreign_is}
+use Rattle.zone_counts.proofs.OpenedCounts.{is_data, is_none, opened_none, tells_data}
+use Rattle.zone_counts.specs.ByBlock.{counter_in}
+use Rattle.zone_counts.specs.Zone.{IsOf, slab_number}
+use Rattle.core_model.specs.Tokens.{block_token, claim_token, damage_token, has_old, is_entry, is_old, report_token, waiter_token}
+use Rattle.core_model.specs.Facts.{ReportOk}
 use Rattle.blk_base.specs.declared.place.Mapping.TheVariants.{Unmapped, Zero, At}
 use Rattle.journal_stops.proofs.StepLaws.{opened}
 use Rattle.core_model.specs.declared.zones.ZoneData.TheVariants as at
 use Rattle.blk_base.specs.declared.place.PageId.{PageId}
 use Rattle.block_map_tree.specs.Tree.{Tree}
+use Rattle.core_model.specs.UpdateStream.{updates_at, updating}
 use Rattle.core_model.specs.Arrivals.{arrivals_at}
 use Rattle.core_model.specs.Facts.{PagesOk}
 use Rattle.core_model.specs.Tokens.{making_at, making_token, page_entry_token}
@@ -19,8 +31,9 @@ use Rattle.core_model.specs.Start.{IsFirstData, IsFirstZone, IsFirst}
 use Rattle.core_model.specs.Steps.{Core}
 use Rattle.core_model.specs.JournalRules.{is_closed}
 use Rattle.core_model.specs.LogicalRules.{is_among}
-use Rattle.core_laws.proofs.kept.OpenedBlocks.{opened_block}
-use Rattle.image_model.proofs.LookedLaws.{looked_low}
+use Rattle.core_laws.proofs.kept.OpenedBlocks.{opened_data}
+use Rattle.blk_base.proofs.RegionLaws.{data_block_high, data_block_inside}
+use Rattle.image_model.proofs.LookedLaws.{looked_high, looked_low}
 use Rattle.image_model.specs.Maps.{value_with}
 
 -- sums of what each thing has, as the one is at most the other
@@ -43,7 +56,7 @@ none_made s n other h = refl
 
 none_queued : (w : Item → ℕ) (s : Session) (n : ℕ) (d : ZoneData) → IsFirstData s n d → queued w d ≡ 0
 none_queued w s n (at.Desk d) h = ap (λ vs. total w (as_items vs)) h.parked
-none_queued w s n (at.Logical l) h = ap (λ vs. total w (as_items (vs ++ l.lacking))) h.waiting ∙ ap (λ vs. total w (as_items vs)) h.lacking
+none_queued w s n (at.Logical l) h = ap (λ vs. total w (as_items (vs ++ (l.lacking ++ l.settling)))) h.waiting ∙ ap (λ vs. total w (as_items (vs ++ l.settling))) h.lacking ∙ ap (λ vs. total w (as_items vs)) h.settling
 none_queued w s n (at.Journal j) h = ap (λ vs. total w (as_items (vs ++ j.waiting))) h.filling ∙ ap (λ vs. total w (as_items vs)) h.waiting
 none_queued w s n other h = refl
 
@@ -85,10 +98,22 @@ none_dropped : (s : Session) (n : ℕ) (d : ZoneData) → IsFirstData s n d → 
 none_dropped s n (at.Logical l) h = omega (arith, ap (λ (pages : List PageId). length pages) h.unlinkable)
 none_dropped s n other h = omega arith
 
-free_once : (x : ℕ) (s : Session) → IsSession s → (n : ℕ) (d : ZoneData) → IsFirstData s n d → blocks_at x d ≤ one_physical d
-free_once x s session n (at.Physical p) h = let once = session.distinct x in omega (arith, once, ap (total (is_block x)) h.free)
-free_once x s session n (at.Journal j) h = omega (arith, ap (total (is_entry x)) h.entered)
-free_once x s session n other h = omega arith
+-- claims, reports and who waits for them, damage: there is none yet
+no_claims : (x : Pbn) (s : Session) (n : ℕ) (d : ZoneData) → IsFirstData s n d → (claim_token x).own d ≤ (claim_token x).gave d
+no_claims x s n d h = omega arith
+
+no_reports : (w : Writer) (s : Session) (n : ℕ) (d : ZoneData) → IsFirstData s n d → (report_token w).own d ≡ (report_token w).gave d
+no_reports w s n (at.Logical l) h = omega (arith, ap (total (has_old w)) h.slots, ap (total (has_old w)) h.reported)
+no_reports w s n (at.Journal j) h = sym (ap (λ es. total (has_old w) (remappings es)) h.committed)
+no_reports w s n other h = refl
+
+no_waiters : (w : Writer) (s : Session) (n : ℕ) (d : ZoneData) → IsFirstData s n d → (waiter_token w).own d ≡ (waiter_token w).gave d
+no_waiters w s n (at.Logical l) h = ap (total (has_old w)) h.slots
+no_waiters w s n (at.Journal j) h = sym (ap (λ es. total (has_old w) (remappings es)) h.committed)
+no_waiters w s n other h = refl
+
+no_damage : (s : Session) (n : ℕ) (d : ZoneData) → IsFirstData s n d → damage_token.own d ≤ damage_token.gave d
+no_damage s n d h = omega arith
 
 journal_idle : (s : Session) (n : ℕ) (d : ZoneData) → IsFirstData s n d → journal_token.own d ≡ journal_token.gave d
 journal_idle s n (at.Journal j) h = ap (λ (b : Bool). bit (not b)) h.busy
@@ -109,7 +134,10 @@ module _ (s : Session) (session : IsSession s) (as_opened : IsAsOpened s) where
   first_stands : (a : ℕ) (m : Mapping) → opened_at s a ≡ m → OnBlock (λ x. Stands s [] x.0 (value_with s.image m)) m
   first_stands a Unmapped e = tt
   first_stands a Zero e = tt
-  first_stands a (At y) e = kept_at_start y.0 (opened_block s as_opened a y e)
+  first_stands a (At y) e =
+      let is_data = opened_data s as_opened a y e in
+      let inside = data_block_inside s.sizes.geometry y.0 is_data in
+      as_opened.one_image.only y.0 (omega (arith, inside, as_opened.room)) (looked_high s.sizes.geometry y.0 (data_block_high s.sizes.geometry y.0 is_data))
 
   at_rest : AtRest s [] []
   at_rest = (opened s.blocks s.before s.sizes.geometry s.sizes.start s.image [] (let room = as_opened.room in omega (arith, room)) as_opened.one_image as_opened.journal, (λ a. first_stands a (opened_at s a) refl), tt)
@@ -140,7 +168,7 @@ module _ (s : Session) (session : IsSession s) where
 
   nobody_at_start : (n : ℕ) (d : ZoneData) → IsFirstData s n d → KeptEach (KeptOk s []) d
   nobody_at_start n (at.Desk d) h = nobody _ d.parked h.parked
-  nobody_at_start n (at.Logical l) h = (nobody _ l.waiting h.waiting, nobody _ l.lacking h.lacking)
+  nobody_at_start n (at.Logical l) h = (nobody _ l.waiting h.waiting, nobody _ l.lacking h.lacking, nobody _ l.settling h.settling)
   nobody_at_start n (at.Journal j) h = (nobody _ j.filling h.filling, nobody _ j.waiting h.waiting)
   nobody_at_start n (at.Physical p) h = tt
   nobody_at_start n (at.Device d) h = tt
@@ -160,14 +188,24 @@ module _ (s : Session) (session : IsSession s) where
   }
   data_at_start n (at.Logical l) h = record {
     number_is = h.number_is;
-    lists = record { places_is = h.places; next_is = h.next; slots_are = λ a e. ap (of_address a) h.slots; below = λ a e. record { writes = tt; reads = tt }; tree_is = h.tree };
-    sound = record { among = h.among; map = map_at_start l.slots h.slots; locks = locks_at_start l.zone l.next l.held l.waiting h.held h.waiting; pages = pages_at_start l.zone l.tree l.making l.lacking h.making h.lacking };
+    lists = record { places_is = h.places; next_is = h.next; slots_are = λ a e. ap (of_address a) h.slots; below = λ a e. record { writes = tt; reads = tt }; tree_is = h.tree; reports_are = subst (AllByRecursion (ReportOk s [] l.zone)) (sym h.reported) tt };
+    sound = record { among = h.among; map = map_at_start l.slots h.slots; locks = locks_at_start l.zone l.next l.held l.waiting h.held h.waiting; pages = pages_at_start l.zone l.tree l.making l.lacking h.making h.lacking; reports = nobody _ l.settling h.settling };
     kept = nobody_at_start n (at.Logical l) h;
     answers = ((λ a e free living. record { all_committed = refl; all_done = refl }), λ page linkable unlinked unmade yet. sym (h.tree.linked page linkable) ∙ unlinked);
     told = ((λ a retired. absurd (let none = ap (is_among a) h.retired in cc)), λ some. let none = ap (λ (pages : List PageId). length pages) h.unlinkable in absurd (omega (arith, some, none)));
   }
-  data_at_start n (at.Physical p) h =
-      record { number_is = h.number_is; lists = record { left = h.free }; sound = subst (λ (xs : List Pbn). AllByRecursion (IsFresh s) xs) (sym h.free) session.free; kept = tt; answers = tt; told = tt }
+  data_at_start n (at.Physical p) h = record {
+    number_is = h.number_is;
+    lists = record {
+      counters = λ x of_zone. let same = h.counters x of_zone in omega (arith, same);
+      uses = λ x of_zone. let same = h.counters x of_zone in let none = h.claims x in omega (arith, same, none);
+      strays_are = h.strays;
+    };
+    sound = record { is_zone = h.is_zone; geometry = h.geometry; zones = h.zones; no_ticket = h.no_ticket; first_claims = λ x some. let none = h.claims x in absurd (omega (arith, some, none)) };
+    kept = tt;
+    answers = tt;
+    told = tt;
+  }
   data_at_start n (at.Journal j) h = record {
     number_is = h.number_is;
     lists = record {
@@ -204,6 +242,80 @@ module _ (s : Session) (session : IsSession s) where
     alone = λ n z had ne lane hl. ap (counted arrival) (every-get (λ lane. lane ≡ []) z.ports.outboxes (logical_number zone) lane (first n z had).outboxes hl);
   }
 
+  updates_at_start : (zones : List Zone) → Each (IsFirstZone s) zones → Flows (updates_at s) [] zones
+  updates_at_start zones first = record {
+    in_order = λ receiver sender lane hr hs hl.
+        let inbox = (first (physical_number s.sizes) receiver hr).inbox in
+        let empty = every-get (λ lane. lane ≡ []) sender.ports.outboxes (physical_number s.sizes) lane (first (journal_number s.sizes) sender hs).outboxes hl in
+        sym (ap (λ (items : List Item). counted updating items ++ counted updating lane) inbox ∙ ap (counted updating) empty);
+    alone = λ n z had ne lane hl. ap (counted updating) (every-get (λ lane. lane ≡ []) z.ports.outboxes (physical_number s.sizes) lane (first n z had).outboxes hl);
+  }
+
+  -- The journal weighs the opened count of a block, and its counter is that: of a zone that counts them all.
+  module _ (zones : List Zone) (count : length zones ≡ zone_count s.sizes) (first : Each (IsFirstZone s) zones) (x : Pbn) where
+    each_ok : Each (ZoneOk s []) zones
+    each_ok n z e = zone_at_start n z (first n z e)
+
+    physical : Sits s [] zones each_ok at.Physical (physical_number s.sizes)
+    physical = physical_sits s [] zones each_ok count
+
+    journal : Sits s [] zones each_ok at.Journal (journal_number s.sizes)
+    journal = journal_sits s [] zones each_ok count
+
+    first_physical : IsFirstPhysical s (physical_number s.sizes) physical.it
+    first_physical = subst (IsFirstData s (physical_number s.sizes)) physical.keeps (first (physical_number s.sizes) physical.zone physical.had).own
+
+    first_journal : IsFirstJournal s (journal_number s.sizes) journal.it
+    first_journal = subst (IsFirstData s (journal_number s.sizes)) journal.keeps (first (journal_number s.sizes) journal.zone journal.had).own
+
+    abbrev token : Token
+    token = block_token (opened_uses s) x
+
+    counter_is : counter_in x physical.it.counts.slabs ≡ opened_uses s x
+    counter_is = elim (tells_data s.sizes.geometry x) [
+      | is_data is data_block ↦
+          first_physical.counters x (subst (λ (g : Geometry). IsOf g physical.it.counts.zone physical.it.counts.zones x) (sym first_physical.geometry) (record { data_block = data_block; own = home_of }))
+      | is_none is none ↦
+          (foreign_is physical.it.counts x first_physical.is_zone (λ own. none (subst (λ (g : Geometry). IsDataBlock g x.0) first_physical.geometry own.data_block))).0
+          ∙ sym (opened_none s.sizes.geometry s.counters x none)
+    ]
+      where
+        home_of : slab_number s.sizes.geometry x % physical.it.counts.zones ≡ physical.it.counts.zone
+        home_of =
+            let one = first_physical.zones in
+            let number = first_physical.is_zone.slabs.number in
+            let zone : physical.it.counts.zone ≡ 0 = omega (arith, one, number) in
+            ap (λ (n : ℕ). slab_number s.sizes.geometry x % n) one ∙ mod-one (slab_number s.sizes.geometry x) ∙ sym zone
+
+    own_total : total (weight token) zones ≡ opened_uses s x
+    own_total =
+        total_both (weight token) (λ z. token.own z.keeps) zones (λ n z e. bare_weight token s n z (first n z e))
+        ∙ total_alone (λ z. token.own z.keeps) zones (journal_number s.sizes) journal.zone journal.had (λ n z had ne. elsewhere n z.keeps (first n z had).own ne)
+        ∙ ap token.own journal.keeps ∙ here
+      where
+        elsewhere : (n : ℕ) (d : ZoneData) → IsFirstData s n d → (n ≡ journal_number s.sizes → ⊥) → token.own d ≡ 0
+        elsewhere n (at.Journal j) h ne = absurd (ne h.number_is)
+        elsewhere n (at.Physical p) h ne = ap (total (is_old x)) h.strays
+        elsewhere n other h ne = refl
+
+        here : token.own (at.Journal journal.it) ≡ opened_uses s x
+        here = let none = ap (total (is_entry x)) first_journal.entered in omega (arith, none)
+
+    given_total : total (given token) zones ≡ opened_uses s x
+    given_total =
+        total_alone (given token) zones (physical_number s.sizes) physical.zone physical.had (λ n z had ne. elsewhere n z.keeps (first n z had).own ne) ∙ ap token.gave physical.keeps ∙ here
+      where
+        elsewhere : (n : ℕ) (d : ZoneData) → IsFirstData s n d → (n ≡ physical_number s.sizes → ⊥) → token.gave d ≡ 0
+        elsewhere n (at.Physical p) h ne = absurd (ne h.number_is)
+        elsewhere n (at.Journal j) h ne = ap (λ es. total (is_old x) (remappings es)) h.committed
+        elsewhere n other h ne = refl
+
+        here : token.gave (at.Physical physical.it) ≡ opened_uses s x
+        here = let none = first_physical.claims x in let same = counter_is in omega (arith, none, same)
+
+    blocks_at_start : Balanced token zones
+    blocks_at_start = own_total ∙ sym given_total
+
   legal_zones : (zones : List Zone) → length zones ≡ zone_count s.sizes → Each (IsFirstZone s) zones → Legal s (record { zones = zones; trace = [] })
   legal_zones zones count first = record {
     count = count;
@@ -214,11 +326,16 @@ module _ (s : Session) (session : IsSession s) where
     entries = balanced_at_start s zones first entry_token (no_entries s);
     making = λ page. balanced_at_start s zones first (making_token page) (none_making page s);
     dropped = at_most_at_start s zones first page_entry_token (none_dropped s);
-    blocks = λ x. at_most_at_start s zones first (block_token x) (free_once x s session);
+    blocks = λ x. blocks_at_start zones count first x;
+    claims = λ x. at_most_at_start s zones first (claim_token x) (no_claims x s);
+    reports = λ w. balanced_at_start s zones first (report_token w) (no_reports w s);
+    waiters = λ w. balanced_at_start s zones first (waiter_token w) (no_waiters w s);
+    damage = at_most_at_start s zones first damage_token (no_damage s);
     journal = balanced_at_start s zones first journal_token (journal_idle s);
     room = balanced_at_start s zones first room_token (no_lines is_answer is_begin s);
     stop_notices = balanced_at_start s zones first (notice_token s.sizes) (no_words s);
     in_order = λ zone below. flows_at_start zones zone first;
+    updates = updates_at_start zones first;
     right = λ fair. shown_at_start s session fair.opened;
     gives_right = λ fair. tt;
   }

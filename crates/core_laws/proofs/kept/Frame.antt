@@ -1,7 +1,8 @@
 -- A zone that weighs nothing for what a happening is about keeps all its facts. Paid once for all kinds of zone and item.
 use Rattle.std.proofs.Common.{◌≡◌, ◌≢◌, ◌⊎◌, ℕ, ◌≤◌, ◌==◌, Bool, true, false, Some, is_some, List, [], ◌∷◌, ◌++◌, slice_get, refl, ap, sym, ◌∙◌, subst, inl, inr, arith, ◌<◌}
-use Rattle.core_model.specs.Trace.{damage_in}
-use Rattle.core_laws.proofs.Common.{all_of, AllBelow, AllByRecursion, Answers, calls, Calls, Commits, durable, desk_number, device_number, drawn, Draws, Each, journaled, Enters, eq-eqb, eqb_tells, every-front, Fails, fair_before, filled, Flushes, Gives, Happening, has_stopped, HasLists, Item, ItemOk, journal_number, kept_by, KeptEach, KeptOk, lines, logical_number, marks, name_of, of_address, Phase, physical_number, places, RestsAt, Says, sealed, Seals, Session, Remaps, Sets, Sizes, taken, Takes, Token, total, total-append, total-get, Trace, Vio, WasTold, weight, Zone, zone_number, zone_of, ZoneData, ZoneOk, Passes, applied, passed, remappings, Remapping, superblock_stage, Harms}
+use Rattle.core_model.specs.Facts.{ReportOk}
+use Rattle.core_model.specs.Trace.{Adds, Drops, Hears, Removes, Strays, added, claimed, damage_in, removed, strayed, unclaimed}
+use Rattle.core_laws.proofs.Common.{all_of, AllBelow, AllByRecursion, Answers, calls, Calls, Commits, durable, desk_number, device_number, drawn, Draws, Each, journaled, Enters, eq-eqb, eqb_tells, every-front, Fails, fair_before, filled, Flushes, Gives, Happening, has_stopped, HasLists, Item, ItemOk, journal_number, kept_by, KeptEach, KeptOk, lines, logical_number, marks, name_of, of_address, Phase, physical_number, places, RestsAt, Says, sealed, Seals, Session, Remaps, Sets, Sizes, Takes, Token, total, total-append, total-get, Trace, Vio, WasTold, weight, Zone, zone_number, zone_of, ZoneData, ZoneOk, Passes, applied, passed, remappings, Remapping, superblock_stage, Harms}
 use Rattle.core_laws.proofs.lists.Between.{every_between}
 use Rattle.vdo_model.specs.FlushMarks.{successes}
 use Rattle.vdo_model.specs.ZoneOrder.{places_in}
@@ -9,11 +10,11 @@ use Rattle.data_vio.specs.declared.items.Item.TheVariants.{Request}
 use Rattle.data_vio.specs.declared.items.Phase.TheVariants as phase
 use Rattle.core_model.specs.declared.zones.ZoneData.TheVariants as at
 use Rattle.core_laws.proofs.journal.LogLaws.{log_over}
-use Rattle.core_laws.proofs.kept.Carried.{kept_kept, item_kept}
+use Rattle.core_laws.proofs.kept.Carried.{kept_kept, item_kept, report_kept}
 use Rattle.core_laws.proofs.kept.Keys.{Key, OfAddress, OfJournal, OfPage, token_of, Spares, happens_in, Clears, mine_or_spared, free_one, unmade_one}
 use Rattle.core_laws.proofs.logical.PageFacts.{tree_home, tree_over}
 use Rattle.core_laws.proofs.kept.Spared.{of_other, put_same, quiet_kept, stop_kept, abort_kept}
-use Rattle.core_laws.proofs.kept.StandsOn.{rests_kept, sealed_spared}
+use Rattle.core_laws.proofs.kept.StandsOn.{resting_spared, rests_kept}
 use Rattle.core_laws.proofs.tokens.Lift.{items_total}
 
 -- What its own lists are parts of stays over what happens in another zone.
@@ -49,9 +50,14 @@ module _ (sizes : Sizes) where
   still_below (Gives g) t a place off b = record { writes = b.writes; reads = ((λ same. absurd (slot_apart g.at.0 a off same)), b.reads) }
   still_below other t a place off b = record { writes = b.writes; reads = b.reads }
 
-  taken_same : (h : Happening) (t : Trace) → physical_number sizes ≢ happens_in sizes h → taken (h ∷ t) ≡ taken t
-  taken_same (Takes w page x) t off = absurd (off refl)
-  taken_same other t off = refl
+  counts_same : (h : Happening) (t : Trace) → physical_number sizes ≢ happens_in sizes h
+      → (claimed (h ∷ t) ≡ claimed t) × (unclaimed (h ∷ t) ≡ unclaimed t) × (added (h ∷ t) ≡ added t) × (removed (h ∷ t) ≡ removed t) × (strayed (h ∷ t) ≡ strayed t)
+  counts_same (Takes w page x) t off = absurd (off refl)
+  counts_same (Drops w x) t off = absurd (off refl)
+  counts_same (Adds e) t off = absurd (off refl)
+  counts_same (Removes e) t off = absurd (off refl)
+  counts_same (Strays e) t off = absurd (off refl)
+  counts_same other t off = (refl, refl, refl, refl, refl)
 
   entries_same : (h : Happening) (t : Trace) → journal_number sizes ≢ happens_in sizes h
       → (journaled (h ∷ t) ≡ journaled t) × (durable (h ∷ t) ≡ durable t) × (filled (h ∷ t) ≡ filled t) × (sealed (h ∷ t) ≡ sealed t)
@@ -64,9 +70,14 @@ module _ (sizes : Sizes) where
   device_same (Calls c) t off = absurd (off refl)
   device_same (Fails w c kept) t off = absurd (off refl)
   device_same (Harms w x bytes fault) t off = absurd (off refl)
+  device_same (Hears damage) t off = absurd (off refl)
   device_same other t off = (refl, refl, refl, refl)
 
 module _ (s : Session) (h : Happening) (t : Trace) where
+  pub reports_on : (zone : ℕ) (es : List Remapping) → AllByRecursion (ReportOk s t zone) es → AllByRecursion (ReportOk s (h ∷ t) zone) es
+  reports_on zone [] k = tt
+  reports_on zone (e ∷ es) k = (report_kept s h t e zone k.0, reports_on zone es k.1)
+
   lists_kept : (d : ZoneData) → zone_number s.sizes (name_of d) ≢ happens_in s.sizes h → HasLists s t d → HasLists s (h ∷ t) d
   lists_kept (at.Desk desk) off k = record { log_is = k.log_is ∙ sym (lines_same s.sizes h t off); marks_is = k.marks_is ∙ sym (marks_same s.sizes h t off) }
   lists_kept (at.Logical l) off k = record {
@@ -75,11 +86,16 @@ module _ (s : Session) (h : Happening) (t : Trace) where
     slots_are = λ a zone. k.slots_are a zone ∙ sym (slots_same s.sizes h t a (at_home a zone));
     below = λ a zone. still_below s.sizes h t a l.next (at_home a zone) (k.below a zone);
     tree_is = tree_over s l.zone l.tree h t off k.tree_is;
+    reports_are = reports_on l.zone l.reported k.reports_are;
   }
     where
       at_home : (a : ℕ) → zone_of s.sizes.zones a ≡ l.zone → logical_number (zone_of s.sizes.zones a) ≢ happens_in s.sizes h
       at_home a zone is = off (ap logical_number (sym zone) ∙ is)
-  lists_kept (at.Physical p) off k = record { left = rw (taken_same s.sizes h t off) k.left }
+  lists_kept (at.Physical p) off k = let same = counts_same s.sizes h t off in record {
+    counters = λ x of_zone. rw (same.2, same.3) (k.counters x of_zone);
+    uses = λ x of_zone. rw (same.0, same.1, same.3) (k.uses x of_zone);
+    strays_are = k.strays_are ∙ sym same.4;
+  }
   lists_kept (at.Journal j) off k = let same = entries_same s.sizes h t off in record {
     entered_is = k.entered_is ∙ sym same.0;
     committed_is = k.committed_is ∙ sym same.1;
@@ -100,9 +116,10 @@ module _ (s : Session) (h : Happening) (t : Trace) where
   rests_on : (busy broken : Bool) → (busy ≡ false → Spares s t h OfJournal) → RestsAt s t busy broken → RestsAt s (h ∷ t) busy broken
   rests_on true broken spares k = k
   rests_on false false spares k =
-      let same = spares refl in
-      let blocks = sealed_spared s h t same.2 in
-      (ap all_of same.0.sealed_same ∙ k.0 ∙ sym same.0.committed_same, λ fair. rw same.0.sealed_same (rests_kept s h t (sealed t) fair.opened same.1 blocks (k.1 (fair_before s h t fair))))
+      let same = spares refl in (
+        ap all_of same.0.sealed_same ∙ k.0 ∙ sym same.0.committed_same,
+        λ fair. let before = fair_before s h t fair in rw same.0.sealed_same (rests_kept s h t (sealed t) same.1 (resting_spared s h t k.0 (same.2 before)) (k.1 before)),
+      )
   rests_on false true spares k = tt
 
   pub answers_kept : (d : ZoneData) → HasLists s t d → ((k : Key) → 1 ≤ (token_of s.sizes k).own d → Spares s t h k) → Answers s t d → Answers s (h ∷ t) d
@@ -132,18 +149,22 @@ module _ (s : Session) (h : Happening) (t : Trace) where
   pub kept_on : (q : Phase) (vs : List Vio) → Weighs (λ k. total (λ v. (token_of s.sizes k).item (Request v)) vs) → AllByRecursion (KeptOk s t q) vs → AllByRecursion (KeptOk s (h ∷ t) q) vs
   kept_on q vs spares has = each_on (KeptOk s t q) (KeptOk s (h ∷ t) q) (λ k v. (token_of s.sizes k).item (Request v)) (kept_kept s h t q) vs spares has
 
-  kept_both : (q : Phase) (vs : List Vio) (p : Phase) (ws : List Vio) → Weighs (λ k. total (λ v. (token_of s.sizes k).item (Request v)) (vs ++ ws)) → AllByRecursion (KeptOk s t q) vs × AllByRecursion (KeptOk s t p) ws
-      → AllByRecursion (KeptOk s (h ∷ t) q) vs × AllByRecursion (KeptOk s (h ∷ t) p) ws
-  kept_both q vs p ws spares has = (
-    kept_on q vs (λ k. elim (spares k) [ inl none ↦ let both = total-append (λ v. (token_of s.sizes k).item (Request v)) vs ws in inl (omega (arith, none, both)) | inr spared ↦ inr spared ]) has.0,
-    kept_on p ws (λ k. elim (spares k) [ inl none ↦ let both = total-append (λ v. (token_of s.sizes k).item (Request v)) vs ws in inl (omega (arith, none, both)) | inr spared ↦ inr spared ]) has.1,
+  -- those of two lists
+  weighs_both : (vs ws : List Vio) → Weighs (λ k. total (λ v. (token_of s.sizes k).item (Request v)) (vs ++ ws))
+      → Weighs (λ k. total (λ v. (token_of s.sizes k).item (Request v)) vs) × Weighs (λ k. total (λ v. (token_of s.sizes k).item (Request v)) ws)
+  weighs_both vs ws spares = (
+    λ k. elim (spares k) [ inl none ↦ let both = total-append (λ v. (token_of s.sizes k).item (Request v)) vs ws in inl (omega (arith, none, both)) | inr spared ↦ inr spared ],
+    λ k. elim (spares k) [ inl none ↦ let both = total-append (λ v. (token_of s.sizes k).item (Request v)) vs ws in inl (omega (arith, none, both)) | inr spared ↦ inr spared ],
   )
 
   -- the requests that a zone keeps
   pub kept_each : (d : ZoneData) → Weighs (λ k. total (λ v. (token_of s.sizes k).item (Request v)) (kept_by d)) → KeptEach (KeptOk s t) d → KeptEach (KeptOk s (h ∷ t)) d
   kept_each (at.Desk desk) spares has = kept_on phase.Reply desk.parked spares has
-  kept_each (at.Logical l) spares has = kept_both phase.Wait l.waiting phase.Look l.lacking spares has
-  kept_each (at.Journal j) spares has = kept_both phase.Pending j.filling phase.Enter j.waiting spares has
+  kept_each (at.Logical l) spares has =
+      let first = weighs_both l.waiting (l.lacking ++ l.settling) spares in
+      let rest = weighs_both l.lacking l.settling first.1 in
+      (kept_on phase.Wait l.waiting first.0 has.0, kept_on phase.Look l.lacking rest.0 has.1, kept_on phase.Settle l.settling rest.1 has.2)
+  kept_each (at.Journal j) spares has = let both = weighs_both j.filling j.waiting spares in (kept_on phase.Pending j.filling both.0 has.0, kept_on phase.Enter j.waiting both.1 has.1)
   kept_each (at.Physical p) spares has = tt
   kept_each (at.Device d) spares has = tt
 

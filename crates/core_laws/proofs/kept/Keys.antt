@@ -1,7 +1,7 @@
 -- The keys that facts are on: a request, an address, a data block, a page of the block map, the journal. Whoever weighs for a key has facts on it,
 -- and of each key at most one is held in the whole core. Each happening is about some keys, and spares the others.
 use Rattle.std.proofs.Common.{◌≡◌, ◌⊎◌, ℕ, ◌≤◌, ◌==◌, ◌%◌, ◌&&◌, Bool, true, false, not, Option, None, Some, is_some, refl, ap, subst, inl, inr, arith}
-use Rattle.core_laws.proofs.Common.{Aborts, Calls, Commits, Draws, Enters, Fails, Flushes, Gives, Logged, Makes, Happening, Says, Seals, Session, Remaps, Sets, Sizes, Takes, Token, Trace, Vio, Writer, ZoneData, bit, block_token, cases_Bool, claims, desk_number, device_number, journaled, eqb_tells, holder_weight, holds, journal_token, journal_number, logical_number, of_vio, physical_number, request_token, same_self, same_tells, zone_of, Pbn, Passes, Harms}
+use Rattle.core_laws.proofs.Common.{Aborts, Adds, Calls, Commits, Draws, Drops, Enters, Fails, Flushes, Gives, Logged, Makes, Happening, Hears, Removes, Says, Seals, Session, Remaps, Sets, Sizes, Strays, Takes, Token, Trace, Vio, Writer, ZoneData, bit, cases_Bool, claim_token, desk_number, device_number, eqb_tells, holder_weight, holds, IsFair, journal_token, journal_number, logical_number, of_vio, physical_number, request_token, same_self, same_tells, zone_of, Pbn, Passes, Harms}
 use Rattle.blk_base.specs.Regions.{IsDataBlock}
 use Rattle.data_vio.specs.declared.items.Item.TheVariants.{Request}
 use Rattle.core_model.specs.declared.zones.ZoneData.TheVariants as at
@@ -12,13 +12,13 @@ use Rattle.core_model.specs.PageTrees.{is_listed, link_at}
 use Rattle.core_model.specs.Tokens.{is_same}
 use Rattle.core_model.proofs.TreeLinks.{page_is, page_itself}
 use Rattle.core_laws.proofs.kept.Spared.{OffRequest, OffNumber, OffPage, about, SparesRequest, SparesAddress, SparesPage}
-use Rattle.core_laws.proofs.kept.StandsOn.{SparesBlock, SparesMap, SparesJournal, SparesSealed}
+use Rattle.core_laws.proofs.kept.StandsOn.{SparesBlock, SparesJournal, SparesJournaled, SparesSealed}
 use Rattle.blk_base.specs.declared.place.Mapping.TheVariants.{At}
 
 pub data Key : Type 0 where
   OfRequest : Writer → Key
   OfAddress : ℕ → Key
-  OfBlock : ℕ → Key
+  OfBlock : Pbn → Key
   OfPage : PageId → Key
   OfJournal : Key
 
@@ -52,11 +52,11 @@ page_token sizes page = record { item = of_vio (λ v. bit (is_same page v.page))
 abbrev pub token_of : Sizes → Key → Token
 token_of sizes (OfRequest w) = request_token w
 token_of sizes (OfAddress a) = slot_token sizes a
-token_of sizes (OfBlock x) = block_token x
+token_of sizes (OfBlock x) = claim_token x
 token_of sizes (OfPage page) = page_token sizes page
 token_of sizes OfJournal = journal_token
 
--- who weighs: a request for itself, the holder of a lock for its address, a write that has taken a block for that block, and one
+-- who weighs: a request for itself, the holder of a lock for its address, who has the claim on a block for that block, and one
 -- that makes a page for that page
 pub own_name : (v : Vio) → (request_token v.request).item (Request v) ≡ 1
 own_name v = ap bit (same_self v.request)
@@ -64,8 +64,8 @@ own_name v = ap bit (same_self v.request)
 pub holder_one : (v : Vio) → holds v.phase ≡ true → holder_weight v.at.0 any v ≡ 1
 holder_one v held = elim (eqb_tells v.at.0 v.at.0) [ inl same ↦ rw (held, same.0) refl | inr other ↦ absurd (other.1 refl) ]
 
-pub claim_one : (v : Vio) (x : Pbn) → claims v.phase ≡ true → v.new ≡ At x → (block_token x.0).item (Request v) ≡ 1
-claim_one v x takes is = elim (eqb_tells x.0 x.0) [ inl same ↦ rw (takes, is, same.0) refl | inr other ↦ absurd (other.1 refl) ]
+pub claim_one : (v : Vio) (x : Pbn) → v.claim ≡ Some x → (claim_token x).item (Request v) ≡ 1
+claim_one v x is = elim (eqb_tells x.0 x.0) [ inl same ↦ rw (is, same.0) refl | inr other ↦ absurd (other.1 refl) ]
 
 pub maker_one : (sizes : Sizes) (v : Vio) (page : PageId) → v.page ≡ Some page → (page_token sizes page).item (Request v) ≡ 1
 maker_one sizes v page is = rw is (ap bit (page_itself page))
@@ -84,13 +84,13 @@ pub unmade_one : (b c d e : Bool) → b ≡ true → c ≡ false → d ≡ false
 unmade_one b c d e p q r o = rw (p, q, r, o) (omega arith)
 
 -- A happening spares a key that it isn't about. About a data block are the calls that write it; about the journal that a
--- block is sealed or an entry committed, and the calls that write a block of it, of its entries or of the window.
+-- block is sealed or an entry committed, and the calls that write a block of the journal, or one that its entries map an address to.
 abbrev pub Spares : Session → Trace → Happening → Key → Type 0
 Spares s t h (OfRequest w) = SparesRequest h w
 Spares s t h (OfAddress a) = SparesAddress h a
-Spares s t h (OfBlock x) = IsDataBlock s.sizes.geometry x → SparesBlock h x
+Spares s t h (OfBlock x) = IsDataBlock s.sizes.geometry x.0 → SparesBlock h x.0
 Spares s t h (OfPage page) = SparesPage h page
-Spares s t h OfJournal = SparesSealed s h t × SparesJournal s h × SparesMap s h (journaled t)
+Spares s t h OfJournal = SparesSealed s h t × SparesJournal s h × (IsFair s t → SparesJournaled s h t)
 
 -- the logical zone that sets the slot of an entry
 abbrev pub zone_in : ℕ → Logged → ℕ
@@ -109,6 +109,11 @@ happens_in sizes (Sets e) = logical_number (zone_in sizes.zones e)
 happens_in sizes (Passes e) = logical_number (zone_of sizes.zones e.at.0)
 happens_in sizes (Gives g) = logical_number (zone_of sizes.zones g.at.0)
 happens_in sizes (Takes w page x) = physical_number sizes
+happens_in sizes (Drops w x) = physical_number sizes
+happens_in sizes (Adds e) = physical_number sizes
+happens_in sizes (Removes e) = physical_number sizes
+happens_in sizes (Strays e) = physical_number sizes
+happens_in sizes (Hears damage) = device_number sizes
 happens_in sizes (Aborts e) = logical_number (zone_in sizes.zones e)
 happens_in sizes (Calls c) = device_number sizes
 happens_in sizes (Fails w c kept) = device_number sizes
@@ -124,7 +129,7 @@ pub record Clears (s : Session) (n : ℕ) (mine : Key → Type 0) (h : Happening
   pub request : IfAny (λ w. mine (OfRequest w)) (about h).request
   pub address : IfAny (λ a. mine (OfAddress a)) (about h).address
   pub page : IfAny (λ p. mine (OfPage p)) (about h).page
-  pub block : (x : ℕ) → mine (OfBlock x) ⊎ Spares s t h (OfBlock x)
+  pub block : (x : Pbn) → mine (OfBlock x) ⊎ Spares s t h (OfBlock x)
   pub journal : mine OfJournal ⊎ Spares s t h OfJournal
 
 if_any : {X : Type 0} {P Q : X → Type 0} → ((x : X) → P x → Q x) → (o : Option X) → IfAny P o → IfAny Q o

@@ -1,7 +1,6 @@
 -- Of each key at most one is held in a legal core; so whoever has it in hand has it alone.
 use Rattle.std.proofs.Common.{◌≡◌, ◌≢◌, ℕ, zero, suc, ◌+◌, ◌≤◌, ◌==◌, ◌%◌, ◌&&◌, ◌++◌, Bool, true, false, not, is_some, List, [], ◌∷◌, Some, slice_get, refl, sym, ◌∙◌, ap, subst, inl, inr, arith}
-use Rattle.core_laws.proofs.Common.{Balanced, DataOk, Each, Item, Logged, Session, Trace, Writer, Zone, ZoneData, ZoneOk, begins_of, begun, bit, block_token, blocks_at, cases_Bool, eqb_tells, given, in_log, is_entry, journal_number, kept_by, lease_token, lines, lock_weight, locks_at, nobody_else, request_token, Sizes, total, total-append, total-get, total_zero, weight, zone_of, Mapping, names, OnBlock, journaled, new_of}
-use Rattle.blk_base.specs.declared.place.Mapping.TheVariants.{Unmapped, Zero, At}
+use Rattle.core_laws.proofs.Common.{Balanced, DataOk, Each, Item, Logged, Session, Trace, Writer, Zone, ZoneData, ZoneOk, begins_of, begun, bit, cases_Bool, eqb_tells, given, in_log, kept_by, lease_token, lines, lock_weight, locks_at, nobody_else, request_token, Sizes, total, total-append, total-get, total_zero, weight, zone_of}
 use Rattle.core_model.specs.declared.zones.ZoneData.TheVariants as at
 use Rattle.core_model.specs.Legal.{Legal}
 use Rattle.blk_base.specs.declared.place.PageId.{PageId}
@@ -10,17 +9,16 @@ use Rattle.core_model.specs.PageTrees.{is_listed, link_at}
 use Rattle.core_model.specs.Tokens.{making_at, making_token}
 use Rattle.core_model.specs.Steps.{Core}
 use Rattle.core_laws.proofs.kept.ActKept.{weighed, unborn, Reached, in_hand, in_line, line_of}
-use Rattle.core_laws.proofs.kept.BlockNames.{entries_apart}
 use Rattle.core_laws.proofs.kept.Frame.{HasNoneBeside}
 use Rattle.core_laws.proofs.kept.Keys.{Key, OfRequest, OfAddress, OfBlock, OfPage, OfJournal, any, token_of, slot_token, free_at, page_token, unmade_at}
-use Rattle.core_laws.proofs.kept.ZoneKinds.{block_once, journal_once, journal_sits, total_once}
+use Rattle.core_laws.proofs.kept.ZoneKinds.{journal_once, total_once}
 use Rattle.core_laws.proofs.lists.CoreLists.{counts_held}
 use Rattle.core_laws.proofs.tokens.Owners.{home_of, locks_elsewhere, not_begun, request_once}
 use Rattle.core_laws.proofs.tokens.PageOwners.{none_elsewhere, page_home}
 use Rattle.core_laws.proofs.tokens.PageTokens.{times_listed}
 use Rattle.core_laws.proofs.tokens.Lift.{items_total}
 use Rattle.core_laws.proofs.trace.DeskOfTrace.{desk_log_right}
-use Rattle.core_laws.proofs.kept.StandsOn.{AreElsewhere}
+use Rattle.core_laws.proofs.kept.SoleWriter.{claim_once}
 
 -- An address weighs where its lock is, or at its home.
 slots_split : (s : Session) (a : ℕ) (zones : List Zone) → total (weight (slot_token s.sizes a)) zones ≡ total (weight (lease_token a any)) zones + total (λ z. free_at s.sizes a z.keeps) zones
@@ -100,7 +98,7 @@ module _ (s : Session) (core : Core) (legal : Legal s core) where
       let once = total_once (λ z. locks_at a any z.keeps + free_at s.sizes a z.keeps) core.zones (home_of s a) (λ n z had. one_slot_at s core.trace a n z.keeps (legal.each n z had).own) in
       let balance = legal.leases a any in
       omega (arith, once, slots_given s a core.zones, slots_split s a core.zones, balance)
-  key_once (OfBlock x) = let once = block_once s core.trace core.zones legal.each x in let most = legal.blocks x in omega (arith, once, most)
+  key_once (OfBlock x) = claim_once s core legal x
   key_once (OfPage page) = page_once s core.trace page core.zones legal.each (legal.making page)
   key_once OfJournal = let once = journal_once s core.trace core.zones legal.each in let balance = legal.journal in omega (arith, once, balance)
 
@@ -139,12 +137,3 @@ module _ (s : Session) (core : Core) (legal : Legal s core) where
     none_beside k (in_hand (weighed some)) = beside k (omega (arith, some, key_once k))
     none_beside k (in_line some) = beside k (omega (arith, some, key_once k))
     none_beside k (in_hand (unborn {w = w} late)) = beside (OfRequest w) (omega (arith, nobody w late))
-
-  -- no entry names a block of which nobody beside another zone than the journal has anything
-  pub block_unnamed : (n : ℕ) (z : Zone) (x : ℕ) → HasNoneBeside core.zones n z (block_token x) → (journal_number s.sizes ≡ n → ⊥) → AreElsewhere x (journaled core.trace)
-  block_unnamed n z x none apart =
-      let journal = journal_sits s core.trace core.zones legal.each legal.count in
-      let nothing = none.others (journal_number s.sizes) journal.zone journal.had apart in
-      let own : blocks_at x journal.zone.keeps ≡ 0 = omega (arith, nothing) in
-      let ok : DataOk s core.trace (journal_number s.sizes) (at.Journal journal.it) = subst (λ d. DataOk s core.trace (journal_number s.sizes) d) journal.keeps (legal.each (journal_number s.sizes) journal.zone journal.had).own in
-      entries_apart x (journaled core.trace) (ap (total (is_entry x)) (sym ok.lists.entered_is) ∙ sym (ap (blocks_at x) journal.keeps) ∙ own)

@@ -1,10 +1,22 @@
 -- Each step and each move keeps a core legal, and so does each list of events.
-use Rattle.std.proofs.Common.{◌≡◌, ℕ, zero, suc, ◌+◌, ◌<◌, ◌≤◌, Bool, true, false, Some, List, [], ◌∷◌, ◌++◌, length, nat_eq, slice_get, slice_set, refl, ap, sym, ◌∙◌, subst, inl, inr, arith}
-use Rattle.core_laws.proofs.Common.{AllByRecursion, Balanced, Carries, Each, Each-put_other, GivesRight, IsFair, IsSession, Item, ItemOk, Post, RightTrace, Session, Token, Trace, Vio, Writer, Zone, ZoneData, ZoneOk, block_token, entry_token, eq-eqb, eqb-true, every-append, every-map, holder_token, idle_at, is_sealed, journal_token, lease_token, length-put, made_by, notice_token, request_token, room_token, same_Some, total, zone_number}
+use Rattle.std.proofs.Common.{◌≡◌, ℕ, zero, suc, ◌+◌, ◌<◌, ◌≤◌, Bool, true, false, not, is_some, Option, None, Some, List, [], ◌∷◌, ◌++◌, length, nat_eq, slice_get, slice_set, refl, ap, sym, ◌∙◌, subst, inl, inr, arith}
+use Rattle.core_laws.proofs.Common.{AllByRecursion, Balanced, Carries, DataOk, KeptOk, Mapping, Remapping, bit, remapping, remappings, Each, Each-put_other, GivesRight, IsFair, IsSession, Item, ItemOk, Post, RightTrace, Session, Token, Trace, Vio, Writer, Zone, ZoneData, ZoneOk, entry_token, eq-eqb, eqb-true, every-append, every-map, holder_token, idle_at, is_sealed, journal_token, lease_token, length-put, made_by, notice_token, request_token, room_token, same_Some, total, zone_number}
+use Rattle.core_model.specs.Sessions.{opened_uses}
+use Rattle.core_model.specs.Tokens.{block_token, claim_token, damage_token, report_token, waiter_token}
 use Rattle.core_model.specs.Arrivals.{arrivals_at}
+use Rattle.core_model.specs.CountUpdates.{CountUpdate}
+use Rattle.core_model.specs.Facts.{AwaitsReport, CarriesFor, IsReport, IsToBlock, ReportOk, claim_of}
+use Rattle.core_model.specs.PageLinks.{block_in}
+use Rattle.core_model.specs.UpdateStream.{updates_at}
+use Rattle.core_model.specs.declared.zones.ZoneData.TheVariants as at
+use Rattle.blk_base.specs.declared.place.Mapping.TheVariants.{Unmapped, Zero, At}
+use Rattle.blk_base.specs.declared.place.PageId.{PageId}
+use Rattle.data_vio.specs.Vios.{logged_for}
+use Rattle.core_laws.proofs.kept.UpdateCourse as updates
+use Rattle.core_laws.proofs.kept.UpdateCourse.{updates_kept}
 use Rattle.core_model.specs.Legal.{Legal}
 use Rattle.core_model.specs.Steps.{Act, Core, StepOf, sent_to, sent, delivered, posted}
-use Rattle.core_laws.proofs.kept.ActKept.{Known, ActKept, PostOk, bare_of, carries_at}
+use Rattle.core_laws.proofs.kept.ActKept.{Known, ActKept, PostOk, bare_of, carries_at, claim_at}
 use Rattle.core_laws.proofs.kept.Frame.{Sides}
 use Rattle.core_laws.proofs.kept.Keys.{OfJournal, idle_none}
 use Rattle.core_laws.proofs.kept.StepActs.{by_act, known, sides}
@@ -19,7 +31,7 @@ use Rattle.core_laws.proofs.tokens.PageOwners.{made_front}
 use Rattle.data_vio.specs.declared.items.Phase.TheVariants as phase
 use Rattle.core_laws.proofs.tokens.Known as tokens
 use Rattle.core_laws.proofs.tokens.Lift.{Within, Conserves, balance_step, at_most_step}
-use Rattle.core_laws.proofs.tokens.TokenLaws.{requests_law, room_law, notices_law, journal_law, blocks_law, leases_law, holders_law, entries_law, making_law, page_entries_law}
+use Rattle.core_laws.proofs.tokens.TokenLaws.{requests_law, room_law, notices_law, journal_law, blocks_law, leases_law, holders_law, entries_law, making_law, page_entries_law, claims_law, reports_law, waiters_law, damage_law}
 use Rattle.core_laws.proofs.lists.CoreLists.{length-posted}
 
 -- What a zone has stays while posts are delivered that carry what they must.
@@ -75,6 +87,39 @@ pub goes : (s : Session) → IsSession s → (old : Core) (legal : Legal s old) 
 goes s session old legal n z had front rest new made posts taken act =
     every-map {P = PostOk s (made ++ old.trace)} {Q = λ (p : Post). zone_number s.sizes p.0 < length z.ports.outboxes} (λ p k. subst (λ (m : ℕ). zone_number s.sizes p.0 < m) (sym (legal.each n z had).lanes) k.0)
     posts (by_act act (known s session old legal n z had front rest taken)).posts_ok
+
+-- a mapping to a block leads to one
+to_block : (m : Mapping) → IsToBlock m → is_some (block_in m) ≡ true
+to_block (At x) is = refl
+to_block Unmapped is = absurd is
+to_block Zero is = absurd is
+
+replaces_by : {s : Session} {t : Trace} {e : Remapping} → IsReport s t e → tokens.Replaces e
+replaces_by report = ap (λ (m : Mapping). is_some (block_in m)) report.decrement.old_is
+
+-- the requests of a block have their claims, and entries of their kind
+each_ready : (s : Session) (t : Trace) (vs : List Vio) → AllByRecursion (KeptOk s t phase.Pending) vs → AllByRecursion tokens.IsReady vs
+each_ready s t [] all = tt
+each_ready s t (v ∷ vs) all = (
+  (
+    (claim_at s v phase.Pending all.0.2 all.0.3).claim_is ∙ claims v.new,
+    counted_by v v.page v.new (λ page made. fresh v.page page made (carries_at s t v phase.Pending all.0.2 all.0.1)),
+  ),
+  each_ready s t vs all.1,
+)
+  where
+    claims : (m : Mapping) → claim_of true m ≡ block_in m
+    claims m = refl
+
+    fresh : (o : Option PageId) (page : PageId) → o ≡ Some page → CarriesFor s t v phase.Pending o → IsToBlock v.new
+    fresh None page made has = absurd cc
+    fresh (Some p) page made has = has.1
+
+    counted_by : (u : Vio) (o : Option PageId) (m : Mapping) → ((page : PageId) → o ≡ Some page → IsToBlock m) → length (remappings (logged_for u o m ∷ [])) ≡ bit (not (is_some o))
+    counted_by u None m fresh = refl
+    counted_by u (Some page) (At x) fresh = refl
+    counted_by u (Some page) Unmapped fresh = absurd (fresh page refl)
+    counted_by u (Some page) Zero fresh = absurd (fresh page refl)
 
 module _ (s : Session) (session : IsSession s) (old new : Core) (legal : Legal s old) (st : StepOf s.sizes old new) where
   abbrev t' : Trace
@@ -139,6 +184,15 @@ module _ (s : Session) (session : IsSession s) (old new : Core) (legal : Legal s
       | inr replies ↦ (bare_of s old.trace v phase.Reply (λ page no. no) (carries_at s old.trace v phase.Reply replies (front_carries v is))).0
     ];
     counted = λ v is at. counts s old.trace v at (front_carries v is);
+    claims = λ v is. (subst (λ (items : List Item). AllByRecursion (ItemOk s old.trace st.number) items) is here.front_ok).0.3.claim_is;
+    ready = λ b is. each_ready s old.trace b.vios (subst (λ (items : List Item). AllByRecursion (ItemOk s old.trace st.number) items) is here.front_ok).0.0.0;
+    replaces = λ e is. replaces_by (subst (λ (items : List Item). AllByRecursion (ItemOk s old.trace st.number) items) is here.front_ok).0.0;
+    reports = λ l keeps. let k : DataOk s old.trace st.number (at.Logical l) = subst (λ (d : ZoneData). DataOk s old.trace st.number d) keeps zone_ok.own in (
+      every-map {P = ReportOk s old.trace l.zone} {Q = tokens.Replaces} (λ e ok. replaces_by ok.0) l.reported k.lists.reports_are,
+      every-map {P = AwaitsReport l.zone l.reported} {Q = λ (v : Vio). (v.page ≡ None) × tokens.Replaces (remapping v)} (λ v waits. (waits.own, to_block v.old waits.replaces)) l.settling k.sound.reports,
+    );
+    zone = λ p keeps. let k : DataOk s old.trace st.number (at.Physical p) = subst (λ (d : ZoneData). DataOk s old.trace st.number d) keeps zone_ok.own in (k.sound.is_zone, k.sound.no_ticket);
+    settling_leased = here.settling_leased;
   }
 
   the_row : IsRow s.sizes st.zone.keeps st.step.front st.zone'.keeps st.step.posts
@@ -157,7 +211,11 @@ module _ (s : Session) (session : IsSession s) (old new : Core) (legal : Legal s
     entries = balanced entry_token (entries_law s.sizes the_row.row) legal.entries;
     making = λ page. balanced (making_token page) (making_law s.sizes page the_row.row) (legal.making page);
     dropped = at_most_step page_entry_token s.sizes old new st lanes_there the_row (page_entries_law s.sizes the_row.row) legal.dropped;
-    blocks = λ x. at_most_step (block_token x) s.sizes old new st lanes_there the_row (blocks_law s.sizes x the_row.row) (legal.blocks x);
+    blocks = λ x. balanced (block_token (opened_uses s) x) (blocks_law s.sizes (opened_uses s) x the_row.row) (legal.blocks x);
+    claims = λ x. at_most_step (claim_token x) s.sizes old new st lanes_there the_row (claims_law s.sizes x the_row.row) (legal.claims x);
+    reports = λ w. balanced (report_token w) (reports_law s.sizes w the_row.row) (legal.reports w);
+    waiters = λ w. balanced (waiter_token w) (waiters_law s.sizes w the_row.row) (legal.waiters w);
+    damage = at_most_step damage_token s.sizes old new st lanes_there the_row (damage_law s.sizes the_row.row) legal.damage;
     journal = balanced journal_token (journal_law s.sizes the_row.row) legal.journal;
     room = balanced room_token (room_law s.sizes the_row.row) legal.room;
     stop_notices = balanced (notice_token s.sizes) (notices_law s.sizes the_row.row) legal.stop_notices;
@@ -165,6 +223,10 @@ module _ (s : Session) (session : IsSession s) (old new : Core) (legal : Legal s
         (arrivals_kept s old.trace zone st.number st.zone.keeps st.step.front st.made st.step.posts zone_ok.own
         (course s old.trace legal.right st.number st.zone.keeps st.step.front st.zone'.keeps st.made st.step.posts st.step.act zone_ok.own here.front_ok kept_here))
         (legal.in_order zone below);
+    updates = flows_step CountUpdate (updates_at s) s.sizes (λ e. absurd (omega (arith, e))) old new st zone_ok.number_is
+        (updates_kept s old.trace st.number st.zone.keeps st.step.front st.made st.step.posts zone_ok.own
+        (updates.course s old.trace st.number st.zone.keeps st.step.front st.zone'.keeps st.made st.step.posts st.step.act here.front_ok kept_here))
+        legal.updates;
     right = subst (RightTrace s) (sym trace_is) stepped.right;
     gives_right = subst (λ (t : Trace). IsFair s t → GivesRight s t) (sym trace_is) (stepped.gives legal.gives_right);
   }

@@ -1,7 +1,11 @@
 -- A move keeps a core legal, and so does each list of events.
 use Rattle.std.proofs.Common.{◌≡◌, ◌++◌, length, slice_set, ap, sym, ◌∙◌, subst, arith}
 use Rattle.core_laws.proofs.Common.{AllByRecursion, Each, Each-put, GivesRight, IsFair, IsSession, ItemOk, RightTrace, Session, Trace, Writer, Zone, ZoneOk, block_token, entry_token, every-append, every-front, get-put_other, holder_token, journal_token, lease_token, length-put, notice_token, request_token, room_token}
+use Rattle.core_model.specs.Sessions.{opened_uses}
+use Rattle.core_model.specs.Tokens.{claim_token, damage_token, report_token, waiter_token}
 use Rattle.core_model.specs.Arrivals.{arrivals_at}
+use Rattle.core_model.specs.CountUpdates.{CountUpdate}
+use Rattle.core_model.specs.UpdateStream.{updates_at}
 use Rattle.core_model.specs.Legal.{Legal}
 use Rattle.core_model.specs.Steps as steps
 use Rattle.core_model.specs.Tokens.{making_token, page_entry_token}
@@ -70,11 +74,16 @@ module _ (s : Session) (old new : Core) (m : MoveOf old new) (legal : Legal s ol
     entries = balance_move entry_token old new m legal.entries;
     making = λ page. balance_move (making_token page) old new m (legal.making page);
     dropped = at_most_move page_entry_token old new m legal.dropped;
-    blocks = λ x. at_most_move (block_token x) old new m (legal.blocks x);
+    blocks = λ x. balance_move (block_token (opened_uses s) x) old new m (legal.blocks x);
+    claims = λ x. at_most_move (claim_token x) old new m (legal.claims x);
+    reports = λ w. balance_move (report_token w) old new m (legal.reports w);
+    waiters = λ w. balance_move (waiter_token w) old new m (legal.waiters w);
+    damage = at_most_move damage_token old new m legal.damage;
     journal = balance_move journal_token old new m legal.journal;
     room = balance_move room_token old new m legal.room;
     stop_notices = balance_move (notice_token s.sizes) old new m legal.stop_notices;
     in_order = λ zone below. flows_move Writer (arrivals_at s zone) s.sizes (λ e. absurd (omega (arith, e))) old new m (legal.in_order zone below);
+    updates = flows_move CountUpdate (updates_at s) s.sizes (λ e. absurd (omega (arith, e))) old new m legal.updates;
     right = subst (RightTrace s) (sym trace_is) legal.right;
     gives_right = subst (λ (t : Trace). IsFair s t → GivesRight s t) (sym trace_is) legal.gives_right;
   }

@@ -1,9 +1,7 @@
 -- A session over an empty image, of which nothing was written since, is as it was opened: so it is fair when it begins, on every
 -- device that has this image, and so long as its reads are honest.
-use Rattle.std.proofs.Common.{◌≡◌, ◌≢◌, ◌+◌, ◌<◌, ◌≤◌, ℕ, true, Option, None, Some, List, [], ◌∷◌, Contains, length, refl, sym, ◌∙◌, ap, subst, inl, inr, arith}
-use Rattle.std.proofs.lemmas.List.Elements.{All-contains, All-from_recursion}
-use Rattle.core_laws.proofs.Common.{Calls, Geometry, IsAsOpened, IsFair, IsFresh, IsSession, Pbn, Session, eqb_tells, opened_image}
-use Rattle.blk_base.proofs.RegionLaws.{data_block_high}
+use Rattle.std.proofs.Common.{◌≡◌, ◌+◌, ◌*◌, ◌<◌, ◌≤◌, ℕ, Bool, true, false, if◌then◌else◌, slice_index, Option, None, Some, List, [], ◌∷◌, Contains, length, refl, sym, ◌∙◌, ap, subst, inl, inr, arith}
+use Rattle.core_laws.proofs.Common.{Calls, Geometry, IsAsOpened, IsFair, IsSession, Pbn, Session, opened_image}
 use Rattle.blk_base.specs.Regions.{JournalSlot, Root, block_of, needed_blocks}
 use Rattle.blk_base.specs.Sectors.{zero_block}
 use Rattle.blk_base.specs.declared.place.Mapping.TheVariants.{At, Unmapped}
@@ -11,14 +9,16 @@ use Rattle.blk_base.specs.declared.place.PageId.{PageId}
 use Rattle.blk_base.specs.declared.sizes.TheConstants.{TREES}
 use Rattle.disk_model.specs.Log.{block_at}
 use Rattle.disk_model.specs.declared.call.Call.TheVariants.{Read}
-use Rattle.image_model.proofs.EmptyLaws.{all_unmapped, blank_slot, no_sector, no_tree_page, pages_good, root_says}
-use Rattle.image_model.proofs.MapLaws.{page_in_range}
+use Rattle.image_model.proofs.EmptyLaws.{all_counted, blank_slot, not_shared, no_sector, no_tree_page, pages_good, root_says}
 use Rattle.image_model.specs.Empty.{IsEmpty, empty_root}
 use Rattle.image_model.specs.Maps.{mapping_in, page_at}
 use Rattle.journal_stops.proofs.ShownLaws.{begins_anew}
-use Rattle.core_laws.proofs.kept.OpenedBlocks.{root_at}
+use Rattle.core_model.specs.Sessions.{opened_uses}
+use Rattle.image_model.specs.Counts.{HasMappings}
+use Rattle.zone_counts.specs.Openings.{is_data_block, offset_in}
+use Rattle.zone_counts.specs.Zone.{slab_number}
 
--- a session over an empty image, which links no page
+-- a session over an empty image, which links no page and counts no block
 pub record IsNew (s : Session) : Type 0 where
   pub empty : IsEmpty s.sizes.geometry s.image
   pub room : needed_blocks s.sizes.geometry ≤ length s.image
@@ -26,6 +26,7 @@ pub record IsNew (s : Session) : Type 0 where
   pub blocks : s.blocks ≡ s.image
   pub unwritten : s.before ≡ []
   pub links : (page : PageId) → s.links page ≡ None
+  pub uncounted : (k : ℕ) → slice_index s.counters k ≡ 0
 
 module _ (s : Session) (session : IsSession s) (new : IsNew s) where
   abbrev g : Geometry
@@ -42,16 +43,13 @@ module _ (s : Session) (session : IsSession s) (new : IsNew s) where
   unlinked page below None is = refl
   unlinked page below (Some at) is = absurd (no_tree_page g s.image session.sizes says_none at (page, below, is))
 
-  free_high : (x : Pbn) → Contains s.free x → 1 + g.journal + TREES + g.index ≤ x.0
-  free_high x has = let high = data_block_high g x.0 (All-contains (IsFresh s) s.free x (All-from_recursion (IsFresh s) s.free session.free) has).is_data in omega (arith, high)
-
-  unpaged : (x at : Pbn) (page : PageId) → Contains s.free x → page_at (opened_image s) page ≡ Some at → at.0 ≢ x.0
-  unpaged x at page has is same =
-      let range = page_in_range (opened_image s) page at is in
-      elim (eqb_tells (page.level + 1) g.height) [
-        | inl top ↦ let root = root_at (opened_image s) page at top.1 is in absurd (let high = free_high x has in omega (arith, root, range.0, high, same))
-        | inr lower ↦ absurd (no_tree_page g s.image session.sizes says_none at (page, (let below = range.1 in let apart = lower.1 in omega (arith, below, apart)), is))
-      ]
+  -- no block has a mapping
+  pub none_counted : (x : Pbn) → opened_uses s x ≡ 0
+  none_counted x = by (is_data_block g x)
+    where
+      by : (b : Bool) → (if b then slice_index s.counters (slab_number g x * g.slab_blocks + offset_in g x) else 0) ≡ 0
+      by true = new.uncounted (slab_number g x * g.slab_blocks + offset_in g x)
+      by false = refl
 
   pub new_opened : IsAsOpened s
   new_opened = record {
@@ -62,8 +60,8 @@ module _ (s : Session) (session : IsSession s) (new : IsNew s) where
         absurd (no_sector g s.image session.sizes (λ n inside. new.empty.made (JournalSlot n) inside tt) slot number sequence head entries below few has));
     pages = pages_good g s.image session.sizes says_none (blank_slot g s.image root_is);
     links = λ page below. new.links page ∙ sym (unlinked page below (page_at (opened_image s) page) refl);
-    unpaged = unpaged;
-    unmapped = λ x at a has is. absurd (let none = all_unmapped g s.image session.sizes says_none a in cc (none, is));
+    counts = λ x. subst (HasMappings (opened_image s) x) (sym (none_counted x)) (all_counted g s.image session.sizes says_none x);
+    unshared = not_shared g s.image session.sizes says_none;
   }
 
   -- it is fair when it begins, and when it read a block as that is

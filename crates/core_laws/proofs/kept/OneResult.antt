@@ -1,6 +1,6 @@
 -- What a zone does with an item, and the desk with none, is fixed, and at the device by how it answered: two acts on the
 -- same keep, make and post the same.
-use Rattle.std.proofs.Common.{ℕ, ◌+◌, ◌≡◌, Bool, true, false, not, ◌&&◌, Option, None, Some, List, [], ◌∷◌, ◌++◌, slice_index_or, refl, sym, ap, ◌∙◌, inl, inr, arith}
+use Rattle.std.proofs.Common.{ℕ, ◌+◌, ◌≡◌, Bool, true, false, not, ◌&&◌, Option, None, Some, List, [], ◌∷◌, ◌++◌, slice_index_or, refl, sym, ap, ◌∙◌, subst, inl, inr, arith, ◌<◌}
 use Rattle.core_laws.proofs.Common.{Aborts, Answer, Calls, Commits, Desk, DeviceZone, Draws, Enters, Flushes, Gives, Item, JournalZone, LogicalZone, Passes, Pbn, Phase, PhysicalZone, Post, Says, Request, SealedBlock, Seals, Sets, Sizes, Stage, Takes, Trace, Vio, Writer, ZoneData, ended, gift, logged, notified, request_at, staged, turned, Call, Fails, SuperblockStage, Harms}
 use Rattle.blk_base.specs.declared.place.ZoneId.TheVariants as id
 use Rattle.blk_base.specs.declared.request.Answer.TheVariants as reply
@@ -11,9 +11,17 @@ use Rattle.data_vio.specs.declared.items.Phase.TheVariants as phase
 use Rattle.data_vio.specs.declared.items.Stage.TheVariants as stage
 use Rattle.core_model.specs.declared.zones.ZoneData.TheVariants as at
 use Rattle.core_model.specs.DeskRules.{BeginsNext, DeskBegins, DeskServes, parks, answers, marks, at_once, first_zone, vio_of, is_notified, is_stopped, is_marked, mark_of_vio}
-use Rattle.core_model.specs.DeviceRules.{Announces, DeviceServes, DeviceWorks, IsReady, counted, halted, harmed, notices_after, stop_notices, next_stage, next_superblock, next_zone, superblock_call}
+use Rattle.core_model.specs.DeviceRules.{Announces, DeviceHears, DeviceServes, DeviceWorks, IsReady, counted, halted, harmed, notices_after, stop_notices, next_stage, next_superblock, next_zone, superblock_call}
 use Rattle.core_model.specs.declared.zones.SuperblockStage.TheVariants.{AsOpened, Written, Durable}
-use Rattle.core_model.specs.PhysicalRules.{PhysicalServes}
+use Rattle.core_model.specs.PhysicalRules.{PhysicalServes, PhysicalTakes, spent_for, tells, with_counts}
+use Rattle.blk_base.specs.declared.point.Half.TheVariants as half
+use Rattle.core_laws.proofs.Common.{Adds, Drops, Remapping, Removes, Strays, same_Some}
+use Rattle.slab_counts.specs.Counts.{Counts, IsStray, Takes as Fits, unclaimed}
+use Rattle.vdo_model.specs.declared.report.Damage.{Damage}
+use Rattle.zone_counts.proofs.OneAnswer.{one_applied, one_changed, one_lowest}
+use Rattle.zone_counts.specs.Asking.{GivesBlock}
+use Rattle.zone_counts.specs.Zone.{Changes, NoneFree, slab_of}
+use Rattle.zone_counts.specs.Zone.{Zone as Counting}
 use Rattle.core_model.specs.JournalRules.{JournalServes, JournalEnds, is_closed, has_block, has_room, next_block, refused, all_refused, all_again, all_dropped, entered_by, committed_by, sealed_by, hands_out}
 use Rattle.blk_base.specs.declared.place.Mapping.{Mapping}
 use Rattle.blk_base.specs.declared.place.PageId.{PageId}
@@ -23,7 +31,7 @@ use Rattle.data_vio.specs.declared.items.Asks.TheVariants.{Write}
 use Rattle.data_vio.specs.Vios as vios
 use Rattle.data_vio.specs.Vios.{has_leaf, makes, reads_leaf}
 use Rattle.core_model.specs.LogicalRules as logical
-use Rattle.core_model.specs.LogicalRules.{LogicalServes, is_among, is_discard, is_held, lacks, lacks_for, lock_of, all_for, placed, place_of_vio, drawn_by, goes_on, granted, known_at, looked, pass_of, passes_by, looks_up, released, retire, all_stopped, unmade, with_slot, woken}
+use Rattle.core_model.specs.LogicalRules.{LogicalHears, LogicalServes, awaits_report, reports_left, settled, settled_posts, settling_of, without_settling, is_among, is_discard, is_held, lacks, lacks_for, lock_of, all_for, placed, place_of_vio, drawn_by, goes_on, granted, known_at, looked, pass_of, passes_by, looks_up, released, retire, all_stopped, unmade, with_slot, woken}
 use Rattle.core_model.specs.PageTrees.{but_page, is_listed, leaf_at}
 use Rattle.image_model.proofs.MapLaws.{slot_says_its_mapping}
 use Rattle.image_model.specs.Maps.{mapping_in}
@@ -42,6 +50,9 @@ use Rattle.blk_base.specs.declared.place.Mapping.TheVariants.{At, Unmapped}
 -- what a zone keeps, what happens, and what is posted
 abbrev Result : Type 0 → Type 0
 Result Z = Z × Trace × List Post
+
+three : {Z : Type 0} (a b : Z) (made made' : Trace) (posts posts' : List Post) → a ≡ b → made ≡ made' → posts ≡ posts' → ◌≡◌ {A = Result Z} (a, made, posts) (b, made', posts')
+three a b made made' posts posts' p q r = rw (p, q, r) refl
 
 abbrev to_desk : Phase → Vio → Post
 to_desk now v = (id.Desk, item.Request (turned now v))
@@ -86,23 +97,94 @@ begin_is : (sizes : Sizes) (desk new : Desk) (made : Trace) (posts : List Post) 
 begin_is sizes desk new made posts (DeskBegins.answers w r v a next asked served once n m q) = (w, next, rw (n, m, q, asked, served, once) refl)
 begin_is sizes desk new made posts (DeskBegins.sends w r v next asked served once n m q) = (w, next, rw (n, m, q, asked, served, once) refl)
 
--- the physical zone
-abbrev claim_at : Sizes → PhysicalZone → Vio → List Pbn → Result PhysicalZone
-claim_at sizes p v [] = (p, [], (v.home, item.Request (ended phase.Abort reply.Full v)) ∷ [])
-claim_at sizes p v (x ∷ others) = (record p { free = others }, Takes v.request v.page x ∷ [], (id.Device, item.Request (record v { phase = phase.Store; new = At x })) ∷ [])
+-- The physical zone, by what its counts answer: the block that it is about, and the counts then; or none.
+abbrev Answered : Type 0
+Answered = Option (Pbn × Counting)
 
-abbrev physical_at : Sizes → PhysicalZone → Vio → Phase → Result PhysicalZone
-physical_at sizes p v phase.Claim = claim_at sizes p v p.free
-physical_at sizes p v phase.AbortClaim = (p, [], (v.home, item.Request (turned phase.Abort v)) ∷ [])
-physical_at sizes p v phase.AbortEnteredClaim = (p, [], (v.home, item.Request (turned phase.AbortEntered v)) ∷ [])
-physical_at sizes p v other = (p, [], [])
+abbrev IsAnswer : PhysicalZone → Vio → Phase → Answered → Type 0
+IsAnswer p v phase.Claim None = NoneFree p.counts.slabs
+IsAnswer p v phase.Claim (Some (x, z)) = GivesBlock p.counts z x
+IsAnswer p v phase.Count (Some (x, z)) = (v.claim ≡ Some x) × ((slab : Counts) × Fits half.Increment (slab_of (spent_for v.page p.counts x) x) slab x × Changes (spent_for v.page p.counts x) z x slab)
+IsAnswer p v phase.AbortClaim None = v.claim ≡ None
+IsAnswer p v phase.AbortClaim (Some (x, z)) = (v.claim ≡ Some x) × Changes p.counts z x (unclaimed (slab_of p.counts x) x)
+IsAnswer p v phase.AbortEnteredClaim None = Unit {0}
+IsAnswer p v other answer = ⊥
 
-physical_is : (sizes : Sizes) (p : PhysicalZone) (v : Vio) (new : PhysicalZone) (made : Trace) (posts : List Post) → PhysicalServes sizes p v new made posts
-    → (new, made, posts) ≡ physical_at sizes p v v.phase
-physical_is sizes p v new made posts (PhysicalServes.claims x others is free n m q) = rw (n, m, q, is, free) refl
-physical_is sizes p v new made posts (PhysicalServes.is_full is free n m q) = rw (n, m, q, is, free) refl
-physical_is sizes p v new made posts (PhysicalServes.aborts_claim is n m q) = rw (n, m, q, is) refl
-physical_is sizes p v new made posts (PhysicalServes.aborts_entered_claim is n m q) = rw (n, m, q, is) refl
+-- it has one
+both_are : (x y : Pbn) (z w : Counting) → x ≡ y → z ≡ w → ◌≡◌ {A = Answered} (Some (x, z)) (Some (y, w))
+both_are x y z w p q = rw (p, q) refl
+
+not_free : (p : PhysicalZone) (x : Pbn) (z : Counting) → NoneFree p.counts.slabs → GivesBlock p.counts z x → ⊥
+not_free p x z none gives = none gives.claims.place gives.claims.inside x gives.claims.claims.of_slab gives.claims.claims.free
+
+one_answer : (p : PhysicalZone) (v : Vio) (q : Phase) (a b : Answered) → IsAnswer p v q a → IsAnswer p v q b → a ≡ b
+one_answer p v phase.Claim None None one two = refl
+one_answer p v phase.Claim None (Some (x, z)) one two = absurd (not_free p x z one two)
+one_answer p v phase.Claim (Some (x, z)) None one two = absurd (not_free p x z two one)
+one_answer p v phase.Claim (Some (x, z)) (Some (y, w)) one two =
+    let lowest = one_lowest p.counts.slabs z.slabs w.slabs x y one.claims two.claims in
+    both_are x y z w lowest.0 (one.same ∙ ap (λ (slabs : List Counts). record p.counts { slabs = slabs }) lowest.1 ∙ sym two.same)
+one_answer p v phase.Count None b one two = absurd one
+one_answer p v phase.Count (Some (x, z)) None one two = absurd two
+one_answer p v phase.Count (Some (x, z)) (Some (y, w)) (claim, (slab, takes, change)) two =
+    let same : y ≡ x = same_Some _ _ (sym two.0 ∙ claim) in
+    let others = subst (λ (b : Pbn). (slab : Counts) × Fits half.Increment (slab_of (spent_for v.page p.counts b) b) slab b × Changes (spent_for v.page p.counts b) w b slab) same two.1 in
+    both_are x y z w (sym same) (one_applied half.Increment (spent_for v.page p.counts x) z w x slab others.0 takes change others.1 others.2)
+one_answer p v phase.AbortClaim None None one two = refl
+one_answer p v phase.AbortClaim None (Some (x, z)) one two = absurd (let both : None ≡ Some x = sym one ∙ two.0 in cc)
+one_answer p v phase.AbortClaim (Some (x, z)) None one two = absurd (let both : None ≡ Some x = sym two ∙ one.0 in cc)
+one_answer p v phase.AbortClaim (Some (x, z)) (Some (y, w)) one two =
+    let same : y ≡ x = same_Some _ _ (sym two.0 ∙ one.0) in
+    let others = subst (λ (b : Pbn). Changes p.counts w b (unclaimed (slab_of p.counts b) b)) same two.1 in
+    both_are x y z w (sym same) (one_changed p.counts z w x (unclaimed (slab_of p.counts x) x) one.1 others)
+one_answer p v phase.AbortEnteredClaim None None one two = refl
+one_answer p v phase.AbortEnteredClaim None (Some (x, z)) one two = absurd two
+one_answer p v phase.AbortEnteredClaim (Some (x, z)) b one two = absurd one
+one_answer p v other None b one two = absurd one
+one_answer p v other (Some (x, z)) b one two = absurd one
+
+abbrev physical_at : PhysicalZone → Vio → Phase → Answered → Result PhysicalZone
+physical_at p v phase.Claim None = (p, [], (v.home, item.Request (ended phase.Abort reply.NoSpace v)) ∷ [])
+physical_at p v phase.Claim (Some (x, z)) = (with_counts z p, Takes v.request v.page x ∷ [], (id.Device, item.Request (vios.claiming x v)) ∷ [])
+physical_at p v phase.Count (Some (x, z)) = (with_counts z p, Adds (logged v) ∷ [], (v.home, item.Request (vios.unclaiming phase.Settle v)) ∷ [])
+physical_at p v phase.AbortClaim None = (p, [], (v.home, item.Request (turned phase.Abort v)) ∷ [])
+physical_at p v phase.AbortClaim (Some (x, z)) = (with_counts z p, Drops v.request x ∷ [], (v.home, item.Request (vios.unclaiming phase.Abort v)) ∷ [])
+physical_at p v phase.AbortEnteredClaim answer = (p, [], (v.home, item.Request (vios.unclaiming phase.AbortEntered v)) ∷ [])
+physical_at p v other answer = (p, [], [])
+
+-- an act is what an answer makes it
+abbrev IsBy : PhysicalZone → Vio → Phase → Result PhysicalZone → Type 0
+IsBy p v q result = (answer : Answered) × IsAnswer p v q answer × (result ≡ physical_at p v q answer)
+
+physical_is : (sizes : Sizes) (p : PhysicalZone) (v : Vio) (new : PhysicalZone) (made : Trace) (posts : List Post) → PhysicalServes sizes p v new made posts → IsBy p v v.phase (new, made, posts)
+physical_is sizes p v new made posts (PhysicalServes.claims x z is gives n m q) = subst (λ (h : Phase). IsBy p v h (new, made, posts)) (sym is) (Some (x, z), gives, three new _ made _ posts _ n m q)
+physical_is sizes p v new made posts (PhysicalServes.has_no_space is none n m q) = subst (λ (h : Phase). IsBy p v h (new, made, posts)) (sym is) (None, none, three new _ made _ posts _ n m q)
+physical_is sizes p v new made posts (PhysicalServes.counts x slab z is claim own takes change n m q) = subst (λ (h : Phase). IsBy p v h (new, made, posts)) (sym is) (Some (x, z), (claim, (slab, takes, change)), three new _ made _ posts _ n m q)
+physical_is sizes p v new made posts (PhysicalServes.drops x z is claim own change n m q) = subst (λ (h : Phase). IsBy p v h (new, made, posts)) (sym is) (Some (x, z), (claim, change), three new _ made _ posts _ n m q)
+physical_is sizes p v new made posts (PhysicalServes.drops_none is none n m q) = subst (λ (h : Phase). IsBy p v h (new, made, posts)) (sym is) (None, none, three new _ made _ posts _ n m q)
+physical_is sizes p v new made posts (PhysicalServes.spends is n m q) = subst (λ (h : Phase). IsBy p v h (new, made, posts)) (sym is) (None, tt, three new _ made _ posts _ n m q)
+
+-- a decrement
+abbrev IsUpdated : PhysicalZone → Remapping → Pbn → Option Counting → Type 0
+IsUpdated p e x (Some z) = (slab : Counts) × Fits half.Decrement (slab_of p.counts x) slab x × Changes p.counts z x slab
+IsUpdated p e x None = IsStray half.Decrement (slab_of p.counts x) x
+
+abbrev updated_at : Sizes → PhysicalZone → Remapping → Pbn → Option Counting → Result PhysicalZone
+updated_at sizes p e x (Some z) = (with_counts z p, Removes e ∷ [], (vios.home_of sizes e, item.Report e) ∷ [])
+updated_at sizes p e x None = (record p { strays = e ∷ p.strays }, Strays e ∷ [], (vios.home_of sizes e, item.Report e) ∷ tells p.strays x)
+
+one_update : (p : PhysicalZone) (e : Remapping) (x : Pbn) (a b : Option Counting) → IsUpdated p e x a → IsUpdated p e x b → a ≡ b
+one_update p e x None None one two = refl
+one_update p e x None (Some z) one (slab, takes, change) = let some = takes.0 in absurd (omega (arith, some, one))
+one_update p e x (Some z) None (slab, takes, change) two = let some = takes.0 in absurd (omega (arith, some, two))
+one_update p e x (Some z) (Some w) (slab, takes, change) (slab', takes', change') = ap (λ (c : Counting). Some c) (one_applied half.Decrement p.counts z w x slab slab' takes change takes' change')
+
+abbrev IsUpdate : Sizes → PhysicalZone → Remapping → Result PhysicalZone → Type 0
+IsUpdate sizes p e result = (x : Pbn) × (e.old ≡ At x) × ((answer : Option Counting) × IsUpdated p e x answer × (result ≡ updated_at sizes p e x answer))
+
+update_is : (sizes : Sizes) (p : PhysicalZone) (e : Remapping) (new : PhysicalZone) (made : Trace) (posts : List Post) → PhysicalTakes sizes p e new made posts → IsUpdate sizes p e (new, made, posts)
+update_is sizes p e new made posts (PhysicalTakes.removes x slab z from own takes change n m q) = (x, from, (Some z, (slab, takes, change), three new _ made _ posts _ n m q))
+update_is sizes p e new made posts (PhysicalTakes.is_stray x from own stray n m q) = (x, from, (None, stray, three new _ made _ posts _ n m q))
 
 -- a logical zone
 abbrev arrival_at : LogicalZone → Vio → (retired held : Bool) → Result LogicalZone
@@ -143,8 +225,12 @@ look_at sizes l v false = stay_at sizes l v (lacks l v)
 abbrev with_link : LogicalZone → PageId → Pbn → LogicalZone
 with_link l page x = record l { tree = linked_tree l.tree page x; making = but_page page l.making }
 
+abbrev slot_at : LogicalZone → Vio → Bool → Result LogicalZone
+slot_at l v true = (record l { settling = l.settling ++ v ∷ [] }, [], [])
+slot_at l v false = (settled (record l { reported = reports_left v l.reported }) v, Sets (logged v) ∷ [], settled_posts l v)
+
 abbrev settle_at : LogicalZone → Vio → Option PageId → Mapping → Result LogicalZone
-settle_at l v None new = passes (with_slot l v) v.at.0 (Sets (logged v) ∷ []) (id.Desk, item.Request (ended phase.Reply reply.Ok v))
+settle_at l v None new = slot_at l v (awaits_report l v)
 settle_at l v (Some page) (At x) = (woken (with_link l page x), Sets (logged v) ∷ [], (v.home, item.Request (vios.made v)) ∷ logical.all_again l.lacking)
 settle_at l v (Some page) other = (l, [], [])
 
@@ -172,9 +258,6 @@ stays_by : (l : LogicalZone) (a : ℕ) (q : Asks) (page : PageId) (b : Bool) →
 stays_by l a Write page b lack = refl
 stays_by l a other page b lack = absurd cc
 
-three : {Z : Type 0} (a b : Z) (made made' : Trace) (posts posts' : List Post) → a ≡ b → made ≡ made' → posts ≡ posts' → ◌≡◌ {A = Result Z} (a, made, posts) (b, made', posts')
-three a b made made' posts posts' p q r = rw (p, q, r) refl
-
 logical_is : (sizes : Sizes) (l : LogicalZone) (v : Vio) (new : LogicalZone) (made : Trace) (posts : List Post) → LogicalServes sizes l v new made posts
     → (new, made, posts) ≡ logical_at sizes l v v.phase
 logical_is sizes l v new made posts (LogicalServes.arrives_retired is retired n m q) = rw (n, m, q, is, retired) refl
@@ -194,12 +277,23 @@ logical_is sizes l v new made posts (LogicalServes.links page x between is some 
     at_settle : v.phase ≡ phase.Settle → v.page ≡ Some page → v.new ≡ At x
         → logical_at sizes l v v.phase ≡ (woken (with_link l page x), Sets (logged v) ∷ [], (v.home, item.Request (vios.made v)) ∷ logical.all_again l.lacking)
     at_settle is some to = ap (logical_at sizes l v) is ∙ ap (λ (o : Option PageId). settle_at l v o v.new) some ∙ ap (settle_at l v (Some page)) to
-logical_is sizes l v new made posts (LogicalServes.settles is bare n m q) = three new _ made _ posts _ n m q ∙ sym (ap (logical_at sizes l v) is ∙ ap (λ (o : Option PageId). settle_at l v o v.new) bare)
+logical_is sizes l v new made posts (LogicalServes.settles is bare came n m q) = three new _ made _ posts _ n m q ∙ sym (ap (logical_at sizes l v) is ∙ ap (λ (o : Option PageId). settle_at l v o v.new) bare ∙ ap (slot_at l v) came)
+logical_is sizes l v new made posts (LogicalServes.awaits is bare waits n m q) = three new _ made _ posts _ n m q ∙ sym (ap (logical_at sizes l v) is ∙ ap (λ (o : Option PageId). settle_at l v o v.new) bare ∙ ap (slot_at l v) waits)
 logical_is sizes l v new made posts (LogicalServes.gives is n m q) = rw (n, m, q, is) refl
 logical_is sizes l v new made posts (LogicalServes.aborts is bare n m q) = three new _ made _ posts _ n m q ∙ sym (ap (logical_at sizes l v) is ∙ ap (abort_at l v) bare)
 logical_is sizes l v new made posts (LogicalServes.unmakes page is some n m q) = three new _ made _ posts _ n m q ∙ sym (ap (logical_at sizes l v) is ∙ ap (abort_at l v) some)
 logical_is sizes l v new made posts (LogicalServes.drops page is some n m q) = three new _ made _ posts _ n m q ∙ sym (ap (logical_at sizes l v) is ∙ ap (drop_at l v) some)
 logical_is sizes l v new made posts (LogicalServes.aborts_entered is bare n m q) = three new _ made _ posts _ n m q ∙ sym (ap (logical_at sizes l v) is ∙ ap (drop_at l v) bare)
+
+-- the report of a decrement
+abbrev heard_at : LogicalZone → Remapping → Option Vio → Result LogicalZone
+heard_at l e (Some v) = (settled (record l { settling = without_settling e.request l.settling }) v, Sets (logged v) ∷ [], settled_posts l v)
+heard_at l e None = (record l { reported = l.reported ++ e ∷ [] }, [], [])
+
+heard_is : (sizes : Sizes) (l : LogicalZone) (e : Remapping) (new : LogicalZone) (made : Trace) (posts : List Post) → LogicalHears sizes l e new made posts
+    → (new, made, posts) ≡ heard_at l e (settling_of e.request l.settling)
+heard_is sizes l e new made posts (LogicalHears.settles v found n m q) = three new _ made _ posts _ n m q ∙ sym (ap (heard_at l e) found)
+heard_is sizes l e new made posts (LogicalHears.keeps none n m q) = three new _ made _ posts _ n m q ∙ sym (ap (heard_at l e) none)
 
 -- the journal
 abbrev entry_at : Sizes → JournalZone → Vio → (closed block room busy : Bool) → Result JournalZone
@@ -218,7 +312,7 @@ journal_is sizes j v new made posts (JournalServes.enters is open_yet block room
 journal_is sizes j v new made posts (JournalServes.enters_first is open_yet block room idle n m q) = rw (n, m, q, open_yet, block, room, idle) refl
 
 abbrev commit_at : Sizes → JournalZone → SealedBlock → (vios filling : List Vio) → Result JournalZone
-commit_at sizes j b (v ∷ vs) filling = (committed_by v j, Commits (logged v) ∷ [], hands_out v ∷ (id.Journal, item.Block (record b { vios = vs })) ∷ [])
+commit_at sizes j b (v ∷ vs) filling = (committed_by v j, Commits (logged v) ∷ [], hands_out v ++ (id.Journal, item.Block (record b { vios = vs })) ∷ [])
 commit_at sizes j b [] [] = (record j { busy = false; waiting = [] }, [], all_again j.waiting)
 commit_at sizes j b [] (v ∷ vs) = (sealed_by j, Seals ∷ [], (id.Device, item.Block (next_block j stage.Cover (v ∷ vs))) ∷ all_again j.waiting)
 
@@ -363,6 +457,29 @@ begin_one sizes desk new new' made made' posts posts' a b =
     let two = begin_is sizes desk new' made' posts' b in
     same at.Desk new new' made made' posts posts' (begun_at sizes desk one.0) one.2 (two.2 ∙ ap (begun_at sizes desk) (begins_one sizes.depth desk two.0 one.0 two.1 one.1))
 
+physical_one : (sizes : Sizes) (p : PhysicalZone) (v : Vio) (new new' : PhysicalZone) (made made' : Trace) (posts posts' : List Post)
+    → PhysicalServes sizes p v new made posts → PhysicalServes sizes p v new' made' posts' → Same (at.Physical new) (at.Physical new') made made' posts posts'
+physical_one sizes p v new new' made made' posts posts' a b =
+    let one = physical_is sizes p v new made posts a in
+    let two = physical_is sizes p v new' made' posts' b in
+    same at.Physical new new' made made' posts posts' (physical_at p v v.phase one.0) one.2 (two.2 ∙ ap (physical_at p v v.phase) (one_answer p v v.phase two.0 one.0 two.1 one.1))
+
+update_one : (sizes : Sizes) (p : PhysicalZone) (e : Remapping) (new new' : PhysicalZone) (made made' : Trace) (posts posts' : List Post)
+    → PhysicalTakes sizes p e new made posts → PhysicalTakes sizes p e new' made' posts' → Same (at.Physical new) (at.Physical new') made made' posts posts'
+update_one sizes p e new new' made made' posts posts' a b =
+    let one = update_is sizes p e new made posts a in
+    let two = update_is sizes p e new' made' posts' b in
+    let block : two.0 ≡ one.0 = same_At two.0 one.0 (sym two.1 ∙ one.1) in
+    let others = subst (λ (x : Pbn). (answer : Option Counting) × IsUpdated p e x answer × ((new', made', posts') ≡ updated_at sizes p e x answer)) block two.2 in
+    same at.Physical new new' made made' posts posts' (updated_at sizes p e one.0 one.2.0) one.2.2 (others.2 ∙ ap (updated_at sizes p e one.0) (one_update p e one.0 others.0 one.2.0 others.1 one.2.1))
+  where
+    same_At : (x y : Pbn) → At x ≡ At y → x ≡ y
+    same_At x y is = cc
+
+halts_one : (sizes : Sizes) (d : DeviceZone) (damage : Damage) (new new' : DeviceZone) (made made' : Trace) (posts posts' : List Post)
+    → DeviceHears sizes d damage new made posts → DeviceHears sizes d damage new' made' posts' → Same (at.Device new) (at.Device new') made made' posts posts'
+halts_one sizes d damage new new' made made' posts posts' a b = (ap at.Device (a.new_is ∙ sym b.new_is), a.made_is ∙ sym b.made_is, a.posts_are ∙ sym b.posts_are)
+
 device_one : (sizes : Sizes) (d new new' : DeviceZone) (v : Vio) (made made' : Trace) (posts posts' : List Post)
     → DeviceServes sizes d v new made posts → DeviceServes sizes d v new' made' posts' → made ≡ made' → Same (at.Device new) (at.Device new') made made' posts posts'
 device_one sizes d new new' v made made' posts posts' a b is =
@@ -382,7 +499,10 @@ one_result sizes keeps front new new' made made' posts posts' (steps.answers a) 
 one_result sizes keeps front new new' made made' posts posts' steps.hears steps.hears is = (refl, refl, refl)
 one_result sizes keeps front new new' made made' posts posts' (steps.serves a) (steps.serves b) is = same at.Logical _ _ _ _ _ _ _ (logical_is _ _ _ _ _ _ a) (logical_is _ _ _ _ _ _ b)
 one_result sizes keeps front new new' made made' posts posts' steps.serves_notice steps.serves_notice is = (refl, refl, refl)
-one_result sizes keeps front new new' made made' posts posts' (steps.takes a) (steps.takes b) is = same at.Physical _ _ _ _ _ _ _ (physical_is _ _ _ _ _ _ a) (physical_is _ _ _ _ _ _ b)
+one_result sizes keeps front new new' made made' posts posts' (steps.takes a) (steps.takes b) is = physical_one _ _ _ _ _ _ _ _ _ a b
+one_result sizes keeps front new new' made made' posts posts' (steps.updates a) (steps.updates b) is = update_one _ _ _ _ _ _ _ _ _ a b
+one_result sizes keeps front new new' made made' posts posts' (steps.settles a) (steps.settles b) is = same at.Logical _ _ _ _ _ _ _ (heard_is _ _ _ _ _ _ a) (heard_is _ _ _ _ _ _ b)
+one_result sizes keeps front new new' made made' posts posts' (steps.halts a) (steps.halts b) is = halts_one _ _ _ _ _ _ _ _ _ a b
 one_result sizes keeps front new new' made made' posts posts' steps.takes_notice steps.takes_notice is = (refl, refl, refl)
 one_result sizes keeps front new new' made made' posts posts' (steps.enters a) (steps.enters b) is = same at.Journal _ _ _ _ _ _ _ (journal_is _ _ _ _ _ _ a) (journal_is _ _ _ _ _ _ b)
 one_result sizes keeps front new new' made made' posts posts' (steps.ends a) (steps.ends b) is = same at.Journal _ _ _ _ _ _ _ (end_is _ _ _ _ _ _ a) (end_is _ _ _ _ _ _ b)

@@ -73,7 +73,7 @@ module _ (s : Session) (opened : IsAsOpened s) where
   pub no_leaf : (a : ℕ) → page_at (opened_image s) (leaf_of a) ≡ None → opened_at s a ≡ Unmapped
   no_leaf a none = subst (λ (o : Option Pbn). elim o [ Some block ↦ says (opened_image s) (leaf_of a) block (slot_of_address a) | None ↦ Unmapped ] ≡ Unmapped) (sym none) refl
 
-  -- it is a data block, which the session leaves as it was
+  -- it is a data block
   pub opened_data : (a : ℕ) (x : Pbn) → opened_at s a ≡ At x → IsDataBlock s.sizes.geometry x.0
   opened_data a x is = by (page_at (opened_image s) (leaf_of a)) refl
     where
@@ -82,17 +82,6 @@ module _ (s : Session) (opened : IsAsOpened s) where
       by (Some at) stands =
           let slot = slot_is (leaf_of a) at (slot_of_address a) stands (mod-lt a (omega arith)) in
           (subst (HoldsMapping s.sizes.geometry 0) (sym (leaf_says a at stands) ∙ is) slot.held).0
-
-  pub opened_block : (a : ℕ) (x : Pbn) → opened_at s a ≡ At x → IsKept s x.0
-  opened_block a x is =
-      let is_data = opened_data a x is in
-      let high = data_block_high s.sizes.geometry x.0 is_data in
-      record {
-        inside = data_block_inside s.sizes.geometry x.0 is_data;
-        looked = looked_high s.sizes.geometry x.0 high;
-        behind = omega (arith, high);
-        taken = λ y free same. opened.unmapped y x a free is (sym same);
-      }
 
   -- one that lacks a page of its path is mapped to nothing
   lacks_leaf : (level : ℕ) (a : ℕ) → level + 1 < s.sizes.geometry.height → page_at (opened_image s) (page_above level a) ≡ None → page_at (opened_image s) (leaf_of a) ≡ None
@@ -114,7 +103,7 @@ module _ (s : Session) (opened : IsAsOpened s) where
       let range = page_in_range (opened_image s) page at stands in
       elim (eqb_tells (page.level + 1) s.sizes.geometry.height) [
         | inl top ↦ root_left (root_at (opened_image s) page at top.1 stands)
-        | inr lower ↦ data_left (session.linked page at (opened.links page (let below = range.1 in let apart = lower.1 in omega (arith, below, apart)) ∙ stands))
+        | inr lower ↦ let low : page.level + 1 < s.sizes.geometry.height = (let below = range.1 in let apart = lower.1 in omega (arith, below, apart)) in data_left low (opened.links page low ∙ stands)
       ]
     where
       root_left : at.0 ≡ block_of s.sizes.geometry (Root page.tree) → IsKept s at.0
@@ -124,15 +113,16 @@ module _ (s : Session) (opened : IsAsOpened s) where
             inside = omega (arith, is, tree);
             looked = looked_low s.sizes.geometry at.0 (omega (arith, is, tree));
             behind = omega (arith, is);
-            taken = λ y free same. opened.unpaged y at page free stands (sym same);
+            unfreed = λ is_data. let high = data_block_high s.sizes.geometry at.0 is_data in absurd (omega (arith, high, is, tree));
           }
 
-      data_left : IsDataBlock s.sizes.geometry at.0 → IsKept s at.0
-      data_left is_data =
+      data_left : page.level + 1 < s.sizes.geometry.height → s.links page ≡ Some at → IsKept s at.0
+      data_left low linked =
+          let is_data = session.linked page at linked in
           let high = data_block_high s.sizes.geometry at.0 is_data in
           record {
             inside = data_block_inside s.sizes.geometry at.0 is_data;
             looked = looked_high s.sizes.geometry at.0 high;
             behind = omega (arith, high);
-            taken = λ y free same. opened.unpaged y at page free stands (sym same);
+            unfreed = λ is_data. (page, low, linked);
           }

@@ -2,7 +2,7 @@
 use Rattle.std.proofs.Common.{◌⊎◌, ◌≡◌, ℕ, ◌<◌, ◌≤◌, true, false, None, Some, Option, List, [], ◌∷◌, ◌++◌, length, slice_get, refl, ap, sym, ◌∙◌, subst, inl, inr, arith}
 use Rattle.std.proofs.lemmas.Option.{slice_get_within}
 use Rattle.core_laws.proofs.journal.LogLaws.{has_next, is_sealable}
-use Rattle.core_laws.proofs.Common.{HasAddress, all_logged, all_of, AllByRecursion, Answer, Asks, Call, cases_Bool, DataOk, Desk, desk_number, device_number, DeviceZone, IsForBlock, IsFresh, IsServed, IsSession, IsToFresh, IsToInside, Item, ItemOk, journal_number, JournalLists, JournalZone, logical_number, LogicalZone, Mapping, MayReply, notified_zones, option_cases, Pbn, Phase, physical_number, PhysicalZone, Post, Request, request_at, Script, sealed, SealedBlock, Session, some_of, Stage, StandsAt, Trace, Vio, VioOk, Writer, Zone, zone_at, zone_count, zone_number, zone_of, zone_of_stage, ZoneData, applied, durable, SuperblockStage, Remapping}
+use Rattle.core_laws.proofs.Common.{HasAddress, all_logged, all_of, AllByRecursion, Answer, Asks, Call, cases_Bool, cases_lt, DataOk, Desk, desk_number, device_number, DeviceZone, IsForBlock, IsServed, IsSession, IsToBlock, IsToInside, OnBlock, RightTrace, claim_token, journaled, logged, total, total-get, weight, Item, ItemOk, journal_number, JournalLists, JournalZone, logical_number, LogicalZone, Mapping, MayReply, notified_zones, option_cases, Pbn, Phase, physical_number, PhysicalZone, Post, Request, request_at, Script, sealed, SealedBlock, Session, some_of, Stage, StandsAt, Trace, Vio, VioOk, Writer, Zone, zone_at, zone_count, zone_number, zone_of, zone_of_stage, ZoneData, applied, durable, SuperblockStage, Remapping}
 use Rattle.blk_base.specs.Regions.{journal_slot_of}
 use Rattle.blk_base.specs.declared.request.Answer.TheVariants as reply
 use Rattle.blk_base.specs.declared.request.Request.TheVariants as request
@@ -18,15 +18,31 @@ use Rattle.blk_base.specs.declared.place.ZoneId.TheVariants as id
 use Rattle.data_vio.specs.Phases.{AtDevice, row, stage_row}
 use Rattle.core_model.specs.DeviceRules.{Announces, DeviceServes, DeviceWorks, IsInside, call_of, journal_bytes, superblock_call}
 use Rattle.core_model.specs.declared.zones.SuperblockStage.TheVariants.{AsOpened, Written, Durable}
-use Rattle.core_model.specs.PhysicalRules.{PhysicalServes}
+use Rattle.core_model.specs.PhysicalRules.{PhysicalServes, PhysicalTakes, spent_for}
+use Rattle.blk_base.proofs.RegionLaws.{data_block_inside}
+use Rattle.blk_base.specs.Regions.{IsDataBlock}
+use Rattle.blk_base.specs.declared.point.Half.TheVariants as half
+use Rattle.core_laws.proofs.device.LeafReads.{each_of}
+use Rattle.core_laws.proofs.kept.Keys.{claim_one}
+use Rattle.core_laws.proofs.kept.SoleWriter.{held_counted_there}
+use Rattle.core_laws.proofs.trace.DeskOfTrace.{HasBlock, journaled_data}
+use Rattle.core_model.specs.Facts.{ClaimOk, HasClaim, claim_of}
+use Rattle.slab_counts.specs.Counts.{Counts, Takes, unclaimed}
+use Rattle.zone_counts.proofs.BlockLaws.{moved}
+use Rattle.zone_counts.proofs.CallLaws.{calls_keep}
+use Rattle.zone_counts.proofs.FitLaws.{add_fits, claimed_is, gives_or_none, none_is_stray, remove_fits}
+use Rattle.zone_counts.proofs.FreeBlocks.{can_change}
+use Rattle.zone_counts.specs.ByBlock.{claims_in, counter_in}
+use Rattle.zone_counts.specs.Calls.{SpendsPage}
+use Rattle.zone_counts.specs.Zone.{IsClaimedIn, IsOfZone, IsZone, slab_of}
 use Rattle.core_model.specs.JournalRules.{JournalServes, JournalEnds, is_closed, has_block, has_room}
 use Rattle.core_model.specs.Legal.{Legal}
-use Rattle.core_model.specs.LogicalRules.{LogicalServes, is_among, is_held, known_at, known_by, lacks, latest_at, looked, next_for, goes_on, passes_by}
+use Rattle.core_model.specs.LogicalRules.{LogicalHears, LogicalServes, awaits_report, settling_of, is_among, is_held, known_at, known_by, lacks, latest_at, looked, next_for, goes_on, passes_by}
 use Rattle.core_model.specs.PageTrees.{leaf_at}
 use Rattle.blk_base.specs.declared.place.PageId.{PageId}
 use Rattle.core_model.specs.Facts.{CarriesFor, CarriesOwn, CarriesPage}
 use Rattle.core_model.specs.PageTrees.{HasPath, but_page, is_listed}
-use Rattle.core_laws.proofs.journal.LoggedEntries.{fresh_at}
+use Rattle.core_laws.proofs.journal.LoggedEntries.{block_at, logged_new}
 use Rattle.core_laws.proofs.logical.PageFacts.{has_path, lacked_path, link_made, linked_tree, may_link}
 use Rattle.core_model.specs.Steps as steps
 use Rattle.core_model.specs.Steps.{Act, HasAct, MayBegin, Core}
@@ -34,7 +50,7 @@ use Rattle.core_laws.proofs.desk.BeginLaws.{begins_some}
 use Rattle.core_laws.proofs.device.DeviceCalls.{request_served}
 use Rattle.core_laws.proofs.kept.LegalKept.{goes}
 use Rattle.core_laws.proofs.kept.ZoneKinds.{Keeps, desk_keeps, logical_keeps, physical_keeps, journal_keeps, device_keeps}
-use Rattle.core_laws.proofs.physical.PhysicalFacts.{zone_below}
+use Rattle.core_laws.proofs.physical.PhysicalFacts.{of_zone, zone_below}
 use Rattle.blk_base.specs.declared.place.Mapping.TheVariants.{Unmapped, Zero, At}
 
 -- a marked answer is that of a flush that returned
@@ -45,7 +61,7 @@ marked_is Write reply.Ok marked = absurd cc
 marked_is Discard reply.Ok marked = absurd cc
 marked_is asks other marked = absurd cc
 
-module _ (s : Session) (session : IsSession s) (t : Trace) where
+module _ (s : Session) (session : IsSession s) (t : Trace) (right : RightTrace s t) where
   -- the desk
   replies : (desk : Desk) (v : Vio) (o : Option Answer) → v.answer ≡ o → v.phase ≡ phase.Reply → MayReply s t v o → HasAct s.sizes (at.Desk desk) (item.Request v ∷ [])
   replies desk v None is reply may = absurd may
@@ -142,18 +158,74 @@ module _ (s : Session) (session : IsSession s) (t : Trace) where
   links : (l : LogicalZone) (v : Vio) (page : PageId) → v.phase ≡ phase.Settle → v.page ≡ Some page → VioOk s t v → CarriesPage s t v page phase.Settle
       → DataOk s t (logical_number (zone_of s.sizes.zones v.at.0)) (at.Logical l) → HasAct s.sizes (at.Logical l) (item.Request v ∷ [])
   links l v page is some ok carries here =
-      let block = fresh_at s v.new carries.1 in
+      let block = block_at v.new carries.1 in
       let lacked = lacked_path s.sizes.geometry.height v.asks v.at v.bytes page carries.0.is_write carries.0.lacked in
       let path = path_of l v ok carries.0.turn.is_placed.for_block here in
-      let fresh : IsFresh s block.0 = subst (IsToFresh s) block.1 carries.1 in
-      let may = may_link s.sizes.geometry l.zone s.sizes.zones s.links (applied t) l.tree v.at.0 here.lists.tree_is path page lacked.0 lacked.1 carries.0.up block.0 fresh.is_data in
+      let entered : OnBlock (λ x. IsDataBlock s.sizes.geometry x.0) v.new = subst (OnBlock (λ x. IsDataBlock s.sizes.geometry x.0)) (logged_new v) (each_of (HasBlock s) (journaled t) (logged v) (journaled_data s t right) carries.2.handed_in) in
+      let is_data : IsDataBlock s.sizes.geometry block.0.0 = subst (OnBlock (λ x. IsDataBlock s.sizes.geometry x.0)) block.1 entered in
+      let may = may_link s.sizes.geometry l.zone s.sizes.zones s.links (applied t) l.tree v.at.0 here.lists.tree_is path page lacked.0 lacked.1 carries.0.up block.0 is_data in
       let between : LogicalZone = record l { tree = linked_tree l.tree page block.0; making = but_page page l.making } in
       (_, _, _, steps.serves (LogicalServes.links page block.0 between is some block.1 may (record { links = link_made l.tree page block.0 here.lists.tree_is.form may; rest = refl }) refl refl refl))
 
-  -- the physical zone
-  claims : (p : PhysicalZone) (v : Vio) (free : List Pbn) → p.free ≡ free → v.phase ≡ phase.Claim → HasAct s.sizes (at.Physical p) (item.Request v ∷ [])
-  claims p v [] none is = (_, _, _, steps.takes (PhysicalServes.is_full is none refl refl refl))
-  claims p v (x ∷ others) some is = (_, _, _, steps.takes (PhysicalServes.claims x others is some refl refl refl))
+  -- the report of a decrement
+  hears : (l : LogicalZone) (e : Remapping) → HasAct s.sizes (at.Logical l) (item.Report e ∷ [])
+  hears l e = elim (option_cases (settling_of e.request l.settling)) [
+    | inl none ↦ (_, _, _, steps.settles (LogicalHears.keeps none refl refl refl))
+    | inr found ↦ (_, _, _, steps.settles (LogicalHears.settles found.0 found.1 refl refl refl))
+  ]
+
+  settles : (l : LogicalZone) (v : Vio) → v.phase ≡ phase.Settle → v.page ≡ None → HasAct s.sizes (at.Logical l) (item.Request v ∷ [])
+  settles l v is bare = elim (cases_Bool (awaits_report l v)) [
+    | inl waits ↦ (_, _, _, steps.serves (LogicalServes.awaits is bare waits refl refl refl))
+    | inr came ↦ (_, _, _, steps.serves (LogicalServes.settles is bare came refl refl refl))
+  ]
+
+  -- The physical zone.
+  claims : (p : PhysicalZone) (v : Vio) → v.phase ≡ phase.Claim → HasAct s.sizes (at.Physical p) (item.Request v ∷ [])
+  claims p v is = elim (gives_or_none p.counts) [
+    | inl none ↦ (_, _, _, steps.takes (PhysicalServes.has_no_space is none refl refl refl))
+    | inr (x, z, gives) ↦ (_, _, _, steps.takes (PhysicalServes.claims x z is gives refl refl refl))
+  ]
+
+  -- an increment fits for which there is a claim, also where the block becomes that of a page before
+  module _ (p : PhysicalZone) (own : DataOk s t (physical_number s.sizes) (at.Physical p)) (x : Pbn) (is_data : IsDataBlock s.sizes.geometry x.0) where
+    abbrev is_zone : IsZone p.counts
+    is_zone = own.sound.is_zone
+
+    mine : IsOfZone p.counts x
+    mine = of_zone own x is_data
+
+    is_claimed : 0 < claims_in x p.counts.slabs → IsClaimedIn p.counts x
+    is_claimed some = (claimed_is p.counts x is_zone mine).1 some
+
+    fits : (o : Option PageId) → 0 < claims_in x p.counts.slabs → (slab : Counts) × Takes half.Increment (slab_of (spent_for o p.counts x) x) slab x
+    fits None some = add_fits p.counts x is_zone mine some
+    fits (Some page) some =
+        let between = spent_for (Some page) p.counts x in
+        let claim = is_claimed some in
+        let m = moved (SpendsPage x) p.counts between is_zone (claim, refl) in
+        let own_between : IsOfZone between x = record { data_block = mine.data_block; own = mine.own } in
+        add_fits between x (calls_keep p.counts between (SpendsPage x ∷ []) is_zone (p.counts, refl, (claim, refl))) own_between (let still = m.claims x in omega (arith, still, some))
+
+    counts_it : (v : Vio) → v.phase ≡ phase.Count → v.claim ≡ Some x → 0 < claims_in x p.counts.slabs → HasAct s.sizes (at.Physical p) (item.Request v ∷ [])
+    counts_it v is claim some =
+        let (slab, takes) = fits v.page some in
+        let (z, change) = can_change (spent_for v.page p.counts x) x slab in
+        (_, _, _, steps.takes (PhysicalServes.counts x slab z is claim (is_claimed some) takes change refl refl refl))
+
+    drops_it : (v : Vio) → v.phase ≡ phase.AbortClaim → v.claim ≡ Some x → 0 < claims_in x p.counts.slabs → HasAct s.sizes (at.Physical p) (item.Request v ∷ [])
+    drops_it v is claim some =
+        let (z, change) = can_change p.counts x (unclaimed (slab_of p.counts x) x) in
+        (_, _, _, steps.takes (PhysicalServes.drops x z is claim (is_claimed some) change refl refl refl))
+
+    updates_it : (e : Remapping) → e.old ≡ At x → HasAct s.sizes (at.Physical p) (item.Decrement e ∷ [])
+    updates_it e from = elim (cases_lt 0 (counter_in x p.counts.slabs)) [
+      | inl some ↦
+          let (slab, takes) = remove_fits p.counts x is_zone mine some in
+          let (z, change) = can_change p.counts x slab in
+          (_, _, _, steps.updates (PhysicalTakes.removes x slab z from mine takes change refl refl refl))
+      | inr none ↦ (_, _, _, steps.updates (PhysicalTakes.is_stray x from mine (none_is_stray p.counts x is_zone mine (omega (arith, none))) refl refl refl))
+    ]
 
   -- the journal
   enters : (j : JournalZone) (v : Vio) → v.phase ≡ phase.Enter → HasAct s.sizes (at.Journal j) (item.Request v ∷ [])
@@ -199,10 +271,10 @@ module _ (s : Session) (session : IsSession s) (t : Trace) where
       (λ goes durable. (_, _, _, steps.calls (DeviceServes.stores x is to goes durable inside refl refl refl)))
       (announces d v (ap (λ q. (row q).zone) is))
 
-  stores_by : (d : DeviceZone) (v : Vio) (m : Mapping) → v.phase ≡ phase.Store → v.new ≡ m → IsToFresh s m → HasAct s.sizes (at.Device d) (item.Request v ∷ [])
-  stores_by d v (At x) is to fresh = stores d v x is to fresh.inside
-  stores_by d v Unmapped is to fresh = absurd fresh
-  stores_by d v Zero is to fresh = absurd fresh
+  stores_by : (d : DeviceZone) (v : Vio) (m : Mapping) → v.phase ≡ phase.Store → v.new ≡ m → IsToBlock m → OnBlock (λ x. IsDataBlock s.sizes.geometry x.0) m → HasAct s.sizes (at.Device d) (item.Request v ∷ [])
+  stores_by d v (At x) is to block is_data = stores d v x is to (data_block_inside s.sizes.geometry x.0 is_data)
+  stores_by d v Unmapped is to block is_data = absurd block
+  stores_by d v Zero is to block is_data = absurd block
 
   loads_by : (d : DeviceZone) (v : Vio) (m : Mapping) → v.phase ≡ phase.Load → v.old ≡ m → IsToInside s m → HasAct s.sizes (at.Device d) (item.Request v ∷ [])
   loads_by d v (At x) is from inside = when_ready d
@@ -266,8 +338,37 @@ module _ (s : Session) (session : IsSession s) (t : Trace) where
     in_desk : (it : Item) → n ≡ desk_number → ((desk : Desk) → HasAct s.sizes (at.Desk desk) (it ∷ [])) → Has it
     in_desk it is rule = in_kind at.Desk desk_number it is (desk_keeps s t) (λ desk here. rule desk)
 
-    in_physical : (it : Item) → n ≡ physical_number s.sizes → ((p : PhysicalZone) → HasAct s.sizes (at.Physical p) (it ∷ [])) → Has it
-    in_physical it is rule = in_kind at.Physical (physical_number s.sizes) it is (physical_keeps s t) (λ p here. rule p)
+    -- a claim that an item has is counted
+    abbrev AreCounted : Item → Type 0
+    AreCounted it = (p : PhysicalZone) → d ≡ at.Physical p → (x : Pbn) → 1 ≤ (claim_token x).item it → 0 < claims_in x p.counts.slabs
+
+    in_physical : (it : Item) → n ≡ physical_number s.sizes → ((p : PhysicalZone) → d ≡ at.Physical p → DataOk s t (physical_number s.sizes) (at.Physical p) → HasAct s.sizes (at.Physical p) (it ∷ [])) → Has it
+    in_physical it is rule =
+        let here = subst (λ (i : ℕ). DataOk s t i d) is own in
+        let kept = physical_keeps s t d here in
+        subst (λ (k : ZoneData). HasAct s.sizes k (it ∷ [])) (sym kept.is) (rule kept.it kept.is (subst (λ (k : ZoneData). DataOk s t (physical_number s.sizes) k) kept.is here))
+
+    -- what the claim of a request is, in a phase that has one
+    counts_by : (v : Vio) → v.phase ≡ phase.Count → IsToBlock v.new → HasClaim s true v.claim v.new → AreCounted (item.Request v) → n ≡ physical_number s.sizes → Has (item.Request v)
+    counts_by v is block claim held to =
+        let x = block_at v.new block in
+        let claimed : v.claim ≡ Some x.0 = claim.claim_is ∙ ap (claim_of true) x.1 in
+        let is_data : IsDataBlock s.sizes.geometry x.0.0 = subst (OnBlock (λ y. IsDataBlock s.sizes.geometry y.0)) x.1 (claim.on_data refl) in
+        in_physical (item.Request v) to (λ p keeps here. counts_it p here x.0 is_data v is claimed (held p keeps x.0 (let one = claim_one v x.0 claimed in omega (arith, one))))
+
+    drops_by : (v : Vio) → v.phase ≡ phase.AbortClaim → HasClaim s true v.claim v.new → AreCounted (item.Request v) → n ≡ physical_number s.sizes → Has (item.Request v)
+    drops_by v is claim held to = elim (option_cases v.claim) [
+      | inl none ↦ in_physical (item.Request v) to (λ p keeps here. (_, _, _, steps.takes (PhysicalServes.drops_none is none refl refl refl)))
+      | inr (x, some) ↦
+          let leads : v.new ≡ At x = leads_by v.new x (sym claim.claim_is ∙ some) in
+          let is_data : IsDataBlock s.sizes.geometry x.0 = subst (OnBlock (λ y. IsDataBlock s.sizes.geometry y.0)) leads (claim.on_data refl) in
+          in_physical (item.Request v) to (λ p keeps here. drops_it p here x is_data v is some (held p keeps x (let one = claim_one v x some in omega (arith, one))))
+    ]
+      where
+        leads_by : (m : Mapping) (x : Pbn) → claim_of true m ≡ Some x → m ≡ At x
+        leads_by (At y) x same = cc
+        leads_by Unmapped x same = absurd cc
+        leads_by Zero x same = absurd cc
 
     in_journal : (it : Item) → n ≡ journal_number s.sizes → ((j : JournalZone) → JournalLists s t j → HasAct s.sizes (at.Journal j) (it ∷ [])) → Has it
     in_journal it is rule = in_kind at.Journal (journal_number s.sizes) it is (journal_keeps s t) (λ j here. rule j here.lists)
@@ -283,41 +384,44 @@ module _ (s : Session) (session : IsSession s) (t : Trace) where
         in_kind at.Logical (logical_number zone) (item.Request v) (is ∙ ap (zone_number s.sizes) ok.home) (logical_keeps s t zone (zone_below s.sizes.zones v.at.0 session.zones)) rule
 
     -- a request, by its phase; one that waits is in no lane
-    by_phase : (v : Vio) (q : Phase) → v.phase ≡ q → v.page ≡ None → VioOk s t v → CarriesOwn s t v q → n ≡ zone_at s.sizes v.home q → Has (item.Request v)
-    by_phase v phase.Arrive is bare ok carries to = in_home v ok to (λ l here. arrives l v is)
-    by_phase v phase.Look is bare ok carries to = in_home v ok to (λ l here. looks l v is carries.0.is_placed.for_block (path_of l v ok carries.0.is_placed.for_block here))
-    by_phase v phase.LoadLeaf is bare ok carries to = in_device _ to (λ dev. loads_leaf dev v carries.2.at is carries.2.block_is carries.2.inside)
-    by_phase v phase.LoadedLeaf is bare ok carries to = in_home v ok to (λ l here. let goes = goes_some v carries.0.held.turn.is_placed.for_block in (_, _, _, steps.serves (LogicalServes.leafed goes.0 is goes.1 refl refl refl)))
-    by_phase v phase.Claim is bare ok carries to = in_physical _ to (λ p. claims p v p.free refl is)
-    by_phase v phase.Store is bare ok carries to = in_device _ to (λ dev. stores_by dev v v.new is refl carries.2)
-    by_phase v phase.Enter is bare ok carries to = in_journal _ to (λ j lists. enters j v is)
-    by_phase v phase.Settle is bare ok carries to = in_home v ok to (λ l here. (_, _, _, steps.serves (LogicalServes.settles is bare refl refl refl)))
-    by_phase v phase.Load is bare ok carries to = in_device _ to (λ dev. loads_by dev v v.old is refl carries.1)
-    by_phase v phase.Loaded is bare ok carries to = in_home v ok to (λ l here. (_, _, _, steps.serves (LogicalServes.gives is refl refl refl)))
-    by_phase v phase.AbortClaim is bare ok carries to = in_physical _ to (λ p. (_, _, _, steps.takes (PhysicalServes.aborts_claim is refl refl refl)))
-    by_phase v phase.Abort is bare ok carries to = in_home v ok to (λ l here. (_, _, _, steps.serves (LogicalServes.aborts is bare refl refl refl)))
-    by_phase v phase.AbortEnteredClaim is bare ok carries to = in_physical _ to (λ p. (_, _, _, steps.takes (PhysicalServes.aborts_entered_claim is refl refl refl)))
-    by_phase v phase.AbortEntered is bare ok carries to = in_home v ok to (λ l here. (_, _, _, steps.serves (LogicalServes.aborts_entered is bare refl refl refl)))
-    by_phase v phase.Flush is bare ok carries to = in_device _ to (λ dev. flushes dev v is)
-    by_phase v phase.Reply is bare ok carries to = in_desk _ to (λ desk. replies desk v v.answer refl is carries)
-    by_phase v other is bare ok carries to = absurd (omega (arith, to, there))
+    by_phase : (v : Vio) (q : Phase) → v.phase ≡ q → v.page ≡ None → VioOk s t v → CarriesOwn s t v q → n ≡ zone_at s.sizes v.home q → HasClaim s (row q).claims v.claim v.new → AreCounted (item.Request v) → Has (item.Request v)
+    by_phase v phase.Arrive is bare ok carries to claim held = in_home v ok to (λ l here. arrives l v is)
+    by_phase v phase.Look is bare ok carries to claim held = in_home v ok to (λ l here. looks l v is carries.0.is_placed.for_block (path_of l v ok carries.0.is_placed.for_block here))
+    by_phase v phase.LoadLeaf is bare ok carries to claim held = in_device _ to (λ dev. loads_leaf dev v carries.2.at is carries.2.block_is carries.2.inside)
+    by_phase v phase.LoadedLeaf is bare ok carries to claim held = in_home v ok to (λ l here. let goes = goes_some v carries.0.held.turn.is_placed.for_block in (_, _, _, steps.serves (LogicalServes.leafed goes.0 is goes.1 refl refl refl)))
+    by_phase v phase.Claim is bare ok carries to claim held = in_physical _ to (λ p keeps here. claims p v is)
+    by_phase v phase.Store is bare ok carries to claim held = in_device _ to (λ dev. stores_by dev v v.new is refl carries.2 (claim.on_data refl))
+    by_phase v phase.Enter is bare ok carries to claim held = in_journal _ to (λ j lists. enters j v is)
+    by_phase v phase.Count is bare ok carries to claim held = counts_by v is carries.3 claim held to
+    by_phase v phase.Settle is bare ok carries to claim held = in_home v ok to (λ l here. settles l v is bare)
+    by_phase v phase.Load is bare ok carries to claim held = in_device _ to (λ dev. loads_by dev v v.old is refl carries.1)
+    by_phase v phase.Loaded is bare ok carries to claim held = in_home v ok to (λ l here. (_, _, _, steps.serves (LogicalServes.gives is refl refl refl)))
+    by_phase v phase.AbortClaim is bare ok carries to claim held = drops_by v is claim held to
+    by_phase v phase.Abort is bare ok carries to claim held = in_home v ok to (λ l here. (_, _, _, steps.serves (LogicalServes.aborts is bare refl refl refl)))
+    by_phase v phase.AbortEnteredClaim is bare ok carries to claim held = in_physical _ to (λ p keeps here. (_, _, _, steps.takes (PhysicalServes.spends is refl refl refl)))
+    by_phase v phase.AbortEntered is bare ok carries to claim held = in_home v ok to (λ l here. (_, _, _, steps.serves (LogicalServes.aborts_entered is bare refl refl refl)))
+    by_phase v phase.Flush is bare ok carries to claim held = in_device _ to (λ dev. flushes dev v is)
+    by_phase v phase.Reply is bare ok carries to claim held = in_desk _ to (λ desk. replies desk v v.answer refl is carries)
+    by_phase v other is bare ok carries to claim held = absurd (omega (arith, to, there))
 
     -- one that makes a page
-    by_page : (v : Vio) (page : PageId) (q : Phase) → v.phase ≡ q → v.page ≡ Some page → VioOk s t v → CarriesPage s t v page q → n ≡ zone_at s.sizes v.home q → Has (item.Request v)
-    by_page v page phase.Claim is some ok carries to = in_physical _ to (λ p. claims p v p.free refl is)
-    by_page v page phase.Store is some ok carries to = in_device _ to (λ dev. stores_by dev v v.new is refl carries.2)
-    by_page v page phase.Enter is some ok carries to = in_journal _ to (λ j lists. enters j v is)
-    by_page v page phase.Settle is some ok carries to = in_home v ok to (λ l here. links l v page is some ok carries here)
-    by_page v page phase.AbortClaim is some ok carries to = in_physical _ to (λ p. (_, _, _, steps.takes (PhysicalServes.aborts_claim is refl refl refl)))
-    by_page v page phase.Abort is some ok carries to = in_home v ok to (λ l here. (_, _, _, steps.serves (LogicalServes.unmakes page is some refl refl refl)))
-    by_page v page phase.AbortEnteredClaim is some ok carries to = in_physical _ to (λ p. (_, _, _, steps.takes (PhysicalServes.aborts_entered_claim is refl refl refl)))
-    by_page v page phase.AbortEntered is some ok carries to = in_home v ok to (λ l here. (_, _, _, steps.serves (LogicalServes.drops page is some refl refl refl)))
-    by_page v page phase.Pending is some ok carries to = absurd (omega (arith, to, there))
-    by_page v page other is some ok carries to = absurd carries
+    by_page : (v : Vio) (page : PageId) (q : Phase) → v.phase ≡ q → v.page ≡ Some page → VioOk s t v → CarriesPage s t v page q → n ≡ zone_at s.sizes v.home q → HasClaim s (row q).claims v.claim v.new → AreCounted (item.Request v)
+        → Has (item.Request v)
+    by_page v page phase.Claim is some ok carries to claim held = in_physical _ to (λ p keeps here. claims p v is)
+    by_page v page phase.Store is some ok carries to claim held = in_device _ to (λ dev. stores_by dev v v.new is refl carries.2 (claim.on_data refl))
+    by_page v page phase.Enter is some ok carries to claim held = in_journal _ to (λ j lists. enters j v is)
+    by_page v page phase.Count is some ok carries to claim held = counts_by v is carries.1 claim held to
+    by_page v page phase.Settle is some ok carries to claim held = in_home v ok to (λ l here. links l v page is some ok carries here)
+    by_page v page phase.AbortClaim is some ok carries to claim held = drops_by v is claim held to
+    by_page v page phase.Abort is some ok carries to claim held = in_home v ok to (λ l here. (_, _, _, steps.serves (LogicalServes.unmakes page is some refl refl refl)))
+    by_page v page phase.AbortEnteredClaim is some ok carries to claim held = in_physical _ to (λ p keeps here. (_, _, _, steps.takes (PhysicalServes.spends is refl refl refl)))
+    by_page v page phase.AbortEntered is some ok carries to claim held = in_home v ok to (λ l here. (_, _, _, steps.serves (LogicalServes.drops page is some refl refl refl)))
+    by_page v page phase.Pending is some ok carries to claim held = absurd (omega (arith, to, there))
+    by_page v page other is some ok carries to claim held = absurd carries
 
-    by_both : (v : Vio) (o : Option PageId) → v.page ≡ o → VioOk s t v → CarriesFor s t v v.phase o → n ≡ zone_at s.sizes v.home v.phase → Has (item.Request v)
-    by_both v None bare ok carries to = by_phase v v.phase refl bare ok carries to
-    by_both v (Some page) some ok carries to = by_page v page v.phase refl some ok carries to
+    by_both : (v : Vio) (o : Option PageId) → v.page ≡ o → VioOk s t v → CarriesFor s t v v.phase o → n ≡ zone_at s.sizes v.home v.phase → ClaimOk s v → AreCounted (item.Request v) → Has (item.Request v)
+    by_both v None bare ok carries to claim held = by_phase v v.phase refl bare ok carries to claim held
+    by_both v (Some page) some ok carries to claim held = by_page v page v.phase refl some ok carries to claim held
 
     -- a sealed block, by its stage
     by_stage : (b : SealedBlock) (q : Stage) → b.stage ≡ q → StandsAt s t b.vios b.sequence q → n ≡ zone_of_stage s.sizes q → Has (item.Block b)
@@ -335,23 +439,35 @@ module _ (s : Session) (session : IsSession s) (t : Trace) where
     by_kind (at.Journal j) here few = (_, _, _, steps.enters_notice)
     by_kind other here few = absurd (omega (arith, here.number_is, few))
 
-    item_rule : (it : Item) → ItemOk s t n it → Has it
-    item_rule (item.Request v) ok = by_both v v.page refl ok.0 ok.1 ok.2
-    item_rule (item.Block b) ok = by_stage b b.stage refl ok.0.1 ok.1
-    item_rule item.StopNotice ok = by_kind d own ok.1
+    item_rule : (it : Item) → ItemOk s t n it → AreCounted it → Has it
+    item_rule (item.Request v) ok held = by_both v v.page refl ok.0 ok.1 ok.2 ok.3 held
+    item_rule (item.Decrement e) ok held = in_physical (item.Decrement e) ok.1 (λ p keeps here. updates_it p here ok.0.block ok.0.is_data e ok.0.old_is)
+    item_rule (item.Report e) ok held =
+        let zone = zone_of s.sizes.zones e.at.0 in
+        in_kind at.Logical (logical_number zone) (item.Report e) ok.1 (logical_keeps s t zone (zone_below s.sizes.zones e.at.0 session.zones)) (λ l here. hears l e)
+    item_rule (item.Damage damage) ok held = in_device (item.Damage damage) ok.1 (λ dev. (_, _, _, steps.halts (record { new_is = refl; made_is = refl; posts_are = refl })))
+    item_rule (item.Block b) ok held = by_stage b b.stage refl ok.0.1 ok.1
+    item_rule item.StopNotice ok held = by_kind d own ok.1
 
 module _ (s : Session) (session : IsSession s) (core : Core) (legal : Legal s core) (n : ℕ) (z : Zone) (had : slice_get core.zones n ≡ Some z) where
   pub has_rule : (front : Item) (rest : List Item) → z.ports.inbox ≡ front ∷ rest → HasAct s.sizes z.keeps (front ∷ [])
   has_rule front rest taken =
       let ok = legal.each n z had in
-      item_rule s session core.trace n z.keeps ok.own (subst (λ (k : ℕ). n < k) legal.count (slice_get_within core.zones n z had)) front
-      (subst (λ (items : List Item). AllByRecursion (ItemOk s core.trace n) items) taken ok.inbox).0
+      item_rule s session core.trace legal.right n z.keeps ok.own (subst (λ (k : ℕ). n < k) legal.count (slice_get_within core.zones n z had)) front
+      (subst (λ (items : List Item). AllByRecursion (ItemOk s core.trace n) items) taken ok.inbox).0 held
+    where
+      -- its claim is counted in the zone that counts
+      held : (p : PhysicalZone) → z.keeps ≡ at.Physical p → (x : Pbn) → 1 ≤ (claim_token x).item front → 0 < claims_in x p.counts.slabs
+      held p keeps x some =
+          let here = total-get (weight (claim_token x)) core.zones n z had in
+          let inbox = ap (total (claim_token x).item) taken in
+          held_counted_there s core legal x n z p had keeps (omega (arith, some, here, inbox))
 
   pub has_begin : MayBegin s.sizes z.keeps → HasAct s.sizes z.keeps []
   has_begin may = by_kind z.keeps (legal.each n z had).own may
     where
       by_kind : (d : ZoneData) → DataOk s core.trace n d → MayBegin s.sizes d → HasAct s.sizes d []
-      by_kind (at.Desk desk) own begins = desk_starts s session core.trace n desk own begins
+      by_kind (at.Desk desk) own begins = desk_starts s session core.trace legal.right n desk own begins
       by_kind other own begins = absurd begins
 
   -- the posts of an act are those of a step, and each of these has a lane

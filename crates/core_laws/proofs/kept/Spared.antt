@@ -1,14 +1,16 @@
 -- Facts on the trace stay where the next happening is about something else.
 use Rattle.std.proofs.Common.{◌≡◌, ◌≢◌, ◌⊎◌, ℕ, zero, suc, ◌+◌, ◌<◌, ◌==◌, Bool, true, false, not, ◌&&◌, ◌||◌, if◌then◌else◌, Option, None, Some, IsSome, List, [], ◌∷◌, ◌≤◌, length, Contains, refl, ap, sym, ◌∙◌, inl, inr, arith}
 use Rattle.disk_model.specs.declared.call.Call.TheVariants.{Read}
-use Rattle.core_laws.proofs.Common.{Aborts, AllBelow, Calls, Commits, DeskLine, Draws, Enters, Fails, Flushes, FlushMark, Gives, Happening, HasBelow, IsCommitted, HasFullJournal, IsFull, IsOpen, IsPending, Logged, Makes, Pbn, Remapping, Remaps, NeedsBlock, Quiet, Says, Seals, Session, Sets, Takes, Trace, Writer, aborted, begun, committed, done, dropped, entered, eqb_tells, gift_of, gifts, has_read_fault, has_stopped, has_taken, is_read, lines, logged_of, moments, newest, of_address, place_of, places, remappings, request_in, same_self, same_writer, taken, value_at, Passes, applied, durable, journaled, passed, mapped_or, mapping_by, opened_at, Harms, is_harmed}
+use Rattle.core_laws.proofs.Common.{Aborts, AllBelow, Calls, Adds, Commits, DeskLine, Draws, Drops, Enters, Fails, Flushes, FlushMark, Gives, Happening, Hears, HasBelow, IsCommitted, HasFullJournal, IsOpen, IsPending, Logged, Makes, Pbn, Remapping, Remaps, Removes, Strays, NeedsBlock, Quiet, Says, Seals, Session, Sets, Takes, Trace, Writer, aborted, begun, committed, done, dropped, entered, eqb_tells, gift_of, gifts, has_read_fault, has_stopped, has_taken, is_read, lines, logged_of, moments, newest, of_address, place_of, places, remappings, request_in, same_self, same_writer, value_at, Passes, applied, durable, journaled, passed, mapped_or, mapping_by, opened_at, Harms, is_harmed}
 use Rattle.core_laws.proofs.lists.Between.{address_between, every_between, logged_between}
 use Rattle.blk_base.specs.declared.request.Answer.TheVariants as reply
 use Rattle.vdo_model.specs.FlushMarks.{Moment, Desk, Device, IsMark}
 use Rattle.vdo_model.specs.declared.report.DeskLine.TheVariants.{Begin, Answer}
 use Rattle.blk_base.specs.declared.place.PageId.{PageId}
 use Rattle.image_model.specs.Pages.{is_page, leaf_of}
-use Rattle.core_model.specs.RightTraces.{IsLeafy, IsLinkedAt}
+use Rattle.core_model.specs.RightTraces.{HadNoFree, HearingMayFollow, IsLeafy, IsLinkedAt, IsReported}
+use Rattle.core_model.specs.Trace.{added, removed, strayed}
+use Rattle.vdo_model.specs.declared.report.Damage.{Damage}
 use Rattle.core_model.specs.PageLinks.{IsThere, page_in}
 
 -- What a happening is about: a request, an address, a page of the block map.
@@ -47,6 +49,7 @@ about (Gives g) = about_both g.request g.at.0
 about (Aborts e) = record { request = Some (request_in e); address = None; page = page_named e }
 about (Passes e) = about_both e.request e.at.0
 about (Takes w page x) = about_request w
+about (Drops w x) = about_request w
 about other = record { request = None; address = None; page = None }
 
 abbrev pub OffRequest : Option Writer → Writer → Type 0
@@ -239,6 +242,7 @@ either false = refl
 pub stop_kept : (h : Happening) (t : Trace) → has_stopped t ≡ true → has_stopped (h ∷ t) ≡ true
 stop_kept (Fails w c kept) t is = rw is (either (not (is_read c)))
 stop_kept (Harms w x bytes fault) t is = refl
+stop_kept (Hears damage) t is = refl
 stop_kept other t is = is
 
 pub fault_kept : (h : Happening) (t : Trace) (w : Writer) → has_read_fault t w ≡ true → has_read_fault (h ∷ t) w ≡ true
@@ -257,19 +261,31 @@ pub journal_full_kept : (s : Session) (h : Happening) (t : Trace) → HasFullJou
 journal_full_kept s Seals t full = omega (arith, full)
 journal_full_kept s other t full = full
 
-taken_kept : (s : Session) (h : Happening) (t : Trace) → length s.free ≤ taken t → length s.free ≤ taken (h ∷ t)
-taken_kept s (Takes w page x) t all = omega (arith, all)
-taken_kept s other t all = all
+-- and that no data block was free at one moment
+pub no_free_kept : (s : Session) (h : Happening) (t : Trace) (w : Writer) → HadNoFree s t w → HadNoFree s (h ∷ t) w
+no_free_kept s h t w k = record { newer = h ∷ k.newer; older = k.older; moment = ap (λ (u : Trace). h ∷ u) k.moment; placed = k.placed; none_free = k.none_free }
+
+-- what was counted is so from then on
+pub added_has : (h : Happening) (t : Trace) (e : Logged) → Contains (added t) e → Contains (added (h ∷ t)) e
+added_has (Adds f) t e has = contains_more f (added t) e has
+added_has other t e has = has
+
+pub reported_kept : (h : Happening) (t : Trace) (e : Remapping) → IsReported t e → IsReported (h ∷ t) e
+reported_kept (Removes f) t e (inl has) = inl (contains_more f (removed t) e has)
+reported_kept (Strays f) t e (inr has) = inr (contains_more f (strayed t) e has)
+reported_kept other t e (inl has) = inl has
+reported_kept other t e (inr has) = inr has
+
+pub hearing_kept : (h : Happening) (t : Trace) (damage : Damage) → HearingMayFollow damage t → HearingMayFollow damage (h ∷ t)
+hearing_kept h t damage k = record { entry = k.entry; strays = strays h k.strays; block = k.block; old_is = k.old_is; damage_is = k.damage_is }
+  where
+    strays : (h : Happening) → Contains (strayed t) k.entry → Contains (strayed (h ∷ t)) k.entry
+    strays (Strays f) has = contains_more f (strayed t) k.entry has
+    strays other has = has
 
 -- and a write that took none needs one, where it takes none then
 pub needs_kept : (h : Happening) (t : Trace) (w : Writer) (bytes : List ℕ) → has_taken (h ∷ t) w ≡ has_taken t w → NeedsBlock t w bytes → NeedsBlock (h ∷ t) w bytes
 needs_kept h t w bytes same needs = record { not_zeros = needs.not_zeros; none_taken = same ∙ needs.none_taken }
-
-pub full_kept : (s : Session) (h : Happening) (t : Trace) (w : Writer) (a : ℕ) (bytes : List ℕ) → has_taken (h ∷ t) w ≡ has_taken t w → IsFull s t w a bytes → IsFull s (h ∷ t) w a bytes
-full_kept s h t w a bytes same (inl journal) = inl (journal_full_kept s h t journal)
-full_kept s h t w a bytes same (inr (inl block)) = inr (inl (needs_kept h t w bytes same block.0, taken_kept s h t block.1))
-full_kept s h t w a bytes same (inr (inr page)) =
-    inr (inr (record { newer = h ∷ page.newer; older = page.older; moment = ap (λ (u : Trace). h ∷ u) page.moment; placed = page.placed; lacking = page.lacking; all_taken = page.all_taken }))
 
 -- what an address is mapped to, by the writes of it
 pub mapping_same : (s : Session) (es fs : List Logged) (a : ℕ) → of_address a (remappings es) ≡ of_address a (remappings fs) → mapping_by s es a ≡ mapping_by s fs a

@@ -1,6 +1,6 @@
 -- Each number has its kind of zone, and what is given out once is given out by one zone.
 use Rattle.std.proofs.Common.{◌≡◌, ℕ, zero, suc, ◌<◌, ◌≤◌, List, [], ◌∷◌, length, Some, slice_get, refl, arith}
-use Rattle.core_laws.proofs.Common.{DataOk, Each, Session, Trace, Zone, ZoneData, ZoneOk, block_token, desk_number, device_number, given, journal_token, journal_number, logical_number, notified_by, one_journal, one_physical, physical_number, total, total_zero, zone_count}
+use Rattle.core_laws.proofs.Common.{DataOk, Each, Session, Trace, Zone, ZoneData, ZoneOk, desk_number, device_number, given, journal_token, journal_number, logical_number, notified_by, one_journal, physical_number, total, total_zero, zone_count}
 use Rattle.core_model.specs.declared.zones.ZoneData.TheVariants as at
 
 -- what stands at a number below the length
@@ -59,22 +59,15 @@ module _ (s : Session) (t : Trace) where
   one_journal_at n (at.Journal j) ok = (omega arith, λ ne. absurd (ne ok.number_is))
   one_journal_at n other ok = (omega arith, λ ne. refl)
 
-  one_physical_at : (n : ℕ) (d : ZoneData) → DataOk s t n d → (one_physical d ≤ 1) × ((n ≡ physical_number s.sizes → ⊥) → one_physical d ≡ 0)
-  one_physical_at n (at.Physical p) ok = (omega arith, λ ne. absurd (ne ok.number_is))
-  one_physical_at n other ok = (omega arith, λ ne. refl)
-
   -- the stop notices are given out at the device alone
   pub no_words : (n : ℕ) (d : ZoneData) → (n ≡ device_number s.sizes → ⊥) → DataOk s t n d → notified_by s.sizes d ≡ 0
   no_words n (at.Device d) ne ok = absurd (ne ok.number_is)
   no_words n other ne ok = refl
 
   module _ (zones : List Zone) (each : Each (ZoneOk s t) zones) where
-    -- of the journal and of each block at most one is given out
+    -- of the journal at most one is given out
     pub journal_once : total (given journal_token) zones ≤ 1
     journal_once = total_once (given journal_token) zones (journal_number s.sizes) (λ n z had. one_journal_at n z.keeps (each n z had).own)
-
-    pub block_once : (x : ℕ) → total (given (block_token x)) zones ≤ 1
-    block_once x = total_once (given (block_token x)) zones (physical_number s.sizes) (λ n z had. one_physical_at n z.keeps (each n z had).own)
 
     -- a zone at a number that keeps data of a kind
     pub record Sits {X : Type 0} (make : X → ZoneData) (n : ℕ) : Type 0 where
@@ -92,6 +85,9 @@ module _ (s : Session) (t : Trace) where
 
       pub desk_sits : Sits at.Desk desk_number
       desk_sits = sits at.Desk desk_number (omega arith) desk_keeps
+
+      pub physical_sits : Sits at.Physical (physical_number s.sizes)
+      physical_sits = sits at.Physical (physical_number s.sizes) (omega arith) physical_keeps
 
       pub journal_sits : Sits at.Journal (journal_number s.sizes)
       journal_sits = sits at.Journal (journal_number s.sizes) (omega arith) journal_keeps

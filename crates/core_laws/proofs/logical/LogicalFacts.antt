@@ -1,12 +1,12 @@
 -- What the acts of a logical zone owe: a request draws its place, and is done with its lock.
-use Rattle.std.proofs.Common.{◌≡◌, ℕ, ◌+◌, ◌==◌, ◌≢◌, ◌⊎◌, ◌&&◌, Bool, true, false, not, if◌then◌else◌, Option, None, Some, is_some, length, length-append, IsNone, List, [], ◌∷◌, ◌++◌, refl, ap, sym, ◌∙◌, inl, inr, arith, ◌<◌, IsSome, subst}
+use Rattle.std.proofs.Common.{◌≡◌, Contains, ℕ, ◌+◌, ◌==◌, ◌≢◌, ◌⊎◌, ◌&&◌, Bool, true, false, not, if◌then◌else◌, Option, None, Some, is_some, length, length-append, IsNone, List, [], ◌∷◌, ◌++◌, refl, ap, sym, ◌∙◌, inl, inr, arith, ◌<◌, IsSome, subst}
 use Rattle.std.proofs.lemmas.Bool.{and_parts, cases_Bool}
-use Rattle.core_laws.proofs.Common.{Aborts, Entry, IsInTurn, Mapping, Passes, applied, durable, has_taken, journaled, newest, of_address, option_cases, passed, remappings, AllBelow, AllByRecursion, Asks, DataOk, DeskLine, Draws, FlushMark, Follows, Gives, GivesRight, Happening, HasAddress, HasEarned, IsChange, IsCommitted, IsEntered, IsFair, IsForBlock, IsFresh, IsOfZone, IsPlaced, IsUndrawn, KeptEach, KeptOk, Lba, Lock, LocksOk, Remapping, LogicalZone, Looks, MayReply, OnBlock, Pbn, Phase, Placed, PlaceMayFollow, Post, Quiet, RightTrace, Session, Sets, Trace, Vio, VioOk, Writer, aborted, answer_of, asked, before_begin, done, ended, eq-eqb, eqb_tells, every-append, every-map, fair_before, gift, gift_of, gifts, has_stopped, holds, lines, logged_of, logical_number, places, request_at, same_self, same_writer, some_is, turned, value_at, zone_number, zone_of, Remaps, remapping, mapped_or, mapping_by, opened_at, IsToData, zone_count, same_Some, Holds, each_both}
+use Rattle.core_laws.proofs.Common.{Aborts, Entry, IsInTurn, Mapping, Passes, applied, durable, has_taken, journaled, newest, of_address, option_cases, passed, remappings, AllBelow, AllByRecursion, Asks, DataOk, DeskLine, Draws, FlushMark, Follows, Gives, GivesRight, Happening, HasAddress, HasEarned, IsChange, IsCommitted, IsEntered, IsFair, IsForBlock, IsOfZone, IsPlaced, IsUndrawn, KeptEach, KeptOk, Lba, Lock, LocksOk, Remapping, LogicalZone, Looks, MayReply, OnBlock, Pbn, Phase, Placed, PlaceMayFollow, Post, Quiet, RightTrace, Session, Sets, Trace, Vio, VioOk, Writer, aborted, answer_of, asked, before_begin, done, ended, eq-eqb, eqb_tells, every-append, every-map, fair_before, gift, gift_of, gifts, has_stopped, holds, lines, logged_of, logical_number, places, request_at, same_self, same_writer, some_is, turned, value_at, zone_number, zone_of, Remaps, remapping, mapped_or, mapping_by, opened_at, IsToData, zone_count, same_Some, Holds, each_both}
 use Rattle.data_vio.specs.declared.items.Asks.TheVariants.{Read, Write, Discard, Flush}
 use Rattle.core_model.specs.Legal.{ComesAfter}
 use Rattle.core_model.specs.LogicalRules.{is_among, is_held, lock_of, placed, place_of_vio, drawn_by, goes_on, is_discard, known_at, known_by, lacks, latest_at, looked, pass_of, passes_by, looks_up, released, granted, retire, all_stopped, all_for, with_slot}
 use Rattle.core_laws.proofs.trace.DeskOfTrace.{each_of_address, of_address_append, shown_of}
-use Rattle.core_laws.proofs.kept.ActKept.{Known, Mine, ActKept, act_one, own_request, plain_clears, line_kept, shown_plain, vio_over, IsPlain, act_none, own_address, vio_ok, in_bare, in_own, carries_own}
+use Rattle.core_laws.proofs.kept.ActKept.{Known, Mine, ActKept, act_one, claim_in, own_request, plain_clears, line_kept, shown_plain, vio_over, IsPlain, act_none, own_address, vio_ok, in_bare, in_own, carries_own}
 use Rattle.core_laws.proofs.kept.Keys.{Clears, OfRequest, OfAddress, OfPage, IfAny, happens_in}
 use Rattle.core_laws.proofs.kept.Spared.{quiet_kept, below_kept, about, of_same}
 use Rattle.core_laws.proofs.logical.LockLaws.{more_drawn, one_waits, one_takes}
@@ -27,7 +27,15 @@ use Rattle.core_laws.proofs.lists.Between.{every_between}
 use Rattle.core_laws.proofs.logical.PageFacts.{has_leaf, lacks_some, leaf_lacks, leaf_linked, same_tree}
 use Rattle.core_laws.proofs.trace.PagesOfTrace.{applied_leafy, linked_stands, newest_leafy}
 use Rattle.blk_base.specs.declared.place.PageId.{PageId}
+use Rattle.blk_base.specs.Regions.{IsDataBlock}
 use Rattle.core_model.specs.RightTraces.{IsLeafy}
+use Rattle.core_model.specs.Trace.{added}
+use Rattle.core_laws.proofs.kept.Frame.{reports_on}
+use Rattle.core_laws.proofs.logical.ReportFacts.{came, left_ok, waits_still}
+use Rattle.core_model.specs.LogicalRules.{awaits_report, is_reported, reports_left, settled, settled_posts}
+use Rattle.core_model.specs.Facts.{AwaitsReport, IsToBlock}
+use Rattle.core_model.specs.PageLinks.{block_in}
+use Rattle.blk_base.specs.declared.place.Mapping.TheVariants.{Zero}
 use Rattle.blk_base.specs.declared.place.Mapping.TheVariants.{Unmapped, Zero, At}
 use Rattle.core_model.specs.DeskRules.{mark_of_vio}
 use Rattle.core_laws.proofs.kept.Frame.{told_kept}
@@ -140,9 +148,10 @@ module _ {s : Session} {t : Trace} {n : ℕ} {l : LogicalZone} {v : Vio} (known 
             slots_are = k.lists.slots_are;
             below = λ a zone. below_more t' a l.next (l.next + 1) (omega arith) (below_kept (Draws p) t a l.next tt (k.lists.below a zone));
             tree_is = k.lists.tree_is;
+            reports_are = reports_on s (Draws p) t l.zone l.reported k.lists.reports_are;
           };
-          sound = record { among = k.sound.among; map = k.sound.map; locks = locks; pages = k.sound.pages };
-          kept = (kept, others_kept.1);
+          sound = record { among = k.sound.among; map = k.sound.map; locks = locks; pages = k.sound.pages; reports = k.sound.reports };
+          kept = (kept, others_kept.1, others_kept.2);
           answers = ((λ a zone free alive. quiet' a zone (free_before a free) alive), k.answers.1);
           told = ((λ a retired. ((k.told.0 a retired).0, has_below_more a l.next (l.next + 1) (aborted t) (omega arith) (k.told.0 a retired).1)), k.told.1);
         }
@@ -156,13 +165,13 @@ module _ {s : Session} {t : Trace} {n : ℕ} {l : LogicalZone} {v : Vio} (known 
     pub retired_kept : is_among v.at.0 l.retired ≡ true → ActKept s t n (at.Logical l) (item.Request v ∷ []) (at.Logical (drawn_by l v)) (Draws p ∷ []) ((id.Desk, item.Request (ended phase.Reply reply.Stopped v')) ∷ [])
     retired_kept retired =
         let stopped = known.own.told.0 v.at.0 retired in
-        act_one known (Draws p) clears gives_same right' (drawn_ok l.held l.waiting (more_drawn s l.zone l.next l.held l.waiting known.own.sound.locks) others_wait (λ a free. free)) (stopped_ok s t' v' right' stopped.0 stopped.1 placed_ok bare is_placed, tt)
+        act_one known (Draws p) clears gives_same right' (drawn_ok l.held l.waiting (more_drawn s l.zone l.next l.held l.waiting known.own.sound.locks) others_wait (λ a free. free)) (stopped_ok s t' v' right' stopped.0 stopped.1 placed_ok bare is_placed (claim_in known phase.Arrive arrives), tt)
 
     pub held_kept : is_held v.at.0 l.held ≡ true → ActKept s t n (at.Logical l) (item.Request v ∷ []) (at.Logical (record (drawn_by l v) { waiting = l.waiting ++ turned phase.Wait v' ∷ [] })) (Draws p ∷ []) []
     held_kept held =
         let w : Vio = turned phase.Wait v' in
         act_one known (Draws p) clears gives_same right'
-        (drawn_ok l.held (l.waiting ++ w ∷ []) (one_waits s l.zone l.next l.held l.waiting known.own.sound.locks w home_is refl held) (every-append (KeptOk s t' phase.Wait) l.waiting (w ∷ []) others_wait ((placed_ok, carries_own s t' w phase.Wait bare (is_placed, unplaced.none_taken), refl), tt)) (λ a free. free)) tt
+        (drawn_ok l.held (l.waiting ++ w ∷ []) (one_waits s l.zone l.next l.held l.waiting known.own.sound.locks w home_is refl held) (every-append (KeptOk s t' phase.Wait) l.waiting (w ∷ []) others_wait ((placed_ok, carries_own s t' w phase.Wait bare (is_placed, unplaced.none_taken), refl, claim_in known phase.Arrive arrives), tt)) (λ a free. free)) tt
 
     pub free_kept : is_among v.at.0 l.retired ≡ false → is_held v.at.0 l.held ≡ false
         → ActKept s t n (at.Logical l) (item.Request v ∷ []) (at.Logical (record (drawn_by l v) { held = lock_of v' ∷ l.held })) (Draws p ∷ []) (looks_up v' ∷ [])
@@ -170,12 +179,12 @@ module _ {s : Session} {t : Trace} {n : ℕ} {l : LogicalZone} {v : Vio} (known 
         act_one known (Draws p) clears gives_same right'
         (drawn_ok (lock_of v' ∷ l.held) l.waiting (one_takes s l.zone l.next l.held l.waiting known.own.sound.locks v' zone_is refl free) others_wait (λ a none. (or_none (v.at.0 == a) (is_held a l.held) none).1)) (
           looks_ok s t' l.zone known.own.sound.among v' placed_ok home_is bare
-              (record { is_placed = is_placed; quiet = quiet' v.at.0 zone_is free alive; below = below_kept (Draws p) t v.at.0 l.next tt (known.own.lists.below v.at.0 zone_is) }) unplaced.none_taken,
+              (record { is_placed = is_placed; quiet = quiet' v.at.0 zone_is free alive; below = below_kept (Draws p) t v.at.0 l.next tt (known.own.lists.below v.at.0 zone_is) }) unplaced.none_taken (claim_in known phase.Arrive arrives),
           tt,
         )
 
 -- a write or a discard that is done, and a read that was given its bytes, may be answered so
-done_earned : (s : Session) (t : Trace) (m : FlushMark) (asks : Asks) (at : Lba) (bytes : List ℕ) → IsChange asks → IsSome (logged_of (done t) m.request) → HasEarned s t m asks (asked asks at bytes) (Some reply.Ok)
+pub done_earned : (s : Session) (t : Trace) (m : FlushMark) (asks : Asks) (at : Lba) (bytes : List ℕ) → IsChange asks → IsSome (logged_of (done t) m.request) → HasEarned s t m asks (asked asks at bytes) (Some reply.Ok)
 done_earned s t m Write at bytes is some = some
 done_earned s t m Discard at bytes is some = some
 done_earned s t m Read at bytes is some = absurd is
@@ -279,7 +288,7 @@ module _ {s : Session} {t : Trace} {n : ℕ} {l : LogicalZone} {v : Vio} (known 
         old_data = known_data (latest_at l v.at.0) (leaf_at l.tree v.at.0) mapping refl knows;
         old_is = known_right (latest_at l v.at.0) (leaf_at l.tree v.at.0) mapping path refl refl knows;
       } in
-      act_none known known.own (goes_ok s t known.session known.right (looked l mapping v) (vio_ok known) carries.0 carries.1.1 held latest_is (λ change. known_leafy v.asks refl change path stays leaf) within post goes, tt)
+      act_none known known.own (goes_ok s t known.session known.right (looked l mapping v) (vio_ok known) carries.0 carries.1.1 held latest_is (λ change. known_leafy v.asks refl change path stays leaf) within (claim_in known phase.Look is) post goes, tt)
 
   -- Or its leaf is read first.
   unknown_unset : (o : Option Remapping) (leaf : Option Pbn) → known_by o leaf ≡ None → o ≡ None
@@ -300,14 +309,14 @@ module _ {s : Session} {t : Trace} {n : ℕ} {l : LogicalZone} {v : Vio} (known 
         unset = newest_none _ (sym latest_is ∙ unknown_unset (latest_at l v.at.0) (leaf_at l.tree v.at.0) unknown);
         latest = refl;
       } in
-      act_none known known.own ((omega arith, (vio_ok known, carries_own s t (reads_leaf x v) phase.LoadLeaf carries.0 (carries.1.0, carries.1.1, needs), refl)), tt)
+      act_none known known.own ((omega arith, (vio_ok known, carries_own s t (reads_leaf x v) phase.LoadLeaf carries.0 (carries.1.0, carries.1.1, needs), refl, claim_in known phase.Look is)), tt)
 
   -- Its leaf said it.
   pub leafed_kept : v.phase ≡ phase.LoadedLeaf → (post : Post) → goes_on v ≡ Some post → After l [] (post ∷ [])
   leafed_kept is post goes =
       let carries = in_bare known phase.LoadedLeaf is (λ page no. no) in
       let has = carries.1.0 in
-      act_none known known.own (goes_ok s t known.session known.right v (vio_ok known) carries.0 carries.1.1 has.held (has.latest ∙ sym (ap newest has.unset)) (λ change. has.leaf) within post goes, tt)
+      act_none known known.own (goes_ok s t known.session known.right v (vio_ok known) carries.0 carries.1.1 has.held (has.latest ∙ sym (ap newest has.unset)) (λ change. has.leaf) within (claim_in known phase.LoadedLeaf is) post goes, tt)
 
   -- Or it passes, a discard of an address of which no slot was set.
   module _ (is : v.phase ≡ phase.Look) (path : HasPath l.tree v.at.0) (passes_it : passes_by l v ≡ true) where
@@ -388,6 +397,7 @@ module _ {s : Session} {t : Trace} {n : ℕ} {l : LogicalZone} {v : Vio} (known 
             slots_are = k.lists.slots_are;
             below = λ a zone. under_pass a l.next (drawn_here phase.Look is refl) (k.lists.below a zone);
             tree_is = k.lists.tree_is;
+            reports_are = reports_on s (Passes gap) t l.zone l.reported k.lists.reports_are;
           };
           sound = k.sound;
           kept = line_kept known (Passes gap) t clears_pass k.kept;
@@ -410,24 +420,27 @@ module _ {s : Session} {t : Trace} {n : ℕ} {l : LogicalZone} {v : Vio} (known 
         let let_go = release_ok s past_t n l known.session right_pass passed_ok v (leased phase.Look is refl) home quiet_pass
         (under_pass v.at.0 (v.place + 1) (omega arith) (below_more t v.at.0 v.place (v.place + 1) (omega arith) turn.0.below)) in
         act_one known (Passes gap) clears_pass (λ f fair. f (fair_before s (Passes gap) t fair)) right_pass let_go.0
-        ((omega arith, (vio_over s (Passes gap) t v refl (vio_ok known), carries_own s past_t (ended phase.Reply reply.Ok v) phase.Reply bare (done_earned s past_t (mark_of_vio v) v.asks v.at v.bytes (changes_it v.asks parts.0) done_pass), refl)), let_go.1)
+        ((omega arith, (vio_over s (Passes gap) t v refl (vio_ok known), carries_own s past_t (ended phase.Reply reply.Ok v) phase.Reply bare (done_earned s past_t (mark_of_vio v) v.asks v.at v.bytes (changes_it v.asks parts.0) done_pass), refl, claim_in known phase.Look is)), let_go.1)
 
   -- Its slot is set.
-  module _ (is : v.phase ≡ phase.Settle) (bare : v.page ≡ None) where
+  module _ (is : v.phase ≡ phase.Settle) (bare : v.page ≡ None) (none : awaits_report l v ≡ false) where
+    abbrev between : LogicalZone
+    between = record l { reported = reports_left v l.reported }
+
     abbrev e : Remapping
     e = remapping v
 
     abbrev set_t : Trace
     set_t = Sets (Remaps e) ∷ t
 
-    facts : IsEntered s t v × IsCommitted t (remapping v) × AllBelow t v.at.0 v.place × OnBlock (IsFresh s) v.new × IsLeafy s t v.at.0
+    facts : IsEntered s t v × IsCommitted t (remapping v) × AllBelow t v.at.0 v.place × OnBlock (λ x. IsDataBlock s.sizes.geometry x.0 × Contains (added t) (Remaps (remapping v))) v.new × IsLeafy s t v.at.0
     facts = in_own known phase.Settle is bare
 
     clears_set : Clears s n (Mine s t (at.Logical l) (item.Request v ∷ [])) (Sets (Remaps e)) t
     clears_set = own_clears (Sets (Remaps e)) tt refl (own_request known) (own_address known phase.Settle is refl) tt
 
     right_set : RightTrace s set_t
-    right_set = (record { is_open = (vio_ok known).is_open; is_committed = facts.1; below = facts.2; unaborted = facts.0.unaborted; leaf = facts.4 }, shown_plain s t (Sets (Remaps e)) tt (shown_of s t known.right), known.right)
+    right_set = (record { is_open = (vio_ok known).is_open; is_committed = facts.1; below = facts.2; unaborted = facts.0.unaborted; leaf = facts.4; counted = on_each v.new (λ x to both. both.1) facts.3; reported = came s t l.zone l.reported v known.right facts.0 known.own.lists.reports_are v.old none }, shown_plain s t (Sets (Remaps e)) tt (shown_of s t known.right), known.right)
 
     quiet_set : Quiet set_t v.at.0
     quiet_set = record { all_committed = facts.1.all_committed; all_done = facts.1.last ∙ sym (of_same e (done t)) }
@@ -438,10 +451,10 @@ module _ {s : Session} {t : Trace} {n : ℕ} {l : LogicalZone} {v : Vio} (known 
         record { writes = ((λ same. omega arith), more.writes); reads = more.reads }
 
     data_set : IsToData s v.new
-    data_set = on_each v.new (λ x to fresh. fresh.is_data) facts.3
+    data_set = on_each v.new (λ x to both. both.0) facts.3
 
     -- the zone with the slot set, and its lock still held
-    slot_ok : DataOk s set_t n (at.Logical (with_slot l v))
+    slot_ok : DataOk s set_t n (at.Logical (with_slot between v))
     slot_ok =
         let k = known.own in
         record {
@@ -452,8 +465,9 @@ module _ {s : Session} {t : Trace} {n : ℕ} {l : LogicalZone} {v : Vio} (known 
             slots_are = λ a zone. rw (k.lists.slots_are a zone) refl;
             below = λ a zone. let old = k.lists.below a zone in record { writes = ((λ same. drawn_here phase.Settle is refl), old.writes); reads = old.reads };
             tree_is = same_tree s l.zone l.tree t set_t (λ page. refl) k.lists.tree_is;
+            reports_are = reports_on s (Sets (Remaps e)) t l.zone (reports_left v l.reported) (left_ok s t l.zone l.reported v k.lists.reports_are);
           };
-          sound = record { among = k.sound.among; map = (data_set, k.sound.map); locks = k.sound.locks; pages = k.sound.pages };
+          sound = record { among = k.sound.among; map = (data_set, k.sound.map); locks = k.sound.locks; pages = k.sound.pages; reports = waits_still l.zone l.reported v l.settling k.sound.reports };
           kept = line_kept known (Sets (Remaps e)) t clears_set k.kept;
           answers = (
             λ a zone free alive. elim (eqb_tells v.at.0 a) [
@@ -465,11 +479,37 @@ module _ {s : Session} {t : Trace} {n : ℕ} {l : LogicalZone} {v : Vio} (known 
           told = k.told;
         }
 
-    pub settles_kept : After (released v.at.0 (with_slot l v)) (Sets (Remaps e) ∷ []) ((id.Desk, item.Request (ended phase.Reply reply.Ok v)) ∷ granted v.at.0 l)
+    pub settles_kept : After (settled between v) (Sets (Remaps e) ∷ []) (settled_posts l v)
     settles_kept =
-        let both = release_ok s set_t n (with_slot l v) known.session right_set slot_ok v (leased phase.Settle is refl) home quiet_set below_set in
+        let both = release_ok s set_t n (with_slot between v) known.session right_set slot_ok v (leased phase.Settle is refl) home quiet_set below_set in
         act_one known (Sets (Remaps e)) clears_set (λ f fair. f (fair_before s (Sets (Remaps e)) t fair)) right_set both.0
-        ((omega arith, (vio_over s (Sets (Remaps e)) t v refl (vio_ok known), carries_own s set_t (ended phase.Reply reply.Ok v) phase.Reply bare (done_earned s set_t (mark_of_vio v) v.asks v.at v.bytes facts.0.is_change (rw (same_self v.request) (some_is (Some e) e refl))), refl)), both.1)
+        ((omega arith, (vio_over s (Sets (Remaps e)) t v refl (vio_ok known), carries_own s set_t (ended phase.Reply reply.Ok v) phase.Reply bare (done_earned s set_t (mark_of_vio v) v.asks v.at v.bytes facts.0.is_change (rw (same_self v.request) (some_is (Some e) e refl))), refl, claim_in known phase.Settle is)), both.1)
+
+  -- Or it waits for the report of its decrement.
+  pub awaits_kept : v.phase ≡ phase.Settle → v.page ≡ None → awaits_report l v ≡ true → After (record l { settling = l.settling ++ v ∷ [] }) [] []
+  awaits_kept is bare waits =
+      let k = known.own in
+      let both = awaits_by v.old (is_reported v.request l.reported) waits in
+      act_none known (record {
+        number_is = k.number_is;
+        lists = k.lists;
+        sound = record {
+          among = k.sound.among;
+          map = k.sound.map;
+          locks = k.sound.locks;
+          pages = k.sound.pages;
+          reports = every-append (AwaitsReport l.zone l.reported) l.settling (v ∷ []) k.sound.reports (record { at_home = home_is known; own = bare; replaces = both.0; none = both.1 }, tt);
+        };
+        kept = (k.kept.0, k.kept.1, every-append (KeptOk s t phase.Settle) l.settling (v ∷ []) k.kept.2 ((vio_ok known, known.front_ok.0.1, is, known.front_ok.0.3), tt));
+        answers = k.answers;
+        told = k.told;
+      }) tt
+    where
+      awaits_by : (m : Mapping) (b : Bool) → (is_some (block_in m) && not b) ≡ true → IsToBlock m × (b ≡ false)
+      awaits_by (At x) false waits = (tt, refl)
+      awaits_by (At x) true waits = absurd cc
+      awaits_by Unmapped b waits = absurd cc
+      awaits_by Zero b waits = absurd cc
 
   -- It is given its bytes.
   module _ (is : v.phase ≡ phase.Loaded) where
@@ -509,6 +549,7 @@ module _ {s : Session} {t : Trace} {n : ℕ} {l : LogicalZone} {v : Vio} (known 
             slots_are = k.lists.slots_are;
             below = λ a zone. let old = k.lists.below a zone in record { writes = old.writes; reads = ((λ same. drawn_here phase.Loaded is refl), old.reads) };
             tree_is = k.lists.tree_is;
+            reports_are = reports_on s (Gives (gift v)) t l.zone l.reported k.lists.reports_are;
           };
           sound = k.sound;
           kept = line_kept known (Gives (gift v)) t clears_give k.kept;
@@ -521,14 +562,14 @@ module _ {s : Session} {t : Trace} {n : ℕ} {l : LogicalZone} {v : Vio} (known 
         let bare = (in_bare known phase.Loaded is (λ page no. no)).0 in
         let both = release_ok s u n l known.session right_give given_ok v (leased phase.Loaded is refl) home (quiet_same v.at.0 given_it.0.held.turn.quiet) below_give in
         act_one known (Gives (gift v)) clears_give (λ f fair. let before = fair_before s (Gives (gift v)) t fair in (given_it.1 before, f before)) right_give both.0
-        ((omega arith, (vio_over s (Gives (gift v)) t v refl (vio_ok known), carries_own s u (ended phase.Reply (reply.Bytes v.bytes) v) phase.Reply bare (given_earned s u (mark_of_vio v) v.asks v.at v.bytes v.place given_it.0.is_read (rw (same_self v.request) refl)), refl)), both.1)
+        ((omega arith, (vio_over s (Gives (gift v)) t v refl (vio_ok known), carries_own s u (ended phase.Reply (reply.Bytes v.bytes) v) phase.Reply bare (given_earned s u (mark_of_vio v) v.asks v.at v.bytes v.place given_it.0.is_read (rw (same_self v.request) refl)), refl, claim_in known phase.Loaded is)), both.1)
 
   -- It is aborted, before its entry was handed in ..
   pub aborts_kept : v.phase ≡ phase.Abort → v.page ≡ None → After (released v.at.0 l) [] ((id.Desk, item.Request (turned phase.Reply v)) ∷ granted v.at.0 l)
   aborts_kept is bare =
       let facts = in_own known phase.Abort is bare in
       let both = release_ok s t n l known.session known.right known.own v (leased phase.Abort is refl) home facts.0.quiet (below_more t v.at.0 v.place (v.place + 1) (omega arith) facts.0.below) in
-      act_none known both.0 ((omega arith, ((vio_ok known), carries_own s t (turned phase.Reply v) phase.Reply bare facts.1, refl)), both.1)
+      act_none known both.0 ((omega arith, ((vio_ok known), carries_own s t (turned phase.Reply v) phase.Reply bare facts.1, refl, claim_in known phase.Abort is)), both.1)
 
   -- .. or after.
   module _ (is : v.phase ≡ phase.AbortEntered) (bare : v.page ≡ None) where
@@ -553,7 +594,7 @@ module _ {s : Session} {t : Trace} {n : ℕ} {l : LogicalZone} {v : Vio} (known 
         let k = known.own in
         record {
           number_is = k.number_is;
-          lists = record { places_is = k.lists.places_is; next_is = k.lists.next_is; slots_are = k.lists.slots_are; below = λ a zone. below_kept gone t a l.next tt (k.lists.below a zone); tree_is = k.lists.tree_is };
+          lists = record { places_is = k.lists.places_is; next_is = k.lists.next_is; slots_are = k.lists.slots_are; below = λ a zone. below_kept gone t a l.next tt (k.lists.below a zone); tree_is = k.lists.tree_is; reports_are = reports_on s gone t l.zone l.reported k.lists.reports_are };
           sound = k.sound;
           kept = line_kept known gone t clears_abort k.kept;
           answers = ((λ a zone free alive. quiet_kept gone t a tt (k.answers.0 a zone free alive)), k.answers.1);
@@ -564,4 +605,4 @@ module _ {s : Session} {t : Trace} {n : ℕ} {l : LogicalZone} {v : Vio} (known 
     aborts_entered_kept =
         let both = retire_ok s (gone ∷ t) n l known.session right_abort gone_ok v (leased phase.AbortEntered is refl) home carries_it.2 (λ place less. inl (refl, less)) in
         act_one known gone clears_abort (λ f fair. f (fair_before s gone t fair)) right_abort both.0
-        ((omega arith, (vio_over s gone t v refl (vio_ok known), carries_own s (gone ∷ t) (turned phase.Reply v) phase.Reply bare (reply_said s gone t v v.answer (record { of_place = refl; of_entry = refl; of_slot = refl; of_gift = refl; of_take = refl }) carries_it.1), refl)), both.1)
+        ((omega arith, (vio_over s gone t v refl (vio_ok known), carries_own s (gone ∷ t) (turned phase.Reply v) phase.Reply bare (reply_said s gone t v v.answer (record { of_place = refl; of_entry = refl; of_slot = refl; of_gift = refl; of_take = refl }) carries_it.1), refl, claim_in known phase.AbortEntered is)), both.1)

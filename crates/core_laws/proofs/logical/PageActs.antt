@@ -1,7 +1,7 @@
 -- What the acts of a logical zone on pages owe: a write makes a page that its path lacks, or waits for it, or is stopped; the page
 -- is linked, or isn't made any more.
 use Rattle.std.proofs.Common.{◌≡◌, ℕ, ◌+◌, ◌<◌, ◌≤◌, ◌%◌, true, false, if◌then◌else◌, Option, None, Some, List, [], ◌∷◌, ◌++◌, Contains, refl, ap, sym, ◌∙◌, subst, inl, inr, arith}
-use Rattle.core_laws.proofs.Common.{Aborts, AllByRecursion, Asks, DataOk, Happening, IsInTurn, IsToFresh, KeptOk, Logged, LogicalZone, Makes, MayReply, NewPage, Pbn, RightTrace, Session, Sets, Trace, Vio, applied, asked, bit, cases_Bool, dropped, durable, ended, every-append, every-map, fair_before, has_stopped, has_taken, journaled, logged, logical_number, zone_count, zone_number}
+use Rattle.core_laws.proofs.Common.{Aborts, AllByRecursion, Asks, DataOk, Happening, IsInTurn, IsToBlock, KeptOk, Logged, LogicalZone, Makes, MayReply, NewPage, Pbn, RightTrace, Session, Sets, Trace, Vio, applied, asked, bit, cases_Bool, dropped, durable, ended, every-append, every-map, fair_before, has_stopped, has_taken, journaled, logged, logical_number, zone_count, zone_number, Mapping}
 use Rattle.blk_base.specs.declared.place.Lba.{Lba}
 use Rattle.blk_base.specs.declared.place.Mapping.TheVariants.{At}
 use Rattle.blk_base.specs.declared.place.PageId.{PageId}
@@ -17,7 +17,7 @@ use Rattle.data_vio.specs.declared.items.Phase.TheVariants as phase
 use Rattle.data_vio.specs.Vios as vios
 use Rattle.data_vio.specs.Vios.{gives_up, makes}
 use Rattle.core_model.specs.declared.zones.ZoneData.TheVariants as at
-use Rattle.core_model.specs.Facts.{Awaits, HasPageEntry, IsUnmade, MakesPage, PagesOk}
+use Rattle.core_model.specs.Facts.{Awaits, HasPageEntry, IsUnmade, MakesPage, PagesOk, HasClaim}
 use Rattle.core_model.specs.LogicalRules.{IsLinked, all_again, first_for, granted, lacks, lacks_for, passed_to, released, unmade, woken}
 use Rattle.core_model.specs.LogicalRules as logical
 use Rattle.core_model.specs.PageLinks.{MayLack}
@@ -25,7 +25,9 @@ use Rattle.core_model.specs.PageTrees.{HasPath, IsMapTree, MayLink, but_page, is
 use Rattle.core_model.proofs.TreeLinks.{link_over, page_is}
 use Rattle.core_laws.proofs.journal.JournalFacts.{may_stop, writes_change}
 use Rattle.core_laws.proofs.journal.LoggedEntries.{logged_makes}
-use Rattle.core_laws.proofs.kept.ActKept.{Known, PostOk, Mine, act_none, act_one, carries_own, in_bare, in_page, line_kept, own_page, own_request, shown_plain, unentered_slot, vio_ok, vio_over}
+use Rattle.core_laws.proofs.kept.ActKept.{Known, PostOk, Mine, act_none, act_one, carries_own, in_bare, in_page, line_kept, own_page, own_request, shown_plain, unentered_slot, vio_ok, vio_over, claim_in}
+use Rattle.core_model.specs.Trace.{added}
+use Rattle.core_laws.proofs.kept.Frame.{reports_on}
 use Rattle.core_laws.proofs.kept.Carried.{reply_said}
 use Rattle.core_laws.proofs.kept.Frame.{told_kept}
 use Rattle.core_laws.proofs.kept.Keys.{Clears}
@@ -51,13 +53,17 @@ same_forest old new page same linkable = record {
   lower = λ root. linkable.lower (subst (λ (f : Forest). IsRoot f page) (sym same) root);
 }
 
+-- whoever has no claim has none, whatever it maps its address to
+none_left : {s : Session} {claim : Option Pbn} {new : Mapping} → claim ≡ None → HasClaim s false claim new
+none_left none = record { claim_is = none; on_data = λ holds. absurd cc }
+
 -- those that waited for a page come again
 again_ok : (s : Session) (t : Trace) (zone : ℕ) (vs : List Vio) → zone < s.sizes.zones → AllByRecursion (KeptOk s t phase.Look) vs → AllByRecursion (λ (v : Vio). v.home ≡ id.Logical zone) vs
     → AllByRecursion (PostOk s t) (all_again vs)
 again_ok s t zone [] among kept at_home = tt
 again_ok s t zone (v ∷ vs) among kept at_home =
     let here = ap (zone_number s.sizes) at_home.0 in
-    ((omega (arith, among, here), (kept.0.0, kept.0.1, rw kept.0.2 refl)), again_ok s t zone vs among kept.1 at_home.1)
+    ((omega (arith, among, here), (kept.0.0, kept.0.1, rw kept.0.2 refl, kept.0.3)), again_ok s t zone vs among kept.1 at_home.1)
 
 -- whether the lock is passed on before or after a page isn't made any more is the same
 release_after : (page : PageId) (a : ℕ) (l : LogicalZone) → woken (unmade page (released a l)) ≡ released a (woken (unmade page l))
@@ -102,7 +108,7 @@ module _ {s : Session} {t : Trace} {n : ℕ} {l : LogicalZone} {v : Vio} (known 
         let stopped = known.own.told.1 (some_listed page l.unlinkable listed) in
         let both = release_ok s t n l known.session known.right known.own v (leased known phase.Look is refl) (home known) turn.quiet (below_more t v.at.0 v.place (v.place + 1) (omega arith) turn.below) in
         let may = may_stop s t v (writes_change v.asks missing.0) stopped turn.is_placed.placed (unentered_slot s t v.request known.right turn.is_placed.not_entered) in
-        act_none known both.0 ((omega arith, (vio_ok known, carries_own s t (ended phase.Reply reply.Stopped v) phase.Reply carries.0 may, refl)), both.1)
+        act_none known both.0 ((omega arith, (vio_ok known, carries_own s t (ended phase.Reply reply.Stopped v) phase.Reply carries.0 may, refl, claim_in known phase.Look is)), both.1)
 
     -- it is being made
     pub waits_kept : is_listed page l.making ≡ true → After known (record l { lacking = l.lacking ++ v ∷ [] }) [] []
@@ -122,8 +128,9 @@ module _ {s : Session} {t : Trace} {n : ℕ} {l : LogicalZone} {v : Vio} (known 
               waits = every-append (Awaits l.tree l.making) l.lacking (v ∷ []) pages.waits (record { page = page; lacked = missing.1; is_made = made }, tt);
               at_home = every-append (λ (u : Vio). u.home ≡ id.Logical l.zone) l.lacking (v ∷ []) pages.at_home (home_is known, tt);
             };
+            reports = k.sound.reports;
           };
-          kept = (k.kept.0, every-append (KeptOk s t phase.Look) l.lacking (v ∷ []) k.kept.1 ((vio_ok known, known.front_ok.0.1, is), tt));
+          kept = (k.kept.0, every-append (KeptOk s t phase.Look) l.lacking (v ∷ []) k.kept.1 ((vio_ok known, known.front_ok.0.1, is, known.front_ok.0.3), tt), k.kept.2);
           answers = k.answers;
           told = k.told;
         }) tt
@@ -154,11 +161,12 @@ module _ {s : Session} {t : Trace} {n : ℕ} {l : LogicalZone} {v : Vio} (known 
               waits = every-map {P = Awaits l.tree l.making} {Q = Awaits l.tree (l.making ++ page ∷ [])} (λ u waits. record { page = waits.page; lacked = waits.lacked; is_made = listed_more waits.page page l.making waits.is_made }) l.lacking pages.waits;
               at_home = pages.at_home;
             };
+            reports = k.sound.reports;
           };
           kept = k.kept;
           answers = (k.answers.0, λ p linkable unlinked unmade yet. k.answers.1 p linkable unlinked (listed_cut p page l.making unmade).0 yet);
           told = k.told;
-        }) ((omega arith, (vio_ok known, (making, k.answers.1 page lacking.linkable lacking.unlinked unmade_yet may_yet), refl)), tt)
+        }) ((omega arith, (vio_ok known, (making, k.answers.1 page lacking.linkable lacking.unlinked unmade_yet may_yet), refl, claim_in known phase.Look is)), tt)
       where
         one_more : (p : PageId) → times p (l.making ++ page ∷ []) ≤ 1
         one_more p =
@@ -177,7 +185,7 @@ module _ {s : Session} {t : Trace} {n : ℕ} {l : LogicalZone} {v : Vio} (known 
     abbrev link : Happening
     link = Sets (Makes made)
 
-    facts : MakesPage s t v page × IsToFresh s v.new × HasPageEntry s t (logged v) page × Contains (durable t) (logged v)
+    facts : MakesPage s t v page × IsToBlock v.new × HasPageEntry s t (logged v) page × Contains (durable t) (logged v) × Contains (added t) (logged v)
     facts = in_page known phase.Settle page is some
 
     entry_is : logged v ≡ Makes made
@@ -191,6 +199,7 @@ module _ {s : Session} {t : Trace} {n : ℕ} {l : LogicalZone} {v : Vio} (known 
       record {
         is_open = (vio_ok known).is_open;
         is_committed = subst (Contains (durable t)) entry_is facts.3;
+        counted = subst (Contains (added t)) entry_is facts.4;
         unlinked = facts.2.unlinked;
         undropped = subst (λ (e : Logged). Contains (dropped t) e → ⊥) entry_is facts.2.undropped;
       },
@@ -233,7 +242,7 @@ module _ {s : Session} {t : Trace} {n : ℕ} {l : LogicalZone} {v : Vio} (known 
         let struck = struck_ok l.zone l.tree l.making l.lacking page k.sound.pages in
         record {
           number_is = k.number_is;
-          lists = record { places_is = k.lists.places_is; next_is = k.lists.next_is; slots_are = k.lists.slots_are; below = λ a zone. below_kept link t a l.next tt (k.lists.below a zone); tree_is = tree_now };
+          lists = record { places_is = k.lists.places_is; next_is = k.lists.next_is; slots_are = k.lists.slots_are; below = λ a zone. below_kept link t a l.next tt (k.lists.below a zone); tree_is = tree_now; reports_are = reports_on s link t l.zone l.reported k.lists.reports_are };
           sound = record {
             among = k.sound.among;
             map = k.sound.map;
@@ -244,8 +253,9 @@ module _ {s : Session} {t : Trace} {n : ℕ} {l : LogicalZone} {v : Vio} (known 
               waits = tt;
               at_home = tt;
             };
+            reports = k.sound.reports;
           };
-          kept = ((line_kept known link t clears k.kept).0, tt);
+          kept = let kept = line_kept known link t clears k.kept in (kept.0, tt, kept.2);
           answers = ((λ a zone free alive. quiet_kept link t a tt (k.answers.0 a zone free alive)), unmade_now);
           told = told_kept s link t (at.Logical l) k.told;
         }
@@ -265,6 +275,7 @@ module _ {s : Session} {t : Trace} {n : ℕ} {l : LogicalZone} {v : Vio} (known 
               facts.0.none_taken,
             ),
             refl,
+            none_left (claim_in known phase.Settle is).claim_is,
           ),
         )
 
@@ -291,8 +302,8 @@ module _ {s : Session} {t : Trace} {n : ℕ} {l : LogicalZone} {v : Vio} (known 
         record {
           number_is = k.number_is;
           lists = k.lists;
-          sound = record { among = k.sound.among; map = k.sound.map; locks = k.sound.locks; pages = struck_ok l.zone l.tree l.making l.lacking page k.sound.pages };
-          kept = (k.kept.0, tt);
+          sound = record { among = k.sound.among; map = k.sound.map; locks = k.sound.locks; pages = struck_ok l.zone l.tree l.making l.lacking page k.sound.pages; reports = k.sound.reports };
+          kept = (k.kept.0, tt, k.kept.2);
           answers = (k.answers.0, unmade_still);
           told = k.told;
         }
@@ -302,14 +313,14 @@ module _ {s : Session} {t : Trace} {n : ℕ} {l : LogicalZone} {v : Vio} (known 
         let turn = unmaking.0.turn in
         let both = release_ok s t n (woken (unmade page l)) known.session known.right unmade_ok v (leased known phase.Abort is refl) (home known) turn.quiet (below_more t v.at.0 v.place (v.place + 1) (omega arith) turn.below) in
         act_none known (subst (λ (z : LogicalZone). DataOk s t n (at.Logical z)) (sym (release_after page v.at.0 l)) both.0)
-        ((omega arith, (vio_ok known, unmaking.2, refl)), every-append (PostOk s t) (granted v.at.0 l) (all_again l.lacking) both.1 (again_ok s t l.zone l.lacking known.own.sound.among known.own.kept.1 known.own.sound.pages.at_home))
+        ((omega arith, (vio_ok known, unmaking.2, refl, none_left (claim_in known phase.Abort is).claim_is)), every-append (PostOk s t) (granted v.at.0 l) (all_again l.lacking) both.1 (again_ok s t l.zone l.lacking known.own.sound.among known.own.kept.1 known.own.sound.pages.at_home))
 
   -- .. or with its entry handed in: it is never linked.
   module _ (is : v.phase ≡ phase.AbortEntered) (page : PageId) (x : Pbn) (some : v.page ≡ Some page) (to : v.new ≡ At x) where
     abbrev drop : Happening
     drop = Aborts (Makes (record { request = v.request; page = page; at = x }))
 
-    dropping : MakesPage s t v page × IsToFresh s v.new × HasPageEntry s t (logged v) page × MayReply s t v v.answer × (has_stopped t ≡ true)
+    dropping : MakesPage s t v page × IsToBlock v.new × HasPageEntry s t (logged v) page × MayReply s t v v.answer × (has_stopped t ≡ true)
     dropping = in_page known phase.AbortEntered page is some
 
     right_drop : RightTrace s (drop ∷ t)
@@ -334,9 +345,9 @@ module _ {s : Session} {t : Trace} {n : ℕ} {l : LogicalZone} {v : Vio} (known 
         let k = known.own in
         record {
           number_is = k.number_is;
-          lists = record { places_is = k.lists.places_is; next_is = k.lists.next_is; slots_are = k.lists.slots_are; below = λ a zone. below_kept drop t a l.next tt (k.lists.below a zone); tree_is = k.lists.tree_is };
-          sound = record { among = k.sound.among; map = k.sound.map; locks = k.sound.locks; pages = struck_ok l.zone l.tree l.making l.lacking page k.sound.pages };
-          kept = ((line_kept known drop t clears_drop k.kept).0, tt);
+          lists = record { places_is = k.lists.places_is; next_is = k.lists.next_is; slots_are = k.lists.slots_are; below = λ a zone. below_kept drop t a l.next tt (k.lists.below a zone); tree_is = k.lists.tree_is; reports_are = reports_on s drop t l.zone l.reported k.lists.reports_are };
+          sound = record { among = k.sound.among; map = k.sound.map; locks = k.sound.locks; pages = struck_ok l.zone l.tree l.making l.lacking page k.sound.pages; reports = k.sound.reports };
+          kept = let kept = line_kept known drop t clears_drop k.kept in (kept.0, tt, kept.2);
           answers = ((λ a zone free alive. quiet_kept drop t a tt (k.answers.0 a zone free alive)), unmade_but);
           told = ((told_kept s drop t (at.Logical l) k.told).0, λ any. dropping.4);
         }
@@ -349,6 +360,6 @@ module _ {s : Session} {t : Trace} {n : ℕ} {l : LogicalZone} {v : Vio} (known 
         let again = again_ok s (drop ∷ t) l.zone l.lacking known.own.sound.among (line_kept known drop t clears_drop known.own.kept).1 known.own.sound.pages.at_home in
         act_one known drop clears_drop (λ gives fair. gives (fair_before s drop t fair)) right_drop
         (subst (λ (z : LogicalZone). DataOk s (drop ∷ t) n (at.Logical z)) (sym (release_dropped page v.at.0 l)) both.0) (
-          (omega arith, (vio_over s drop t v refl (vio_ok known), reply_said s drop t v v.answer (record { of_place = refl; of_entry = refl; of_slot = refl; of_gift = refl; of_take = refl }) dropping.3, refl)),
+          (omega arith, (vio_over s drop t v refl (vio_ok known), reply_said s drop t v v.answer (record { of_place = refl; of_entry = refl; of_slot = refl; of_gift = refl; of_take = refl }) dropping.3, refl, none_left (claim_in known phase.AbortEntered is).claim_is)),
           every-append (PostOk s (drop ∷ t)) (granted v.at.0 l) (all_again l.lacking) both.1 again,
         )

@@ -1,6 +1,6 @@
 -- A lock is passed on to the first that waits for it, or released, or never released.
 use Rattle.std.proofs.Common.{◌≡◌, ◌≢◌, ℕ, ◌+◌, ◌<◌, ◌≤◌, ◌==◌, true, false, Option, None, Some, List, [], ◌∷◌, refl, ap, sym, ◌∙◌, subst, inl, inr, arith}
-use Rattle.core_laws.proofs.Common.{AllBelow, AllByRecursion, Asks, DataOk, Gift, HasBelow, HasCause, Holds, IsForBlock, IsInTurn, IsPlaced, IsSession, IsFair, IsToInside, KeptOk, Remapping, LogicalZone, Looks, Mapping, MapsTo, Pbn, Post, Quiet, Request, RightTrace, Session, Trace, Vio, VioOk, WaitsOk, aborted, turned, asked, done, each_both, ended, eqb_tells, every-map, gifts, has_stopped, newest, of_address, request_at, some_is, value_at, zone_count, zone_number, zone_of, has_taken, applied, remappings, IsToData}
+use Rattle.core_laws.proofs.Common.{AllBelow, AllByRecursion, Asks, DataOk, Gift, HasBelow, HasCause, Holds, IsForBlock, IsInTurn, IsPlaced, IsSession, IsFair, IsToInside, KeptOk, Remapping, LogicalZone, Looks, Mapping, MapsTo, Pbn, Post, Quiet, Request, RightTrace, Session, Trace, Vio, VioOk, WaitsOk, aborted, turned, asked, done, each_both, ended, eqb_tells, every-map, gifts, has_stopped, newest, of_address, request_at, some_is, value_at, zone_count, zone_number, zone_of, has_taken, applied, remappings, IsToData, OnBlock}
 use Rattle.core_laws.proofs.trace.PassesOfTrace.{mapped_past}
 use Rattle.blk_base.specs.Sectors.{zero_block}
 use Rattle.blk_base.specs.declared.place.Mapping.TheVariants.{Unmapped, Zero, At}
@@ -11,10 +11,12 @@ use Rattle.data_vio.specs.declared.items.Asks.TheVariants.{Read, Write, Discard,
 use Rattle.data_vio.specs.declared.items.Item.TheVariants as item
 use Rattle.data_vio.specs.declared.items.Phase.TheVariants as phase
 use Rattle.core_model.specs.declared.zones.ZoneData.TheVariants as at
-use Rattle.core_model.specs.Facts.{CarriesOwn, IsChange}
+use Rattle.blk_base.specs.Regions.{IsDataBlock}
+use Rattle.core_model.specs.PageLinks.{block_in}
+use Rattle.core_model.specs.Facts.{CarriesOwn, HasClaim, IsChange}
 use Rattle.core_model.specs.RightTraces.{IsLeafy}
 use Rattle.core_model.specs.LogicalRules.{are_zeros, is_among, is_held, without, first_for, all_for, none_for, looks_up, passes_on, read_next, goes_on, passed_to, released, granted, retire, all_stopped}
-use Rattle.core_laws.proofs.kept.ActKept.{PostOk, bare_of, carries_at, carries_own, unentered_slot}
+use Rattle.core_laws.proofs.kept.ActKept.{PostOk, bare_of, carries_at, claim_at, carries_own, unentered_slot}
 use Rattle.core_laws.proofs.logical.LockLaws.{place_drawn, waits_behind, one_back, one_passed, one_retired}
 use Rattle.core_laws.proofs.tokens.Known.{Leased}
 use Rattle.core_laws.proofs.lists.CoreLists.{or_none, held_without, every_but_first, every_none_for, every_all_for, first_has}
@@ -38,14 +40,14 @@ pub asked_read : (asks : Asks) (v : Vio) (bytes : List ℕ) → asks ≡ Read �
 asked_read asks v bytes is = rw is refl
 
 -- whoever gets a lock may look up what is mapped there
-pub looks_ok : (s : Session) (t : Trace) (zone : ℕ) → zone < s.sizes.zones → (u : Vio) → VioOk s t u → u.home ≡ id.Logical zone → u.page ≡ None → IsInTurn s t u → has_taken t u.request ≡ false → PostOk s t (looks_up u)
-looks_ok s t zone among u ok home bare turn none_taken =
+pub looks_ok : (s : Session) (t : Trace) (zone : ℕ) → zone < s.sizes.zones → (u : Vio) → VioOk s t u → u.home ≡ id.Logical zone → u.page ≡ None → IsInTurn s t u → has_taken t u.request ≡ false → HasClaim s false u.claim u.new → PostOk s t (looks_up u)
+looks_ok s t zone among u ok home bare turn none_taken claim =
     let here = ap (zone_number s.sizes) home in
-    (omega (arith, among, here), (record { asked = ok.asked; is_open = ok.is_open; address = ok.address; home = ok.home }, carries_own s t (turned phase.Look u) phase.Look bare (turn, none_taken), refl))
+    (omega (arith, among, here), (record { asked = ok.asked; is_open = ok.is_open; address = ok.address; home = ok.home }, carries_own s t (turned phase.Look u) phase.Look bare (turn, none_taken), refl, claim))
 
 -- Whoever knows what its address is mapped to goes where that says.
 module _ (s : Session) (t : Trace) (session : IsSession s) (right : RightTrace s t) (u : Vio) (ok : VioOk s t u) (bare : u.page ≡ None) (none_taken : has_taken t u.request ≡ false) (held : Holds s t u)
-    (latest_is : u.latest ≡ newest (of_address u.at.0 (remappings (applied t)))) (leafy : IsChange u.asks → IsLeafy s t u.at.0) (within : zone_number s.sizes u.home < zone_count s.sizes) where
+    (latest_is : u.latest ≡ newest (of_address u.at.0 (remappings (applied t)))) (leafy : IsChange u.asks → IsLeafy s t u.at.0) (within : zone_number s.sizes u.home < zone_count s.sizes) (claim : HasClaim s false u.claim u.new) where
   -- a read of zeros: what was done there last maps the address to no block, or the opened image does
   zeros : (m : Mapping) → ((x : Pbn) → m ≢ At x) → value_with s.image m ≡ zero_block → u.old ≡ m → IsFair s t → zero_block ≡ value_at s t u.at.0
   zeros m off zero is fair =
@@ -63,6 +65,7 @@ module _ (s : Session) (t : Trace) (session : IsSession s) (right : RightTrace s
         record { asked = ok.asked ∙ ap (λ (r : Request). Some r) (asked_read u.asks u zero_block is_read); is_open = ok.is_open; address = ok.address; home = ok.home },
         carries_own s t (record u { phase = phase.Loaded; bytes = zero_block }) phase.Loaded bare (looks, is),
         refl,
+        claim,
       ),
     )
 
@@ -72,7 +75,7 @@ module _ (s : Session) (t : Trace) (session : IsSession s) (right : RightTrace s
     inside_of Zero held_data x is = absurd cc
 
     read_ok : (m : Mapping) → u.old ≡ m → PostOk s t (read_next u m)
-    read_ok (At x) is = (omega arith, (ok, carries_own s t (turned phase.Load u) phase.Load bare (looks, inside_of u.old held.old_data x is), refl))
+    read_ok (At x) is = (omega arith, (ok, carries_own s t (turned phase.Load u) phase.Load bare (looks, inside_of u.old held.old_data x is), refl, claim))
     read_ok Unmapped is = zero_ok (zeros Unmapped (λ x is_at. cc) refl is)
     read_ok Zero is = zero_ok (zeros Zero (λ x is_at. cc) refl is)
 
@@ -88,11 +91,15 @@ module _ (s : Session) (t : Trace) (session : IsSession s) (right : RightTrace s
   discard_mapped : (q : Asks) → q ≡ Discard → MapsTo q u.bytes Unmapped
   discard_mapped q is = rw is tt
 
+  -- one that maps its address to no block has no claim
+  none_claimed : (m : Mapping) → block_in m ≡ None → OnBlock (λ x. IsDataBlock s.sizes.geometry x.0) m → HasClaim s true u.claim m
+  none_claimed m none all = record { claim_is = claim.claim_is ∙ sym none; on_data = λ holds. all }
+
   pub goes_ok : (post : Post) → goes_on u ≡ Some post → PostOk s t post
   goes_ok post goes = goes_by (PostOk s t) u post goes (λ reads. read_ok reads u.old refl)
-      (λ writes zero. (omega arith, (ok, carries_own s t (record u { phase = phase.Enter; new = Zero }) phase.Enter bare (held, zeros_mapped u.asks writes (zero_bytes u.asks writes ok.asked zero), tt, (λ fair. tt), leafy (rw writes tt)), refl)))
-      (λ writes others. (omega arith, (ok, carries_own s t (turned phase.Claim u) phase.Claim bare (held, writes, record { not_zeros = others_are u.bytes others; none_taken = none_taken }, leafy (rw writes tt)), refl)))
-      (λ discards. (omega arith, (ok, carries_own s t (record u { phase = phase.Enter; new = Unmapped }) phase.Enter bare (held, discard_mapped u.asks discards, tt, (λ fair. tt), leafy (rw discards tt)), refl)))
+      (λ writes zero. (omega arith, (ok, carries_own s t (record u { phase = phase.Enter; new = Zero }) phase.Enter bare (held, zeros_mapped u.asks writes (zero_bytes u.asks writes ok.asked zero), (λ fair. tt), leafy (rw writes tt)), refl, none_claimed Zero refl tt)))
+      (λ writes others. (omega arith, (ok, carries_own s t (turned phase.Claim u) phase.Claim bare (held, writes, record { not_zeros = others_are u.bytes others; none_taken = none_taken }, leafy (rw writes tt)), refl, claim)))
+      (λ discards. (omega arith, (ok, carries_own s t (record u { phase = phase.Enter; new = Unmapped }) phase.Enter bare (held, discard_mapped u.asks discards, (λ fair. tt), leafy (rw discards tt)), refl, none_claimed Unmapped refl tt)))
 
 -- A greater place has a lower one still.
 pub has_below_more : (a m n : ℕ) (es : List Remapping) → m ≤ n → HasBelow a m es → HasBelow a n es
@@ -112,15 +119,15 @@ stopped_cause s t v Write right stopped behind block place = (stopped, some_is _
 stopped_cause s t v Discard right stopped behind block place = (stopped, some_is _ _ place.placed, unentered_slot s t v.request right place.not_entered)
 stopped_cause s t v Flush right stopped behind block place = absurd block
 
-pub stopped_ok : (s : Session) (t : Trace) (v : Vio) → RightTrace s t → has_stopped t ≡ true → HasBelow v.at.0 v.place (aborted t) → VioOk s t v → v.page ≡ None → IsPlaced s t v → PostOk s t (id.Desk, item.Request (ended phase.Reply reply.Stopped v))
-stopped_ok s t v right stopped behind ok bare place = (omega arith, (ok, carries_own s t (ended phase.Reply reply.Stopped v) phase.Reply bare (stopped_cause s t v v.asks right stopped behind place.for_block place), refl))
+pub stopped_ok : (s : Session) (t : Trace) (v : Vio) → RightTrace s t → has_stopped t ≡ true → HasBelow v.at.0 v.place (aborted t) → VioOk s t v → v.page ≡ None → IsPlaced s t v → HasClaim s false v.claim v.new → PostOk s t (id.Desk, item.Request (ended phase.Reply reply.Stopped v))
+stopped_ok s t v right stopped behind ok bare place claim = (omega arith, (ok, carries_own s t (ended phase.Reply reply.Stopped v) phase.Reply bare (stopped_cause s t v v.asks right stopped behind place.for_block place), refl, claim))
 
 pub all_stopped_ok : (s : Session) (t : Trace) (vs : List Vio) → RightTrace s t → has_stopped t ≡ true → AllByRecursion (λ v. KeptOk s t phase.Wait v × HasBelow v.at.0 v.place (aborted t)) vs
     → AllByRecursion (PostOk s t) (all_stopped vs)
 all_stopped_ok s t [] right stopped all = tt
 all_stopped_ok s t (v ∷ vs) right stopped all =
     let waits = kept_wait s t v all.0.0 in
-    (stopped_ok s t v right stopped all.0.1 all.0.0.0 waits.0 waits.1.0, all_stopped_ok s t vs right stopped all.1)
+    (stopped_ok s t v right stopped all.0.1 all.0.0.0 waits.0 waits.1.0 (claim_at s v phase.Wait all.0.0.2 all.0.0.3), all_stopped_ok s t vs right stopped all.1)
 
 -- What a zone has once a lock of it is given back, by a holder with the lock's place.
 module _ (s : Session) (t : Trace) (n : ℕ) (l : LogicalZone) (session : IsSession s) (right : RightTrace s t) (k : DataOk s t n (at.Logical l)) (v : Vio) (leased : Leased l v) (home : zone_of s.sizes.zones v.at.0 ≡ l.zone) where
@@ -155,7 +162,7 @@ module _ (s : Session) (t : Trace) (n : ℕ) (l : LogicalZone) (session : IsSess
           is_placed = carries.1.0;
           quiet = subst (λ (c : ℕ). Quiet t c) (sym kept.1) quiet;
           below = subst (λ (c : ℕ). AllBelow t c w.place) (sym kept.1) (below_more t v.at.0 (v.place + 1) w.place (omega (arith, above)) below);
-        }) carries.1.1
+        }) carries.1.1 (claim_at s w phase.Wait kept.0.2 kept.0.3)
 
     pub release_ok : DataOk s t n (at.Logical (released v.at.0 l)) × AllByRecursion (PostOk s t) (granted v.at.0 l)
     release_ok = by (first_for v.at.0 l.waiting) refl
@@ -165,7 +172,7 @@ module _ (s : Session) (t : Trace) (n : ℕ) (l : LogicalZone) (session : IsSess
           record {
             number_is = k.number_is;
             lists = k.lists;
-            sound = record { among = k.sound.among; map = k.sound.map; locks = one_back s l.zone l.next l.held l.waiting k.sound.locks v.at.0 is; pages = k.sound.pages };
+            sound = record { among = k.sound.among; map = k.sound.map; locks = one_back s l.zone l.next l.held l.waiting k.sound.locks v.at.0 is; pages = k.sound.pages; reports = k.sound.reports };
             kept = k.kept;
             answers = (quiet_without, k.answers.1);
             told = k.told;
@@ -176,8 +183,8 @@ module _ (s : Session) (t : Trace) (n : ℕ) (l : LogicalZone) (session : IsSess
           record {
             number_is = k.number_is;
             lists = k.lists;
-            sound = record { among = k.sound.among; map = k.sound.map; locks = one_passed s l.zone l.next l.held l.waiting k.sound.locks v.at.0 w home is; pages = k.sound.pages };
-            kept = (every_but_first (KeptOk s t phase.Wait) v.at.0 l.waiting k.kept.0, k.kept.1);
+            sound = record { among = k.sound.among; map = k.sound.map; locks = one_passed s l.zone l.next l.held l.waiting k.sound.locks v.at.0 w home is; pages = k.sound.pages; reports = k.sound.reports };
+            kept = (every_but_first (KeptOk s t phase.Wait) v.at.0 l.waiting k.kept.0, k.kept.1, k.kept.2);
             answers = ((λ b zone free alive. quiet_without b zone (or_none (w.at.0 == b) (is_held b (without v.at.0 l.held)) free).1 alive), k.answers.1);
             told = k.told;
           },
@@ -190,8 +197,8 @@ module _ (s : Session) (t : Trace) (n : ℕ) (l : LogicalZone) (session : IsSess
     record {
       number_is = k.number_is;
       lists = k.lists;
-      sound = record { among = k.sound.among; map = k.sound.map; locks = one_retired s l.zone l.next l.held l.waiting k.sound.locks v.at.0; pages = k.sound.pages };
-      kept = (every-map {P = λ (u : Vio). KeptOk s t phase.Wait u × (u.at.0 ≢ v.at.0)} {Q = KeptOk s t phase.Wait} (λ u w. w.0) (none_for v.at.0 l.waiting) (every_none_for (KeptOk s t phase.Wait) v.at.0 l.waiting k.kept.0), k.kept.1);
+      sound = record { among = k.sound.among; map = k.sound.map; locks = one_retired s l.zone l.next l.held l.waiting k.sound.locks v.at.0; pages = k.sound.pages; reports = k.sound.reports };
+      kept = (every-map {P = λ (u : Vio). KeptOk s t phase.Wait u × (u.at.0 ≢ v.at.0)} {Q = KeptOk s t phase.Wait} (λ u w. w.0) (none_for v.at.0 l.waiting) (every_none_for (KeptOk s t phase.Wait) v.at.0 l.waiting k.kept.0), k.kept.1, k.kept.2);
       answers = (
         λ b zone free alive.
             let both = or_none (v.at.0 == b) (is_among b l.retired) alive in

@@ -1,10 +1,17 @@
 -- The rows of the table of phases as the tokens see them: what a zone's data was and is, and the items that were there
 -- (the front, and those that are kept) and are there (those that are posted, and those that are kept), by their sum.
 use Rattle.std.proofs.Common.{◌≡◌, ℕ, ◌+◌, ◌*◌, true, false, not, Option, None, Some, is_some, List, [], ◌∷◌, ◌++◌, length, map, ◌&&◌}
-use Rattle.core_laws.proofs.Common.{Answer, Desk, DeviceZone, FlushMark, Item, JournalZone, Remapping, LogicalZone, Mapping, Pbn, Phase, PhysicalZone, SealedBlock, Sizes, Stage, Vio, Writer, ZoneData, bit, claims, ended, has_entry, holds, notified_zones, staged, total, turned, names}
+use Rattle.core_laws.proofs.Common.{Answer, Desk, DeviceZone, FlushMark, Item, JournalZone, Remapping, LogicalZone, Mapping, Pbn, Phase, PhysicalZone, SealedBlock, Sizes, Stage, Vio, Writer, ZoneData, bit, ended, has_entry, has_old, holds, is_committed, is_old, logged, notified_zones, owes, remapping, remappings, staged, total, turned, waiter_weight}
 use Rattle.blk_base.specs.declared.request.Answer.TheVariants as reply
 use Rattle.vdo_model.specs.declared.report.DeskLine.TheVariants as line
-use Rattle.data_vio.specs.declared.items.Item.TheVariants.{Request, Block, StopNotice}
+use Rattle.data_vio.specs.declared.items.Item.TheVariants.{Request, Block, Decrement, Report, StopNotice}
+use Rattle.data_vio.specs.declared.items.Item.TheVariants as item
+use Rattle.data_vio.specs.Vios.{claiming, unclaiming}
+use Rattle.core_model.specs.PageLinks.{block_in}
+use Rattle.core_model.specs.PhysicalRules.{with_counts}
+use Rattle.slab_counts.specs.Calls.{one_of}
+use Rattle.zone_counts.specs.Zone.{Zone}
+use Rattle.core_laws.proofs.tokens.Moves.{Moves, no_block}
 use Rattle.data_vio.specs.declared.items.Phase.TheVariants as phase
 use Rattle.data_vio.specs.declared.items.Stage.TheVariants as stage
 use Rattle.core_model.specs.declared.zones.ZoneData.TheVariants as at
@@ -47,8 +54,9 @@ pub record Onward : Type 0 where
   pub new : Mapping
   pub bytes : List ℕ
   pub locks : holds phase ≡ true
-  pub unclaimed : (x : ℕ) → (claims phase && names x new) ≡ false
+  pub unowed : owes phase ≡ false
   pub unentered : has_entry phase ≡ false
+  pub uncommitted : is_committed phase ≡ false
 
 abbrev pub onward : Onward → Vio → Vio
 onward on v = record v { phase = on.phase; leaf = on.leaf; old = on.old; latest = on.latest; new = on.new; bytes = on.bytes }
@@ -57,13 +65,18 @@ onward on v = record v { phase = on.phase; leaf = on.leaf; old = on.old; latest 
 abbrev pub replied : Option Answer → Vio → Vio
 replied answer v = record v { phase = phase.Reply; answer = answer }
 
--- whoever leaves a lock with an entry of its own sets a slot
-abbrev pub IsSetBy : LogicalZone → Vio → Phase → List Remapping → Type 0
-IsSetBy l v q slots = length slots ≡ bit (has_entry q && not (is_some v.page)) + length l.slots
+-- Whoever leaves a lock with an entry of its own sets a slot: of those that replace a block, the report was there.
+pub record IsSetBy (l : LogicalZone) (v : Vio) (q : Phase) (slots reported : List Remapping) : Type 0 where
+  pub count : length slots ≡ bit (has_entry q && not (is_some v.page)) + length l.slots
+  pub waited : (w : Writer) → total (has_old w) slots ≡ waiter_weight w (turned q v) + total (has_old w) l.slots
+  pub told : (w : Writer) → total (has_old w) slots + total (has_old w) reported ≡ total (has_old w) l.slots + total (has_old w) l.reported
+  pub unowed : owes q ≡ false
 
 -- whoever leaves its page with an entry of it makes it one that is never linked
-abbrev pub IsDroppedBy : LogicalZone → Phase → List PageId → Type 0
-IsDroppedBy l q unlinkable = length unlinkable ≡ bit (has_entry q) + length l.unlinkable
+pub record IsDroppedBy (l : LogicalZone) (q : Phase) (unlinkable : List PageId) : Type 0 where
+  pub count : length unlinkable ≡ bit (has_entry q) + length l.unlinkable
+  pub unowed : owes q ≡ false
+  pub uncommitted : is_committed q ≡ false
 
 -- a request whose page isn't made any more is aborted
 abbrev pub without_page : Vio → Vio
@@ -73,16 +86,27 @@ without_page v = record v { phase = phase.Abort; page = None }
 abbrev pub unmaking : LogicalZone → Tree → List PageId → PageId → LogicalZone
 unmaking l tree unlinkable page = record l { tree = tree; making = but_page page l.making; lacking = []; unlinkable = unlinkable }
 
+-- where a committed request goes: with its block it is counted, or it has none and no claim
+pub data IsHandedOut (v : Vio) : Phase → Type 0 where
+  to_count : IsHandedOut v phase.Count
+  to_slot : v.claim ≡ None → IsHandedOut v phase.Settle
+
+-- what goes behind it: the decrement of what it replaces, where it makes no page and that has a block; or nothing
+pub data IsDecrementOf (v : Vio) : Sum → Type 0 where
+  of_block : v.page ≡ None → IsDecrementOf v (λ f. f (Decrement (remapping v)))
+  of_page : (page : PageId) → v.page ≡ Some page → ((y : Pbn) → total (is_old y) (remappings (logged v ∷ [])) ≡ 0) → ((w : Writer) → total (has_old w) (remappings (logged v ∷ [])) ≡ 0) → IsDecrementOf v (λ f. 0)
+  of_none : v.page ≡ None → block_in v.old ≡ None → IsDecrementOf v (λ f. 0)
+
 pub data Row (sizes : Sizes) : ZoneData → ZoneData → Sum → Sum → Type 0 where
   -- the desk
   says : (d : Desk) (w : Writer) (a : Answer) → Row sizes (at.Desk d) (at.Desk (record d { log = line.Answer w a ∷ line.Begin w ∷ d.log })) (all_in phase.Reply d.parked) (all_in phase.Reply d.parked)
-  begins : (d : Desk) (v : Vio) → v.page ≡ None
+  begins : (d : Desk) (v : Vio) → v.page ≡ None → v.claim ≡ None
       → Row sizes (at.Desk d) (at.Desk (record d { log = line.Begin v.request ∷ d.log })) (all_in phase.Reply d.parked) (λ f. f (Request (turned phase.Arrive v)) + all_in phase.Reply d.parked f)
-  begins_flush : (d : Desk) (v : Vio) → v.page ≡ None
+  begins_flush : (d : Desk) (v : Vio) → v.page ≡ None → v.claim ≡ None
       → Row sizes (at.Desk d) (at.Desk (record d { log = line.Begin v.request ∷ d.log })) (all_in phase.Reply d.parked) (λ f. f (Request (turned phase.Flush v)) + all_in phase.Reply d.parked f)
   parks : (d : Desk) (v : Vio) (parked : List Vio)
       → Row sizes (at.Desk d) (at.Desk (record d { parked = parked })) (λ f. f (Request (turned phase.Reply v)) + all_in phase.Reply d.parked f) (λ f. f (Request (turned phase.Reply v)) + all_in phase.Reply d.parked f)
-  answers : (d : Desk) (v : Vio) (a : Answer) (marks : List FlushMark) → v.page ≡ None
+  answers : (d : Desk) (v : Vio) (a : Answer) (marks : List FlushMark) → v.page ≡ None → v.claim ≡ None
       → Row sizes (at.Desk d) (at.Desk (record d { log = line.Answer v.request a ∷ d.log; marks = marks })) (λ f. f (Request (turned phase.Reply v)) + all_in phase.Reply d.parked f) (all_in phase.Reply d.parked)
   hears : (d : Desk) → Row sizes (at.Desk d) (at.Desk (with_notice d)) (λ f. f StopNotice + all_in phase.Reply d.parked f) (all_in phase.Reply d.parked)
   -- a logical zone
@@ -98,10 +122,10 @@ pub data Row (sizes : Sizes) : ZoneData → ZoneData → Sum → Sum → Type 0 
   leafed : (l : LogicalZone) (v : Vio) (on : Onward)
       → Row sizes (at.Logical l) (at.Logical l) (λ f. f (Request (turned phase.LoadedLeaf v)) + all_in phase.Wait l.waiting f) (λ f. f (Request (onward on v)) + all_in phase.Wait l.waiting f)
   -- a request leaves its lock, and nobody waits for it, or one does
-  leaves : (l : LogicalZone) (slots : List Remapping) (v : Vio) (q : Phase) (a : Option Answer) → holds q ≡ true → IsSetBy l v q slots → Leased l v
-      → Row sizes (at.Logical l) (at.Logical (record l { slots = slots; held = without v.at.0 l.held })) (λ f. f (Request (turned q v)) + all_in phase.Wait l.waiting f) (λ f. f (Request (replied a v)) + all_in phase.Wait l.waiting f)
-  hands_on : (l : LogicalZone) (slots : List Remapping) (v : Vio) (q : Phase) (a : Option Answer) (w : Vio) (others : List Vio) → holds q ≡ true → IsSetBy l v q slots → Leased l v
-      → Row sizes (at.Logical l) (at.Logical (record l { slots = slots; held = lock_of w ∷ without v.at.0 l.held; waiting = others }))
+  leaves : (l : LogicalZone) (slots reported : List Remapping) (v : Vio) (q : Phase) (a : Option Answer) → holds q ≡ true → IsSetBy l v q slots reported → Leased l v
+      → Row sizes (at.Logical l) (at.Logical (record l { slots = slots; reported = reported; held = without v.at.0 l.held })) (λ f. f (Request (turned q v)) + all_in phase.Wait l.waiting f) (λ f. f (Request (replied a v)) + all_in phase.Wait l.waiting f)
+  hands_on : (l : LogicalZone) (slots reported : List Remapping) (v : Vio) (q : Phase) (a : Option Answer) (w : Vio) (others : List Vio) → holds q ≡ true → IsSetBy l v q slots reported → Leased l v
+      → Row sizes (at.Logical l) (at.Logical (record l { slots = slots; reported = reported; held = lock_of w ∷ without v.at.0 l.held; waiting = others }))
       (λ f. f (Request (turned q v)) + (f (Request (turned phase.Wait w)) + all_in phase.Wait others f)) (λ f. f (Request (replied a v)) + (f (Request (turned phase.Look w)) + all_in phase.Wait others f))
   retires : (l : LogicalZone) (v : Vio) → v.page ≡ None → Leased l v
       → Row sizes (at.Logical l) (at.Logical (retire v.at.0 l)) (λ f. f (Request (turned phase.AbortEntered v)) + (all_in phase.Wait (all_for v.at.0 l.waiting) f + all_in phase.Wait (none_for v.at.0 l.waiting) f))
@@ -115,26 +139,41 @@ pub data Row (sizes : Sizes) : ZoneData → ZoneData → Sum → Sum → Type 0 
       → Row sizes (at.Logical l) (at.Logical (unmaking l tree l.unlinkable page)) (λ f. f (Request (turned phase.Settle v)) + all_in phase.Wait l.waiting f) (λ f. f (Request (vios.made v)) + all_in phase.Wait l.waiting f)
   forgets : (l : LogicalZone) (unlinkable : List PageId) (v : Vio) (q : Phase) (page : PageId) → holds q ≡ true → IsDroppedBy l q unlinkable → v.page ≡ Some page → MadeIn l page
       → Row sizes (at.Logical l) (at.Logical (unmaking l l.tree unlinkable page)) (λ f. f (Request (turned q v)) + all_in phase.Wait l.waiting f) (λ f. f (Request (without_page v)) + all_in phase.Wait l.waiting f)
+  -- a request waits for the report of its decrement; a report is kept, while others stay as they are
+  awaits : (l : LogicalZone) (v : Vio) (settling : List Vio)
+      → Row sizes (at.Logical l) (at.Logical (record l { settling = settling })) (λ f. f (Request v) + all_in phase.Wait l.waiting f) (λ f. f (Request v) + all_in phase.Wait l.waiting f)
+  keeps_report : (l : LogicalZone) (e : Remapping) (settling : List Vio) (others : Sum)
+      → Row sizes (at.Logical l) (at.Logical (record l { settling = settling; reported = l.reported ++ e ∷ [] })) (λ f. f (Report e) + others f) others
   tells_logical : (l : LogicalZone) → Row sizes (at.Logical l) (at.Logical (record l { notified = true })) (λ f. f StopNotice + all_in phase.Wait l.waiting f) (λ f. f StopNotice + all_in phase.Wait l.waiting f)
   -- the physical zone
-  claims_block : (p : PhysicalZone) (v : Vio) (x : Pbn) (others : List Pbn)
-      → Row sizes (at.Physical (record p { free = x ∷ others })) (at.Physical (record p { free = others })) (λ f. f (Request (turned phase.Claim v))) (λ f. f (Request (record v { phase = phase.Store; new = At x })))
-  finds_none : (p : PhysicalZone) (v : Vio) → Row sizes (at.Physical p) (at.Physical p) (λ f. f (Request (turned phase.Claim v))) (λ f. f (Request (ended phase.Abort reply.Full v)))
-  aborts_claim : (p : PhysicalZone) (v : Vio) → Row sizes (at.Physical p) (at.Physical p) (λ f. f (Request (turned phase.AbortClaim v))) (λ f. f (Request (turned phase.Abort v)))
-  aborts_entered_claim : (p : PhysicalZone) (v : Vio) → Row sizes (at.Physical p) (at.Physical p) (λ f. f (Request (turned phase.AbortEnteredClaim v))) (λ f. f (Request (turned phase.AbortEntered v)))
+  claims_block : (p : PhysicalZone) (z : Zone) (v : Vio) (x : Pbn) → v.claim ≡ None → Moves p.counts z (one_of x) no_block no_block
+      → Row sizes (at.Physical p) (at.Physical (with_counts z p)) (λ f. f (Request (turned phase.Claim v))) (λ f. f (Request (claiming x v)))
+  finds_none : (p : PhysicalZone) (v : Vio) → Row sizes (at.Physical p) (at.Physical p) (λ f. f (Request (turned phase.Claim v))) (λ f. f (Request (ended phase.Abort reply.NoSpace v)))
+  counts_block : (p : PhysicalZone) (z : Zone) (v : Vio) (x : Pbn) → v.claim ≡ Some x → Moves p.counts z no_block no_block (one_of x)
+      → Row sizes (at.Physical p) (at.Physical (with_counts z p)) (λ f. f (Request (turned phase.Count v))) (λ f. f (Request (unclaiming phase.Settle v)))
+  drops_claim : (p : PhysicalZone) (z : Zone) (v : Vio) (x : Pbn) → v.claim ≡ Some x → Moves p.counts z no_block (one_of x) (one_of x)
+      → Row sizes (at.Physical p) (at.Physical (with_counts z p)) (λ f. f (Request (turned phase.AbortClaim v))) (λ f. f (Request (unclaiming phase.Abort v)))
+  drops_none : (p : PhysicalZone) (v : Vio) → Row sizes (at.Physical p) (at.Physical p) (λ f. f (Request (turned phase.AbortClaim v))) (λ f. f (Request (turned phase.Abort v)))
+  spends_claim : (p : PhysicalZone) (v : Vio) → Row sizes (at.Physical p) (at.Physical p) (λ f. f (Request (turned phase.AbortEnteredClaim v))) (λ f. f (Request (unclaiming phase.AbortEntered v)))
+  removes : (p : PhysicalZone) (z : Zone) (e : Remapping) (x : Pbn) → e.old ≡ At x → Moves p.counts z no_block (one_of x) no_block
+      → Row sizes (at.Physical p) (at.Physical (with_counts z p)) (λ f. f (Decrement e)) (λ f. f (Report e))
+  strays : (p : PhysicalZone) (e : Remapping) (damage : Damage) → Row sizes (at.Physical (record p { strays = [] })) (at.Physical (record p { strays = e ∷ [] })) (λ f. f (Decrement e)) (λ f. f (Report e) + f (item.Damage damage))
+  strays_again : (p : PhysicalZone) (e first : Remapping) (strays : List Remapping)
+      → Row sizes (at.Physical (record p { strays = first ∷ strays })) (at.Physical (record p { strays = e ∷ first ∷ strays })) (λ f. f (Decrement e)) (λ f. f (Report e))
   tells_physical : (p : PhysicalZone) → Row sizes (at.Physical p) (at.Physical (record p { notified = true })) (λ f. f StopNotice) (λ f. f StopNotice)
   -- the journal
   refuses : (j : JournalZone) (v : Vio) (a : Answer) → Row sizes (at.Journal j) (at.Journal j) (λ f. f (Request (turned phase.Enter v)) + kept_of j f) (λ f. f (Request (ended phase.AbortClaim a v)) + kept_of j f)
   waits : (j : JournalZone) (v : Vio) (waiting : List Vio)
       → Row sizes (at.Journal j) (at.Journal (record j { waiting = waiting })) (λ f. f (Request (turned phase.Enter v)) + kept_of j f) (λ f. f (Request (turned phase.Enter v)) + kept_of j f)
-  enters : (j : JournalZone) (v : Vio) → IsCounted v
+  enters : (j : JournalZone) (v : Vio) → IsCounted v → v.claim ≡ block_in v.new
       → Row sizes (at.Journal j) (at.Journal (entered_by v j)) (λ f. f (Request (turned phase.Enter v)) + kept_of j f) (λ f. f (Request (turned phase.Pending v)) + kept_of j f)
-  enters_first : (j : JournalZone) (v : Vio) → IsCounted v
+  enters_first : (j : JournalZone) (v : Vio) → IsCounted v → v.claim ≡ block_in v.new
       → Row sizes (at.Journal (record j { busy = false })) (at.Journal (record (entered_by v j) { busy = true })) (λ f. f (Request (turned phase.Enter v)) + kept_of j f)
       (λ f. f (Request (turned phase.Pending v)) + (f (Block (next_block j stage.Commit [])) + kept_of j f))
-  commits : (j : JournalZone) (b : SealedBlock) (v : Vio) (vs : List Vio)
+  -- a committed entry goes to be counted, or to its slot; of what it replaces there is a decrement, or none
+  commits : (j : JournalZone) (b : SealedBlock) (v : Vio) (vs : List Vio) (q : Phase) (more : Sum) → IsHandedOut v q → IsDecrementOf v more
       → Row sizes (at.Journal j) (at.Journal (committed_by v j)) (λ f. f (Block (record b { vios = turned phase.Pending v ∷ vs })) + kept_of j f)
-      (λ f. f (Request (turned phase.Settle v)) + (f (Block (record b { vios = vs })) + kept_of j f))
+      (λ f. f (Request (turned q v)) + (more f + (f (Block (record b { vios = vs })) + kept_of j f)))
   seals : (j : JournalZone) (b : SealedBlock)
       → Row sizes (at.Journal j) (at.Journal (sealed_by j)) (λ f. f (Block (record b { vios = [] })) + kept_of j f) (λ f. f (Block (next_block j stage.Cover j.filling)) + all_there j.waiting f)
   rests : (j : JournalZone) (b : SealedBlock)
@@ -161,6 +200,8 @@ pub data Row (sizes : Sizes) : ZoneData → ZoneData → Sum → Sum → Type 0 
       → Row sizes (at.Device (record d { stopped = false })) (at.Device (harmed damage (counted d))) (λ f. f (Request (turned phase.LoadLeaf v))) (λ f. f (Request (ended phase.Abort reply.Damaged v)) + notified_zones sizes * f StopNotice)
   harms_again : (d : DeviceZone) (v : Vio) (damage : Damage)
       → Row sizes (at.Device (record d { stopped = true })) (at.Device (harmed damage (counted d))) (λ f. f (Request (turned phase.LoadLeaf v))) (λ f. f (Request (ended phase.Abort reply.Damaged v)))
+  halts : (d : DeviceZone) (damage : Damage) → Row sizes (at.Device (record d { stopped = false })) (at.Device (harmed damage d)) (λ f. f (item.Damage damage)) (λ f. notified_zones sizes * f StopNotice)
+  halts_again : (d : DeviceZone) (damage : Damage) → Row sizes (at.Device (record d { stopped = true })) (at.Device (harmed damage d)) (λ f. f (item.Damage damage)) (λ f. 0)
   flushes : (d : DeviceZone) (v : Vio) → Row sizes (at.Device d) (at.Device (counted d)) (λ f. f (Request (turned phase.Flush v))) (λ f. f (Request (record v { phase = phase.Reply; answer = Some reply.Ok; calls = d.calls + 1 })))
   flush_fails : (d : DeviceZone) (v : Vio)
       → Row sizes (at.Device (record d { stopped = false })) (at.Device (halted d)) (λ f. f (Request (turned phase.Flush v))) (λ f. f (Request (ended phase.Reply reply.Stopped v)) + notified_zones sizes * f StopNotice)

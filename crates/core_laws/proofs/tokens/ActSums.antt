@@ -1,38 +1,43 @@
 -- Each act is one of the rows that the tokens see.
-use Rattle.std.proofs.Common.{◌≡◌, ℕ, suc, ◌+◌, ◌*◌, true, false, not, Option, None, Some, is_some, List, [], ◌∷◌, ◌++◌, length, length-append, map, slice_index_or, refl, ap, sym, ◌∙◌, subst, inl, inr, arith, ◌&&◌}
-use Rattle.core_laws.proofs.Common.{AllByRecursion, Answer, Desk, DeviceZone, Item, JournalZone, Remapping, LogicalZone, Mapping, Pbn, Phase, PhysicalZone, Post, SealedBlock, Sizes, Trace, Vio, ZoneData, ZoneId, as_items, bit, claims, eqb_tells, every-map, has_entry, holds, notified, notified_zones, queued, same_Some, total, turned, names, Writer, cases_Bool, ended}
+use Rattle.std.proofs.Common.{◌≡◌, ℕ, suc, ◌+◌, ◌*◌, true, false, not, Option, None, Some, is_some, List, [], ◌∷◌, ◌++◌, length, length-append, map, slice_index_or, refl, ap, sym, ◌∙◌, subst, inl, inr, arith, ◌&&◌, if◌then◌else◌}
+use Rattle.core_laws.proofs.Common.{AllByRecursion, Answer, Desk, DeviceZone, Item, JournalZone, Remapping, LogicalZone, Mapping, Pbn, Phase, PhysicalZone, Post, SealedBlock, Sizes, Trace, Vio, ZoneData, ZoneId, as_items, bit, eqb_tells, every-map, has_entry, holds, notified, notified_zones, queued, same_Some, same_tells, same_writer, total, total-append, turned, Writer, cases_Bool, ended, has_old, is_committed, is_old, logged, owes, remapping, remappings, waiter_weight}
 use Rattle.std.proofs.Common.{Bool}
 use Rattle.blk_base.specs.Sectors.{zero_block}
 use Rattle.blk_base.specs.declared.place.Mapping.TheVariants.{Unmapped, Zero, At}
 use Rattle.blk_base.specs.declared.place.ZoneId.TheVariants as id
 use Rattle.blk_base.specs.declared.request.Answer.TheVariants as reply
-use Rattle.data_vio.specs.declared.items.Item.TheVariants.{Request, Block, StopNotice}
+use Rattle.data_vio.specs.declared.items.Item.TheVariants.{Request, Block, Decrement, Report, StopNotice}
+use Rattle.data_vio.specs.declared.items.Item.TheVariants as item
 use Rattle.data_vio.specs.declared.items.Phase.TheVariants as phase
 use Rattle.data_vio.specs.declared.items.Stage.TheVariants as stage
 use Rattle.core_model.specs.declared.zones.ZoneData.TheVariants as at
 use Rattle.core_model.specs.DeskRules as desk
 use Rattle.core_model.specs.DeskRules.{DeskBegins, DeskServes, woken}
 use Rattle.core_model.specs.DeviceRules as device
-use Rattle.core_model.specs.DeviceRules.{Announces, DeviceServes, DeviceWorks, counted, harmed, notices_after, stop_notices}
-use Rattle.vdo_model.specs.declared.report.Damage.TheVariants.{Page}
+use Rattle.core_model.specs.DeviceRules.{Announces, DeviceHears, DeviceServes, DeviceWorks, counted, harmed, notices_after, stop_notices}
+use Rattle.vdo_model.specs.declared.report.Damage.TheVariants.{Page, Stray}
+use Rattle.vdo_model.specs.declared.report.Damage.{Damage}
 use Rattle.image_model.specs.Pages.{slot_of_address}
 use Rattle.core_model.specs.JournalRules as journal
 use Rattle.core_model.specs.PhysicalRules as physical
-use Rattle.core_model.specs.PhysicalRules.{PhysicalServes}
-use Rattle.core_model.specs.JournalRules.{JournalServes, JournalEnds, all_again, all_dropped, all_refused}
+use Rattle.core_model.specs.PhysicalRules.{PhysicalServes, PhysicalTakes, tells}
+use Rattle.core_model.specs.PageLinks.{block_in}
+use Rattle.zone_counts.specs.Zone.{IsZone}
+use Rattle.core_laws.proofs.tokens.Moves.{counted_moves, dropped_moves, given_moves, removed_moves}
+use Rattle.core_model.specs.JournalRules.{JournalServes, JournalEnds, all_again, all_dropped, all_refused, decrement_for, hands_to}
 use Rattle.core_model.specs.LogicalRules as logical
-use Rattle.core_model.specs.LogicalRules.{IsLinked, LogicalServes, placed, with_slot, first_for, but_first_for, all_for, none_for, looked, read_next, goes_on, granted, passed_to, passes_on, released, all_stopped}
+use Rattle.core_model.specs.LogicalRules.{IsLinked, LogicalHears, LogicalServes, awaits_report, is_reported, reports_left, settling_of, without_report, without_settling, placed, with_slot, first_for, but_first_for, all_for, none_for, looked, read_next, goes_on, granted, passed_to, passes_on, released, all_stopped}
 use Rattle.blk_base.specs.declared.place.PageId.{PageId}
 use Rattle.data_vio.specs.Vios as vios
-use Rattle.data_vio.specs.Vios.{gives_up}
+use Rattle.data_vio.specs.Vios.{gives_up, home_of}
 use Rattle.core_model.specs.Steps as steps
 use Rattle.core_model.specs.Steps.{Act}
 use Rattle.core_laws.proofs.lists.CoreLists.{every_but_first, every_none_for}
 use Rattle.core_laws.proofs.lists.ZoneNames.{notified_count}
 use Rattle.core_laws.proofs.tokens.ActRows as row
-use Rattle.core_laws.proofs.tokens.ActRows.{Row, Sum, all_in, all_ended, all_there, Onward, onward, replied, IsDroppedBy, IsSetBy, unmaking, without_page}
-use Rattle.core_laws.proofs.tokens.Known.{CountsIn, IsIn, KeptIn, Known, Leased, MadeIn, MakesNone}
-use Rattle.core_laws.proofs.tokens.Posts.{begun_page, begun_request, begun_phase, goes_by}
+use Rattle.core_laws.proofs.tokens.ActRows.{Row, Sum, all_in, all_ended, all_there, Onward, onward, replied, IsDecrementOf, IsDroppedBy, IsHandedOut, IsSetBy, of_block, of_none, of_page, to_count, to_slot, unmaking, without_page}
+use Rattle.core_laws.proofs.tokens.Known.{AreReports, Claims, CountsIn, IsCounted, IsIn, IsReady, KeptIn, Known, Leased, MadeIn, MakesNone, Replaces, claim_in}
+use Rattle.core_laws.proofs.tokens.Posts.{begun_claim, begun_page, begun_request, begun_phase, goes_by}
 
 -- what the posts have together
 abbrev pub posts_sum : List Post → Sum
@@ -127,36 +132,37 @@ module _ (sizes : Sizes) where
   begin_row old new made posts kept (desk.answers w r v a next asks served once n m q) = rw (n, q) (is_row (row.says old w a) (λ f. omega (arith, all_are f phase.Reply old.parked kept)) (λ f. omega (arith, all_are f phase.Reply old.parked kept)))
   begin_row old new made posts kept (desk.sends w r v next asks served once n m q) =
       rw (n, q, ← begun_request sizes w r v served) (elim (begun_phase sizes w r v served) [
-        | inl is ↦ is_row (row.begins old v (begun_page sizes w r v served)) (λ f. omega (arith, all_are f phase.Reply old.parked kept)) (λ f. omega (arith, in_phase f v phase.Arrive is, all_are f phase.Reply old.parked kept))
-        | inr is ↦ is_row (row.begins_flush old v (begun_page sizes w r v served)) (λ f. omega (arith, all_are f phase.Reply old.parked kept)) (λ f. omega (arith, in_phase f v phase.Flush is, all_are f phase.Reply old.parked kept))
+        | inl is ↦ is_row (row.begins old v (begun_page sizes w r v served) (begun_claim sizes w r v served)) (λ f. omega (arith, all_are f phase.Reply old.parked kept)) (λ f. omega (arith, in_phase f v phase.Arrive is, all_are f phase.Reply old.parked kept))
+        | inr is ↦ is_row (row.begins_flush old v (begun_page sizes w r v served) (begun_claim sizes w r v served)) (λ f. omega (arith, all_are f phase.Reply old.parked kept)) (λ f. omega (arith, in_phase f v phase.Flush is, all_are f phase.Reply old.parked kept))
       ])
 
-  desk_row : (old : Desk) (v : Vio) (new : Desk) (made : Trace) (posts : List Post) → KeptIn (at.Desk old) → MakesNone (Request v ∷ []) → DeskServes sizes old v new made posts → IsRow sizes (at.Desk old) (Request v ∷ []) (at.Desk new) posts
-  desk_row old v new made posts kept none (desk.parks a p has stops notified n m q) =
+  desk_row : (old : Desk) (v : Vio) (new : Desk) (made : Trace) (posts : List Post) → KeptIn (at.Desk old) → MakesNone (Request v ∷ []) → Claims v → DeskServes sizes old v new made posts → IsRow sizes (at.Desk old) (Request v ∷ []) (at.Desk new) posts
+  desk_row old v new made posts kept none claims (desk.parks a p has stops notified n m q) =
       rw (n, q) (is_row (row.parks old v (old.parked ++ v ∷ [])) (λ f. omega (arith, in_phase f v phase.Reply p, all_are f phase.Reply old.parked kept))
       (λ f. omega (arith, in_phase f v phase.Reply p, items_more f old.parked v, all_are f phase.Reply old.parked kept)))
-  desk_row old v new made posts kept none (desk.answers a p has notified marked n m q) =
-      rw (n, q) (is_row (row.answers old v a old.marks (none v refl (inr p))) (λ f. omega (arith, in_phase f v phase.Reply p, all_are f phase.Reply old.parked kept)) (λ f. omega (arith, all_are f phase.Reply old.parked kept)))
-  desk_row old v new made posts kept none (desk.marks p asks has n m q) =
-      rw (n, q) (is_row (row.answers old v reply.Ok _ (none v refl (inr p))) (λ f. omega (arith, in_phase f v phase.Reply p, all_are f phase.Reply old.parked kept)) (λ f. omega (arith, all_are f phase.Reply old.parked kept)))
+  desk_row old v new made posts kept none claims (desk.answers a p has notified marked n m q) =
+      rw (n, q) (is_row (row.answers old v a old.marks (none v refl (inr p)) (claim_in v phase.Reply p claims)) (λ f. omega (arith, in_phase f v phase.Reply p, all_are f phase.Reply old.parked kept)) (λ f. omega (arith, all_are f phase.Reply old.parked kept)))
+  desk_row old v new made posts kept none claims (desk.marks p asks has n m q) =
+      rw (n, q) (is_row (row.answers old v reply.Ok _ (none v refl (inr p)) (claim_in v phase.Reply p claims)) (λ f. omega (arith, in_phase f v phase.Reply p, all_are f phase.Reply old.parked kept)) (λ f. omega (arith, all_are f phase.Reply old.parked kept)))
 
   -- a logical zone: who goes on with a lock, and who gets it
-  abbrev goes_to : (v : Vio) (q : Phase) (new : Mapping) → List ℕ → holds q ≡ true → ((x : ℕ) → (claims q && names x new) ≡ false) → has_entry q ≡ false → Onward
-  goes_to v q new bytes locks unclaimed unentered = record { phase = q; leaf = v.leaf; old = v.old; latest = v.latest; new = new; bytes = bytes; locks = locks; unclaimed = unclaimed; unentered = unentered }
+  abbrev goes_to : (v : Vio) (q : Phase) (new : Mapping) → List ℕ → holds q ≡ true → owes q ≡ false → has_entry q ≡ false → is_committed q ≡ false → Onward
+  goes_to v q new bytes locks unowed unentered uncommitted =
+      record { phase = q; leaf = v.leaf; old = v.old; latest = v.latest; new = new; bytes = bytes; locks = locks; unowed = unowed; unentered = unentered; uncommitted = uncommitted }
 
   went_on : (v : Vio) (post : Post) → goes_on v ≡ Some post → (on : Onward) × (post.1 ≡ Request (onward on v))
   went_on v post goes = goes_by (λ p. (on : Onward) × (p.1 ≡ Request (onward on v))) v post goes (λ reads. read v.old)
-      (λ writes zeros. (goes_to v phase.Enter Zero v.bytes refl (λ x. refl) refl, refl)) (λ writes others. (goes_to v phase.Claim v.new v.bytes refl (λ x. refl) refl, refl))
-      (λ discards. (goes_to v phase.Enter Unmapped v.bytes refl (λ x. refl) refl, refl))
+      (λ writes zeros. (goes_to v phase.Enter Zero v.bytes refl refl refl refl, refl)) (λ writes others. (goes_to v phase.Claim v.new v.bytes refl refl refl refl, refl))
+      (λ discards. (goes_to v phase.Enter Unmapped v.bytes refl refl refl refl, refl))
     where
       read : (m : Mapping) → (on : Onward) × ((read_next v m).1 ≡ Request (onward on v))
-      read (At x) = (goes_to v phase.Load v.new v.bytes refl (λ y. refl) refl, refl)
-      read Unmapped = (goes_to v phase.Loaded v.new zero_block refl (λ x. refl) refl, refl)
-      read Zero = (goes_to v phase.Loaded v.new zero_block refl (λ x. refl) refl, refl)
+      read (At x) = (goes_to v phase.Load v.new v.bytes refl refl refl refl, refl)
+      read Unmapped = (goes_to v phase.Loaded v.new zero_block refl refl refl refl, refl)
+      read Zero = (goes_to v phase.Loaded v.new zero_block refl refl refl refl, refl)
 
   -- or reads its leaf first
   abbrev to_leaf : Pbn → Vio → Onward
-  to_leaf x v = record { phase = phase.LoadLeaf; leaf = Some x; old = v.old; latest = None; new = v.new; bytes = v.bytes; locks = refl; unclaimed = λ y. refl; unentered = refl }
+  to_leaf x v = record { phase = phase.LoadLeaf; leaf = Some x; old = v.old; latest = None; new = v.new; bytes = v.bytes; locks = refl; unowed = refl; unentered = refl; uncommitted = refl }
 
   first_taken : (a : ℕ) (f : Vio → ℕ) (vs : List Vio) (w : Vio) → first_for a vs ≡ Some w → total f vs ≡ f w + total f (but_first_for a vs)
   first_taken a f [] w is = absurd cc
@@ -171,9 +177,57 @@ module _ (sizes : Sizes) where
       let rest = split_for f a vs in
       elim (eqb_tells v.at.0 a) [ inl same ↦ rw same.0 (omega (arith, rest)) | inr other ↦ rw other.0 (omega (arith, rest)) ]
 
-  -- what a logical zone keeps: those that wait for a lock, and beside them those that wait for a page
-  logical_kept : (l : LogicalZone) → KeptIn (at.Logical l) → (f : Item → ℕ) → queued f (at.Logical l) ≡ all_in phase.Wait l.waiting f + all_there l.lacking f
-  logical_kept l kept f = omega (arith, there_sum f l.waiting l.lacking, there_in f phase.Wait l.waiting kept.0)
+  -- what a logical zone keeps: those that wait for a lock, and beside them those that wait for a page, or for a report
+  abbrev others_of : LogicalZone → Sum
+  others_of l f = all_there l.lacking f + all_there l.settling f
+
+  three_sum : (f : Item → ℕ) (us vs ws : List Vio) → total f (as_items (us ++ (vs ++ ws))) ≡ all_there us f + (all_there vs f + all_there ws f)
+  three_sum f [] vs ws = omega (arith, there_sum f vs ws)
+  three_sum f (u ∷ us) vs ws = omega (arith, three_sum f us vs ws)
+
+  logical_kept : (l : LogicalZone) → KeptIn (at.Logical l) → (f : Item → ℕ) → queued f (at.Logical l) ≡ all_in phase.Wait l.waiting f + others_of l f
+  logical_kept l kept f = omega (arith, three_sum f l.waiting l.lacking l.settling, there_in f phase.Wait l.waiting kept.0)
+
+  -- whoever leaves its lock before its entry is committed sets nothing; or it sets its slot
+  sets_none : (l : LogicalZone) (v : Vio) (q : Phase) → has_entry q ≡ false → is_committed q ≡ false → owes q ≡ false → IsSetBy l v q l.slots l.reported
+  sets_none l v q unentered uncommitted unowed = record {
+    count = omega (arith, ap (λ (b : Bool). bit (b && not (is_some v.page))) unentered);
+    waited = λ w. omega (arith, ap (λ (c : Bool). if c && not (is_some v.page) then has_old w (remapping v) else 0) uncommitted);
+    told = λ w. refl;
+    unowed = unowed;
+  }
+
+  own_waited : (w : Writer) (v : Vio) → v.page ≡ None → waiter_weight w (turned phase.Settle v) ≡ has_old w (remapping v)
+  own_waited w v none = ap (λ (o : Option PageId). if not (is_some o) then has_old w (remapping v) else 0) none
+
+  sets_slot : (l : LogicalZone) (v : Vio) (reported : List Remapping) → v.page ≡ None → ((w : Writer) → has_old w (remapping v) + total (has_old w) reported ≡ total (has_old w) l.reported)
+      → IsSetBy l v phase.Settle (with_slot l v).slots reported
+  sets_slot l v reported none told = record {
+    count = omega (arith, ap (λ (o : Option PageId). bit (not (is_some o))) none);
+    waited = λ w. omega (arith, own_waited w v none);
+    told = λ w. omega (arith, told w);
+    unowed = refl;
+  }
+
+  -- the report of a request is as that of its entry: it replaces a block
+  same_old : (w : Writer) (e f : Remapping) → e.request ≡ f.request → Replaces e → Replaces f → has_old w e ≡ has_old w f
+  same_old w e f same one other =
+      ap (λ (b : Bool). bit (same_writer e.request w && b)) one ∙ ap (λ (u : Writer). bit (same_writer u w && true)) same ∙ ap (λ (b : Bool). bit (same_writer f.request w && b)) (sym other)
+
+  no_old : (w : Writer) (e : Remapping) → is_some (block_in e.old) ≡ false → has_old w e ≡ 0
+  no_old w e none = ap (λ (b : Bool). bit (same_writer e.request w && b)) none ∙ neither (same_writer e.request w)
+    where
+      neither : (b : Bool) → bit (b && false) ≡ 0
+      neither true = refl
+      neither false = refl
+
+  without_one : (w : Writer) (v : Vio) (es : List Remapping) → AllByRecursion Replaces es → Replaces (remapping v) → is_reported v.request es ≡ true
+      → has_old w (remapping v) + total (has_old w) (without_report v.request es) ≡ total (has_old w) es
+  without_one w v [] all own some = absurd cc
+  without_one w v (e ∷ es) all own some = elim (same_tells e.request v.request) [
+    | inl same ↦ rw same.0 (omega (arith, same_old w e (remapping v) same.1 all.0 own))
+    | inr other ↦ let rest = without_one w v es all.1 own (rw other.0 at some) in rw other.0 (omega (arith, rest))
+  ]
 
   -- a request leaves its lock
   module _ (l : LogicalZone) (v : Vio) (leased : Leased l v) (kept : KeptIn (at.Logical l)) where
@@ -181,20 +235,21 @@ module _ (sizes : Sizes) where
     others_kept : (w : Vio) → first_for v.at.0 l.waiting ≡ Some w → (f : Item → ℕ) → all_in phase.Wait l.waiting f ≡ f (Request (turned phase.Wait w)) + all_in phase.Wait (but_first_for v.at.0 l.waiting) f
     others_kept w first f = first_taken v.at.0 (λ u. f (Request (turned phase.Wait u))) l.waiting w first
 
-    others_sum : (lacking : List Vio) (f : Item → ℕ) → total f (as_items (but_first_for v.at.0 l.waiting ++ lacking)) ≡ all_in phase.Wait (but_first_for v.at.0 l.waiting) f + all_there lacking f
-    others_sum lacking f =
+    others_sum : (lacking settling : List Vio) (f : Item → ℕ)
+        → total f (as_items (but_first_for v.at.0 l.waiting ++ (lacking ++ settling))) ≡ all_in phase.Wait (but_first_for v.at.0 l.waiting) f + (all_there lacking f + all_there settling f)
+    others_sum lacking settling f =
         let others = but_first_for v.at.0 l.waiting in
-        omega (arith, there_sum f others lacking, there_in f phase.Wait others (every_but_first (IsIn phase.Wait) v.at.0 l.waiting kept.0))
+        omega (arith, three_sum f others lacking settling, there_in f phase.Wait others (every_but_first (IsIn phase.Wait) v.at.0 l.waiting kept.0))
 
-    module _ (slots : List Remapping) (q : Phase) (in_it : v.phase ≡ q) (locks : holds q ≡ true) (is_set : IsSetBy l v q slots) (a : Option Answer) where
+    module _ (slots reported : List Remapping) (q : Phase) (in_it : v.phase ≡ q) (locks : holds q ≡ true) (is_set : IsSetBy l v q slots reported) (a : Option Answer) where
       abbrev set : LogicalZone
-      set = record l { slots = slots }
+      set = record l { slots = slots; reported = reported }
 
       left_row : (o : Option Vio) → first_for v.at.0 l.waiting ≡ o → IsRow sizes (at.Logical l) (Request v ∷ []) (at.Logical (passed_to v.at.0 set o)) ((id.Desk, Request (replied a v)) ∷ passes_on o)
-      left_row None first = beside (all_there l.lacking) (row.leaves l slots v q a locks is_set leased) (λ f. omega (arith, in_phase f v q in_it, logical_kept l kept f)) (λ f. omega (arith, logical_kept l kept f))
+      left_row None first = beside (others_of l) (row.leaves l slots reported v q a locks is_set leased) (λ f. omega (arith, in_phase f v q in_it, logical_kept l kept f)) (λ f. omega (arith, logical_kept l kept f))
       left_row (Some w) first =
-          beside (all_there l.lacking) (row.hands_on l slots v q a w (but_first_for v.at.0 l.waiting) locks is_set leased) (λ f. omega (arith, in_phase f v q in_it, logical_kept l kept f, others_kept w first f))
-          (λ f. omega (arith, others_sum l.lacking f))
+          beside (others_of l) (row.hands_on l slots reported v q a w (but_first_for v.at.0 l.waiting) locks is_set leased) (λ f. omega (arith, in_phase f v q in_it, logical_kept l kept f, others_kept w first f))
+          (λ f. omega (arith, others_sum l.lacking l.settling f))
 
       leaves_row : IsRow sizes (at.Logical l) (Request v ∷ []) (at.Logical (released v.at.0 set)) ((id.Desk, Request (replied a v)) ∷ granted v.at.0 set)
       leaves_row = left_row (first_for v.at.0 l.waiting) refl
@@ -210,15 +265,15 @@ module _ (sizes : Sizes) where
       given_up_row : (o : Option Vio) → first_for v.at.0 l.waiting ≡ o
           → IsRow sizes (at.Logical l) (Request v ∷ []) (at.Logical (passed_to v.at.0 unmade o)) ((id.Desk, Request (gives_up v)) ∷ (passes_on o ++ logical.all_again l.lacking))
       given_up_row None first =
-          beside (all_there l.lacking)
-          (row.both (row.forgets l unlinkable v q page locks is_dropped is_page made) (λ f. refl) (row.leaves unmade unmade.slots left phase.Abort v.answer refl (omega arith) leased))
+          beside (others_of l)
+          (row.both (row.forgets l unlinkable v q page locks is_dropped is_page made) (λ f. refl) (row.leaves unmade unmade.slots unmade.reported left phase.Abort v.answer refl (sets_none unmade left phase.Abort refl refl refl) leased))
           (λ f. omega (arith, in_phase f v q in_it, logical_kept l kept f))
-          (λ f. omega (arith, looks_sum f l.lacking, there_sum f l.waiting [], there_in f phase.Wait l.waiting kept.0))
+          (λ f. omega (arith, looks_sum f l.lacking, there_sum f l.waiting l.settling, there_in f phase.Wait l.waiting kept.0))
       given_up_row (Some w) first =
-          beside (all_there l.lacking)
-          (row.both (row.forgets l unlinkable v q page locks is_dropped is_page made) (λ f. omega (arith, others_kept w first f)) (row.hands_on unmade unmade.slots left phase.Abort v.answer w (but_first_for v.at.0 l.waiting) refl (omega arith) leased))
+          beside (others_of l)
+          (row.both (row.forgets l unlinkable v q page locks is_dropped is_page made) (λ f. omega (arith, others_kept w first f)) (row.hands_on unmade unmade.slots unmade.reported left phase.Abort v.answer w (but_first_for v.at.0 l.waiting) refl (sets_none unmade left phase.Abort refl refl refl) leased))
           (λ f. omega (arith, in_phase f v q in_it, logical_kept l kept f))
-          (λ f. omega (arith, looks_sum f l.lacking, others_sum [] f))
+          (λ f. omega (arith, looks_sum f l.lacking, others_sum [] l.settling f))
 
   -- the zone is the same whether its page or its lock is let go first
   unmade_passed : (a : ℕ) (page : PageId) (l : LogicalZone) (o : Option Vio) → logical.woken (logical.unmade page (passed_to a l o)) ≡ passed_to a (unmaking l l.tree l.unlinkable page) o
@@ -230,15 +285,15 @@ module _ (sizes : Sizes) where
   dropped_passed a page l (Some w) = refl
 
   -- a logical zone serves a request at home
-  module _ (old : LogicalZone) (v : Vio) (kept : KeptIn (at.Logical old)) (leased : holds v.phase ≡ true → Leased old v) (made_in : (page : PageId) → v.page ≡ Some page → MadeIn old page) (none : MakesNone (Request v ∷ [])) where
+  module _ (old : LogicalZone) (v : Vio) (kept : KeptIn (at.Logical old)) (leased : holds v.phase ≡ true → Leased old v) (made_in : (page : PageId) → v.page ≡ Some page → MadeIn old page) (none : MakesNone (Request v ∷ [])) (reports : AreReports (at.Logical old)) where
     abbrev IsServed : LogicalZone → List Post → Type 0
     IsServed new posts = IsRow sizes (at.Logical old) (Request v ∷ []) (at.Logical new) posts
 
     -- what it keeps, and the request in front
-    was_kept : (q : Phase) → v.phase ≡ q → (f : Item → ℕ) → total f (Request v ∷ []) + queued f (at.Logical old) ≡ f (Request (turned q v)) + all_in phase.Wait old.waiting f + all_there old.lacking f
+    was_kept : (q : Phase) → v.phase ≡ q → (f : Item → ℕ) → total f (Request v ∷ []) + queued f (at.Logical old) ≡ f (Request (turned q v)) + all_in phase.Wait old.waiting f + others_of old f
     was_kept q is f = omega (arith, in_phase f v q is, logical_kept old kept f)
 
-    stays_kept : (f : Item → ℕ) → queued f (at.Logical old) ≡ all_in phase.Wait old.waiting f + all_there old.lacking f
+    stays_kept : (f : Item → ℕ) → queued f (at.Logical old) ≡ all_in phase.Wait old.waiting f + others_of old f
     stays_kept f = logical_kept old kept f
 
     links_row : (page : PageId) (x : Pbn) (between : LogicalZone) → v.phase ≡ phase.Settle → v.page ≡ Some page → IsLinked page x old between
@@ -246,83 +301,199 @@ module _ (sizes : Sizes) where
     links_row page x between p is_page linked =
         let is : logical.woken between ≡ unmaking old between.tree old.unlinkable page = ap logical.woken linked.rest in
         subst (λ (new : LogicalZone). IsServed new ((v.home, Request (vios.made v)) ∷ logical.all_again old.lacking)) (sym is)
-        (beside (all_there old.lacking) (row.links old between.tree v page is_page (made_in page is_page)) (was_kept phase.Settle p)
-        (λ f. omega (arith, looks_sum f old.lacking, there_sum f old.waiting [], there_in f phase.Wait old.waiting kept.0)))
+        (beside (others_of old) (row.links old between.tree v page is_page (made_in page is_page)) (was_kept phase.Settle p)
+        (λ f. omega (arith, looks_sum f old.lacking, there_sum f old.waiting old.settling, there_in f phase.Wait old.waiting kept.0)))
 
     logical_row : (new : LogicalZone) (happened : Trace) (posts : List Post) → LogicalServes sizes old v new happened posts → IsServed new posts
-    logical_row new happened posts (logical.arrives_retired p among n m q) = rw (n, q) (beside (all_there old.lacking) (row.arrives_retired old v) (was_kept phase.Arrive p) (λ f. omega (arith, stays_kept f)))
-    logical_row new happened posts (logical.arrives_free p among held n m q) = rw (n, q) (beside (all_there old.lacking) (row.arrives_free old v) (was_kept phase.Arrive p) (λ f. omega (arith, stays_kept f)))
+    logical_row new happened posts (logical.arrives_retired p among n m q) = rw (n, q) (beside (others_of old) (row.arrives_retired old v) (was_kept phase.Arrive p) (λ f. omega (arith, stays_kept f)))
+    logical_row new happened posts (logical.arrives_free p among held n m q) = rw (n, q) (beside (others_of old) (row.arrives_free old v) (was_kept phase.Arrive p) (λ f. omega (arith, stays_kept f)))
     logical_row new happened posts (logical.arrives_held p among held n m q) =
         let behind = turned phase.Wait (placed old v) in
-        rw (n, q) (beside (all_there old.lacking) (row.arrives_held old v (old.waiting ++ behind ∷ [])) (was_kept phase.Arrive p)
-        (λ f. omega (arith, there_more f old.waiting behind, there_sum f (old.waiting ++ behind ∷ []) old.lacking, there_in f phase.Wait old.waiting kept.0)))
+        rw (n, q) (beside (others_of old) (row.arrives_held old v (old.waiting ++ behind ∷ [])) (was_kept phase.Arrive p)
+        (λ f. omega (arith, there_more f old.waiting behind, three_sum f (old.waiting ++ behind ∷ []) old.lacking old.settling, there_in f phase.Wait old.waiting kept.0)))
     logical_row new happened posts (logical.looks mapping post p path stays there known goes n m q) =
         let on = went_on (looked old mapping v) post goes in
-        rw (n, q) (beside (all_there old.lacking) (row.looks old v on.0) (was_kept phase.Look p) (λ f. omega (arith, ap f on.1, stays_kept f)))
+        rw (n, q) (beside (others_of old) (row.looks old v on.0) (was_kept phase.Look p) (λ f. omega (arith, ap f on.1, stays_kept f)))
     logical_row new happened posts (logical.needs_leaf x p path stays there unknown stands n m q) =
-        rw (n, q) (beside (all_there old.lacking) (row.looks old v (to_leaf x v)) (was_kept phase.Look p) (λ f. omega (arith, stays_kept f)))
+        rw (n, q) (beside (others_of old) (row.looks old v (to_leaf x v)) (was_kept phase.Look p) (λ f. omega (arith, stays_kept f)))
     logical_row new happened posts (logical.leafed post p goes n m q) =
         let on = went_on v post goes in
-        rw (n, q) (beside (all_there old.lacking) (row.leafed old v on.0) (was_kept phase.LoadedLeaf p) (λ f. omega (arith, ap f on.1, stays_kept f)))
+        rw (n, q) (beside (others_of old) (row.leafed old v on.0) (was_kept phase.LoadedLeaf p) (λ f. omega (arith, ap f on.1, stays_kept f)))
     logical_row new happened posts (logical.passes p path past n m q) =
-        rw (n, q) (leaves_row old v (leased (ap holds p)) kept old.slots phase.Look p refl (omega arith) (Some reply.Ok))
+        rw (n, q) (leaves_row old v (leased (ap holds p)) kept old.slots old.reported phase.Look p refl (sets_none old v phase.Look refl refl refl) (Some reply.Ok))
     logical_row new happened posts (logical.is_dropped page p path lacked never n m q) =
-        rw (n, q) (leaves_row old v (leased (ap holds p)) kept old.slots phase.Look p refl (omega arith) (Some reply.Stopped))
+        rw (n, q) (leaves_row old v (leased (ap holds p)) kept old.slots old.reported phase.Look p refl (sets_none old v phase.Look refl refl refl) (Some reply.Stopped))
     logical_row new happened posts (logical.waits page p path lacked never being n m q) =
-        rw (n, q) (beside (all_there old.lacking) (row.lacks old v (old.lacking ++ v ∷ [])) (λ f. omega (arith, stays_kept f))
-        (λ f. omega (arith, there_more f old.lacking v, there_sum f old.waiting (old.lacking ++ v ∷ []), there_in f phase.Wait old.waiting kept.0)))
+        rw (n, q) (beside (others_of old) (row.lacks old v (old.lacking ++ v ∷ [])) (λ f. omega (arith, stays_kept f))
+        (λ f. omega (arith, there_more f old.lacking v, three_sum f old.waiting (old.lacking ++ v ∷ []) old.settling, there_in f phase.Wait old.waiting kept.0)))
     logical_row new happened posts (logical.makes_page page p path lacked never free n m q) =
-        rw (n, q) (beside (all_there old.lacking) (row.makes old v page (none v refl (inl p))) (was_kept phase.Look p) (λ f. omega (arith, stays_kept f)))
+        rw (n, q) (beside (others_of old) (row.makes old v page (none v refl (inl p))) (was_kept phase.Look p) (λ f. omega (arith, stays_kept f)))
     logical_row new happened posts (logical.links page x between p is_page to may linked n m q) = rw (n, q) (links_row page x between p is_page linked)
-    logical_row new happened posts (logical.settles p pageless n m q) =
-        let own = ap (λ (o : Option PageId). bit (not (is_some o))) pageless in
-        rw (n, q) (leaves_row old v (leased (ap holds p)) kept (with_slot old v).slots phase.Settle p refl (omega (arith, own)) (Some reply.Ok))
+    logical_row new happened posts (logical.settles p pageless there n m q) =
+        rw (n, q) (leaves_row old v (leased (ap holds p)) kept (with_slot old v).slots (reports_left v old.reported) phase.Settle p refl (sets_slot old v (reports_left v old.reported) pageless (λ w. told_before w there)) (Some reply.Ok))
+      where
+        left_as : (b : Bool) → is_some (block_in v.old) ≡ b → reports_left v old.reported ≡ (if b then without_report v.request old.reported else old.reported)
+        left_as b is = ap (λ (c : Bool). if c then without_report v.request old.reported else old.reported) is
+
+        told_before : (w : Writer) → awaits_report old v ≡ false → has_old w (remapping v) + total (has_old w) (reports_left v old.reported) ≡ total (has_old w) old.reported
+        told_before w there = elim (cases_Bool (is_some (block_in v.old))) [
+          | inr none ↦ omega (arith, no_old w (remapping v) none, ap (total (has_old w)) (left_as false none))
+          | inl replaces ↦ elim (cases_Bool (is_reported v.request old.reported)) [
+            | inl some ↦ omega (arith, without_one w v old.reported (reports old refl).0 replaces some, ap (total (has_old w)) (left_as true replaces))
+            | inr unreported ↦ absurd (let no : true ≡ false = rw (replaces, unreported) at there in cc)
+          ]
+        ]
+    logical_row new happened posts (logical.awaits p pageless there n m q) =
+        rw (n, q) (beside (others_of old) (row.awaits old v (old.settling ++ v ∷ [])) (λ f. omega (arith, stays_kept f))
+        (λ f. omega (arith, there_more f old.settling v, three_sum f old.waiting old.lacking (old.settling ++ v ∷ []), there_in f phase.Wait old.waiting kept.0)))
     logical_row new happened posts (logical.gives p n m q) =
-        rw (n, q) (leaves_row old v (leased (ap holds p)) kept old.slots phase.Loaded p refl (omega arith) (Some (reply.Bytes v.bytes)))
+        rw (n, q) (leaves_row old v (leased (ap holds p)) kept old.slots old.reported phase.Loaded p refl (sets_none old v phase.Loaded refl refl refl) (Some (reply.Bytes v.bytes)))
     logical_row new happened posts (logical.aborts p pageless n m q) =
-        rw (n, q) (leaves_row old v (leased (ap holds p)) kept old.slots phase.Abort p refl (omega arith) v.answer)
+        rw (n, q) (leaves_row old v (leased (ap holds p)) kept old.slots old.reported phase.Abort p refl (sets_none old v phase.Abort refl refl refl) v.answer)
     logical_row new happened posts (logical.unmakes page p is_page n m q) =
         let first = first_for v.at.0 old.waiting in
-        rw (n, q, unmade_passed v.at.0 page old first) (given_up_row old v (leased (ap holds p)) kept old.unlinkable phase.Abort page p refl (omega arith) is_page (made_in page is_page) first refl)
+        rw (n, q, unmade_passed v.at.0 page old first) (given_up_row old v (leased (ap holds p)) kept old.unlinkable phase.Abort page p refl (record { count = omega arith; unowed = refl; uncommitted = refl }) is_page (made_in page is_page) first refl)
     logical_row new happened posts (logical.drops page p is_page n m q) =
         let first = first_for v.at.0 old.waiting in
-        rw (n, q, dropped_passed v.at.0 page old first) (given_up_row old v (leased (ap holds p)) kept (old.unlinkable ++ page ∷ []) phase.AbortEntered page p refl (omega (arith, length-append old.unlinkable (page ∷ []))) is_page (made_in page is_page) first refl)
+        rw (n, q, dropped_passed v.at.0 page old first) (given_up_row old v (leased (ap holds p)) kept (old.unlinkable ++ page ∷ []) phase.AbortEntered page p refl (record { count = omega (arith, length-append old.unlinkable (page ∷ [])); unowed = refl; uncommitted = refl }) is_page (made_in page is_page) first refl)
     logical_row new happened posts (logical.aborts_entered p pageless n m q) =
         let split : (f : Item → ℕ) → all_in phase.Wait (all_for v.at.0 old.waiting) f + all_in phase.Wait (none_for v.at.0 old.waiting) f ≡ all_in phase.Wait old.waiting f = λ f. split_for (λ u. f (Request (turned phase.Wait u))) v.at.0 old.waiting in
         let others = every-map {P = λ u. IsIn phase.Wait u × (u.at.0 ≡ v.at.0 → ⊥)} {Q = IsIn phase.Wait} (λ u both. both.0) (none_for v.at.0 old.waiting) (every_none_for (IsIn phase.Wait) v.at.0 old.waiting kept.0) in
-        rw (n, q) (beside (all_there old.lacking) (row.retires old v pageless (leased (ap holds p))) (λ f. omega (arith, was_kept phase.AbortEntered p f, split f))
-        (λ f. omega (arith, stopped_sum f (all_for v.at.0 old.waiting), there_sum f (none_for v.at.0 old.waiting) old.lacking, there_in f phase.Wait (none_for v.at.0 old.waiting) others)))
+        rw (n, q) (beside (others_of old) (row.retires old v pageless (leased (ap holds p))) (λ f. omega (arith, was_kept phase.AbortEntered p f, split f))
+        (λ f. omega (arith, stopped_sum f (all_for v.at.0 old.waiting), three_sum f (none_for v.at.0 old.waiting) old.lacking old.settling, there_in f phase.Wait (none_for v.at.0 old.waiting) others)))
+
+  -- a report comes for the request that waits for it, or is kept
+  pub settling_taken : (w : Writer) (f : Vio → ℕ) (vs : List Vio) (v : Vio) → settling_of w vs ≡ Some v → total f vs ≡ f v + total f (without_settling w vs)
+  settling_taken w f [] v is = absurd cc
+  settling_taken w f (u ∷ vs) v is = elim (same_tells u.request w) [
+    | inl same ↦ rw same.0 (ap (λ (x : Vio). f x + total f vs) (same_Some _ _ (rw same.0 at is)))
+    | inr other ↦ let rest = settling_taken w f vs v (rw other.0 at is) in rw other.0 (omega (arith, rest))
+  ]
+
+  -- the one that is found is one of them, and that request's
+  pub settling_has : (P : Vio → Type 0) (w : Writer) (vs : List Vio) (v : Vio) → settling_of w vs ≡ Some v → AllByRecursion P vs → P v × (v.request ≡ w)
+  settling_has P w [] v is all = absurd cc
+  settling_has P w (u ∷ vs) v is all = elim (same_tells u.request w) [
+    | inl same ↦ let here : u ≡ v = same_Some _ _ (rw same.0 at is) in (subst P here all.0, subst (λ (x : Vio). x.request ≡ w) here same.1)
+    | inr other ↦ settling_has P w vs v (rw other.0 at is) all.1
+  ]
+
+  module _ (old : LogicalZone) (e : Remapping) (kept : KeptIn (at.Logical old)) (leased : (v : Vio) → settling_of e.request old.settling ≡ Some v → Leased old v) (reports : AreReports (at.Logical old)) (own : Replaces e) where
+    abbrev came : LogicalZone
+    came = record old { reported = old.reported ++ e ∷ [] }
+
+    module _ (v : Vio) (found : settling_of e.request old.settling ≡ Some v) where
+      has : (v.phase ≡ phase.Settle) × (v.request ≡ e.request)
+      has = settling_has (IsIn phase.Settle) e.request old.settling v found kept.2
+
+      is : (v.page ≡ None) × Replaces (remapping v)
+      is = (settling_has (λ u. (u.page ≡ None) × Replaces (remapping u)) e.request old.settling v found (reports old refl).1).0
+
+      abbrev others : List Vio
+      others = without_settling e.request old.settling
+
+      -- the zone once the report is there, and its request goes
+      abbrev ready : LogicalZone
+      ready = record old { settling = others; reported = old.reported ++ e ∷ [] }
+
+      told : (w : Writer) → has_old w (remapping v) + total (has_old w) old.reported ≡ total (has_old w) (old.reported ++ e ∷ [])
+      told w = omega (arith, total-append (has_old w) old.reported (e ∷ []), same_old w e (remapping v) (sym has.1) own is.1)
+
+      taken : (f : Item → ℕ) → all_there old.settling f ≡ f (Request (turned phase.Settle v)) + all_there others f
+      taken f = omega (arith, settling_taken e.request (λ u. f (Request u)) old.settling v found, in_phase f v phase.Settle has.0)
+
+      sets : IsSetBy ready v phase.Settle (with_slot old v).slots old.reported
+      sets = sets_slot ready v old.reported is.0 told
+
+      by : (o : Option Vio) → first_for v.at.0 old.waiting ≡ o
+          → IsRow sizes (at.Logical old) (Report e ∷ []) (at.Logical (passed_to v.at.0 (with_slot (record old { settling = others }) v) o)) ((id.Desk, Request (replied (Some reply.Ok) v)) ∷ passes_on o)
+      by None first =
+          beside (λ f. all_there old.lacking f + all_there others f)
+          (row.both (row.keeps_report old e others (λ f. f (Request (turned phase.Settle v)) + all_in phase.Wait old.waiting f)) (λ f. refl) (row.leaves ready (with_slot old v).slots old.reported v phase.Settle (Some reply.Ok) refl sets (leased v found)))
+          (λ f. omega (arith, logical_kept old kept f, taken f)) (λ f. omega (arith, three_sum f old.waiting old.lacking others, there_in f phase.Wait old.waiting kept.0))
+      by (Some u) first =
+          beside (λ f. all_there old.lacking f + all_there others f)
+          (row.both (row.keeps_report old e others (λ f. f (Request (turned phase.Settle v)) + all_in phase.Wait old.waiting f)) (λ f. omega (arith, first_taken v.at.0 (λ w. f (Request (turned phase.Wait w))) old.waiting u first))
+          (row.hands_on ready (with_slot old v).slots old.reported v phase.Settle (Some reply.Ok) u (but_first_for v.at.0 old.waiting) refl sets (leased v found)))
+          (λ f. omega (arith, logical_kept old kept f, taken f))
+          (λ f. omega (arith, three_sum f (but_first_for v.at.0 old.waiting) old.lacking others, there_in f phase.Wait (but_first_for v.at.0 old.waiting) (every_but_first (IsIn phase.Wait) v.at.0 old.waiting kept.0)))
+
+    hears_row : (new : LogicalZone) (happened : Trace) (posts : List Post) → LogicalHears sizes old e new happened posts → IsRow sizes (at.Logical old) (Report e ∷ []) (at.Logical new) posts
+    hears_row new happened posts (logical.LogicalHears.keeps none n m q) =
+        rw (n, q) (beside (λ f. 0) (row.keeps_report old e old.settling (λ f. queued f (at.Logical old))) (λ f. omega arith) (λ f. omega arith))
+    hears_row new happened posts (logical.LogicalHears.settles v found n m q) = rw (n, q) (by v found (first_for v.at.0 old.waiting) refl)
 
   -- the physical zone
-  physical_row : (old : PhysicalZone) (v : Vio) (new : PhysicalZone) (made : Trace) (posts : List Post) → PhysicalServes sizes old v new made posts → IsRow sizes (at.Physical old) (Request v ∷ []) (at.Physical new) posts
-  physical_row old v new made posts (physical.claims x others p free n m q) =
-      let is : record old { free = x ∷ others } ≡ old = rw (← free) refl in
-      subst (λ (o : PhysicalZone). IsRow sizes (at.Physical o) (Request v ∷ []) (at.Physical new) posts) is
-      (rw (n, q) (is_row (row.claims_block old v x others) (λ f. omega (arith, in_phase f v phase.Claim p)) (λ f. omega arith)))
-  physical_row old v new made posts (physical.is_full p none n m q) = rw (n, q) (is_row (row.finds_none old v) (λ f. omega (arith, in_phase f v phase.Claim p)) (λ f. omega arith))
-  physical_row old v new made posts (physical.aborts_claim p n m q) = rw (n, q) (is_row (row.aborts_claim old v) (λ f. omega (arith, in_phase f v phase.AbortClaim p)) (λ f. omega arith))
-  physical_row old v new made posts (physical.aborts_entered_claim p n m q) = rw (n, q) (is_row (row.aborts_entered_claim old v) (λ f. omega (arith, in_phase f v phase.AbortEnteredClaim p)) (λ f. omega arith))
+  physical_row : (old : PhysicalZone) (v : Vio) (new : PhysicalZone) (made : Trace) (posts : List Post) → Claims v → IsZone old.counts × (old.counts.desk.out ≡ []) → PhysicalServes sizes old v new made posts
+      → IsRow sizes (at.Physical old) (Request v ∷ []) (at.Physical new) posts
+  physical_row old v new made posts claims zone (physical.PhysicalServes.claims x z p gives n m q) =
+      rw (n, q) (is_row (row.claims_block old z v x (claim_in v phase.Claim p claims) (given_moves old.counts z x zone.0 gives)) (λ f. omega (arith, in_phase f v phase.Claim p)) (λ f. omega arith))
+  physical_row old v new made posts claims zone (physical.PhysicalServes.has_no_space p none n m q) = rw (n, q) (is_row (row.finds_none old v) (λ f. omega (arith, in_phase f v phase.Claim p)) (λ f. omega arith))
+  physical_row old v new made posts claims zone (physical.PhysicalServes.counts x slab z p some claim takes change n m q) =
+      rw (n, q) (is_row (row.counts_block old z v x some (counted_moves v.page old.counts z x slab zone.0 claim takes change)) (λ f. omega (arith, in_phase f v phase.Count p)) (λ f. omega arith))
+  physical_row old v new made posts claims zone (physical.PhysicalServes.drops x z p some claim change n m q) =
+      rw (n, q) (is_row (row.drops_claim old z v x some (dropped_moves old.counts z x zone.0 zone.1 claim change)) (λ f. omega (arith, in_phase f v phase.AbortClaim p)) (λ f. omega arith))
+  physical_row old v new made posts claims zone (physical.PhysicalServes.drops_none p none n m q) = rw (n, q) (is_row (row.drops_none old v) (λ f. omega (arith, in_phase f v phase.AbortClaim p)) (λ f. omega arith))
+  physical_row old v new made posts claims zone (physical.PhysicalServes.spends p n m q) = rw (n, q) (is_row (row.spends_claim old v) (λ f. omega (arith, in_phase f v phase.AbortEnteredClaim p)) (λ f. omega arith))
+
+  update_row : (old : PhysicalZone) (e : Remapping) (new : PhysicalZone) (made : Trace) (posts : List Post) → IsZone old.counts × (old.counts.desk.out ≡ []) → PhysicalTakes sizes old e new made posts
+      → IsRow sizes (at.Physical old) (Decrement e ∷ []) (at.Physical new) posts
+  update_row old e new made posts zone (physical.PhysicalTakes.removes x slab z from own takes change n m q) =
+      rw (n, q) (is_row (row.removes old z e x from (removed_moves old.counts z x slab zone.0 zone.1 own takes change)) (λ f. omega arith) (λ f. omega arith))
+  update_row old e new made posts zone (physical.PhysicalTakes.is_stray x from own stray n m q) = rw (n, q) (by old.strays refl)
+    where
+      by : (strays : List Remapping) → old.strays ≡ strays → IsRow sizes (at.Physical old) (Decrement e ∷ []) (at.Physical (record old { strays = e ∷ old.strays })) ((home_of sizes e, Report e) ∷ tells old.strays x)
+      by [] is =
+          let whole : record old { strays = [] } ≡ old = ap (λ (es : List Remapping). record old { strays = es }) (sym is) in
+          subst (λ (o : PhysicalZone). IsRow sizes (at.Physical o) (Decrement e ∷ []) (at.Physical (record o { strays = e ∷ o.strays })) ((home_of sizes e, Report e) ∷ tells o.strays x)) whole
+          (is_row (row.strays old e (Stray x 0)) (λ f. omega arith) (λ f. omega arith))
+      by (first ∷ strays) is =
+          let whole : record old { strays = first ∷ strays } ≡ old = ap (λ (es : List Remapping). record old { strays = es }) (sym is) in
+          subst (λ (o : PhysicalZone). IsRow sizes (at.Physical o) (Decrement e ∷ []) (at.Physical (record o { strays = e ∷ o.strays })) ((home_of sizes e, Report e) ∷ tells o.strays x)) whole
+          (is_row (row.strays_again old e first strays) (λ f. omega arith) (λ f. omega arith))
 
   dropped_sum : (f : Item → ℕ) (vs : List Vio) → posts_sum (all_dropped vs) f ≡ all_ended phase.AbortEnteredClaim reply.Stopped vs f
   dropped_sum f [] = refl
   dropped_sum f (v ∷ vs) = omega (arith, dropped_sum f vs)
 
-  journal_row : (old : JournalZone) (v : Vio) (new : JournalZone) (made : Trace) (posts : List Post) → CountsIn (Request v ∷ []) → JournalServes sizes old v new made posts → IsRow sizes (at.Journal old) (Request v ∷ []) (at.Journal new) posts
-  journal_row old v new made posts counts (journal.is_stopped p closed n m q) =
+  journal_row : (old : JournalZone) (v : Vio) (new : JournalZone) (made : Trace) (posts : List Post) → CountsIn (Request v ∷ []) → Claims v → JournalServes sizes old v new made posts → IsRow sizes (at.Journal old) (Request v ∷ []) (at.Journal new) posts
+  journal_row old v new made posts counts claims (journal.is_stopped p closed n m q) =
       rw (n, q) (is_row (row.refuses old v reply.Stopped) (λ f. omega (arith, in_phase f v phase.Enter p, there_sum f old.filling old.waiting)) (λ f. omega (arith, there_sum f old.filling old.waiting)))
-  journal_row old v new made posts counts (journal.is_full p closed none n m q) =
+  journal_row old v new made posts counts claims (journal.is_full p closed none n m q) =
       rw (n, q) (is_row (row.refuses old v reply.Full) (λ f. omega (arith, in_phase f v phase.Enter p, there_sum f old.filling old.waiting)) (λ f. omega (arith, there_sum f old.filling old.waiting)))
-  journal_row old v new made posts counts (journal.waits p closed block none n m q) =
+  journal_row old v new made posts counts claims (journal.waits p closed block none n m q) =
       rw (n, q) (is_row (row.waits old v (old.waiting ++ v ∷ [])) (λ f. omega (arith, in_phase f v phase.Enter p, there_sum f old.filling old.waiting))
       (λ f. omega (arith, in_phase f v phase.Enter p, there_more f old.waiting v, there_sum f old.filling (old.waiting ++ v ∷ []))))
-  journal_row old v new made posts counts (journal.enters p closed block room busy n m q) =
-      rw (n, q) (is_row (row.enters old v (counts v refl p)) (λ f. omega (arith, in_phase f v phase.Enter p, there_sum f old.filling old.waiting))
+  journal_row old v new made posts counts claims (journal.enters p closed block room busy n m q) =
+      rw (n, q) (is_row (row.enters old v (counts v refl p) (claim_in v phase.Enter p claims)) (λ f. omega (arith, in_phase f v phase.Enter p, there_sum f old.filling old.waiting))
       (λ f. omega (arith, there_more f old.filling (turned phase.Pending v), there_sum f (old.filling ++ turned phase.Pending v ∷ []) old.waiting)))
-  journal_row old v new made posts counts (journal.enters_first p closed block room idle n m q) =
+  journal_row old v new made posts counts claims (journal.enters_first p closed block room idle n m q) =
       let is : record old { busy = false } ≡ old = rw (← idle) refl in
       subst (λ (o : JournalZone). IsRow sizes (at.Journal o) (Request v ∷ []) (at.Journal new) posts) is
-      (rw (n, q) (is_row (row.enters_first old v (counts v refl p)) (λ f. omega (arith, in_phase f v phase.Enter p, there_sum f old.filling old.waiting))
+      (rw (n, q) (is_row (row.enters_first old v (counts v refl p) (claim_in v phase.Enter p claims)) (λ f. omega (arith, in_phase f v phase.Enter p, there_sum f old.filling old.waiting))
       (λ f. omega (arith, there_more f old.filling (turned phase.Pending v), there_sum f (old.filling ++ turned phase.Pending v ∷ []) old.waiting))))
+
+  -- where a committed entry goes, and what goes behind it
+  handed_to : (v : Vio) (m : Mapping) → v.new ≡ m → v.claim ≡ block_in v.new → (q : Phase) × IsHandedOut v q × ((hands_to v v.new).1 ≡ Request (turned q v))
+  handed_to v (At x) is claim = (phase.Count, to_count, ap (λ (n : Mapping). (hands_to v n).1) is)
+  handed_to v Unmapped is claim = (phase.Settle, to_slot (claim ∙ ap block_in is), ap (λ (n : Mapping). (hands_to v n).1) is)
+  handed_to v Zero is claim = (phase.Settle, to_slot (claim ∙ ap block_in is), ap (λ (n : Mapping). (hands_to v n).1) is)
+
+  none_old : (f : Remapping → ℕ) (es : List Remapping) → length es ≡ 0 → total f es ≡ 0
+  none_old f [] none = refl
+  none_old f (e ∷ es) none = absurd (omega (arith, none))
+
+  decrement_is : (v : Vio) → IsCounted v → (o : Option PageId) (m : Mapping) → v.page ≡ o → v.old ≡ m
+      → (more : Sum) × IsDecrementOf v more × ((f : Item → ℕ) → posts_sum (decrement_for v.page (remapping v) v.old) f ≡ more f)
+  decrement_is v counted (Some page) m some is =
+      let empty : length (remappings (logged v ∷ [])) ≡ 0 = counted ∙ ap (λ (o : Option PageId). bit (not (is_some o))) some in
+      (λ f. 0, of_page page some (λ y. none_old (is_old y) (remappings (logged v ∷ [])) empty) (λ w. none_old (has_old w) (remappings (logged v ∷ [])) empty), λ f. ap (λ (o : Option PageId). posts_sum (decrement_for o (remapping v) v.old) f) some)
+  decrement_is v counted None (At x) none is =
+      (λ f. f (Decrement (remapping v)), of_block none, λ f. ap (λ (o : Option PageId). posts_sum (decrement_for o (remapping v) v.old) f) none ∙ ap (λ (n : Mapping). posts_sum (decrement_for None (remapping v) n) f) is ∙ (let one : f (Decrement (remapping v)) + 0 ≡ f (Decrement (remapping v)) = omega arith in one))
+  decrement_is v counted None Unmapped none is =
+      (λ f. 0, of_none none (ap block_in is), λ f. ap (λ (o : Option PageId). posts_sum (decrement_for o (remapping v) v.old) f) none ∙ ap (λ (n : Mapping). posts_sum (decrement_for None (remapping v) n) f) is)
+  decrement_is v counted None Zero none is =
+      (λ f. 0, of_none none (ap block_in is), λ f. ap (λ (o : Option PageId). posts_sum (decrement_for o (remapping v) v.old) f) none ∙ ap (λ (n : Mapping). posts_sum (decrement_for None (remapping v) n) f) is)
 
   -- a block by its requests, which are in their phase
   block_with : (f : Item → ℕ) (b : SealedBlock) (vs : List Vio) → b.vios ≡ vs → f (Block b) ≡ f (Block (record b { vios = vs }))
@@ -332,16 +503,19 @@ module _ (sizes : Sizes) where
   all_turned q [] all = refl
   all_turned q (v ∷ vs) all = ap (λ (u : Vio). u ∷ vs) (turned_is v q all.0) ∙ ap (λ (us : List Vio). turned q v ∷ us) (all_turned q vs all.1)
 
-  module _ (old : JournalZone) (b : SealedBlock) (kept : KeptIn (at.Journal old)) (p : AllByRecursion (IsIn phase.Pending) b.vios) (busy : old.busy ≡ true) where
+  module _ (old : JournalZone) (b : SealedBlock) (kept : KeptIn (at.Journal old)) (p : AllByRecursion (IsIn phase.Pending) b.vios) (ready : AllByRecursion IsReady b.vios) (busy : old.busy ≡ true) where
     busy_is : record old { busy = true } ≡ old
     busy_is = rw (← busy) refl
 
     ends_row : (new : JournalZone) (made : Trace) (posts : List Post) → JournalEnds sizes old b new made posts → IsRow sizes (at.Journal old) (Block b ∷ []) (at.Journal new) posts
     ends_row new made posts (journal.commits v vs is vios next n m q) =
         let pending = (subst (AllByRecursion (IsIn phase.Pending)) vios p).0 in
-        rw (n, q) (is_row (row.commits old b v vs)
+        let one = (subst (AllByRecursion IsReady) vios ready).0 in
+        let to = handed_to v v.new refl one.0 in
+        let behind = decrement_is v one.1 v.page v.old refl refl in
+        rw (n, q) (is_row (row.commits old b v vs to.0 behind.0 to.1 behind.1)
         (λ f. omega (arith, block_with f b (turned phase.Pending v ∷ vs) (vios ∙ ap (λ (u : Vio). u ∷ vs) (turned_is v phase.Pending pending)), there_sum f old.filling old.waiting))
-        (λ f. omega (arith, there_sum f old.filling old.waiting)))
+        (λ f. omega (arith, ap f to.2, behind.2 f, sum_append f (decrement_for v.page (remapping v) v.old) ((id.Journal, Block (record b { vios = vs })) ∷ []), there_sum f old.filling old.waiting)))
     ends_row new made posts (journal.seals v vs is vios filling due n m q) =
         rw (n, q) (is_row (row.seals old b) (λ f. omega (arith, block_with f b [] vios, there_sum f old.filling old.waiting))
         (λ f. omega (arith, ap (λ (us : List Vio). f (Block (journal.next_block old stage.Cover us))) filling, again_sum f old.waiting)))
@@ -402,6 +576,16 @@ module _ (sizes : Sizes) where
       rw (n, q) (runs old _ _ _ going (is_row (row.flush_fails old v) (λ f. omega (arith, in_phase f v phase.Flush p)) (λ f. omega (arith, all_notices f))))
   device_row old v new made posts (device.flush_unmade p stopped n m q) = rw (n, q) (is_row (row.flush_unmade old v) (λ f. omega (arith, in_phase f v phase.Flush p)) (λ f. omega arith))
 
+  told_row : (old : DeviceZone) (damage : Damage) (new : DeviceZone) (made : Trace) (posts : List Post) → DeviceHears sizes old damage new made posts → IsRow sizes (at.Device old) (item.Damage damage ∷ []) (at.Device new) posts
+  told_row old damage new made posts h = elim (cases_Bool old.stopped) [
+    | inl stopped ↦
+        let posts_is : posts ≡ [] = h.posts_are ∙ ap (λ (b : Bool). notices_after b sizes) stopped in
+        rw (h.new_is, posts_is) (halts old _ _ _ stopped (is_row (row.halts_again old damage) (λ f. omega arith) (λ f. omega arith)))
+    | inr going ↦
+        let posts_is : posts ≡ stop_notices (notified sizes) = h.posts_are ∙ ap (λ (b : Bool). notices_after b sizes) going in
+        rw (h.new_is, posts_is) (runs old _ _ _ going (is_row (row.halts old damage) (λ f. omega arith) (λ f. omega (arith, all_notices f))))
+  ]
+
   work_row : (old : DeviceZone) (b : SealedBlock) (new : DeviceZone) (made : Trace) (posts : List Post) → DeviceWorks sizes old b new made posts → IsRow sizes (at.Device old) (Block b ∷ []) (at.Device new) posts
   work_row old b new made posts (device.announces v vs first there act) = announce_row old (Block b) v.request new made posts act
   work_row old b new made posts (device.makes call slot v vs first place needs going durable n m q) = rw (n, q) (is_row (row.works old _ b (device.next_stage b.stage)) (λ f. omega arith) (λ f. omega arith))
@@ -412,17 +596,20 @@ module _ (sizes : Sizes) where
   -- each act, of what a legal core knows
   pub act_row : (old : ZoneData) (front : List Item) (new : ZoneData) (made : Trace) (posts : List Post) → Act sizes old front new made posts → Known old front → IsRow sizes old front new posts
   act_row old front new made posts (steps.begins act) known = begin_row _ _ _ _ known.kept act
-  act_row old front new made posts (steps.answers act) known = desk_row _ _ _ _ _ known.kept known.makes_none act
+  act_row old front new made posts (steps.answers act) known = desk_row _ _ _ _ _ known.kept known.makes_none (known.claims _ refl) act
   act_row old front new made posts (steps.hears {old = d}) known = is_row (row.hears d) (λ f. omega (arith, all_are f phase.Reply d.parked known.kept)) (λ f. omega (arith, woken_sum f d.parked, all_are f phase.Reply d.parked known.kept))
-  act_row old front new made posts (steps.serves act) known = logical_row _ _ known.kept (known.leased _ _ refl refl) (λ page. known.made _ _ page refl refl) known.makes_none _ _ _ act
+  act_row old front new made posts (steps.serves act) known = logical_row _ _ known.kept (known.leased _ _ refl refl) (λ page. known.made _ _ page refl refl) known.makes_none known.reports _ _ _ act
+  act_row old front new made posts (steps.settles act) known = hears_row _ _ known.kept (known.settling_leased _ _ refl refl) known.reports (known.replaces _ refl) _ _ _ act
   act_row old front new made posts (steps.serves_notice {old = l}) known =
-      beside (all_there l.lacking) (row.tells_logical l) (λ f. omega (arith, logical_kept l known.kept f)) (λ f. omega (arith, logical_kept l known.kept f))
-  act_row old front new made posts (steps.takes act) known = physical_row _ _ _ _ _ act
+      beside (others_of l) (row.tells_logical l) (λ f. omega (arith, logical_kept l known.kept f)) (λ f. omega (arith, logical_kept l known.kept f))
+  act_row old front new made posts (steps.takes act) known = physical_row _ _ _ _ _ (known.claims _ refl) (known.zone _ refl) act
+  act_row old front new made posts (steps.updates act) known = update_row _ _ _ _ _ (known.zone _ refl) act
   act_row old front new made posts (steps.takes_notice {old = p}) known = is_row (row.tells_physical p) (λ f. omega arith) (λ f. omega arith)
-  act_row old front new made posts (steps.enters act) known = journal_row _ _ _ _ _ known.counted act
-  act_row old front new made posts (steps.ends {old = j} {b = b} act) known = ends_row j b known.kept (known.sealed b refl) (known.busy b j refl refl) _ _ _ act
+  act_row old front new made posts (steps.enters act) known = journal_row _ _ _ _ _ known.counted (known.claims _ refl) act
+  act_row old front new made posts (steps.ends {old = j} {b = b} act) known = ends_row j b known.kept (known.sealed b refl) (known.ready b refl) (known.busy b j refl refl) _ _ _ act
   act_row old front new made posts (steps.enters_notice {old = j}) known =
       is_row (row.tells_journal j) (λ f. omega (arith, there_sum f j.filling j.waiting, there_in f phase.Enter j.waiting known.kept.1))
       (λ f. omega (arith, there_sum f j.filling [], refused_sum f reply.Stopped j.waiting))
   act_row old front new made posts (steps.calls act) known = device_row _ _ _ _ _ act
   act_row old front new made posts (steps.works act) known = work_row _ _ _ _ _ act
+  act_row old front new made posts (steps.halts act) known = told_row _ _ _ _ _ act

@@ -1,10 +1,14 @@
 -- What a legal core knows of a zone that acts, beside its tokens: the phases of the requests that it keeps, and, of the item at
 -- the front, that its lock is held, its page is being made, and its block is under way.
 use Rattle.std.proofs.Common.{◌≡◌, ◌⊎◌, ℕ, Bool, true, not, Option, None, Some, is_some, List, [], ◌∷◌, length, refl, subst}
-use Rattle.core_laws.proofs.Common.{AllByRecursion, Carries, IsToFresh, Item, JournalZone, LogicalZone, Mapping, Phase, SealedBlock, Vio, ZoneData, KeptEach, KeptOk, Session, Trace, bit, every-map, holds, lock_weight, logged, remappings, total}
+use Rattle.core_laws.proofs.Common.{AllByRecursion, Carries, IsToBlock, Item, JournalZone, LogicalZone, Mapping, Phase, PhysicalZone, Remapping, SealedBlock, Vio, ZoneData, KeptEach, KeptOk, Session, Trace, bit, every-map, holds, lock_weight, logged, remapping, remappings, total}
 use Rattle.blk_base.specs.declared.place.Mapping.TheVariants.{Unmapped, Zero, At}
 use Rattle.blk_base.specs.declared.place.PageId.{PageId}
-use Rattle.core_model.specs.Facts.{CarriesFor}
+use Rattle.core_model.specs.Facts.{CarriesFor, claim_of}
+use Rattle.core_model.specs.LogicalRules.{settling_of}
+use Rattle.core_model.specs.PageLinks.{block_in}
+use Rattle.data_vio.specs.Phases.{row}
+use Rattle.zone_counts.specs.Zone.{IsZone}
 use Rattle.data_vio.specs.Vios.{logged_for}
 use Rattle.core_laws.proofs.logical.PageLists.{times}
 use Rattle.data_vio.specs.declared.items.Item.TheVariants as item
@@ -25,7 +29,7 @@ KeptIn d = KeptEach IsIn d
 
 pub kept_in : (s : Session) (t : Trace) (d : ZoneData) → KeptEach (KeptOk s t) d → KeptIn d
 kept_in s t (at.Desk desk) all = phases s t phase.Reply desk.parked all
-kept_in s t (at.Logical l) all = (phases s t phase.Wait l.waiting all.0, phases s t phase.Look l.lacking all.1)
+kept_in s t (at.Logical l) all = (phases s t phase.Wait l.waiting all.0, phases s t phase.Look l.lacking all.1, phases s t phase.Settle l.settling all.2)
 kept_in s t (at.Journal j) all = (phases s t phase.Pending j.filling all.0, phases s t phase.Enter j.waiting all.1)
 kept_in s t (at.Physical p) all = tt
 kept_in s t (at.Device d) all = tt
@@ -68,15 +72,51 @@ CountsIn front = (v : Vio) → front ≡ item.Request v ∷ [] → v.phase ≡ p
 pub counts : (s : Session) (t : Trace) (v : Vio) → v.phase ≡ phase.Enter → Carries s t v v.phase → IsCounted v
 counts s t v is k = by v.page v.new (λ page made. to_fresh v.page page made (subst (λ (p : Phase). Carries s t v p) is k))
   where
-    to_fresh : (o : Option PageId) (page : PageId) → o ≡ Some page → CarriesFor s t v phase.Enter o → IsToFresh s v.new
+    to_fresh : (o : Option PageId) (page : PageId) → o ≡ Some page → CarriesFor s t v phase.Enter o → IsToBlock v.new
     to_fresh None page made has = absurd cc
     to_fresh (Some p) page made has = has.2
 
-    by : (o : Option PageId) (m : Mapping) → ((page : PageId) → o ≡ Some page → IsToFresh s m) → length (remappings (logged_for v o m ∷ [])) ≡ bit (not (is_some o))
+    by : (o : Option PageId) (m : Mapping) → ((page : PageId) → o ≡ Some page → IsToBlock m) → length (remappings (logged_for v o m ∷ [])) ≡ bit (not (is_some o))
     by None m fresh = refl
     by (Some page) (At x) fresh = refl
     by (Some page) Unmapped fresh = absurd (fresh page refl)
     by (Some page) Zero fresh = absurd (fresh page refl)
+
+-- the claim of a request is that of its phase, on its own block
+abbrev pub Claims : Vio → Type 0
+Claims v = v.claim ≡ claim_of (row v.phase).claims v.new
+
+abbrev pub ClaimsIn : List Item → Type 0
+ClaimsIn front = (v : Vio) → front ≡ item.Request v ∷ [] → Claims v
+
+-- those of a block have their claims, and each entry is a remapping where its request makes no page
+abbrev pub IsReady : Vio → Type 0
+IsReady v = (v.claim ≡ block_in v.new) × IsCounted v
+
+abbrev pub ReadyIn : List Item → Type 0
+ReadyIn front = (b : SealedBlock) → front ≡ item.Block b ∷ [] → AllByRecursion IsReady b.vios
+
+-- an entry replaces a block; so does each that a logical zone waits for, or has the report of
+abbrev pub Replaces : Remapping → Type 0
+Replaces e = is_some (block_in e.old) ≡ true
+
+abbrev pub ReplacesIn : List Item → Type 0
+ReplacesIn front = (e : Remapping) → front ≡ item.Report e ∷ [] → Replaces e
+
+abbrev pub AreReports : ZoneData → Type 0
+AreReports old = (l : LogicalZone) → old ≡ at.Logical l → AllByRecursion Replaces l.reported × AllByRecursion (λ v. (v.page ≡ None) × Replaces (remapping v)) l.settling
+
+-- the counts of a physical zone are as they must be, and no ticket is out
+abbrev pub HasZone : ZoneData → Type 0
+HasZone old = (p : PhysicalZone) → old ≡ at.Physical p → IsZone p.counts × (p.counts.desk.out ≡ [])
+
+-- a request in a phase has the claim that this has
+pub claim_in : (v : Vio) (q : Phase) → v.phase ≡ q → Claims v → v.claim ≡ claim_of (row q).claims v.new
+claim_in v q is claims = subst (λ (p : Phase). v.claim ≡ claim_of (row p).claims v.new) is claims
+
+-- who waits for a report has the lock of its address there
+abbrev pub SettlingLeased : ZoneData → List Item → Type 0
+SettlingLeased old front = (l : LogicalZone) (e : Remapping) → old ≡ at.Logical l → front ≡ item.Report e ∷ [] → (v : Vio) → settling_of e.request l.settling ≡ Some v → Leased l v
 
 pub record Known (old : ZoneData) (front : List Item) : Type 0 where
   pub kept : KeptIn old
@@ -86,3 +126,9 @@ pub record Known (old : ZoneData) (front : List Item) : Type 0 where
   pub made : IsMadeIn old front
   pub makes_none : MakesNone front
   pub counted : CountsIn front
+  pub claims : ClaimsIn front
+  pub ready : ReadyIn front
+  pub replaces : ReplacesIn front
+  pub reports : AreReports old
+  pub zone : HasZone old
+  pub settling_leased : SettlingLeased old front

@@ -1,6 +1,6 @@
 -- Who holds a request, and the lock of an address, holds it alone.
 use Rattle.std.proofs.Common.{◌≡◌, ℕ, ◌+◌, ◌≤◌, List, [], ◌∷◌, refl, ap, inl, inr, arith, ◌<◌, Bool, true, false, not, ◌&&◌, ◌==◌, Some, slice_get, sym, ◌∙◌, subst}
-use Rattle.core_laws.proofs.Common.{AllByRecursion, Balanced, DataOk, DeskLine, Each, IsDeskLog, Item, ItemOk, Lock, LockOk, LogicalZone, RightTrace, Script, Session, Sizes, Trace, Vio, Writer, Zone, ZoneData, ZoneId, ZoneOk, begins_of, begun, bit, desk_number, eqb_tells, every-map, given, holder_weight, holds, in_log, lease_token, lines, lock_weight, locks_at, logical_number, of_vio, request_token, same_tells, total, total-get, total_alone, weight, zone_number, zone_of}
+use Rattle.core_laws.proofs.Common.{AllByRecursion, Balanced, as_items, kept_by, VioOk, DataOk, DeskLine, Each, IsDeskLog, Item, ItemOk, Lock, LockOk, LogicalZone, RightTrace, Script, Session, Sizes, Trace, Vio, Writer, Zone, ZoneData, ZoneId, ZoneOk, begins_of, begun, bit, desk_number, eqb_tells, every-map, given, holder_weight, holds, in_log, lease_token, lines, lock_weight, locks_at, logical_number, of_vio, request_token, same_tells, total, total-get, total_alone, weight, zone_number, zone_of}
 use Rattle.vdo_model.specs.declared.report.DeskLine.TheVariants.{Begin, Answer}
 use Rattle.core_laws.proofs.trace.DeskOfTrace.{desk_log_right}
 use Rattle.core_laws.proofs.trace.Growth.{begun_more}
@@ -9,6 +9,7 @@ use Rattle.data_vio.specs.Phases.{Where, AtDesk, AtHome, AtPhysical, AtJournal, 
 use Rattle.core_laws.proofs.tokens.Known.{Leased}
 use Rattle.core_model.specs.declared.zones.ZoneData.TheVariants as at
 use Rattle.data_vio.specs.declared.items.Item.TheVariants as item
+use Rattle.blk_base.specs.declared.place.ZoneId.TheVariants as id
 
 -- A request is begun once, and under way in one place.
 
@@ -110,24 +111,54 @@ one_of_two test place x y z e le = by_bit (test place)
     by_bit true h k = omega (arith, h, k)
     by_bit false h k = omega (arith, h, k)
 
--- From the balance of all locks of its address: the front of a logical zone that holds a lock has it there.
+-- From the balance of all locks of its address: whoever weighs for one in its logical zone has it there.
+leased_with : (s : Session) (t : Trace) (zones : List Zone) (n : ℕ) (z : Zone) (l : LogicalZone) (v : Vio)
+    → Each (ZoneOk s t) zones → ((test : ℕ → Bool) → Balanced (lease_token v.at.0 test) zones)
+    → slice_get zones n ≡ Some z → z.keeps ≡ at.Logical l → n ≡ home_of s v.at.0 → ((test : ℕ → Bool) → bit (test v.place) ≤ weight (lease_token v.at.0 test) z) → Leased l v
+leased_with s t zones n z l v each balance had keeps home weighs test =
+    let own = subst (λ (d : ZoneData). DataOk s t n d) keeps (each n z had).own in
+    let a = v.at.0 in
+    let gave : (test : ℕ → Bool) → total (given (lease_token a test)) zones ≡ total (lock_weight a test) l.held = λ test. given_at_home s t a zones each test n z had home ∙ ap (locks_at a test) keeps in
+    let bound : (test : ℕ → Bool) → bit (test v.place) ≤ total (lock_weight a test) l.held = λ test.
+    let w = total-get (weight (lease_token a test)) zones n z had in
+    let g = gave test in
+    let e = balance test in
+    let most = weighs test in
+    omega (arith, most, w, g, e)
+    in
+    one_of_two test v.place (total (lock_weight a test) l.held) (total (lock_weight a (λ p. not (test p))) l.held) (total (lock_weight a (λ p. true)) l.held)
+    (split_locks a test l.held) (own.sound.locks.once a) (bound test) (bound (λ p. not (test p)))
+
+-- the front of a logical zone that holds a lock has it there
 pub leased_front : (s : Session) (t : Trace) (zones : List Zone) (n : ℕ) (z : Zone) (l : LogicalZone) (v : Vio) (rest : List Item)
     → Each (ZoneOk s t) zones → ((test : ℕ → Bool) → Balanced (lease_token v.at.0 test) zones)
     → slice_get zones n ≡ Some z → z.ports.inbox ≡ item.Request v ∷ rest → z.keeps ≡ at.Logical l → holds v.phase ≡ true → Leased l v
-leased_front s t zones n z l v rest each balance had front keeps h test =
+leased_front s t zones n z l v rest each balance had front keeps h =
     let ok = each n z had in
     let own = subst (λ (d : ZoneData). DataOk s t n d) keeps ok.own in
     let first = (subst (λ (items : List Item). AllByRecursion (ItemOk s t n) items) front ok.inbox).0 in
     let home : n ≡ home_of s v.at.0 = at_home s.sizes n l.zone v.home (row v.phase).zone own.number_is own.sound.among first.2 ∙ ap (zone_number s.sizes) first.0.home in
-    let a = v.at.0 in
-    let gave : (test : ℕ → Bool) → total (given (lease_token a test)) zones ≡ total (lock_weight a test) l.held = λ test. given_at_home s t a zones each test n z had home ∙ ap (locks_at a test) keeps in
-    let bound : (test : ℕ → Bool) → bit (test v.place) ≤ total (lock_weight a test) l.held = λ test.
+    leased_with s t zones n z l v each balance had keeps home (λ test.
     let one = front_weight test v h in
-    let w = total-get (weight (lease_token a test)) zones n z had in
-    let inbox = ap (total (of_vio (holder_weight a test))) front in
-    let g = gave test in
-    let e = balance test in
-    omega (arith, one, w, inbox, g, e)
-    in
-    one_of_two test v.place (total (lock_weight a test) l.held) (total (lock_weight a (λ p. not (test p))) l.held) (total (lock_weight a (λ p. true)) l.held)
-    (split_locks a test l.held) (own.sound.locks.once a) (bound test) (bound (λ p. not (test p)))
+    let inbox = ap (total (of_vio (holder_weight v.at.0 test))) front in
+    omega (arith, one, inbox))
+
+-- and so has a request that it keeps with its lock
+pub leased_kept : (s : Session) (t : Trace) (zones : List Zone) (n : ℕ) (z : Zone) (l : LogicalZone) (v : Vio)
+    → Each (ZoneOk s t) zones → ((test : ℕ → Bool) → Balanced (lease_token v.at.0 test) zones)
+    → slice_get zones n ≡ Some z → z.keeps ≡ at.Logical l → v.home ≡ id.Logical l.zone → VioOk s t v → holds v.phase ≡ true
+    → ((f : Vio → ℕ) → f v ≤ total f (kept_by (at.Logical l))) → Leased l v
+leased_kept s t zones n z l v each balance had keeps at_zone ok h among =
+    let own = subst (λ (d : ZoneData). DataOk s t n d) keeps (each n z had).own in
+    let home : n ≡ home_of s v.at.0 = own.number_is ∙ ap (zone_number s.sizes) (sym at_zone) ∙ ap (zone_number s.sizes) ok.home in
+    leased_with s t zones n z l v each balance had keeps home (λ test.
+    let one = front_weight test v h in
+    let f : Vio → ℕ = holder_weight v.at.0 test in
+    let some = among f in
+    let kept = queued_total f (kept_by (at.Logical l)) in
+    let lines = ap (λ (d : ZoneData). total (of_vio f) (as_items (kept_by d))) keeps in
+    omega (arith, one, some, kept, lines))
+  where
+    queued_total : (f : Vio → ℕ) (vs : List Vio) → total (of_vio f) (as_items vs) ≡ total f vs
+    queued_total f [] = refl
+    queued_total f (u ∷ us) = omega (arith, queued_total f us)

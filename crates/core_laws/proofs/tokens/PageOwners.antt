@@ -25,6 +25,7 @@ is_making s t v page phase.Claim k = k.0
 is_making s t v page phase.Store k = k.0
 is_making s t v page phase.Enter k = k.0
 is_making s t v page phase.Pending k = k.0
+is_making s t v page phase.Count k = k.0
 is_making s t v page phase.Settle k = k.0
 is_making s t v page phase.AbortClaim k = k.0
 is_making s t v page phase.Abort k = k.0

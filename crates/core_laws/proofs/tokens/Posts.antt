@@ -33,6 +33,14 @@ begun_page sizes w (request.Discard at) v is = ap (λ (u : Vio). u.page) (sym (s
 begun_page sizes w request.Flush v is = ap (λ (u : Vio). u.page) (sym (same_Some _ _ is))
 begun_page sizes w other v is = absurd cc
 
+-- and has no claim
+pub begun_claim : (sizes : Sizes) (w : Writer) (r : Request) (v : Vio) → vio_of sizes w r ≡ Some v → v.claim ≡ None
+begun_claim sizes w (request.Read at) v is = ap (λ (u : Vio). u.claim) (sym (same_Some _ _ is))
+begun_claim sizes w (request.Write at bytes false) v is = ap (λ (u : Vio). u.claim) (sym (same_Some _ _ is))
+begun_claim sizes w (request.Discard at) v is = ap (λ (u : Vio). u.claim) (sym (same_Some _ _ is))
+begun_claim sizes w request.Flush v is = ap (λ (u : Vio). u.claim) (sym (same_Some _ _ is))
+begun_claim sizes w other v is = absurd cc
+
 -- what is posted for a request that goes on with the lock of its address, by a fact of each post that it may be
 pub goes_by : (P : Post → Type 0) (v : Vio) (post : Post) → goes_on v ≡ Some post → (v.asks ≡ Read → P (read_next v v.old)) → (v.asks ≡ Write → are_zeros v.bytes ≡ true → P (enters_with Zero v))
     → (v.asks ≡ Write → are_zeros v.bytes ≡ false → P (id.Physical 0, item.Request (turned phase.Claim v))) → (v.asks ≡ Discard → P (enters_with Unmapped v)) → P post

@@ -1,14 +1,17 @@
 -- What each row does to each kind of token. A row that doesn't touch a token stands in its last clause.
-use Rattle.std.proofs.Common.{◌≡◌, ℕ, ◌+◌, ◌==◌, Bool, true, false, ◌&&◌, not, Option, None, Some, is_some, List, [], ◌∷◌, length, map, refl, ap, arith}
-use Rattle.core_laws.proofs.Common.{Logged, Makes, Mapping, Phase, Remaps, Sizes, Vio, Writer, ZoneData, bit, block_token, entry_token, has_entry, holder_token, holder_weight, holds, journal_token, lease_token, logged, names, new_of, new_pages, notice_token, remappings, request_token, room_token, same_writer, total, turned}
+use Rattle.std.proofs.Common.{◌≡◌, ℕ, ◌+◌, ◌==◌, Bool, true, false, ◌&&◌, not, Option, None, Some, is_some, List, [], ◌∷◌, length, map, refl, ap, ◌∙◌, if◌then◌else◌, arith}
+use Rattle.core_laws.proofs.Common.{Logged, Makes, Mapping, Phase, Remapping, Remaps, Sizes, Vio, Writer, ZoneData, bit, block_token, claim_token, claim_weight, damage_token, entry_token, has_entry, holder_token, holder_weight, holds, journal_token, lease_token, has_old, is_committed, is_old, leads_to, logged, new_of, new_pages, notice_token, owes, remapping, remappings, report_token, request_token, room_token, same_writer, total, total-append, turned, waiter_token, waiter_weight, Pbn}
 use Rattle.blk_base.specs.declared.place.Mapping.TheVariants.{Unmapped, Zero, At}
 use Rattle.blk_base.specs.declared.place.PageId.{PageId}
-use Rattle.core_model.specs.Tokens.{claim_weight, is_same, making_token, page_entry_token}
+use Rattle.core_model.specs.Tokens.{is_same, making_token, page_entry_token, unowed_weight}
+use Rattle.core_model.specs.PageLinks.{block_in}
+use Rattle.slab_counts.specs.Calls.{one_of}
+use Rattle.zone_counts.specs.ByBlock.{is_at}
 use Rattle.data_vio.specs.Vios.{logged_for}
 use Rattle.data_vio.specs.declared.items.Phase.TheVariants as phase
 use Rattle.data_vio.specs.declared.items.Item.TheVariants.{Request}
 use Rattle.core_laws.proofs.tokens.ActRows as row
-use Rattle.core_laws.proofs.tokens.ActRows.{Row, Sum, Onward}
+use Rattle.core_laws.proofs.tokens.ActRows.{Row, Sum, onward, to_count, to_slot, of_block, of_none, of_page}
 use Rattle.core_laws.proofs.tokens.LeaseTokens.{freed, one_freed}
 use Rattle.core_laws.proofs.tokens.Lift.{Conserves, Shrinks}
 use Rattle.core_laws.proofs.tokens.PageTokens.{taken_out}
@@ -46,8 +49,56 @@ logged_new v (Some page) (At x) is = refl
 logged_new v (Some page) Unmapped is = is
 logged_new v (Some page) Zero is = is
 
-entry_names : (x : ℕ) (v : Vio) → bit (names x (new_of (logged v))) ≡ bit (names x v.new)
-entry_names x v = ap (λ (m : Mapping). bit (names x m)) (logged_new v v.page v.new refl)
+entry_leads : (x : Pbn) (v : Vio) → leads_to x (new_of (logged v)) ≡ leads_to x v.new
+entry_leads x v = ap (leads_to x) (logged_new v v.page v.new refl)
+
+-- a claim on the block of a mapping weighs as that leads there
+claim_leads : (x : Pbn) (m : Mapping) → is_at x (block_in m) ≡ leads_to x m
+claim_leads x (At y) = refl
+claim_leads x Unmapped = refl
+claim_leads x Zero = refl
+
+claim_is_entry : (x : Pbn) (v : Vio) → v.claim ≡ block_in v.new → claim_weight x v ≡ leads_to x v.new
+claim_is_entry x v is = ap (is_at x) is ∙ claim_leads x v.new
+
+claim_none : (x : Pbn) (v : Vio) → v.claim ≡ None → claim_weight x v ≡ 0
+claim_none x v is = ap (is_at x) is
+
+claim_some : (x y : Pbn) (v : Vio) → v.claim ≡ Some y → claim_weight x v ≡ one_of y x
+claim_some x y v is = ap (is_at x) is
+
+-- what a request weighs that owes nothing, and one that waits for nothing
+unowed_is : (x : Pbn) (b : Bool) (v : Vio) → b ≡ false → (if b then 0 else claim_weight x v) ≡ claim_weight x v
+unowed_is x b v is = ap (λ (c : Bool). if c then 0 else claim_weight x v) is
+
+unwaited : (w : Writer) (b : Bool) (v : Vio) → b ≡ false → (if b && not (is_some v.page) then has_old w (remapping v) else 0) ≡ 0
+unwaited w b v is = ap (λ (c : Bool). if c && not (is_some v.page) then has_old w (remapping v) else 0) is
+
+own_waits : (w : Writer) (v : Vio) → v.page ≡ None → (if not (is_some v.page) then has_old w (remapping v) else 0) ≡ has_old w (remapping v)
+own_waits w v none = ap (λ (o : Option PageId). if not (is_some o) then has_old w (remapping v) else 0) none
+
+page_waits : (w : Writer) (v : Vio) (page : PageId) → v.page ≡ Some page → (if not (is_some v.page) then has_old w (remapping v) else 0) ≡ 0
+page_waits w v page is = ap (λ (o : Option PageId). if not (is_some o) then has_old w (remapping v) else 0) is
+
+-- the entries that replace a block, with one more
+old_more : (f : Remapping → ℕ) (e : Logged) (es : List Logged) → total f (remappings (e ∷ es)) ≡ total f (remappings (e ∷ [])) + total f (remappings es)
+old_more f (Remaps e) es = omega arith
+old_more f (Makes p) es = omega arith
+
+own_old : (f : Remapping → ℕ) (v : Vio) → v.page ≡ None → total f (remappings (logged v ∷ [])) ≡ f (remapping v)
+own_old f v none = ap (λ (o : Option PageId). total f (remappings (logged_for v o v.new ∷ []))) none ∙ (let one : f (remapping v) + 0 ≡ f (remapping v) = omega arith in one)
+
+leads_none : (x : Pbn) (m : Mapping) → block_in m ≡ None → leads_to x m ≡ 0
+leads_none x (At y) none = absurd cc
+leads_none x Unmapped none = refl
+leads_none x Zero none = refl
+
+old_none : (w : Writer) (e : Remapping) → block_in e.old ≡ None → has_old w e ≡ 0
+old_none w e none = ap (λ (o : Option Pbn). bit (same_writer e.request w && is_some o)) none ∙ none_of_both (same_writer e.request w)
+  where
+    none_of_both : (b : Bool) → bit (b && false) ≡ 0
+    none_of_both true = refl
+    none_of_both false = refl
 
 -- a request by its page
 unless_page : (b : Bool) (v : Vio) (page : PageId) → v.page ≡ Some page → bit (b && not (is_some v.page)) ≡ 0
@@ -70,48 +121,154 @@ module _ (sizes : Sizes) where
   requests_law w (row.says d v a) = omega arith
   requests_law w (row.both first same second) = omega (arith, requests_law w first, same (request_token w).item, requests_law w second)
   requests_law w (row.fails j b) = omega (arith, in_block (λ v. bit (same_writer v.request w)) phase.Pending b.vios)
+  requests_law w (row.commits j b v vs q more (to_count) (of_block none)) = omega arith
+  requests_law w (row.commits j b v vs q more (to_count) (of_page page_is is no_old no_report)) = omega arith
+  requests_law w (row.commits j b v vs q more (to_count) (of_none none unmapped)) = omega arith
+  requests_law w (row.commits j b v vs q more (to_slot claimless) (of_block none)) = omega arith
+  requests_law w (row.commits j b v vs q more (to_slot claimless) (of_page page_is is no_old no_report)) = omega arith
+  requests_law w (row.commits j b v vs q more (to_slot claimless) (of_none none unmapped)) = omega arith
   requests_law w other = omega arith
 
   pub room_law : {old new : ZoneData} {before after : Sum} → Row sizes old new before after → Conserves room_token old new before after
   room_law (row.says d v a) = omega arith
   room_law (row.both first same second) = omega (arith, room_law first, same room_token.item, room_law second)
   room_law (row.fails j b) = omega (arith, in_block (λ v. 1) phase.Pending b.vios)
+  room_law (row.commits j b v vs q more (to_count) (of_block none)) = omega arith
+  room_law (row.commits j b v vs q more (to_count) (of_page page_is is no_old no_report)) = omega arith
+  room_law (row.commits j b v vs q more (to_count) (of_none none unmapped)) = omega arith
+  room_law (row.commits j b v vs q more (to_slot claimless) (of_block none)) = omega arith
+  room_law (row.commits j b v vs q more (to_slot claimless) (of_page page_is is no_old no_report)) = omega arith
+  room_law (row.commits j b v vs q more (to_slot claimless) (of_none none unmapped)) = omega arith
   room_law other = omega arith
 
   -- the stop notices are given out at the device, and heard at the desk
   pub notices_law : {old new : ZoneData} {before after : Sum} → Row sizes old new before after → Conserves (notice_token sizes) old new before after
   notices_law (row.both first same second) = omega (arith, notices_law first, same (notice_token sizes).item, notices_law second)
   notices_law (row.hears d) = omega arith
+  notices_law (row.commits j b v vs q more (to_count) (of_block none)) = omega arith
+  notices_law (row.commits j b v vs q more (to_count) (of_page page_is is no_old no_report)) = omega arith
+  notices_law (row.commits j b v vs q more (to_count) (of_none none unmapped)) = omega arith
+  notices_law (row.commits j b v vs q more (to_slot claimless) (of_block none)) = omega arith
+  notices_law (row.commits j b v vs q more (to_slot claimless) (of_page page_is is no_old no_report)) = omega arith
+  notices_law (row.commits j b v vs q more (to_slot claimless) (of_none none unmapped)) = omega arith
   notices_law other = omega (arith, nothing)
 
   -- a block is under way while the journal is busy
   pub journal_law : {old new : ZoneData} {before after : Sum} → Row sizes old new before after → Conserves journal_token old new before after
   journal_law (row.both first same second) = omega (arith, journal_law first, same journal_token.item, journal_law second)
-  journal_law (row.enters_first j v counted) = omega (arith, nothing)
+  journal_law (row.enters_first j v counted claimed) = omega (arith, nothing)
+  journal_law (row.commits j b v vs q more (to_count) (of_block none)) = omega arith
+  journal_law (row.commits j b v vs q more (to_count) (of_page page_is is no_old no_report)) = omega arith
+  journal_law (row.commits j b v vs q more (to_count) (of_none none unmapped)) = omega arith
+  journal_law (row.commits j b v vs q more (to_slot claimless) (of_block none)) = omega arith
+  journal_law (row.commits j b v vs q more (to_slot claimless) (of_page page_is is no_old no_report)) = omega arith
+  journal_law (row.commits j b v vs q more (to_slot claimless) (of_none none unmapped)) = omega arith
   journal_law other = omega (arith, nothing)
 
-  -- a data block goes from those that are free to a write, and from it to its entry
-  unclaimed : (x : ℕ) (on : Onward) (v : Vio) → (block_token x).item (Request (row.onward on v)) ≡ 0
-  unclaimed x on v = ap bit (on.unclaimed x)
+  -- A claim is made on a free block, goes from a request to its entry when that is handed in, and becomes a mapping when that is
+  -- counted; a mapping goes by its decrement.
+  pub blocks_law : (opened : Pbn → ℕ) (x : Pbn) → {old new : ZoneData} {before after : Sum} → Row sizes old new before after → Conserves (block_token opened x) old new before after
+  blocks_law opened x (row.both first same second) = omega (arith, blocks_law opened x first, same (block_token opened x).item, blocks_law opened x second)
+  blocks_law opened x (row.begins d v pageless claimless) = omega (arith, claim_none x v claimless)
+  blocks_law opened x (row.begins_flush d v pageless claimless) = omega (arith, claim_none x v claimless)
+  blocks_law opened x (row.answers d v answer marks pageless claimless) = omega (arith, claim_none x v claimless)
+  blocks_law opened x (row.looks l v on) = omega (arith, unowed_is x (owes on.phase) v on.unowed)
+  blocks_law opened x (row.leafed l v on) = omega (arith, unowed_is x (owes on.phase) v on.unowed)
+  blocks_law opened x (row.leaves l slots reported v q answer locks is_set leased) = omega (arith, unowed_is x (owes q) v is_set.unowed)
+  blocks_law opened x (row.hands_on l slots reported v q answer w others locks is_set leased) = omega (arith, unowed_is x (owes q) v is_set.unowed)
+  blocks_law opened x (row.forgets l unlinkable v q page locks is_dropped is_page made) = omega (arith, unowed_is x (owes q) v is_dropped.unowed)
+  blocks_law opened x (row.claims_block p z v y none moves) = omega (arith, claim_none x v none, moves.uses x)
+  blocks_law opened x (row.counts_block p z v y some moves) = omega (arith, moves.uses x)
+  blocks_law opened x (row.drops_claim p z v y some moves) = omega (arith, claim_some x y v some, moves.uses x)
+  blocks_law opened x (row.removes p z e y from moves) = omega (arith, ap (leads_to x) from, moves.uses x)
+  blocks_law opened x (row.enters j v counted claimed) = omega (arith, entry_leads x v, claim_is_entry x v claimed)
+  blocks_law opened x (row.enters_first j v counted claimed) = omega (arith, nothing, entry_leads x v, claim_is_entry x v claimed)
+  blocks_law opened x (row.commits j b v vs q more (to_count) (of_block none)) = omega (arith, old_more (is_old x) (logged v) j.committed, own_old (is_old x) v none)
+  blocks_law opened x (row.commits j b v vs q more (to_slot claimless) (of_block none)) = omega (arith, old_more (is_old x) (logged v) j.committed, own_old (is_old x) v none, claim_none x v claimless)
+  blocks_law opened x (row.commits j b v vs q more (to_count) (of_page page is no_old no_report)) = omega (arith, old_more (is_old x) (logged v) j.committed, no_old x)
+  blocks_law opened x (row.commits j b v vs q more (to_slot claimless) (of_page page is no_old no_report)) = omega (arith, old_more (is_old x) (logged v) j.committed, no_old x, claim_none x v claimless)
+  blocks_law opened x (row.commits j b v vs q more (to_count) (of_none none unmapped)) = omega (arith, old_more (is_old x) (logged v) j.committed, own_old (is_old x) v none, leads_none x v.old unmapped)
+  blocks_law opened x (row.commits j b v vs q more (to_slot claimless) (of_none none unmapped)) = omega (arith, old_more (is_old x) (logged v) j.committed, own_old (is_old x) v none, leads_none x v.old unmapped, claim_none x v claimless)
+  blocks_law opened x (row.fails j b) = omega (arith, nothing, in_block (unowed_weight x) phase.Pending b.vios)
+  blocks_law opened x other = omega (arith, nothing)
 
-  pub blocks_law : (x : ℕ) → {old new : ZoneData} {before after : Sum} → Row sizes old new before after → Shrinks (block_token x) old new before after
-  blocks_law x (row.both first same second) = omega (arith, blocks_law x first, same (block_token x).item, blocks_law x second)
-  blocks_law x (row.enters j v counted) = omega (arith, entry_names x v)
-  blocks_law x (row.enters_first j v counted) = omega (arith, nothing, entry_names x v)
-  blocks_law x (row.claims_block p v y others) = omega arith
-  blocks_law x (row.fails j b) = omega (arith, nothing, in_block (claim_weight x) phase.Pending b.vios)
-  blocks_law x other = omega (arith, nothing, unclaimed x)
+  -- each claim of a request is counted, until it is spent or dropped
+  pub claims_law : (x : Pbn) → {old new : ZoneData} {before after : Sum} → Row sizes old new before after → Shrinks (claim_token x) old new before after
+  claims_law x (row.both first same second) = omega (arith, claims_law x first, same (claim_token x).item, claims_law x second)
+  claims_law x (row.begins d v pageless claimless) = omega (arith, claim_none x v claimless)
+  claims_law x (row.begins_flush d v pageless claimless) = omega (arith, claim_none x v claimless)
+  claims_law x (row.claims_block p z v y none moves) = omega (arith, claim_none x v none, moves.claims x)
+  claims_law x (row.counts_block p z v y some moves) = omega (arith, claim_some x y v some, moves.claims x)
+  claims_law x (row.drops_claim p z v y some moves) = omega (arith, claim_some x y v some, moves.claims x)
+  claims_law x (row.removes p z e y from moves) = omega (arith, moves.claims x)
+  claims_law x (row.commits j b v vs q more (to_count) (of_block none)) = omega arith
+  claims_law x (row.commits j b v vs q more (to_slot claimless) (of_block none)) = omega arith
+  claims_law x (row.commits j b v vs q more (to_count) (of_page page is no_old no_report)) = omega arith
+  claims_law x (row.commits j b v vs q more (to_slot claimless) (of_page page is no_old no_report)) = omega arith
+  claims_law x (row.commits j b v vs q more (to_count) (of_none none unmapped)) = omega arith
+  claims_law x (row.commits j b v vs q more (to_slot claimless) (of_none none unmapped)) = omega arith
+  claims_law x (row.fails j b) = omega (arith, nothing, in_block (claim_weight x) phase.Pending b.vios)
+  claims_law x other = omega (arith, nothing)
+
+  -- the decrement of an entry goes with its commit to the physical zone, its report from there to its request
+  pub reports_law : (w : Writer) → {old new : ZoneData} {before after : Sum} → Row sizes old new before after → Conserves (report_token w) old new before after
+  reports_law w (row.both first same second) = omega (arith, reports_law w first, same (report_token w).item, reports_law w second)
+  reports_law w (row.leaves l slots reported v q answer locks is_set leased) = omega (arith, is_set.told w)
+  reports_law w (row.hands_on l slots reported v q answer u others locks is_set leased) = omega (arith, is_set.told w)
+  reports_law w (row.keeps_report l e settling others) = omega (arith, total-append (has_old w) l.reported (e ∷ []))
+  reports_law w (row.commits j b v vs q more (to_count) (of_block none)) = omega (arith, old_more (has_old w) (logged v) j.committed, own_old (has_old w) v none)
+  reports_law w (row.commits j b v vs q more (to_slot claimless) (of_block none)) = omega (arith, old_more (has_old w) (logged v) j.committed, own_old (has_old w) v none)
+  reports_law w (row.commits j b v vs q more (to_count) (of_page page is no_old no_report)) = omega (arith, old_more (has_old w) (logged v) j.committed, no_report w)
+  reports_law w (row.commits j b v vs q more (to_slot claimless) (of_page page is no_old no_report)) = omega (arith, old_more (has_old w) (logged v) j.committed, no_report w)
+  reports_law w (row.commits j b v vs q more (to_count) (of_none none unmapped)) = omega (arith, old_more (has_old w) (logged v) j.committed, own_old (has_old w) v none, old_none w (remapping v) unmapped)
+  reports_law w (row.commits j b v vs q more (to_slot claimless) (of_none none unmapped)) = omega (arith, old_more (has_old w) (logged v) j.committed, own_old (has_old w) v none, old_none w (remapping v) unmapped)
+  reports_law w other = omega (arith, nothing)
+
+  -- and so does the request itself, from its commit to its slot
+  pub waiters_law : (w : Writer) → {old new : ZoneData} {before after : Sum} → Row sizes old new before after → Conserves (waiter_token w) old new before after
+  waiters_law w (row.both first same second) = omega (arith, waiters_law w first, same (waiter_token w).item, waiters_law w second)
+  waiters_law w (row.looks l v on) = omega (arith, unwaited w (is_committed on.phase) (onward on v) on.uncommitted)
+  waiters_law w (row.leafed l v on) = omega (arith, unwaited w (is_committed on.phase) (onward on v) on.uncommitted)
+  waiters_law w (row.leaves l slots reported v q answer locks is_set leased) = omega (arith, is_set.waited w)
+  waiters_law w (row.hands_on l slots reported v q answer u others locks is_set leased) = omega (arith, is_set.waited w)
+  waiters_law w (row.links l tree v page is_page made) = omega (arith, page_waits w v page is_page)
+  waiters_law w (row.forgets l unlinkable v q page locks is_dropped is_page made) = omega (arith, unwaited w (is_committed q) v is_dropped.uncommitted)
+  waiters_law w (row.commits j b v vs q more (to_count) (of_block none)) = omega (arith, old_more (has_old w) (logged v) j.committed, own_old (has_old w) v none, own_waits w v none)
+  waiters_law w (row.commits j b v vs q more (to_slot claimless) (of_block none)) = omega (arith, old_more (has_old w) (logged v) j.committed, own_old (has_old w) v none, own_waits w v none)
+  waiters_law w (row.commits j b v vs q more (to_count) (of_page page is no_old no_report)) = omega (arith, old_more (has_old w) (logged v) j.committed, no_report w, page_waits w v page is)
+  waiters_law w (row.commits j b v vs q more (to_slot claimless) (of_page page is no_old no_report)) = omega (arith, old_more (has_old w) (logged v) j.committed, no_report w, page_waits w v page is)
+  waiters_law w (row.commits j b v vs q more (to_count) (of_none none unmapped)) = omega (arith, old_more (has_old w) (logged v) j.committed, own_old (has_old w) v none, own_waits w v none)
+  waiters_law w (row.commits j b v vs q more (to_slot claimless) (of_none none unmapped)) = omega (arith, old_more (has_old w) (logged v) j.committed, own_old (has_old w) v none, own_waits w v none)
+  waiters_law w (row.fails j b) = omega (arith, nothing, in_block (waiter_weight w) phase.Pending b.vios)
+  waiters_law w other = omega (arith, nothing)
+
+  -- damage is told once
+  pub damage_law : {old new : ZoneData} {before after : Sum} → Row sizes old new before after → Shrinks damage_token old new before after
+  damage_law (row.both first same second) = omega (arith, damage_law first, same damage_token.item, damage_law second)
+  damage_law (row.commits j b v vs q more (to_count) (of_block none)) = omega arith
+  damage_law (row.commits j b v vs q more (to_slot claimless) (of_block none)) = omega arith
+  damage_law (row.commits j b v vs q more (to_count) (of_page page is no_old no_report)) = omega arith
+  damage_law (row.commits j b v vs q more (to_slot claimless) (of_page page is no_old no_report)) = omega arith
+  damage_law (row.commits j b v vs q more (to_count) (of_none none unmapped)) = omega arith
+  damage_law (row.commits j b v vs q more (to_slot claimless) (of_none none unmapped)) = omega arith
+  damage_law other = omega (arith, nothing)
 
   -- a lock goes to who arrives first, or from who leaves it to the first that waits
   pub leases_law : (a : ℕ) (test : ℕ → Bool) {old new : ZoneData} {before after : Sum} → Row sizes old new before after → Conserves (lease_token a test) old new before after
   leases_law a test (row.both first same second) = omega (arith, leases_law a test first, same (lease_token a test).item, leases_law a test second)
   leases_law a test (row.looks l v on) = omega (arith, ap (λ b. bit (b && (v.at.0 == a && test v.place))) on.locks)
   leases_law a test (row.leafed l v on) = omega (arith, ap (λ b. bit (b && (v.at.0 == a && test v.place))) on.locks)
-  leases_law a test (row.leaves l slots v q answer locks is_set leased) = omega (arith, ap (λ b. bit (b && (v.at.0 == a && test v.place))) locks, freed a test l v leased)
-  leases_law a test (row.hands_on l slots v q answer w others locks is_set leased) = omega (arith, ap (λ b. bit (b && (v.at.0 == a && test v.place))) locks, freed a test l v leased)
+  leases_law a test (row.leaves l slots reported v q answer locks is_set leased) = omega (arith, ap (λ b. bit (b && (v.at.0 == a && test v.place))) locks, freed a test l v leased)
+  leases_law a test (row.hands_on l slots reported v q answer w others locks is_set leased) = omega (arith, ap (λ b. bit (b && (v.at.0 == a && test v.place))) locks, freed a test l v leased)
   leases_law a test (row.retires l v pageless leased) = omega (arith, freed a test l v leased)
   leases_law a test (row.forgets l unlinkable v q page locks is_dropped is_page made) = omega (arith, ap (λ b. bit (b && (v.at.0 == a && test v.place))) locks)
   leases_law a test (row.fails j b) = omega (arith, in_block (holder_weight a test) phase.Pending b.vios)
+  leases_law a test (row.commits j b v vs q more (to_count) (of_block none)) = omega arith
+  leases_law a test (row.commits j b v vs q more (to_count) (of_page page_is is no_old no_report)) = omega arith
+  leases_law a test (row.commits j b v vs q more (to_count) (of_none none unmapped)) = omega arith
+  leases_law a test (row.commits j b v vs q more (to_slot claimless) (of_block none)) = omega arith
+  leases_law a test (row.commits j b v vs q more (to_slot claimless) (of_page page_is is no_old no_report)) = omega arith
+  leases_law a test (row.commits j b v vs q more (to_slot claimless) (of_none none unmapped)) = omega arith
   leases_law a test other = omega arith
 
   -- and the zone has so many more or less
@@ -119,11 +276,17 @@ module _ (sizes : Sizes) where
   holders_law (row.both first same second) = omega (arith, holders_law first, same holder_token.item, holders_law second)
   holders_law (row.looks l v on) = omega (arith, ap bit on.locks)
   holders_law (row.leafed l v on) = omega (arith, ap bit on.locks)
-  holders_law (row.leaves l slots v q answer locks is_set leased) = omega (arith, ap bit locks, one_freed l v leased)
-  holders_law (row.hands_on l slots v q answer w others locks is_set leased) = omega (arith, ap bit locks, one_freed l v leased)
+  holders_law (row.leaves l slots reported v q answer locks is_set leased) = omega (arith, ap bit locks, one_freed l v leased)
+  holders_law (row.hands_on l slots reported v q answer w others locks is_set leased) = omega (arith, ap bit locks, one_freed l v leased)
   holders_law (row.retires l v pageless leased) = omega (arith, one_freed l v leased)
   holders_law (row.forgets l unlinkable v q page locks is_dropped is_page made) = omega (arith, ap bit locks)
   holders_law (row.fails j b) = omega (arith, in_block (λ v. bit (holds v.phase)) phase.Pending b.vios)
+  holders_law (row.commits j b v vs q more (to_count) (of_block none)) = omega arith
+  holders_law (row.commits j b v vs q more (to_count) (of_page page_is is no_old no_report)) = omega arith
+  holders_law (row.commits j b v vs q more (to_count) (of_none none unmapped)) = omega arith
+  holders_law (row.commits j b v vs q more (to_slot claimless) (of_block none)) = omega arith
+  holders_law (row.commits j b v vs q more (to_slot claimless) (of_page page_is is no_old no_report)) = omega arith
+  holders_law (row.commits j b v vs q more (to_slot claimless) (of_none none unmapped)) = omega arith
   holders_law other = omega arith
 
   -- an entry goes from its block to its slot, or its address is retired
@@ -131,14 +294,20 @@ module _ (sizes : Sizes) where
   entries_law (row.both first same second) = omega (arith, entries_law first, same entry_token.item, entries_law second)
   entries_law (row.looks l v on) = omega (arith, ap (λ b. bit (b && not (is_some v.page))) on.unentered)
   entries_law (row.leafed l v on) = omega (arith, ap (λ b. bit (b && not (is_some v.page))) on.unentered)
-  entries_law (row.leaves l slots v q answer locks is_set leased) = omega (arith, is_set)
-  entries_law (row.hands_on l slots v q answer w others locks is_set leased) = omega (arith, is_set)
+  entries_law (row.leaves l slots reported v q answer locks is_set leased) = omega (arith, is_set.count)
+  entries_law (row.hands_on l slots reported v q answer w others locks is_set leased) = omega (arith, is_set.count)
   entries_law (row.retires l v pageless leased) = omega (arith, nothing, own_entry v pageless)
   entries_law (row.links l tree v page is_page made) = omega (arith, unless_page true v page is_page)
   entries_law (row.forgets l unlinkable v q page locks is_dropped is_page made) = omega (arith, unless_page (has_entry q) v page is_page)
-  entries_law (row.enters j v counted) = omega (arith, one_entry (logged v) j.entered, counted)
-  entries_law (row.enters_first j v counted) = omega (arith, nothing, one_entry (logged v) j.entered, counted)
+  entries_law (row.enters j v counted claimed) = omega (arith, one_entry (logged v) j.entered, counted)
+  entries_law (row.enters_first j v counted claimed) = omega (arith, nothing, one_entry (logged v) j.entered, counted)
   entries_law (row.fails j b) = omega (arith, nothing, in_block (λ v. bit (has_entry v.phase && not (is_some v.page))) phase.Pending b.vios)
+  entries_law (row.commits j b v vs q more (to_count) (of_block none)) = omega arith
+  entries_law (row.commits j b v vs q more (to_count) (of_page page_is is no_old no_report)) = omega arith
+  entries_law (row.commits j b v vs q more (to_count) (of_none none unmapped)) = omega arith
+  entries_law (row.commits j b v vs q more (to_slot claimless) (of_block none)) = omega arith
+  entries_law (row.commits j b v vs q more (to_slot claimless) (of_page page_is is no_old no_report)) = omega arith
+  entries_law (row.commits j b v vs q more (to_slot claimless) (of_none none unmapped)) = omega arith
   entries_law other = omega (arith, nothing)
 
   -- so does an entry of a page, until that is linked or never will be
@@ -146,20 +315,32 @@ module _ (sizes : Sizes) where
   page_entries_law (row.both first same second) = omega (arith, page_entries_law first, same page_entry_token.item, page_entries_law second)
   page_entries_law (row.looks l v on) = omega (arith, ap (λ b. bit (b && is_some v.page)) on.unentered)
   page_entries_law (row.leafed l v on) = omega (arith, ap (λ b. bit (b && is_some v.page)) on.unentered)
-  page_entries_law (row.forgets l unlinkable v q page locks is_dropped is_page made) = omega (arith, is_dropped, with_page (has_entry q) v page is_page)
-  page_entries_law (row.enters j v counted) = omega (arith, page_entry (logged v) j.entered, one_kind (logged v), either_bit (is_some v.page), counted)
-  page_entries_law (row.enters_first j v counted) = omega (arith, nothing, page_entry (logged v) j.entered, one_kind (logged v), either_bit (is_some v.page), counted)
+  page_entries_law (row.forgets l unlinkable v q page locks is_dropped is_page made) = omega (arith, is_dropped.count, with_page (has_entry q) v page is_page)
+  page_entries_law (row.enters j v counted claimed) = omega (arith, page_entry (logged v) j.entered, one_kind (logged v), either_bit (is_some v.page), counted)
+  page_entries_law (row.enters_first j v counted claimed) = omega (arith, nothing, page_entry (logged v) j.entered, one_kind (logged v), either_bit (is_some v.page), counted)
   page_entries_law (row.fails j b) = omega (arith, nothing, in_block (λ v. bit (has_entry v.phase && is_some v.page)) phase.Pending b.vios)
+  page_entries_law (row.commits j b v vs q more (to_count) (of_block none)) = omega arith
+  page_entries_law (row.commits j b v vs q more (to_count) (of_page page_is is no_old no_report)) = omega arith
+  page_entries_law (row.commits j b v vs q more (to_count) (of_none none unmapped)) = omega arith
+  page_entries_law (row.commits j b v vs q more (to_slot claimless) (of_block none)) = omega arith
+  page_entries_law (row.commits j b v vs q more (to_slot claimless) (of_page page_is is no_old no_report)) = omega arith
+  page_entries_law (row.commits j b v vs q more (to_slot claimless) (of_none none unmapped)) = omega arith
   page_entries_law other = omega (arith, nothing)
 
   -- a page goes to its maker, and from it when it is linked, or isn't made any more
   pub making_law : (page : PageId) → {old new : ZoneData} {before after : Sum} → Row sizes old new before after → Conserves (making_token page) old new before after
   making_law page (row.both first same second) = omega (arith, making_law page first, same (making_token page).item, making_law page second)
-  making_law page (row.begins d v pageless) = omega (arith, is_page_of page v None pageless)
-  making_law page (row.begins_flush d v pageless) = omega (arith, is_page_of page v None pageless)
-  making_law page (row.answers d v answer marks pageless) = omega (arith, is_page_of page v None pageless)
+  making_law page (row.begins d v pageless claimless) = omega (arith, is_page_of page v None pageless)
+  making_law page (row.begins_flush d v pageless claimless) = omega (arith, is_page_of page v None pageless)
+  making_law page (row.answers d v answer marks pageless claimless) = omega (arith, is_page_of page v None pageless)
   making_law page (row.makes l v p pageless) = omega (arith, is_page_of page v None pageless, times_more page p l.making)
   making_law page (row.links l tree v p is_page made) = omega (arith, is_page_of page v (Some p) is_page, taken_out p page l.making made)
   making_law page (row.forgets l unlinkable v q p locks is_dropped is_page made) = omega (arith, is_page_of page v (Some p) is_page, taken_out p page l.making made)
   making_law page (row.fails j b) = omega (arith, in_block (λ v. bit (is_same page v.page)) phase.Pending b.vios)
+  making_law page (row.commits j b v vs q more (to_count) (of_block none)) = omega arith
+  making_law page (row.commits j b v vs q more (to_count) (of_page page_is is no_old no_report)) = omega arith
+  making_law page (row.commits j b v vs q more (to_count) (of_none none unmapped)) = omega arith
+  making_law page (row.commits j b v vs q more (to_slot claimless) (of_block none)) = omega arith
+  making_law page (row.commits j b v vs q more (to_slot claimless) (of_page page_is is no_old no_report)) = omega arith
+  making_law page (row.commits j b v vs q more (to_slot claimless) (of_none none unmapped)) = omega arith
   making_law page other = omega (arith, nothing)

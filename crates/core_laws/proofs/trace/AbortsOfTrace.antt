@@ -1,7 +1,7 @@
 -- The writes that a right trace aborted were handed in, and their slots are never set; and no write or flush of the device
 -- follows one that failed.
 use Rattle.std.proofs.Common.{◌≡◌, Bool, true, false, not, ◌||◌, List, [], ◌∷◌, ◌++◌, Some, IsNone, refl, ap, sym, ◌∙◌, subst, inl, inr}
-use Rattle.core_laws.proofs.Common.{Aborts, AllByRecursion, Call, Calls, Fails, Flushes, Happening, IsHeldBack, Remapping, MayFollow, RightTrace, Says, Session, Sets, StopsAtFailure, Trace, Writer, aborted, calls, entered, every-map, every_both, has_stopped, is_ok, is_read, logged_of, none_is, not_both, option_cases, or_parts, same_tells, same_writer, Remaps, Passes, remappings, applied, journaled, passed, Harms}
+use Rattle.core_laws.proofs.Common.{Aborts, AllByRecursion, Call, Calls, Fails, Flushes, Happening, IsHeldBack, Remapping, MayFollow, RightTrace, Says, Session, Sets, StopsAtFailure, Trace, Writer, aborted, calls, entered, every-map, every_both, has_stopped, is_ok, is_read, logged_of, none_is, not_both, option_cases, or_parts, same_tells, same_writer, Remaps, Passes, remappings, applied, journaled, passed, Harms, Hears}
 use Rattle.core_laws.proofs.lists.Between.{logged_between}
 use Rattle.disk_model.specs.declared.call.Call.TheVariants as call
 use Rattle.core_laws.proofs.trace.DeskOfTrace.{logged_has}
@@ -75,6 +75,7 @@ all_done s (Calls c ∷ t) right goes = ((λ writes. right.0.succeeds), all_done
 all_done s (Fails w c true ∷ t) right goes = ((λ writes. absurd (writes_failed c (has_stopped t) goes writes)), all_done s t right.2 (or_parts (not (is_read c)) (has_stopped t) goes).1)
 all_done s (Fails w c false ∷ t) right goes = all_done s t right.2 (or_parts (not (is_read c)) (has_stopped t) goes).1
 all_done s (Harms w x bytes fault ∷ t) right goes = absurd cc
+all_done s (Hears damage ∷ t) right goes = absurd cc
 all_done s (other ∷ t) right goes = all_done s t right.2 goes
 
 cons_is : (c d : Call) (cs ds : List Call) → c ∷ cs ≡ d ∷ ds → (c ≡ d) × (cs ≡ ds)

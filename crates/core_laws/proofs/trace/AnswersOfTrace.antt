@@ -21,7 +21,7 @@ AnswerSays is_set handed (Some reply.Stopped) = is_set ≡ false
 AnswerSays is_set handed (Some reply.Full) = handed ≡ false
 AnswerSays is_set handed (Some reply.Range) = ⊥
 AnswerSays is_set handed (Some (reply.Bytes bytes)) = ⊥
-AnswerSays is_set handed (Some reply.NoSpace) = ⊥
+AnswerSays is_set handed (Some reply.NoSpace) = handed ≡ false
 AnswerSays is_set handed (Some reply.ReadFault) = handed ≡ false
 AnswerSays is_set handed (Some reply.Damaged) = handed ≡ false
 
@@ -44,6 +44,7 @@ cause_says s t w (request.Write at bytes fua) a reply.Ok change has below cause 
 cause_says s t w (request.Write at bytes fua) a reply.Range change has below cause = let here : at.0 ≡ a = same_Some _ _ has in absurd (omega (arith, here, below, cause))
 cause_says s t w (request.Write at bytes fua) a reply.Stopped change has below (inl cause) = there_false (logged_of (done t) w) cause.2
 cause_says s t w (request.Write at bytes fua) a reply.Stopped change has below (inr at_once) = there_false (logged_of (done t) w) at_once.1.unset
+cause_says s t w (request.Write at bytes fua) a reply.NoSpace change has below cause = there_false (logged_of (entered t) w) cause.1
 cause_says s t w (request.Write at bytes fua) a reply.Full change has below cause = there_false (logged_of (entered t) w) cause.1
 cause_says s t w (request.Write at bytes fua) a reply.ReadFault change has below cause = there_false (logged_of (entered t) w) cause.1
 cause_says s t w (request.Write at bytes fua) a reply.Damaged change has below cause = there_false (logged_of (entered t) w) cause.1
@@ -114,7 +115,8 @@ mark_said true handed (Some reply.Full) both says = let there = both refl in abs
 mark_said false handed (Some reply.Full) both says = rw says refl
 mark_said is_set handed (Some reply.Range) both says = absurd says
 mark_said is_set handed (Some (reply.Bytes bytes)) both says = absurd says
-mark_said is_set handed (Some reply.NoSpace) both says = absurd says
+mark_said true handed (Some reply.NoSpace) both says = let there = both refl in absurd cc
+mark_said false handed (Some reply.NoSpace) both says = rw says refl
 mark_said true handed (Some reply.ReadFault) both says = let there = both refl in absurd cc
 mark_said false handed (Some reply.ReadFault) both says = rw says refl
 mark_said true handed (Some reply.Damaged) both says = let there = both refl in absurd cc

@@ -41,7 +41,7 @@ set_ok handed reply.Stopped there says = absurd cc
 set_ok handed reply.Full there says = absurd cc
 set_ok handed reply.Range there says = absurd says
 set_ok handed (reply.Bytes bytes) there says = absurd says
-set_ok handed reply.NoSpace there says = absurd says
+set_ok handed reply.NoSpace there says = absurd cc
 set_ok handed reply.ReadFault there says = absurd cc
 set_ok handed reply.Damaged there says = absurd cc
 

@@ -1,14 +1,13 @@
 -- The desk log of a right trace is well formed, and each done entry is a committed one, each committed one an entered
 -- one.
 use Rattle.std.proofs.Common.{ℕ, ◌≡◌, ◌<◌, ◌==◌, List, [], ◌∷◌, ◌++◌, append_assoc, Some, IsNone, ap, refl, sym, ◌∙◌, subst, inl, inr, arith, false}
-use Rattle.core_laws.proofs.Common.{all_of, AllByRecursion, Answer as Reply, answer_of, begun, cases_Bool, committed, Commits, DeskLine, done, each_at, entered, eqb_tells, every-map, filled, Happening, IsDeskLog, IsFair, IsFresh, IsWrite, lines, Mapping, Remapping, logged_of, MayFollow, none_is, not_both, of_address, OnBlock, option_cases, RightTrace, same_self, same_Some, same_tells, Script, sealed, Seals, Session, Sets, Shown, Trace, Writer, Logged, Makes, Remaps, remappings, durable, journaled, Enters, new_of, applied, passed, PassMayFollow, MapsTo, same_writer}
+use Rattle.core_laws.proofs.Common.{all_of, AllByRecursion, Answer as Reply, answer_of, begun, cases_Bool, committed, Commits, DeskLine, done, each_at, entered, eqb_tells, every-map, filled, Happening, IsDeskLog, IsFair, IsWrite, lines, Remapping, logged_of, MayFollow, none_is, not_both, of_address, OnBlock, option_cases, RightTrace, same_self, same_Some, same_tells, Script, sealed, Seals, Session, Sets, Shown, Trace, Writer, Logged, Makes, Remaps, remappings, durable, journaled, Enters, new_of, applied, passed, PassMayFollow, MapsTo, same_writer}
 use Rattle.data_vio.specs.declared.items.Asks.TheVariants.{Discard}
 use Rattle.core_laws.proofs.lists.Between.{every_between, logged_between, logged_there}
 use Rattle.vdo_model.specs.declared.report.DeskLine.TheVariants.{Begin, Answer}
 use Rattle.core_laws.proofs.trace.Growth.{desk_grows, entered_grows, committed_grows, done_grows, begun_more, write_stays}
 use Rattle.core_laws.proofs.kept.StandsOn.{entered_parts}
 use Rattle.blk_base.specs.Regions.{IsDataBlock}
-use Rattle.blk_base.specs.declared.place.Mapping.TheVariants.{Unmapped, Zero, At}
 
 -- the desk log is well formed
 pub desk_log_right : (s : Session) (t : Trace) → RightTrace s t → IsDeskLog s.sizes.depth s.script (lines t)
@@ -277,22 +276,6 @@ committed_writes s t right = all_committed (IsWrite s t) s t right (entered_writ
 pub done_writes : (s : Session) (t : Trace) → RightTrace s t → AllByRecursion (IsWrite s t) (done t)
 done_writes s t right = all_done (IsWrite s t) s t right (committed_writes s t right)
 
--- each entry names a block that was free when the session began, or none
-abbrev pub HasFresh : Session → Logged → Type 0
-HasFresh s e = OnBlock (IsFresh s) (new_of e)
-
-pub journaled_fresh : (s : Session) (t : Trace) → RightTrace s t → AllByRecursion (HasFresh s) (journaled t)
-journaled_fresh s [] right = tt
-journaled_fresh s (Enters (Remaps e) ∷ t) right = (right.0.new_data, journaled_fresh s t right.2)
-journaled_fresh s (Enters (Makes p) ∷ t) right = (right.0.new_data, journaled_fresh s t right.2)
-journaled_fresh s (other ∷ t) right = journaled_fresh s t right.2
-
--- which is a data block
-fresh_data : (s : Session) (m : Mapping) → OnBlock (IsFresh s) m → OnBlock (λ x. IsDataBlock s.sizes.geometry x.0) m
-fresh_data s (At x) fresh = fresh.is_data
-fresh_data s Unmapped fresh = tt
-fresh_data s Zero fresh = tt
-
 -- and each entry maps its address to a data block, or to none
 abbrev pub HasData : Session → Remapping → Type 0
 HasData s e = OnBlock (λ x. IsDataBlock s.sizes.geometry x.0) e.new
@@ -302,7 +285,10 @@ abbrev pub HasBlock : Session → Logged → Type 0
 HasBlock s e = OnBlock (λ x. IsDataBlock s.sizes.geometry x.0) (new_of e)
 
 pub journaled_data : (s : Session) (t : Trace) → RightTrace s t → AllByRecursion (HasBlock s) (journaled t)
-journaled_data s t right = every-map {P = HasFresh s} {Q = HasBlock s} (λ e fresh. fresh_data s (new_of e) fresh) (journaled t) (journaled_fresh s t right)
+journaled_data s [] right = tt
+journaled_data s (Enters (Remaps e) ∷ t) right = (right.0.new_data, journaled_data s t right.2)
+journaled_data s (Enters (Makes p) ∷ t) right = (right.0.new_data, journaled_data s t right.2)
+journaled_data s (other ∷ t) right = journaled_data s t right.2
 
 abbrev pub AreData : Session → List Remapping → Type 0
 AreData s es = AllByRecursion (HasData s) es
@@ -311,7 +297,7 @@ pub entered_data : (s : Session) (t : Trace) → RightTrace s t → AreData s (e
 entered_data s [] right = tt
 entered_data s (h ∷ t) right =
     let rest = entered_data s t right.2 in
-    entered_grows (AreData s) s h t right.0 rest (λ e came next. (fresh_data s e.new next.new_data, rest))
+    entered_grows (AreData s) s h t right.0 rest (λ e came next. (next.new_data, rest))
     (λ e came next. every_between (HasData s) (remappings (journaled t)) (passed t) e (subst (OnBlock (λ x. IsDataBlock s.sizes.geometry x.0)) (sym next.maps.1) tt) rest)
 
 pub committed_data : (s : Session) (t : Trace) → RightTrace s t → AreData s (committed t)

@@ -113,6 +113,7 @@ cause_tells s t w (request.Read at) a other right has cause = absurd cause
 cause_tells s t w (request.Write at bytes fua) a reply.Range right has cause = inl (refl, subst (λ (n : ℕ). s.sizes.geometry.logical ≤ n) (same_Some _ _ has) cause)
 cause_tells s t w (request.Write at bytes fua) a reply.Ok right has cause = inr (done_placed s t w right cause)
 cause_tells s t w (request.Write at bytes fua) a reply.Stopped right has cause = inr cause.1
+cause_tells s t w (request.Write at bytes fua) a reply.NoSpace right has cause = inr cause.0
 cause_tells s t w (request.Write at bytes fua) a reply.Full right has cause = inr cause.0
 cause_tells s t w (request.Write at bytes fua) a reply.ReadFault right has cause = inr cause.0
 cause_tells s t w (request.Write at bytes fua) a reply.Damaged right has cause = inr cause.0

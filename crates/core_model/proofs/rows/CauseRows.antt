@@ -1,24 +1,27 @@
 -- Why a request may be answered: for each answer a trace that has its cause, and for each part of the cause one that lacks it.
-use Rattle.std.proofs.Common.{ℕ, ◌≡◌, zero, suc, Bool, true, false, if◌then◌else◌, None, Some, IsSome, List, [], ◌∷◌, refl, ap, inl, inr, arith}
+use Rattle.std.proofs.Common.{ℕ, ◌≡◌, ◌+◌, ◌*◌, ◌∙◌, true, false, None, Some, List, [], ◌∷◌, refl, ap, replicate, inl, inr, arith}
 use Rattle.std.proofs.lemmas.Option.{same_Some}
 use Rattle.blk_base.specs.Sectors.{zero_block}
 use Rattle.blk_base.specs.declared.place.Mapping.TheVariants.{Unmapped}
 use Rattle.blk_base.specs.declared.request.Answer.{Answer}
-use Rattle.blk_base.specs.declared.request.Answer.TheVariants.{Ok, Bytes, Range, Stopped, Full, ReadFault, Damaged}
+use Rattle.blk_base.specs.declared.request.Answer.TheVariants.{Ok, Bytes, Range, Stopped, Full, NoSpace, ReadFault, Damaged}
 use Rattle.blk_base.specs.declared.request.Request.TheVariants as request
 use Rattle.blk_base.specs.declared.request.Writer.{Writer}
 use Rattle.blk_base.specs.declared.request.Request.{Request}
 use Rattle.disk_model.specs.declared.call.Call.TheVariants.{Read, Flush}
 use Rattle.vdo_model.specs.declared.report.DeskLine.TheVariants.{Begin}
-use Rattle.image_model.specs.Pages.{is_page, page_above}
-use Rattle.data_vio.specs.declared.logged.Logged.{Logged}
-use Rattle.data_vio.specs.declared.logged.Logged.TheVariants.{Remaps, Makes}
-use Rattle.core_model.specs.PageLinks.{IsThere, Lacks, page_in}
-use Rattle.core_model.specs.Sessions.{Session}
+use Rattle.data_vio.specs.declared.logged.Logged.TheVariants.{Remaps}
+use Rattle.core_model.specs.Sessions.{Session, opened_uses}
 use Rattle.page_codec.specs.declared.fault.PageFault.TheVariants.{Header}
-use Rattle.core_model.specs.RightTraces.{HasCause, HasNoPage, MayAnswer}
-use Rattle.core_model.specs.Trace.{Gift, Says, Gives, Takes, Aborts, Fails, Harms, Trace, applied}
-use Rattle.core_model.proofs.rows.WorkedTraces.{address, block, x, y, leaves, first, reader, second, other, late, flush, session, begun, took, handed_in, lasting, set, stopped, entry, of_first, of_other, given, in_block, one_not_zeros}
+use Rattle.core_model.specs.RightTraces.{HadNoFree, HasCause, MayAnswer}
+use Rattle.core_model.specs.Uses.{NoneFree}
+use Rattle.core_model.specs.Tokens.{is_block, is_old}
+use Rattle.plain_laws.specs.Sums.{total}
+use Rattle.vdo_model.specs.Places.{place_of}
+use Rattle.zone_counts.proofs.OpenedCounts.{opened_some}
+use Rattle.std.proofs.lemmas.List.{get_or-replicate}
+use Rattle.core_model.specs.Trace.{Gift, Says, Gives, Takes, Aborts, Fails, Harms, Trace, places, removed, unclaimed}
+use Rattle.core_model.proofs.rows.WorkedTraces.{address, block, x, y, first, reader, second, other, late, flush, session, sizes, begun, drawn, took, handed_in, lasting, set, stopped, entry, of_first, of_other, given, in_block}
 
 -- a read of an address, and a write of it
 abbrev Reads : Trace → Writer → ℕ → Answer → Type 0
@@ -179,64 +182,45 @@ at_once_inside (inr at_once) = let below = at_once.0 in absurd (omega (arith, be
 at_once_of_a_write : MayBeStopped (Says (Begin second) ∷ stopped []) (request.Read (address 0)) → ⊥
 at_once_of_a_write may = may.1.behind
 
--- It is full where the one block of the journal is sealed, or both data blocks are taken.
+-- It is full where the one block of the journal is sealed.
 full_journal : Writes in_block second 0 Full
-full_journal = (refl, refl, inl (omega arith))
+full_journal = (refl, refl, omega arith)
 
-full_blocks : Writes (Takes other None (block 86) ∷ took) second 0 Full
-full_blocks = (refl, refl, inr (inl (record { not_zeros = one_not_zeros; none_taken = refl }, omega arith)))
-
--- or where its leaf wasn't there at a moment when both were
-full_of_pages : HasNoPage session (Says (Begin flush) ∷ (Takes other None (block 86) ∷ took)) second 0
-full_of_pages = record { newer = Says (Begin flush) ∷ []; older = Takes other None (block 86) ∷ took; moment = refl; placed = refl; lacking = (0, omega arith, no_leaf); all_taken = omega arith }
-  where
-    no_leaf : IsThere 2 (λ page. None) [] (page_above 0 0) → ⊥
-    no_leaf (inl level) = omega (arith, level)
-    no_leaf (inr some) = absurd cc
-
--- the block that it took itself isn't why, nor is one for zeros, which need none: in a session where the leaves are there
-abbrev leafy : Session
-leafy = record session { links = leaves }
-
-has_leaf : (es : List Logged) → IsSome (page_in leafy.links es (page_above 0 0))
-has_leaf [] = refl
-has_leaf (Remaps e ∷ es) = has_leaf es
-has_leaf (Makes p ∷ es) = by (is_page p.page (page_above 0 0)) (has_leaf es)
-  where
-    by : (b : Bool) → IsSome (page_in leafy.links es (page_above 0 0)) → IsSome (if b then Some p.at else page_in leafy.links es (page_above 0 0))
-    by true some = refl
-    by false some = some
-
-lacks_nothing : (es : List Logged) → Lacks 2 leafy.links es 0 → ⊥
-lacks_nothing es (zero, low, lacks) = lacks (inr (has_leaf es))
-lacks_nothing es (suc n, low, lacks) = absurd (omega (arith, low))
-
-full_of_its_own : HasCause leafy (Takes second None (block 86) ∷ took) first (request.Write (address 0) x false) Full → ⊥
-full_of_its_own may = elim may.2 [
-  | inl journal ↦ absurd (omega (arith, journal))
-  | inr (inl blocks) ↦ let none = blocks.0.none_taken in absurd cc
-  | inr (inr page) ↦ lacks_nothing (applied page.older) page.lacking
-]
-
-full_for_zeros : HasCause leafy (Takes other None (block 86) ∷ took) second (request.Write (address 0) zero_block false) Full → ⊥
-full_for_zeros may = elim may.2 [
-  | inl journal ↦ absurd (omega (arith, journal))
-  | inr (inl blocks) ↦ absurd (blocks.0.not_zeros refl)
-  | inr (inr page) ↦ lacks_nothing (applied page.older) page.lacking
-]
-
-full_with_a_place : Writes (Takes second None (block 86) ∷ took) late 0 Full → ⊥
+full_with_a_place : Writes in_block late 0 Full → ⊥
 full_with_a_place may = let placed = may.0 in absurd cc
 
-full_with_room : HasCause leafy took second (request.Write (address 0) x false) Full → ⊥
-full_with_room may = elim may.2 [
-  | inl journal ↦ absurd (omega (arith, journal))
-  | inr (inl blocks) ↦ let all = blocks.1 in absurd (omega (arith, all))
-  | inr (inr page) ↦ lacks_nothing (applied page.older) page.lacking
-]
+full_with_room : Writes took second 0 Full → ⊥
+full_with_room may = let journal = may.2 in absurd (omega (arith, journal))
 
-full_before_it_enters : Writes handed_in first 0 Full → ⊥
+full_before_it_enters : Writes in_block first 0 Full → ⊥
 full_before_it_enters may = let entered = may.1 in absurd cc
+
+-- There is no space where at one moment since it has its place no data block was free: in a session where each is mapped.
+abbrev crowded : Session
+crowded = record session { counters = replicate 64 1 }
+
+none_is_free : (t : Trace) → unclaimed t ≡ [] → removed t ≡ [] → NoneFree crowded t
+none_is_free t undropped unremoved = λ x is_data free.
+    let mapped : opened_uses crowded x ≡ 1 = opened_some sizes.geometry (replicate 64 1) x is_data ∙ get_or-replicate 64 (is_data.slab * 64 + is_data.offset) 1 0 (let inside = is_data.inside in omega (arith, inside.0, inside.1)) in
+    let none = ap (total (is_block x)) undropped in
+    let none' = ap (total (is_old x)) unremoved in
+    omega (arith, mapped, none, none', free)
+
+no_space : HasCause crowded (Says (Begin flush) ∷ drawn) second (request.Write (address 0) x false) NoSpace
+no_space = (refl, refl, record { newer = Says (Begin flush) ∷ []; older = drawn; moment = refl; placed = refl; none_free = none_is_free drawn refl refl })
+
+no_space_with_a_place : HasCause crowded drawn late (request.Write (address 0) x false) NoSpace → ⊥
+no_space_with_a_place may = let placed = may.0 in absurd cc
+
+no_space_before_it_enters : HasCause crowded handed_in first (request.Write (address 0) x false) NoSpace → ⊥
+no_space_before_it_enters may = let entered = may.1 in absurd cc
+
+-- not while one is free, nor before it has its place
+one_is_free : NoneFree session took → ⊥
+one_is_free none = none (block 90) (record { slab = 0; offset = 11; inside = (omega arith, omega arith); stands = refl }) refl
+
+no_space_at_a_moment_with_its_place : (s : Session) (t : Trace) (w : Writer) → (h : HadNoFree s t w) → place_of (places h.older) w ≡ None → ⊥
+no_space_at_a_moment_with_its_place s t w h none = absurd (let some = rw none at h.placed in cc)
 
 -- A flush is stopped after a stop, and answered Ok with its mark alone.
 flush_stopped : HasCause session (stopped begun) flush request.Flush Stopped

@@ -1,53 +1,35 @@
 -- For each clause of what a zone with its lanes keeps a case that it accepts, and one that breaks it alone: in the middle of
 -- a session, where the first write has its block and is on its way to the device, and another write asks for one.
-use Rattle.std.specs.Prelude.{ℕ, zero, suc, ◌≡◌, ◌≤◌, false, Contains, List, [], ◌∷◌, length, Some, refl}
+use Rattle.std.specs.Prelude.{ℕ, zero, suc, ◌≡◌, ◌≢◌, ◌<◌, ◌≤◌, false, List, [], ◌∷◌, length, slice_set, Some, refl}
 use Rattle.std.specs.List.{AllByRecursion}
-use Rattle.std.proofs.Common.{ap, arith, inl, inr, subst}
-use Rattle.blk_base.specs.declared.place.Pbn.{Pbn}
+use Rattle.std.proofs.Common.{ap, arith, inl, inr, subst, sym}
+use Rattle.blk_base.specs.declared.geometry.Geometry.{Geometry}
+use Rattle.blk_base.specs.declared.place.Mapping.TheVariants.{At}
+use Rattle.core_model.specs.declared.zones.PhysicalZone.{PhysicalZone}
+use Rattle.slab_tickets.specs.declared.forms.Waiting.{Waiting}
+use Rattle.zone_counts.specs.Zone.{IsOfZone}
 use Rattle.blk_base.specs.declared.place.ZoneId.TheVariants as id
 use Rattle.data_vio.specs.declared.logged.Logged.TheVariants.{Remaps}
 use Rattle.data_vio.specs.declared.items.Asks.TheVariants as asks
 use Rattle.data_vio.specs.declared.items.Item.{Item}
-use Rattle.data_vio.specs.declared.items.Item.TheVariants.{Request}
+use Rattle.data_vio.specs.declared.items.Item.TheVariants.{Request, Decrement, Report}
 use Rattle.data_vio.specs.declared.items.Phase.TheVariants as phase
 use Rattle.data_vio.specs.declared.items.Vio.{Vio}
 use Rattle.core_model.specs.declared.zones.Zone.{Zone}
-use Rattle.core_model.specs.Facts.{Carries, DataOk, IsInTurn, ItemOk, VioOk, ZoneOk}
-use Rattle.core_model.specs.Sessions.{IsFair, IsFresh}
-use Rattle.core_model.specs.Trace.{Enters, Gives, Sets, Trace}
+use Rattle.core_model.specs.Facts.{AreFirstClaims, Carries, ClaimOk, DataOk, IsDecrement, IsInTurn, IsSoundPhysical, ItemOk, PhysicalLists, VioOk, ZoneOk}
+use Rattle.core_model.specs.Sessions.{IsFair}
+use Rattle.core_model.specs.Trace.{Commits, Enters, Gives, Removes, Sets, Trace, strayed}
 use Rattle.plain_laws.specs.Sums.{Each}
-use Rattle.core_model.proofs.rows.PhaseRows.{device, physical, vio, writes}
-use Rattle.core_model.proofs.rows.WorkedTraces.{address, block, given, of_first, leafy, other, session, took, two_not_zeros, y}
+use Rattle.core_model.proofs.rows.PhaseRows.{device, has_block, nothing, one, physical, seven, slab_with, vio, writes, zone_with}
+use Rattle.core_model.proofs.rows.WorkedTraces.{address, block, given, of_first, of_second, leafy, other, session, took, two_not_zeros, y}
+
+-- the physical zone with these counters and claims
+abbrev physical_of : List ℕ → List ℕ → PhysicalZone
+physical_of counters held = record { notified = false; strays = []; counts = zone_with (slab_with counters held) }
 
 -- over no device it isn't fair
 unfair : (t : Trace) → ¬ IsFair leafy t
 unfair t = λ fair. omega (arith, fair.opened.room)
-
--- of the blocks from 79 to 142
-first_fresh : IsFresh leafy (block 85)
-first_fresh = record {
-  is_data = record { slab = 0; offset = 6; inside = (omega arith, omega arith); stands = refl };
-  is_free = (0, omega arith, refl);
-  inside = omega arith;
-}
-
-second_fresh : IsFresh leafy (block 86)
-second_fresh = record {
-  is_data = record { slab = 0; offset = 7; inside = (omega arith, omega arith); stands = refl };
-  is_free = (1, omega arith, refl);
-  inside = omega arith;
-}
-
-not_taken_before : ¬ IsFresh leafy (block 87)
-not_taken_before = λ is. by is.is_free
-  where
-    by : Contains leafy.free (block 87) → ⊥
-    by (zero, below, same) = let e : 85 ≡ 87 = ap (λ (b : Pbn). b.0) same in omega (arith, e)
-    by (suc zero, below, same) = let e : 86 ≡ 87 = ap (λ (b : Pbn). b.0) same in omega (arith, e)
-    by (suc (suc n), below, same) = omega (arith, below)
-
-not_past_the_slab : ¬ IsFresh leafy (block 149)
-not_past_the_slab = λ is. omega (arith, is.inside)
 
 -- the write that asks for a block: of address 812, which is in the second logical zone
 abbrev claims : Vio
@@ -124,38 +106,111 @@ may_store = (
     old_is = λ fair. absurd (unfair _ fair);
   },
   refl,
-  first_fresh,
+  tt,
   inr refl,
 )
 
+-- ClaimOk: its claim is on its block, which is a data block, in the phases in which it has one
+has_its_claim : ClaimOk leafy (has_block phase.Store)
+has_its_claim = record { claim_is = refl; on_data = λ is. record { slab = 0; offset = 6; inside = (omega arith, omega arith); stands = refl } }
+
+has_none_before : ClaimOk leafy claims
+has_none_before = record { claim_is = refl; on_data = λ is. tt }
+
+without_its_claim : ¬ ClaimOk leafy (writes phase.Store)
+without_its_claim = λ is. let no = is.claim_is in absurd cc
+
+with_a_claim_once_counted : ¬ ClaimOk leafy (has_block phase.Settle)
+with_a_claim_once_counted = λ is. let no = is.claim_is in absurd cc
+
+with_no_data_block : ¬ ClaimOk leafy (record (has_block phase.Store) { new = At (block 78); claim = Some (block 78) })
+with_no_data_block = λ is. let stands = (is.on_data refl).stands in omega (arith, stands)
+
 -- ItemOk: each comes to the zone where its phase is done
 comes_to_the_blocks : ItemOk leafy took 3 (Request claims)
-comes_to_the_blocks = (under_way, may_claim, refl)
+comes_to_the_blocks = (under_way, may_claim, refl, has_none_before)
 
-goes_to_the_device : ItemOk leafy took 5 (Request (writes phase.Store))
+goes_to_the_device : ItemOk leafy took 5 (Request (has_block phase.Store))
 goes_to_the_device = (
   record { asked = refl; is_open = record { is_begun = omega arith; unanswered = refl }; address = omega arith; home = refl },
   may_store,
   refl,
+  has_its_claim,
 )
 
 comes_to_the_device : ¬ ItemOk leafy took 5 (Request claims)
 comes_to_the_device = λ is. omega (arith, is.2)
 
--- DataOk: the second block is left
-one_is_left : DataOk leafy took 3 (physical (block 86 ∷ []))
-one_is_left = record { number_is = refl; lists = record { left = refl }; sound = (second_fresh, tt); kept = tt; answers = tt; told = tt }
+-- IsDecrement, IsReport: of a committed entry that replaces a data block; once it is taken
+abbrev replaced : Trace
+replaced = Commits (Remaps of_second) ∷ []
 
-of_the_journal's_number : ¬ DataOk leafy took 4 (physical (block 86 ∷ []))
+decrement : ItemOk leafy replaced 3 (Decrement of_second)
+decrement = (record { committed = (0, omega arith, refl); block = block 85; old_is = refl; is_data = record { slab = 0; offset = 6; inside = (omega arith, omega arith); stands = refl } }, refl)
+
+decrement_of_what_is_committed : ¬ ItemOk leafy [] 3 (Decrement of_second)
+decrement_of_what_is_committed = λ is. omega (arith, is.0.committed.1)
+
+decrement_of_a_block : ¬ ItemOk leafy (Commits (Remaps of_first) ∷ []) 3 (Decrement of_first)
+decrement_of_a_block = λ is. let no = is.0.old_is in absurd cc
+
+decrement_elsewhere : ¬ ItemOk leafy replaced 4 (Decrement of_second)
+decrement_elsewhere = λ is. omega (arith, is.1)
+
+report : ItemOk leafy (Removes of_second ∷ replaced) 1 (Report of_second)
+report = (record { decrement = decrement_then; reported = inl (0, omega arith, refl) }, refl)
+  where
+    decrement_then : IsDecrement leafy (Removes of_second ∷ replaced) of_second
+    decrement_then = record { committed = (0, omega arith, refl); block = block 85; old_is = refl; is_data = record { slab = 0; offset = 6; inside = (omega arith, omega arith); stands = refl } }
+
+report_of_what_was_taken : ¬ ItemOk leafy replaced 1 (Report of_second)
+report_of_what_was_taken = λ is. elim is.0.reported [ inl removed ↦ omega (arith, removed.1) | inr strayed ↦ omega (arith, strayed.1) ]
+
+report_elsewhere : ¬ ItemOk leafy (Removes of_second ∷ replaced) 2 (Report of_second)
+report_elsewhere = λ is. omega (arith, is.1)
+
+-- DataOk of the physical zone, where the one claim is that of the first write: the lists by what holds of each block
+module _ (lists : PhysicalLists leafy took (physical_of nothing one)) (sound : IsSoundPhysical leafy (physical_of nothing one)) where
+  one_is_claimed : DataOk leafy took 3 (physical nothing one)
+  one_is_claimed = record { number_is = refl; lists = lists; sound = sound; kept = tt; answers = tt; told = tt }
+
+of_the_journal's_number : ¬ DataOk leafy took 4 (physical nothing one)
 of_the_journal's_number = λ is. omega (arith, is.number_is)
 
-none_was_taken : ¬ DataOk leafy took 3 (physical (block 85 ∷ block 86 ∷ []))
-none_was_taken = λ is. let no : 2 ≡ 1 = ap (λ (blocks : List Pbn). length blocks) is.lists.left in omega (arith, no)
+own : IsOfZone (zone_with (slab_with nothing one)) (block 85)
+own = record { data_block = record { slab = 0; offset = 6; inside = (omega arith, omega arith); stands = refl }; own = refl }
 
-none_is_left : ¬ DataOk leafy took 3 (physical [])
-none_is_left = λ is. let no : 0 ≡ 1 = ap (λ (blocks : List Pbn). length blocks) is.lists.left in omega (arith, no)
+-- PhysicalLists: each use of a block is one of the trace, and each counter has the updates that were taken
+a_claim_too_few : ¬ PhysicalLists leafy took (physical_of nothing nothing)
+a_claim_too_few = λ lists. let uses = lists.uses (block 85) own in omega (arith, uses)
 
--- ZoneOk: the zone of the blocks
+a_claim_too_many : ¬ PhysicalLists leafy [] (physical_of nothing one)
+a_claim_too_many = λ lists. let uses = lists.uses (block 85) own in omega (arith, uses)
+
+a_counter_too_many : ¬ PhysicalLists leafy [] (physical_of seven nothing)
+a_counter_too_many = λ lists. let counters = lists.counters (block 85) own in omega (arith, counters)
+
+stray_unkept : (t : Trace) → strayed t ≢ [] → ¬ PhysicalLists leafy t (physical_of nothing one)
+stray_unkept t some = λ lists. some (sym lists.strays_are)
+
+-- IsSoundPhysical: all slabs of the session's image, in one zone, without tickets; a block that is claimed is mapped by nobody, and
+-- claimed once
+claimed_and_mapped : ¬ AreFirstClaims (zone_with (slab_with seven one))
+claimed_and_mapped = λ are. let both = (are (block 85) (omega arith)).0 in omega (arith, both)
+
+claimed_twice : ¬ AreFirstClaims (zone_with (slab_with nothing (slice_set nothing 6 2)))
+claimed_twice = λ are. let both = (are (block 85) (omega arith)).1 in omega (arith, both)
+
+of_other_sizes : (p : PhysicalZone) → p.counts.geometry.slabs ≡ 2 → ¬ IsSoundPhysical leafy p
+of_other_sizes p two = λ is. let same = ap (λ (g : Geometry). g.slabs) is.geometry in omega (arith, two, same)
+
+of_two_zones : (p : PhysicalZone) → p.counts.zones ≡ 2 → ¬ IsSoundPhysical leafy p
+of_two_zones p two = λ is. let one_zone = is.zones in omega (arith, two, one_zone)
+
+with_a_ticket : (p : PhysicalZone) → 0 < length p.counts.desk.out → ¬ IsSoundPhysical leafy p
+with_a_ticket p some = λ is. let none = ap (λ (out : List Waiting). length out) is.no_ticket in omega (arith, some, none)
+
+-- ZoneOk: the zone of the blocks, of which the lists and the rest hold
 abbrev lanes_with : List Item → List (List Item)
 lanes_with to_the_device = [] ∷ [] ∷ [] ∷ [] ∷ [] ∷ to_the_device ∷ []
 
@@ -163,8 +218,8 @@ abbrev of_blocks : Zone
 of_blocks = record {
   number = 3;
   steps = 4;
-  keeps = physical (block 86 ∷ []);
-  ports = record { inbox = Request claims ∷ []; outboxes = lanes_with (Request (writes phase.Store) ∷ []) };
+  keeps = physical nothing one;
+  ports = record { inbox = Request claims ∷ []; outboxes = lanes_with (Request (has_block phase.Store) ∷ []) };
 }
 
 -- of a list, by its first and those behind it
@@ -178,26 +233,26 @@ each_none P i x at = absurd cc
 abbrev LaneOk : ℕ → List Item → Type 0
 LaneOk to lane = AllByRecursion (ItemOk leafy took to) lane
 
-stores : LaneOk 5 (Request (writes phase.Store) ∷ [])
+stores : LaneOk 5 (Request (has_block phase.Store) ∷ [])
 stores = (goes_to_the_device, tt)
 
-lanes_go_on : Each LaneOk (lanes_with (Request (writes phase.Store) ∷ []))
+lanes_go_on : Each LaneOk (lanes_with (Request (has_block phase.Store) ∷ []))
 lanes_go_on =
-    each_next LaneOk [] ([] ∷ [] ∷ [] ∷ [] ∷ (Request (writes phase.Store) ∷ []) ∷ []) tt
-    (each_next (λ i. LaneOk (suc i)) [] ([] ∷ [] ∷ [] ∷ (Request (writes phase.Store) ∷ []) ∷ []) tt
-    (each_next (λ i. LaneOk (suc (suc i))) [] ([] ∷ [] ∷ (Request (writes phase.Store) ∷ []) ∷ []) tt
-    (each_next (λ i. LaneOk (suc (suc (suc i)))) [] ([] ∷ (Request (writes phase.Store) ∷ []) ∷ []) tt
-    (each_next (λ i. LaneOk (suc (suc (suc (suc i))))) [] ((Request (writes phase.Store) ∷ []) ∷ []) tt
-    (each_next (λ i. LaneOk (suc (suc (suc (suc (suc i)))))) (Request (writes phase.Store) ∷ []) [] stores (each_none (λ i. LaneOk (suc (suc (suc (suc (suc (suc i)))))))))))))
+    each_next LaneOk [] ([] ∷ [] ∷ [] ∷ [] ∷ (Request (has_block phase.Store) ∷ []) ∷ []) tt
+    (each_next (λ i. LaneOk (suc i)) [] ([] ∷ [] ∷ [] ∷ (Request (has_block phase.Store) ∷ []) ∷ []) tt
+    (each_next (λ i. LaneOk (suc (suc i))) [] ([] ∷ [] ∷ (Request (has_block phase.Store) ∷ []) ∷ []) tt
+    (each_next (λ i. LaneOk (suc (suc (suc i)))) [] ([] ∷ (Request (has_block phase.Store) ∷ []) ∷ []) tt
+    (each_next (λ i. LaneOk (suc (suc (suc (suc i))))) [] ((Request (has_block phase.Store) ∷ []) ∷ []) tt
+    (each_next (λ i. LaneOk (suc (suc (suc (suc (suc i)))))) (Request (has_block phase.Store) ∷ []) [] stores (each_none (λ i. LaneOk (suc (suc (suc (suc (suc (suc i)))))))))))))
 
-goes_on : ZoneOk leafy took 3 of_blocks
-goes_on = record {
+goes_on : DataOk leafy took 3 (physical nothing one) → ZoneOk leafy took 3 of_blocks
+goes_on own = record {
   number_is = refl;
   lanes = refl;
   inbox = (comes_to_the_blocks, tt);
   outboxes = lanes_go_on;
   to_itself = λ lane at. let is : ◌≡◌ (Some []) (Some lane) = at in cc;
-  own = one_is_left;
+  own = own;
   counted = omega arith;
 }
 
@@ -207,7 +262,7 @@ of_another_number = λ is. omega (arith, is.number_is)
 with_a_lane_less : ¬ ZoneOk leafy took 3 (record of_blocks { ports = record of_blocks.ports { outboxes = [] ∷ [] ∷ [] ∷ [] ∷ [] ∷ [] } })
 with_a_lane_less = λ is. omega (arith, is.lanes)
 
-with_a_request_of_another_zone : ¬ ZoneOk leafy took 3 (record of_blocks { ports = record of_blocks.ports { inbox = Request (writes phase.Store) ∷ [] } })
+with_a_request_of_another_zone : ¬ ZoneOk leafy took 3 (record of_blocks { ports = record of_blocks.ports { inbox = Request (has_block phase.Store) ∷ [] } })
 with_a_request_of_another_zone = λ is. omega (arith, is.inbox.0.2)
 
 posts_to_the_wrong_zone : ¬ ZoneOk leafy took 3 (record of_blocks { ports = record of_blocks.ports { outboxes = lanes_with (Request claims ∷ []) } })
@@ -216,8 +271,8 @@ posts_to_the_wrong_zone = λ is. let at = is.outboxes 5 (Request claims ∷ []) 
 posts_to_itself : ¬ ZoneOk leafy took 3 (record of_blocks { ports = record of_blocks.ports { outboxes = [] ∷ [] ∷ [] ∷ (Request claims ∷ []) ∷ [] ∷ [] ∷ [] } })
 posts_to_itself = λ is. let no = is.to_itself (Request claims ∷ []) refl in absurd cc
 
-hands_a_block_out_twice : ¬ ZoneOk leafy took 3 (record of_blocks { keeps = physical (block 85 ∷ block 86 ∷ []) })
-hands_a_block_out_twice = λ is. none_was_taken is.own
+hands_a_block_out_unclaimed : ¬ ZoneOk leafy took 3 (record of_blocks { keeps = physical nothing nothing })
+hands_a_block_out_unclaimed = λ is. a_claim_too_few is.own.lists
 
 -- more calls of the device than steps
 more_calls_than_steps : (z : Zone) → z.steps ≡ 4 → z.keeps ≡ device false 5 → ¬ ZoneOk leafy took 5 z

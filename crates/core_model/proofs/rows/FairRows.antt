@@ -1,6 +1,7 @@
 -- Rows that pin what is owed of any device and what of a fair session alone: for each clause a case that it accepts, and one
 -- that breaks it alone. A session that is fair when it begins, over a new image, stands in core_laws.
-use Rattle.std.proofs.Common.{Contains, None, Some, sym, ◌∙◌, zero, suc, ℕ, ap, ◌≡◌, ◌≢◌, ◌⊎◌, ◌<◌, ◌+◌, true, false, List, [], ◌∷◌, ◌++◌, length, refl, inl, inr, arith, IsTrue}
+use Rattle.std.proofs.Common.{None, Some, sym, ◌∙◌, zero, suc, ℕ, ap, ◌≡◌, ◌≢◌, ◌⊎◌, ◌<◌, ◌+◌, true, false, List, [], ◌∷◌, ◌++◌, length, refl, replicate, inl, inr, arith, IsTrue}
+use Rattle.std.specs.Prelude.{slice_index}
 use Rattle.blk_base.specs.Regions.{needed_blocks}
 use Rattle.blk_base.specs.Sectors.{sector}
 use Rattle.blk_base.specs.declared.place.Mapping.TheVariants.{At}
@@ -14,14 +15,16 @@ use Rattle.data_vio.specs.declared.items.Vio.{Vio}
 use Rattle.core_model.specs.Facts.{CarriesOwn, Holds, IsSealed, Looks, RestsAt, StandsAt}
 use Rattle.core_model.specs.Legal.{Legal}
 use Rattle.core_model.specs.RightTraces.{IsLeafy, GivesRight, MapsTo, MayFollow, RightTrace}
-use Rattle.core_model.specs.Sessions.{AtRest, IsAsOpened, IsFair, IsFresh, IsKept, IsSession, KeptStands, NewReads, NewStands, OnBlock, OnItsWay, ReadsAs, ReadsBlock, Session, Shown, Stands, opened_image, value_at}
+use Rattle.core_model.specs.Sessions.{AtRest, IsAsOpened, IsFair, IsKept, IsSession, KeptStands, NewReads, NewStands, OnBlock, OnItsWay, ReadsAs, ReadsBlock, Session, Shown, Stands, opened_image, opened_uses, value_at}
 use Rattle.core_model.specs.Steps.{Core}
 use Rattle.core_model.specs.Trace.{Calls, Happening, Harms, Trace, all_of, durable, has_stopped, sealed}
 use Rattle.data_vio.specs.Vios.{all_logged}
 use Rattle.core_model.proofs.FairLaws.{fair_before, fair_on}
 use Rattle.core_model.proofs.rows.WorkedTraces.{block, leafy, session, sizes}
 use Rattle.blk_base.specs.declared.request.Writer.{Writer}
-use Rattle.image_model.specs.Maps.{ArePagesGood, mapping_of, page_at}
+use Rattle.image_model.specs.Counts.{HasMappings}
+use Rattle.image_model.specs.Maps.{ArePagesGood, IsTreePage, mapping_of, page_at}
+use Rattle.blk_base.specs.Counters.{limit_of}
 use Rattle.image_model.specs.Pages.{leaf_of}
 use Rattle.journal_stops.specs.Rings.{IsAtRest}
 use Rattle.page_codec.specs.declared.fault.PageFault.{PageFault}
@@ -41,12 +44,12 @@ tall = record leafy { sizes = record sizes { geometry = record sizes.geometry { 
 session-not_with_a_page_below_nothing : IsSession tall → ⊥
 session-not_with_a_page_below_nothing is = elim (is.rooted (leaf_of 0) refl) [ inl level ↦ omega (arith, level) | inr some ↦ absurd cc ]
 
--- each free block is a data block, once
-session-not_with_a_free_block_elsewhere : IsSession (record session { free = block 78 ∷ [] }) → ⊥
-session-not_with_a_free_block_elsewhere is = let stands = is.free.0.is_data.stands in omega (arith, stands)
+-- there is a counter for each data block, and none is above the limit
+session-not_with_a_counter_less : IsSession (record session { counters = replicate 63 0 }) → ⊥
+session-not_with_a_counter_less is = let each = is.counters.each in omega (arith, each)
 
-session-not_with_a_free_block_twice : IsSession (record session { free = block 85 ∷ block 85 ∷ [] }) → ⊥
-session-not_with_a_free_block_twice is = omega (arith, is.distinct 85)
+session-not_with_a_counter_above_the_limit : (s : Session) (k : ℕ) → limit_of s.sizes.geometry < slice_index s.counters k → IsSession s → ⊥
+session-not_with_a_counter_above_the_limit s k above is = omega (arith, above, is.counters.limit k)
 
 -- IsAsOpened: there is room for the image
 opened-not_on_a_small_device : (s : Session) → length s.blocks < needed_blocks s.sizes.geometry → IsAsOpened s → ⊥
@@ -70,24 +73,22 @@ opened-not_with_a_bad_page s bad is = bad is.pages
 opened-not_with_another_link : (s : Session) (page : PageId) (x : Pbn) → page.level + 1 < s.sizes.geometry.height → s.links page ≡ None → page_at (opened_image s) page ≡ Some x → IsAsOpened s → ⊥
 opened-not_with_another_link s page x below none linked is = absurd (let same = sym none ∙ is.links page below ∙ linked in cc)
 
--- and a free block has no page and no address
-opened-not_with_a_page_at_a_free_block : (s : Session) (page : PageId) (x : Pbn) → Contains s.free x → page_at (opened_image s) page ≡ Some x → IsAsOpened s → ⊥
-opened-not_with_a_page_at_a_free_block s page x free linked is = is.unpaged x x page free linked refl
+-- each block has as many mappings as its counter says, and the block of a page has no address
+opened-not_with_another_count : (s : Session) (x : Pbn) → (HasMappings (opened_image s) x (opened_uses s x) → ⊥) → IsAsOpened s → ⊥
+opened-not_with_another_count s x other is = other (is.counts x)
 
-opened-not_with_an_address_at_a_free_block : (s : Session) (a : ℕ) (x : Pbn) → Contains s.free x → mapping_of (opened_image s) a ≡ At x → IsAsOpened s → ⊥
-opened-not_with_an_address_at_a_free_block s a x free mapped is = is.unmapped x x a free mapped refl
+opened-not_with_an_address_at_a_page : (s : Session) (a : ℕ) (x : Pbn) → IsTreePage (opened_image s) x → mapping_of (opened_image s) a ≡ At x → IsAsOpened s → ⊥
+opened-not_with_an_address_at_a_page s a x page mapped is = is.unshared x a page mapped
 
--- IsKept: a block behind the journal that wasn't free, and none of the index, lies inside the image
-kept : IsKept session 80
-kept = record { inside = omega arith; looked = refl; behind = omega arith; taken = λ y free. by y free }
-  where
-    by : (y : Pbn) → Contains session.free y → y.0 ≡ 80 → ⊥
-    by y (zero, below, same) is = let e : 85 ≡ y.0 = ap (λ (b : Pbn). b.0) same in omega (arith, e, is)
-    by y (suc zero, below, same) is = let e : 86 ≡ y.0 = ap (λ (b : Pbn). b.0) same in omega (arith, e, is)
-    by y (suc (suc n), below, same) is = omega (arith, below)
+-- IsKept: a block behind the journal that is no data block and none of the index lies inside the image; and so does one with a page
+kept : IsKept session 143
+kept = record { inside = omega arith; looked = refl; behind = omega arith; unfreed = λ is_data. absurd (let inside = is_data.inside in let stands = is_data.stands in omega (arith, inside, stands)) }
 
-kept-not_a_free_one : IsKept session 85 → ⊥
-kept-not_a_free_one is = is.taken (block 85) (0, omega arith, refl) refl
+kept-with_a_page : IsKept leafy 79
+kept-with_a_page = record { inside = omega arith; looked = refl; behind = omega arith; unfreed = λ is_data. (leaf_of 0, omega arith, refl) }
+
+kept-not_a_data_block : IsKept session 85 → ⊥
+kept-not_a_data_block is = let page = is.unfreed (record { slab = 0; offset = 6; inside = (omega arith, omega arith); stands = refl }) in absurd (let none = page.2 in cc)
 
 kept-not_of_the_journal : IsKept session 2 → ⊥
 kept-not_of_the_journal is = omega (arith, is.behind)
@@ -151,16 +152,13 @@ right-not_where_a_fair_one_lost_it s h t fair lost right = lost (right.1 fair)
 right-not_by_what_may_not_follow : (s : Session) (h : Happening) (t : Trace) → (MayFollow s h t → ⊥) → RightTrace s (h ∷ t) → ⊥
 right-not_by_what_may_not_follow s h t never right = never right.0
 
--- Carries: a request that goes to the journal owes that its block is fresh, and what a read of it gives where that is fair
+-- Carries: a request that goes to the journal owes what a read of its block gives where that is fair
 module _ (s : Session) (t : Trace) (v : Vio) where
-  enter-with_nothing_read : (IsFair s t → ⊥) → Holds s t v → MapsTo v.asks v.bytes v.new → OnBlock (IsFresh s) v.new → IsLeafy s t v.at.0 → CarriesOwn s t v phase.Enter
-  enter-with_nothing_read unfair holds maps fresh leafy = (holds, maps, fresh, (λ fair. absurd (unfair fair)), leafy)
+  enter-with_nothing_read : (IsFair s t → ⊥) → Holds s t v → MapsTo v.asks v.bytes v.new → IsLeafy s t v.at.0 → CarriesOwn s t v phase.Enter
+  enter-with_nothing_read unfair holds maps leafy = (holds, maps, (λ fair. absurd (unfair fair)), leafy)
 
   enter-not_without_its_data : IsFair s t → (OnBlock (λ x. ReadsAs s t x.0 v.bytes) v.new → ⊥) → CarriesOwn s t v phase.Enter → ⊥
-  enter-not_without_its_data fair lost carries = lost (carries.3 fair)
-
-  enter-not_to_a_taken_block : (OnBlock (IsFresh s) v.new → ⊥) → CarriesOwn s t v phase.Enter → ⊥
-  enter-not_to_a_taken_block taken carries = taken carries.2
+  enter-not_without_its_data fair lost carries = lost (carries.2 fair)
 
   -- a read that got its bytes has its value where that is fair
   loaded-with_any_bytes : (IsFair s t → ⊥) → Looks s t v → CarriesOwn s t v phase.Loaded

@@ -1,5 +1,5 @@
 -- Which happening may follow: for each one a trace that it may follow, and for each of its conditions one that breaks it.
-use Rattle.std.proofs.Common.{None, ℕ, zero, suc, length-append, ◌≡◌, true, false, List, [], ◌∷◌, ◌++◌, Some, length, refl, ap, sym, ◌∙◌, subst, inl, inr, arith, replicate, Contains}
+use Rattle.std.proofs.Common.{None, ℕ, zero, suc, length-append, ◌≡◌, ◌≢◌, ◌+◌, ◌<◌, true, false, List, [], ◌∷◌, ◌++◌, Some, length, refl, ap, sym, ◌∙◌, subst, inl, inr, arith, replicate}
 use Rattle.std.proofs.lemmas.List.{length-replicate}
 use Rattle.std.proofs.lemmas.Option.{same_Some}
 use Rattle.blk_base.specs.Sectors.{zero_block}
@@ -20,14 +20,21 @@ use Rattle.data_vio.specs.declared.logged.Logged.TheVariants.{Remaps, Makes}
 use Rattle.data_vio.specs.declared.items.Asks.{Asks}
 use Rattle.data_vio.specs.declared.items.Asks.TheVariants as asks
 use Rattle.core_model.specs.PageLinks.{MayLack, page_in}
-use Rattle.core_model.specs.RightTraces.{IsLeafFor, IsLeafy, IsLinkedAt, MapsTo, MayAnswer, MayFollow, NeedsPage, StopsAtFailure}
-use Rattle.core_model.specs.Sessions.{IsFair, IsFresh, Session}
+use Rattle.core_model.specs.RightTraces.{AreElsewhere, IsLeafFor, IsLeafy, IsLinkedAt, IsUnused, MapsTo, MayAnswer, MayFollow, NeedsPage, StopsAtFailure}
+use Rattle.core_model.specs.Sessions.{IsFair, OnBlock, Session, opened_at}
+use Rattle.core_model.specs.CountUpdates.{CountUpdate, Increment, Decrement}
+use Rattle.core_model.specs.Uses.{gained, lost, uncounted}
+use Rattle.core_model.specs.Uses as Uses
+use Rattle.vdo_model.specs.declared.report.Damage.{Damage}
+use Rattle.vdo_model.specs.declared.report.Damage.TheVariants.{Stray}
 use Rattle.core_model.specs.Superblocks.{session_super, superblock_bytes}
 use Rattle.image_layout.specs.Superblock.{super_block, super_bytes}
 use Rattle.data_vio.specs.Vios.{asked}
 use Rattle.data_vio.specs.declared.logged.Logged.{Logged}
-use Rattle.core_model.specs.Trace.{applied, filled, Says, Flushes, Draws, Enters, Seals, Commits, Sets, Gives, Takes, Aborts, Calls, Fails, Trace, Happening}
-use Rattle.core_model.proofs.rows.WorkedTraces.{address, block, leafy, writer, x, y, first, reader, second, other, late, flush, sizes, begun, drawn, took, handed_in, in_block, lasting, set, stopped, place, entry, of_first, of_second, of_other, given, one_not_zeros, two_not_zeros}
+use Rattle.data_vio.specs.declared.logged.Remapping.{Remapping}
+use Rattle.data_vio.specs.declared.logged.NewPage.{NewPage}
+use Rattle.core_model.specs.Trace.{applied, filled, new_of, Says, Flushes, Draws, Enters, Seals, Commits, Sets, Gives, Takes, Drops, Adds, Removes, Strays, Hears, Aborts, Calls, Fails, Trace, Happening}
+use Rattle.core_model.proofs.rows.WorkedTraces.{address, block, leafy, writer, x, y, first, reader, second, other, late, flush, sizes, begun, drawn, took, handed_in, in_block, lasting, counted, set, stopped, place, entry, of_first, of_second, of_other, given, one_not_zeros, two_not_zeros}
 
 -- the session, with a journal that takes two blocks; and without leaves
 abbrev pub roomy : Session
@@ -42,6 +49,10 @@ session_of asked = record roomy { script = (asked ∷ []) ∷ [] }
 
 abbrev May : Happening → Trace → Type 0
 May h t = MayFollow roomy h t
+
+abbrev first_new : List Logged → Mapping
+first_new [] = Unmapped
+first_new (e ∷ es) = new_of e
 
 abbrev address_in : Request → ℕ
 address_in (request.Read a) = a.0
@@ -132,9 +143,14 @@ draws_in_order may = let less = (may.next.order.0 refl).stream refl in absurd (o
 draws_before_it_enters : May (Draws (place first 0 0)) (Enters (Remaps of_first) ∷ begun) → ⊥
 draws_before_it_enters may = let no = may.not_entered in absurd cc
 
--- A write that isn't of zeros takes the next free data block, and one alone.
+-- A write that isn't of zeros claims a free data block, and one alone.
 takes : May (Takes second None (block 86)) took
-takes = record { is_open = record { is_begun = omega arith; unanswered = refl }; asked = (address 0, y, refl, record { not_zeros = two_not_zeros; none_taken = refl }); next = refl }
+takes = record {
+  is_open = record { is_begun = omega arith; unanswered = refl };
+  asked = (address 0, y, refl, record { not_zeros = two_not_zeros; none_taken = refl });
+  is_data = record { slab = 0; offset = 6; inside = (omega arith, omega arith); stands = refl };
+  is_free = refl;
+}
 
 takes_one_alone : May (Takes first None (block 86)) took → ⊥
 takes_one_alone may = let none = may.asked.3.none_taken in absurd cc
@@ -155,7 +171,12 @@ needs_page : NeedsPage bare took second leaf
 needs_page = record { lacked = (request.Write (address 0) y false, refl, (refl, omega arith)); up = inl refl; unmade = refl }
 
 takes_for_a_page : MayFollow bare (Takes second (Some leaf) (block 86)) took
-takes_for_a_page = record { is_open = record { is_begun = omega arith; unanswered = refl }; asked = needs_page; next = refl }
+takes_for_a_page = record {
+  is_open = record { is_begun = omega arith; unanswered = refl };
+  asked = needs_page;
+  is_data = record { slab = 0; offset = 6; inside = (omega arith, omega arith); stands = refl };
+  is_free = refl;
+}
 
 takes_for_what_it_lacks : NeedsPage bare took second (record leaf { tree = 1 }) → ⊥
 takes_for_what_it_lacks needs =
@@ -177,18 +198,111 @@ takes_for_a_write : May (Takes reader None (block 86)) took → ⊥
 takes_for_a_write may = let asked = may.asked.2 in absurd cc
 
 takes_no_block_twice : May (Takes second None (block 85)) took → ⊥
-takes_no_block_twice may = let next : 86 ≡ 85 = ap (λ b. b.0) (same_Some _ _ may.next) in absurd (omega (arith, next))
+takes_no_block_twice may = let free = may.is_free in absurd (omega (arith, free))
 
-takes_no_block_beyond : May (Takes other None (block 87)) (Takes second None (block 86) ∷ took) → ⊥
-takes_no_block_beyond may = let next = may.next in absurd cc
+takes_a_data_block : May (Takes other None (block 78)) took → ⊥
+takes_a_data_block may = let stands = may.is_data.stands in absurd (omega (arith, stands))
 
--- a block that was free when the session began
-fresh : IsFresh roomy (block 86)
-fresh = record {
-  is_data = record { slab = 0; offset = 6; inside = (omega arith, omega arith); stands = refl };
-  is_free = (1, omega arith, refl);
-  inside = omega arith;
+-- nor one that was mapped when the session began; and once its claim is dropped it is free again
+takes_no_mapped_one : MayFollow (record roomy { counters = replicate 64 1 }) (Takes second None (block 86)) took → ⊥
+takes_no_mapped_one may = let free = may.is_free in absurd (omega (arith, free))
+
+takes_a_dropped_one : May (Takes second None (block 85)) (Drops first (block 85) ∷ took)
+takes_a_dropped_one = record {
+  is_open = record { is_begun = omega arith; unanswered = refl };
+  asked = (address 0, y, refl, record { not_zeros = two_not_zeros; none_taken = refl });
+  is_data = record { slab = 0; offset = 5; inside = (omega arith, omega arith); stands = refl };
+  is_free = refl;
 }
+
+-- A claim is dropped that somebody has, of an open request.
+drops : May (Drops first (block 85)) took
+drops = (record { is_begun = omega arith; unanswered = refl }, record { is_data = record { slab = 0; offset = 5; inside = (omega arith, omega arith); stands = refl }; some = omega arith })
+
+drops_while_open : May (Drops first (block 85)) (Says (Answer first Stopped) ∷ took) → ⊥
+drops_while_open may = let no = may.0.unanswered in absurd cc
+
+drops_what_is_claimed : May (Drops second (block 86)) took → ⊥
+drops_what_is_claimed may = let some = may.1.some in absurd (omega (arith, some))
+
+drops_a_data_block : May (Drops first (block 78)) took → ⊥
+drops_a_data_block may = let stands = may.1.is_data.stands in absurd (omega (arith, stands))
+
+-- An increment is taken once it is committed, of an open request, in the order of updates.
+adds : May (Adds (Remaps of_first)) lasting
+adds = record { is_open = record { is_begun = omega arith; unanswered = refl }; next = ([], refl) }
+
+adds_while_open : May (Adds (Remaps of_first)) (Says (Answer first Stopped) ∷ lasting) → ⊥
+adds_while_open may = let no = may.is_open.unanswered in absurd cc
+
+adds_what_is_committed : May (Adds (Remaps of_first)) in_block → ⊥
+adds_what_is_committed may = let all = ap length may.next.1 in absurd (omega (arith, all))
+
+adds_once : May (Adds (Remaps of_first)) counted → ⊥
+adds_once may = let all = ap length may.next.1 in absurd (omega (arith, all))
+
+-- the second write is committed and counted, which replaces the block of the first one
+abbrev both_last : Trace
+both_last = Commits (Remaps of_second) ∷ Seals ∷ Enters (Remaps of_second) ∷ Takes second None (block 86) ∷ set
+
+abbrev both : Trace
+both = Adds (Remaps of_second) ∷ both_last
+
+-- A decrement is taken behind the increment of its entry, where a mapping of its block was counted.
+removes : May (Removes of_second) both
+removes = record {
+  next = ([], refl);
+  block = block 85;
+  old_is = refl;
+  loss = record { is_data = record { slab = 0; offset = 5; inside = (omega arith, omega arith); stands = refl }; some = omega arith };
+}
+
+abbrev second_kind : List CountUpdate → ℕ
+second_kind (u ∷ Increment e ∷ us) = 0
+second_kind (u ∷ Decrement e ∷ us) = 1
+second_kind us = 2
+
+removes_behind_its_increment : May (Removes of_second) both_last → ⊥
+removes_behind_its_increment may = let kind : 0 ≡ 1 = ap second_kind may.next.1 in absurd (omega (arith, kind))
+
+removes_from_a_block : May (Removes of_first) set → ⊥
+removes_from_a_block may = let old = may.old_is in absurd cc
+
+-- or it finds 0
+abbrev of_stray : Remapping
+of_stray = entry second 0 1 (At (block 90)) 86
+
+abbrev astray : Trace
+astray = Adds (Remaps of_stray) ∷ Commits (Remaps of_stray) ∷ Seals ∷ Enters (Remaps of_stray) ∷ Takes second None (block 86) ∷ set
+
+strays : May (Strays of_stray) astray
+strays = record { next = ([], refl); block = block 90; old_is = refl; none_counted = refl }
+
+same_block : (x y : Pbn) → At x ≡ At y → x ≡ y
+same_block x y is = cc
+
+removes_what_is_counted : May (Removes of_stray) astray → ⊥
+removes_what_is_counted may =
+    let some = subst (λ (b : Pbn). lost astray b < gained roomy astray b) (sym (same_block (block 90) may.block may.old_is)) may.loss.some in absurd (omega (arith, some))
+
+strays_where_none_is_counted : May (Strays of_second) both → ⊥
+strays_where_none_is_counted may =
+    let none = subst (λ (b : Pbn). Uses.counted roomy both b ≡ uncounted both b) (sym (same_block (block 85) may.block may.old_is)) may.none_counted in absurd (omega (arith, none))
+
+-- the device's zone is told of that
+hears : May (Hears (Stray (block 90) 0)) (Strays of_stray ∷ astray)
+hears = record { entry = of_stray; strays = (0, omega arith, refl); block = block 90; old_is = refl; damage_is = refl }
+
+hears_of_nothing : May (Hears (Stray (block 90) 0)) astray → ⊥
+hears_of_nothing may = omega (arith, may.strays.1)
+
+count_of : Damage → ℕ
+count_of (Stray at count) = count
+count_of other = 0
+
+hears_what_it_is : May (Hears (Stray (block 90) 1)) (Strays of_stray ∷ astray) → ⊥
+unfolding count_of
+hears_what_it_is may = let count : 1 ≡ 0 = ap count_of may.damage_is in absurd (omega (arith, count))
 
 -- An entry is handed in once, of a write that has its place; those of its address are done, nothing at its address has a later
 -- place, a block of the journal is left for it, which has room, and it says what its address was mapped to.
@@ -201,8 +315,8 @@ enters = record {
   below = record { writes = ((λ same. omega arith), tt); reads = tt };
   left = omega arith;
   room = omega arith;
-  new_data = fresh;
-  unused = ((λ same. absurd (omega (arith, same))), tt);
+  new_data = record { slab = 0; offset = 6; inside = (omega arith, omega arith); stands = refl };
+  unused = λ fair. absurd (omega (arith, fair.opened.room));
   leaf = inr refl;
   old_data = record { slab = 0; offset = 5; inside = (omega arith, omega arith); stands = refl };
   old_is = λ fair. absurd (omega (arith, fair.opened.room));
@@ -222,8 +336,26 @@ no_leaf t none (inr some) = absurd (let is = some_of _ some in let both = sym is
 enters_below_its_leaf : MayFollow bare (Enters (Remaps of_second)) set → ⊥
 enters_below_its_leaf may = no_leaf set refl may.leaf
 
-enters_a_block_once : May (Enters (Remaps (record of_second { new = At (block 85) }))) set → ⊥
-enters_a_block_once may = may.unused.0 refl
+-- where the session is fair, to a block that nobody maps: no address, no entry that isn't committed, and no page
+enters_a_block_that_nobody_maps : (s : Session) → IsFair s set → MayFollow s (Enters (Remaps (record of_second { new = At (block 85) }))) set → ⊥
+enters_a_block_that_nobody_maps s fair may = (may.unused fair).unmapped 0 refl
+
+unused : (s : Session) → ((a : ℕ) → OnBlock (λ y. 86 ≢ y.0) (opened_at s a)) → ((page : PageId) (y : Pbn) → page.level + 1 < s.sizes.geometry.height → s.links page ≡ Some y → 86 ≢ y.0) → IsUnused s took (block 86)
+unused s apart no_page = record { newer = []; parts = refl; unmapped = apart; unnamed = tt; no_page = no_page; no_new_page = λ p has. let below = has.1 in absurd (omega (arith, below)) }
+
+unused-not_of_an_entry : (s : Session) → IsUnused s handed_in (block 85) → ⊥
+unused-not_of_an_entry s is = by is.newer is.parts is.unnamed
+  where
+    by : (newer : List Logged) → Remaps of_first ∷ [] ≡ newer ++ [] → AreElsewhere 85 newer → ⊥
+    by [] parts apart = absurd (let all = ap length parts in omega (arith, all))
+    by (Remaps e ∷ newer) parts apart = let same : of_first.new ≡ e.new = ap (λ (es : List Logged). first_new es) parts in subst (OnBlock (λ y. 85 ≢ y.0)) (sym same) apart.0 refl
+    by (Makes p ∷ newer) parts apart = let same : At (block 85) ≡ At p.at = ap (λ (es : List Logged). first_new es) parts in subst (OnBlock (λ y. 85 ≢ y.0)) (sym same) apart.0 refl
+
+unused-not_with_a_page : (s : Session) (page : PageId) → page.level + 1 < s.sizes.geometry.height → s.links page ≡ Some (block 86) → IsUnused s took (block 86) → ⊥
+unused-not_with_a_page s page low linked is = is.no_page page (block 86) low linked refl
+
+unused-not_with_a_new_page : (s : Session) (p : NewPage) → IsUnused s (Commits (Makes p) ∷ Enters (Makes p) ∷ []) p.at → ⊥
+unused-not_with_a_new_page s p is = is.no_new_page p (0, omega arith, refl) refl
 
 enters_while_open : May (Enters (Remaps of_second)) (Says (Answer second Stopped) ∷ set) → ⊥
 enters_while_open may = let no = may.is_open.unanswered in absurd cc
@@ -248,7 +380,7 @@ enters_zeros = record {
   left = omega arith;
   room = omega arith;
   new_data = tt;
-  unused = tt;
+  unused = λ fair. tt;
   leaf = inr refl;
   old_data = tt;
   old_is = λ fair. absurd (omega (arith, fair.opened.room));
@@ -264,7 +396,7 @@ enters_a_discard = record {
   left = omega arith;
   room = omega arith;
   new_data = tt;
-  unused = tt;
+  unused = λ fair. tt;
   leaf = inr refl;
   old_data = tt;
   old_is = λ fair. absurd (omega (arith, fair.opened.room));
@@ -300,8 +432,8 @@ enters_beside_another = record {
   below = record { writes = tt; reads = tt };
   left = omega arith;
   room = omega arith;
-  new_data = fresh;
-  unused = ((λ same. absurd (omega (arith, same))), tt);
+  new_data = record { slab = 0; offset = 6; inside = (omega arith, omega arith); stands = refl };
+  unused = λ fair. absurd (omega (arith, fair.opened.room));
   leaf = inr refl;
   old_data = tt;
   old_is = λ fair. absurd (omega (arith, fair.opened.room));
@@ -332,15 +464,7 @@ enters_while_a_block_is_left : May (Enters (Remaps of_other)) (Sets (Remaps of_s
 enters_while_a_block_is_left may = let left = may.left in absurd (omega (arith, left))
 
 enters_of_a_data_block : May (Enters (Remaps (record of_second { new = At (block 78) }))) set → ⊥
-enters_of_a_data_block may = let stands = may.new_data.is_data.stands in absurd (omega (arith, stands))
-
-enters_of_a_free_block : May (Enters (Remaps (record of_second { new = At (block 87) }))) set → ⊥
-enters_of_a_free_block may = of_neither may.new_data.is_free
-  where
-    of_neither : Contains roomy.free (block 87) → ⊥
-    of_neither (zero, below, same) = let e : 85 ≡ 87 = ap (λ (b : Pbn). b.0) same in omega (arith, e)
-    of_neither (suc zero, below, same) = let e : 86 ≡ 87 = ap (λ (b : Pbn). b.0) same in omega (arith, e)
-    of_neither (suc (suc n), below, same) = omega (arith, below)
+enters_of_a_data_block may = let stands = may.new_data.stands in absurd (omega (arith, stands))
 
 enters_from_a_data_block : May (Enters (Remaps (entry second 0 1 (At (block 78)) 86))) set → ⊥
 enters_from_a_data_block may = let stands = may.old_data.stands in absurd (omega (arith, stands))
@@ -390,14 +514,34 @@ commits_in_order may = by may.rest may.next
 
 -- A slot is set once, when its entry is committed and none of its address is under way, behind whatever its address had, and not
 -- once it is aborted.
-sets : May (Sets (Remaps of_first)) lasting
+sets : May (Sets (Remaps of_first)) counted
 sets = record {
   is_open = record { is_begun = omega arith; unanswered = refl };
   is_committed = record { all_committed = refl; last = refl };
   below = record { writes = tt; reads = tt };
   unaborted = refl;
   leaf = inr refl;
+  counted = (0, omega arith, refl);
+  reported = tt;
 }
+
+-- once its increment is taken, and where it replaces a block, its decrement, or that found 0
+sets_what_is_counted : May (Sets (Remaps of_first)) lasting → ⊥
+sets_what_is_counted may = omega (arith, may.counted.1)
+
+sets_once_removed : May (Sets (Remaps of_second)) (Removes of_second ∷ both)
+sets_once_removed = record {
+  is_open = record { is_begun = omega arith; unanswered = refl };
+  is_committed = record { all_committed = refl; last = refl };
+  below = record { writes = ((λ same. omega arith), tt); reads = tt };
+  unaborted = refl;
+  leaf = inr refl;
+  counted = (0, omega arith, refl);
+  reported = inl (0, omega arith, refl);
+}
+
+sets_what_is_reported : May (Sets (Remaps of_second)) both → ⊥
+sets_what_is_reported may = elim may.reported [ inl removed ↦ omega (arith, removed.1) | inr strayed ↦ omega (arith, strayed.1) ]
 
 sets_below_its_leaf : MayFollow bare (Sets (Remaps of_first)) lasting → ⊥
 sets_below_its_leaf may = no_leaf lasting refl may.leaf

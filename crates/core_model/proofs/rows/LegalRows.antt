@@ -6,7 +6,9 @@ use Rattle.blk_base.specs.declared.request.Answer.TheVariants as reply
 use Rattle.blk_base.specs.declared.request.Writer.{Writer}
 use Rattle.vdo_model.specs.declared.report.DeskLine.TheVariants as line
 use Rattle.data_vio.specs.declared.items.Asks.TheVariants as asks
-use Rattle.data_vio.specs.declared.items.Item.TheVariants.{Request}
+use Rattle.data_vio.specs.declared.items.Item.TheVariants.{Request, Decrement, Damage}
+use Rattle.data_vio.specs.declared.items.Item.{Item}
+use Rattle.vdo_model.specs.declared.report.Damage.TheVariants.{Stray}
 use Rattle.data_vio.specs.declared.items.Phase.TheVariants as phase
 use Rattle.core_model.specs.declared.zones.Zone.{Zone}
 use Rattle.core_model.specs.declared.zones.ZoneData.{ZoneData}
@@ -17,8 +19,8 @@ use Rattle.core_model.specs.Trace.{Says, Trace}
 use Rattle.blk_base.specs.declared.place.PageId.{PageId}
 use Rattle.core_model.specs.declared.zones.ZoneData.TheVariants as at
 use Rattle.core_model.proofs.rows.PageActRows.{leaf}
-use Rattle.core_model.proofs.rows.PhaseRows.{leafy, device, desk, empty_log, journal, lock, log_with, logical, of_write, physical, vio}
-use Rattle.core_model.proofs.rows.WorkedTraces.{begun, block, first, of_first, place, reader, second, session}
+use Rattle.core_model.proofs.rows.PhaseRows.{leafy, device, desk, empty_log, has_block, journal, nothing, one, seven, lock, log_with, logical, of_write, physical, vio}
+use Rattle.core_model.proofs.rows.WorkedTraces.{begun, block, first, of_first, of_second, place, reader, second, session}
 use Rattle.recovery_journal.specs.Log.{placed}
 
 -- its six zones, with nothing in their lanes, and only some of them
@@ -66,6 +68,8 @@ with_pages making unlinkable = core (zone 1 (at.Logical (record {
   making = making;
   lacking = [];
   unlinkable = unlinkable;
+  settling = [];
+  reported = [];
   slots = [];
 })) ∷ []) []
 
@@ -92,9 +96,29 @@ held_by_another = λ legal. omega (arith, legal.leases 0 (λ n. n == 0))
 entry_lost : ¬ Legal session (core (zone 4 (journal false empty_log [] [] (of_first ∷ []) []) ∷ []) [])
 entry_lost = λ legal. omega (arith, legal.entries)
 
--- blocks: one is free twice
-block_doubled : ¬ Legal session (core (zone 3 (physical (block 85 ∷ block 85 ∷ [])) ∷ []) [])
-block_doubled = λ legal. omega (arith, legal.blocks 85)
+-- blocks: a counter is of no mapping, or a claim is of nobody; or a claim isn't counted
+mapping_of_nothing : ¬ Legal session (core (zone 3 (physical seven nothing) ∷ []) [])
+mapping_of_nothing = λ legal. omega (arith, legal.blocks (block 85))
+
+claim_lost : ¬ Legal session (core (zone 3 (physical nothing one) ∷ []) [])
+claim_lost = λ legal. omega (arith, legal.blocks (block 85))
+
+claim_uncounted : ¬ Legal session (core (record (zone 3 (physical nothing nothing)) { ports = record { inbox = Request (has_block phase.AbortClaim) ∷ []; outboxes = [] } } ∷ []) [])
+claim_uncounted = λ legal. omega (arith, legal.claims (block 85))
+
+-- reports, waiters: a committed entry replaces a block, and its decrement is nowhere; or that is, and its request is nowhere
+abbrev replaced : List Item → Core
+replaced items = core (record (zone 4 (journal false empty_log [] [] (of_second ∷ []) (of_second ∷ []))) { ports = record { inbox = items; outboxes = [] } } ∷ []) []
+
+decrement_lost : ¬ Legal session (replaced [])
+decrement_lost = λ legal. omega (arith, legal.reports second)
+
+waiter_lost : ¬ Legal session (replaced (Decrement of_second ∷ []))
+waiter_lost = λ legal. omega (arith, legal.waiters second)
+
+-- damage: it is told of, and nothing strayed
+damage_of_nothing : ¬ Legal session (core (record (zone 3 (physical nothing nothing)) { ports = record { inbox = Damage (Stray (block 85) 0) ∷ []; outboxes = [] } } ∷ []) [])
+damage_of_nothing = λ legal. omega (arith, legal.damage)
 
 -- journal: it is busy, and no block is under way
 block_lost : ¬ Legal session (core (zone 4 (journal true empty_log [] [] [] []) ∷ []) [])
@@ -131,8 +155,8 @@ other_stream = λ here stream. omega (arith, stream)
 lower_number : ¬ ComesAfter 0 first (place reader 0 2)
 lower_number = λ comes. omega (arith, comes refl refl)
 
--- three streams of two, four stop notices, and a block
-share_is : share session ≡ 11
+-- three streams of two, with a decrement each, four stop notices, a block, and damage
+share_is : share session ≡ 18
 share_is = refl
 
 -- What is left to hand out, and what may be sealed.

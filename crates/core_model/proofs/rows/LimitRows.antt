@@ -73,23 +73,23 @@ abbrev desk : (lines marks parked notices : ℕ) → Desk
 desk lines marks parked notices = record { requests = script; log = replicate lines line; marks = replicate marks mark; notices = notices; parked = replicate parked waits }
 
 -- twelve lines, six marks, as many requests as are under way in all, and a notice of each of six zones
-fullest : IsDeskWithin (desk 12 6 263 6)
+fullest : IsDeskWithin (desk 12 6 520 6)
 fullest = record {
   log = omega (arith, length-replicate 12 line);
   marks = omega (arith, length-replicate 6 mark);
-  parked = omega (arith, length-replicate 263 waits);
+  parked = omega (arith, length-replicate 520 waits);
   notices = omega arith;
 }
 
 -- one more of each
-too_many_lines : IsDeskWithin (desk 13 6 263 6) → ⊥
+too_many_lines : IsDeskWithin (desk 13 6 520 6) → ⊥
 too_many_lines is = absurd (omega (arith, is.log, length-replicate 13 line))
 
-too_many_marks : IsDeskWithin (desk 12 7 263 6) → ⊥
+too_many_marks : IsDeskWithin (desk 12 7 520 6) → ⊥
 too_many_marks is = absurd (omega (arith, is.marks, length-replicate 7 mark))
 
-too_many_parked : IsDeskWithin (desk 12 6 264 6) → ⊥
-too_many_parked is = absurd (omega (arith, is.parked, length-replicate 264 waits))
+too_many_parked : IsDeskWithin (desk 12 6 521 6) → ⊥
+too_many_parked is = absurd (omega (arith, is.parked, length-replicate 521 waits))
 
-too_many_notices : IsDeskWithin (desk 12 6 263 7) → ⊥
+too_many_notices : IsDeskWithin (desk 12 6 520 7) → ⊥
 too_many_notices is = absurd (omega (arith, is.notices))

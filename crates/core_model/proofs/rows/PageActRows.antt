@@ -1,5 +1,5 @@
 -- What the zones do with a page that a write lacks: each row at a small zone, with who waits for the page.
-use Rattle.std.proofs.Common.{true, false, None, Some, List, [], ◌∷◌, refl, arith}
+use Rattle.std.proofs.Common.{true, false, None, Some, List, [], ◌∷◌, refl, inl, arith}
 use Rattle.blk_base.specs.declared.place.Mapping.TheVariants.{Unmapped, At}
 use Rattle.blk_base.specs.declared.place.PageId.{PageId}
 use Rattle.blk_base.specs.declared.place.ZoneId.TheVariants as id
@@ -21,8 +21,8 @@ use Rattle.core_model.specs.LogicalRules.{LogicalServes}
 use Rattle.core_model.specs.PageTrees.{MayLink, least_point}
 use Rattle.core_model.specs.PhysicalRules.{PhysicalServes}
 use Rattle.core_model.specs.Steps.{serves, takes, calls}
-use Rattle.core_model.specs.Trace.{Aborts, Calls, Sets, Takes}
-use Rattle.core_model.proofs.rows.PhaseRows.{Acts, answered, device, has_path, lock, physical, tree_with, vio}
+use Rattle.core_model.specs.Trace.{Aborts, Adds, Calls, Sets, Takes}
+use Rattle.core_model.proofs.rows.PhaseRows.{Acts, answered, claimed_85, device, gives_85, has_path, lock, nothing, one, physical, seven, six, slab_with, tree_with, vio, with_page_at, zone_with}
 use Rattle.core_model.proofs.rows.WorkedTraces.{block, first, second, sizes}
 
 -- the leaf of address 0, and a logical zone over these trees, with these locks, the pages that are made, who waits, and those that
@@ -43,6 +43,8 @@ zone_over tree held making lacking unlinkable = at.Logical (record {
   making = making;
   lacking = lacking;
   unlinkable = unlinkable;
+  settling = [];
+  reported = [];
   slots = [];
 })
 
@@ -72,9 +74,19 @@ looks_in_vain : Acts (zone (lock 0 ∷ []) [] [] (leaf ∷ [])) (Request (vio fi
 looks_in_vain = serves (LogicalServes.is_dropped leaf refl (has_path _) refl refl refl refl refl)
 
 -- Claim, Store: it has a block, and the page is written there, which leads nowhere
-claims_for_a_page : Acts (physical (block 85 ∷ block 86 ∷ [])) (Request (record (maker phase.Claim) { new = Unmapped }) ∷ []) (physical (block 86 ∷ [])) (Takes first (Some leaf) (block 85) ∷ [])
-    ((id.Device, Request (maker phase.Store)) ∷ [])
-claims_for_a_page = takes (PhysicalServes.claims (block 85) (block 86 ∷ []) refl refl refl refl refl)
+abbrev claimer : Phase → Vio
+claimer now = record (maker now) { claim = Some (block 85) }
+
+claims_for_a_page : Acts (physical six nothing) (Request (record (maker phase.Claim) { new = Unmapped }) ∷ []) (physical six one) (Takes first (Some leaf) (block 85) ∷ [])
+    ((id.Device, Request (claimer phase.Store)) ∷ [])
+claims_for_a_page = takes (PhysicalServes.claims (block 85) (zone_with (slab_with six one)) refl gives_85 refl refl refl)
+
+-- Count: its block has a mapping then, and is that of a page
+counts_a_page : Acts (physical six one) (Request (claimer phase.Count) ∷ []) (at.Physical (record { notified = false; strays = []; counts = zone_with (with_page_at 6 (slab_with seven nothing)) })) (Adds made ∷ [])
+    ((id.Logical 0, Request (maker phase.Settle)) ∷ [])
+counts_a_page =
+    takes (PhysicalServes.counts (block 85) (with_page_at 6 (slab_with seven nothing)) (zone_with (with_page_at 6 (slab_with seven nothing))) refl refl claimed_85 (omega arith, omega arith, refl) (record { serves = inl (inl refl, refl, refl); same = refl })
+    refl refl refl)
 
 stores_a_page : Acts (device false 6) (Request (maker phase.Store) ∷ []) (device false 7) (Calls (Write (block 85) (page_at sizes leaf (block 85)) true) ∷ []) ((id.Journal, Request (maker phase.Enter)) ∷ [])
 stores_a_page = calls (DeviceServes.stores (block 85) refl refl refl refl (omega arith) refl refl refl)
@@ -84,7 +96,7 @@ links : (tree linked : Tree) → MayLink tree leaf (block 85) → Links tree lin
     → Acts (zone_over tree (lock 0 ∷ []) (leaf ∷ []) (looker ∷ []) []) (Request (maker phase.Settle) ∷ []) (zone_over linked (lock 0 ∷ []) [] [] []) (Sets made ∷ [])
     ((id.Logical 0, Request (vio first asks.Write phase.Look 0)) ∷ (id.Logical 0, Request looker) ∷ [])
 links tree linked may link =
-    serves (LogicalServes.links leaf (block 85) (record { zone = 0; notified = false; next = 2; places = []; held = lock 0 ∷ []; waiting = []; retired = []; tree = linked; making = []; lacking = looker ∷ []; unlinkable = []; slots = [] })
+    serves (LogicalServes.links leaf (block 85) (record { zone = 0; notified = false; next = 2; places = []; held = lock 0 ∷ []; waiting = []; retired = []; tree = linked; making = []; lacking = looker ∷ []; unlinkable = []; settling = []; reported = []; slots = [] })
     refl refl refl may (record { links = link; rest = refl }) refl refl refl)
 
 -- Abort, AbortEntered: it isn't made as yet, or is never linked; its maker is answered, and who waited for it looks again

@@ -8,7 +8,6 @@ use Rattle.blk_base.specs.declared.opened.OpenedPage.{OpenedPage}
 use Rattle.blk_base.specs.declared.place.Mapping.{Mapping}
 use Rattle.blk_base.specs.declared.place.Mapping.TheVariants.{Unmapped, Zero, At}
 use Rattle.blk_base.specs.declared.place.PageId.{PageId}
-use Rattle.blk_base.specs.declared.place.Pbn.{Pbn}
 use Rattle.blk_base.specs.declared.request.Answer.TheVariants.{Stopped}
 use Rattle.blk_base.specs.declared.request.Request.TheVariants as request
 use Rattle.vdo_model.specs.declared.report.DeskLine.TheVariants.{Answer}
@@ -17,8 +16,8 @@ use Rattle.data_vio.specs.declared.logged.NewPage.{NewPage}
 use Rattle.image_model.specs.Pages.{page_above}
 use Rattle.core_model.specs.PageLinks.{IsThere, MayLack, block_in, opened_page, page_in}
 use Rattle.core_model.specs.RightTraces.{MayFollow}
-use Rattle.core_model.specs.Sessions.{Session}
-use Rattle.core_model.specs.Trace.{Aborts, Commits, Enters, Gives, Happening, Passes, Says, Seals, Sets, Trace}
+use Rattle.core_model.specs.Sessions.{IsFair, Session}
+use Rattle.core_model.specs.Trace.{Adds, Aborts, Commits, Enters, Gives, Happening, Passes, Says, Seals, Sets, Trace}
 use Rattle.data_vio.specs.declared.logged.Remapping.{Remapping}
 use Rattle.vdo_model.specs.declared.report.Placed.{Placed}
 use Rattle.core_model.proofs.rows.WorkedTraces.{address, begun, block, drawn, first, given, leaves, of_first, reader, second, session, sizes, stopped, took, x}
@@ -127,12 +126,8 @@ enters = record {
   once = refl;
   left = omega arith;
   room = omega arith;
-  new_data = record {
-    is_data = record { slab = 0; offset = 5; inside = (omega arith, omega arith); stands = refl };
-    is_free = (0, omega arith, refl);
-    inside = omega arith;
-  };
-  unused = tt;
+  new_data = record { slab = 0; offset = 5; inside = (omega arith, omega arith); stands = refl };
+  unused = λ fair. absurd (omega (arith, fair.opened.room));
 }
 
 enters_while_open : May (Enters makes) (Says (Answer first Stopped) ∷ took) → ⊥
@@ -161,28 +156,26 @@ enters_while_a_block_is_left : MayFollow session (Enters makes) (Seals ∷ Enter
 enters_while_a_block_is_left may = let left = may.left in absurd (omega (arith, left))
 
 enters_of_a_data_block : May (Enters (Makes (record new_leaf { at = block 78 }))) took → ⊥
-enters_of_a_data_block may = let is = may.new_data.is_data in let stands = is.stands in absurd (omega (arith, stands))
+enters_of_a_data_block may = let is = may.new_data in let stands = is.stands in absurd (omega (arith, stands))
 
-enters_of_a_free_block : May (Enters (Makes (record new_leaf { at = block 87 }))) took → ⊥
-enters_of_a_free_block may = of_neither may.new_data.is_free
-  where
-    of_neither : Contains roomy.free (block 87) → ⊥
-    of_neither (zero, below, same) = let e : 85 ≡ 87 = ap (λ (b : Pbn). b.0) same in omega (arith, e)
-    of_neither (suc zero, below, same) = let e : 86 ≡ 87 = ap (λ (b : Pbn). b.0) same in omega (arith, e)
-    of_neither (suc (suc n), below, same) = omega (arith, below)
+abbrev first_lasts : Trace
+first_lasts = Commits (Remaps of_first) ∷ Enters (Remaps of_first) ∷ took
 
-enters_a_block_once : May (Enters makes) (Enters (Remaps of_first) ∷ took) → ⊥
-enters_a_block_once may = may.unused.0 refl
+enters_a_block_that_nobody_maps : (s : Session) → IsFair s first_lasts → MayFollow s (Enters makes) first_lasts → ⊥
+enters_a_block_that_nobody_maps s fair may = (may.unused fair).unmapped 0 refl
 
--- It is linked once, when it is committed, and not where its request was aborted; it is dropped once the session is stopped.
+-- It is linked once, when it is committed and counted, and not where its request was aborted; it is dropped once the session is stopped.
 abbrev entered : Trace
 entered = Enters makes ∷ took
 
 abbrev lasting : Trace
 lasting = Commits makes ∷ Seals ∷ entered
 
-links : May (Sets makes) lasting
-links = record { is_open = record { is_begun = omega arith; unanswered = refl }; is_committed = (0, omega arith, refl); unlinked = refl; undropped = λ is. no_drop is }
+abbrev counted : Trace
+counted = Adds makes ∷ lasting
+
+links : May (Sets makes) counted
+links = record { is_open = record { is_begun = omega arith; unanswered = refl }; is_committed = (0, omega arith, refl); counted = (0, omega arith, refl); unlinked = refl; undropped = λ is. no_drop is }
   where
     no_drop : Contains {X = Logged} [] makes → ⊥
     no_drop is = omega (arith, is.1)
@@ -192,6 +185,9 @@ links_while_open may = let no = may.is_open.unanswered in absurd cc
 
 links_what_is_committed : May (Sets makes) (Seals ∷ entered) → ⊥
 links_what_is_committed may = let is = may.is_committed in omega (arith, is.1)
+
+links_what_is_counted : May (Sets makes) lasting → ⊥
+links_what_is_counted may = let is = may.counted in omega (arith, is.1)
 
 links_once : May (Sets makes) (Sets makes ∷ lasting) → ⊥
 links_once may = let no = may.unlinked in absurd cc

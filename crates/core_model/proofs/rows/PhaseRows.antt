@@ -1,5 +1,7 @@
 -- Each row of the table of phases at a small zone: what the zone keeps, what happens, and what it posts.
-use Rattle.std.proofs.Common.{ℕ, ◌≡◌, Option, length, Bool, true, false, None, Some, List, [], ◌∷◌, refl, ap, replicate, inl, inr, arith}
+use Rattle.std.proofs.Common.{ℕ, ◌≡◌, ◌+◌, ◌-◌, ◌<◌, ◌++◌, ◌∙◌, Option, length, Bool, true, false, None, Some, List, [], ◌∷◌, refl, ap, subst, replicate, inl, inr, arith}
+use Rattle.std.specs.Prelude.{slice_index, slice_set}
+use Rattle.std.proofs.lemmas.List.{get_or-replicate, get_or_append_left}
 use Rattle.blk_base.specs.Sectors.{zero_block}
 use Rattle.blk_base.specs.declared.journal_entry.CommittedEntry.{CommittedEntry}
 use Rattle.blk_base.specs.declared.journal_entry.Entry.{Entry}
@@ -24,14 +26,15 @@ use Rattle.data_vio.specs.declared.logged.Logged.TheVariants.{Remaps}
 use Rattle.data_vio.specs.declared.items.Asks.{Asks}
 use Rattle.data_vio.specs.declared.items.Asks.TheVariants as asks
 use Rattle.data_vio.specs.declared.items.Item.{Item}
-use Rattle.data_vio.specs.declared.items.Item.TheVariants.{Request, Block, StopNotice}
+use Rattle.data_vio.specs.declared.items.Item.TheVariants.{Request, Block, Decrement, Report, StopNotice}
+use Rattle.data_vio.specs.declared.items.Item.TheVariants as item
 use Rattle.data_vio.specs.declared.items.Phase.{Phase}
 use Rattle.data_vio.specs.declared.items.Phase.TheVariants as phase
 use Rattle.data_vio.specs.declared.items.SealedBlock.{SealedBlock}
 use Rattle.data_vio.specs.declared.items.Stage.{Stage}
 use Rattle.data_vio.specs.declared.items.Stage.TheVariants as stage
 use Rattle.data_vio.specs.declared.items.Vio.{Vio}
-use Rattle.core_model.specs.LogicalData.{Lock}
+use Rattle.core_model.specs.LogicalData.{Lock, LogicalZone}
 use Rattle.data_vio.specs.declared.logged.Logged.{Logged}
 use Rattle.data_vio.specs.declared.logged.Remapping.{Remapping}
 use Rattle.core_model.specs.declared.zones.ZoneData.{ZoneData}
@@ -41,13 +44,19 @@ use Rattle.core_model.specs.DeviceRules.{DeviceServes, DeviceWorks, journal_byte
 use Rattle.core_model.specs.Superblocks.{superblock_bytes}
 use Rattle.core_model.specs.declared.zones.SuperblockStage.{SuperblockStage}
 use Rattle.core_model.specs.declared.zones.SuperblockStage.TheVariants.{AsOpened, Written, Durable}
-use Rattle.core_model.specs.PhysicalRules.{PhysicalServes}
-use Rattle.core_model.specs.JournalRules.{JournalServes, JournalEnds}
-use Rattle.core_model.specs.LogicalRules.{LogicalServes, goes_on, known_by}
-use Rattle.core_model.specs.Steps.{Act, begins, answers, hears, serves, serves_notice, takes, takes_notice, enters, ends, enters_notice, calls, works}
+use Rattle.core_model.specs.PhysicalRules.{PhysicalServes, PhysicalTakes}
+use Rattle.blk_base.specs.declared.point.Half.TheVariants as half
+use Rattle.slab_counts.specs.Counts.{Counts, ClaimsFree, HasNoFree, Takes as Fits}
+use Rattle.slab_tickets.specs.Tickets.{empty_desk}
+use Rattle.zone_counts.specs.Asking.{GivesBlock}
+use Rattle.zone_counts.specs.Zone.{Zone, IsClaimedIn, NoneFree, slab_at}
+use Rattle.core_model.specs.JournalRules.{JournalServes, JournalEnds, hands_out}
+use Rattle.core_model.specs.LogicalRules.{LogicalServes, LogicalHears, awaits_report, goes_on, known_by}
+use Rattle.core_model.specs.Steps.{Act, begins, answers, hears, serves, serves_notice, takes, takes_notice, enters, ends, enters_notice, calls, works, halts, updates}
+use Rattle.core_model.specs.Steps as step
 use Rattle.core_model.specs.PageLinks.{leaf_head}
 use Rattle.core_model.specs.PageTrees.{HasPath, leaf_at}
-use Rattle.core_model.specs.Trace.{Says, Flushes, Draws, Enters, Passes, Seals, Commits, Sets, Gives, Takes, Aborts, Calls, Fails, Harms, Trace, entry_of}
+use Rattle.core_model.specs.Trace.{Says, Flushes, Draws, Enters, Passes, Seals, Commits, Sets, Gives, Takes, Drops, Adds, Removes, Strays, Hears, Aborts, Calls, Fails, Harms, Trace, entry_of}
 use Rattle.page_codec.proofs.HeldLaws.{held_unmapped}
 use Rattle.page_codec.proofs.ReadLaws.{no_page_fault}
 use Rattle.page_codec.proofs.SpellingLaws.{length-head}
@@ -56,7 +65,7 @@ use Rattle.page_codec.specs.Spelling.{head_bytes, page_bytes}
 use Rattle.page_codec.specs.declared.fault.PageFault.{PageFault}
 use Rattle.page_codec.specs.declared.fault.PageFault.TheVariants.{Compressed, Header}
 use Rattle.vdo_model.specs.declared.report.Damage.{Damage}
-use Rattle.vdo_model.specs.declared.report.Damage.TheVariants.{Page}
+use Rattle.vdo_model.specs.declared.report.Damage.TheVariants.{Page, Stray}
 use Rattle.data_vio.specs.Vios.{Post, logged}
 use Rattle.recovery_journal.specs.Log.{Log, placed, point_at}
 use Rattle.core_model.proofs.rows.BeginRows.{one_busy, two_busy, past_one, past_two}
@@ -68,7 +77,7 @@ Acts = Act sizes
 -- a request of address 0, which is in logical zone 0
 abbrev pub vio : Writer → Asks → Phase → ℕ → Vio
 vio w what now n =
-    record { request = w; asks = what; at = address 0; home = id.Logical 0; phase = now; page = None; leaf = None; bytes = x; place = n; old = Unmapped; latest = None; new = Unmapped; answer = None; calls = 0 }
+    record { request = w; asks = what; at = address 0; home = id.Logical 0; phase = now; page = None; leaf = None; bytes = x; place = n; old = Unmapped; latest = None; new = Unmapped; claim = None; answer = None; calls = 0 }
 
 -- the first write, once it has its block; the reader, and as it is once it knows that block
 abbrev pub writes : Phase → Vio
@@ -104,7 +113,7 @@ discards = (request.Discard (address 0) ∷ []) ∷ []
 -- logical zone 0: its next place and its places, its locks and who waits for one, the retired addresses, and the slots that are set
 abbrev pub logical_over : Tree → ℕ → List Placed → List Lock → List Vio → List Lba → List Remapping → ZoneData
 logical_over tree next places held waiting retired slots =
-    at.Logical (record { zone = 0; notified = false; next = next; places = places; held = held; waiting = waiting; retired = retired; tree = tree; making = []; lacking = []; unlinkable = []; slots = slots })
+    at.Logical (record { zone = 0; notified = false; next = next; places = places; held = held; waiting = waiting; retired = retired; tree = tree; making = []; lacking = []; unlinkable = []; settling = []; reported = []; slots = slots })
 
 -- its trees: the root of the first leads to the leaf of address 0; or to no leaf
 abbrev pub tree_with : List Mapping → Tree
@@ -122,8 +131,31 @@ has_path slots = record { inside = omega arith; own = record { inside = omega ar
 abbrev pub lock : ℕ → Lock
 lock n = record { at = address 0; place = n }
 
-abbrev pub physical : List Pbn → ZoneData
-physical free = at.Physical (record { notified = false; free = free })
+-- the physical zone: of the one slab, whose blocks are 79 to 142, the counters and the claims
+abbrev pub slab_with : List ℕ → List ℕ → Counts
+slab_with counters claims = record { geometry = sizes.geometry; slab = 0; counters = counters; claims = claims; pages = replicate 64 false }
+
+abbrev pub zone_with : Counts → Zone
+zone_with slab = record { geometry = sizes.geometry; zone = 0; zones = 1; slabs = slab ∷ []; desk = empty_desk 0 64 }
+
+abbrev pub physical : List ℕ → List ℕ → ZoneData
+physical counters claims = at.Physical (record { notified = false; strays = []; counts = zone_with (slab_with counters claims) })
+
+-- nothing is mapped or claimed; each block is mapped; the six before block 85 are, and this one too; block 85 is claimed
+abbrev pub nothing : List ℕ
+nothing = replicate 64 0
+
+abbrev pub all : List ℕ
+all = replicate 64 1
+
+abbrev pub six : List ℕ
+six = replicate 6 1 ++ replicate 58 0
+
+abbrev pub seven : List ℕ
+seven = replicate 7 1 ++ replicate 57 0
+
+abbrev pub one : List ℕ
+one = slice_set nothing 6 1
 
 -- the entries of these two, as the journal has them
 abbrev pub of_write : Entry
@@ -323,12 +355,72 @@ goes_to_enter = serves (LogicalServes.leafed _ refl refl refl refl refl)
 flush_goes_nowhere : goes_on (vio flush asks.Flush phase.LoadedLeaf 0) ≡ None
 flush_goes_nowhere = refl
 
--- Claim: the next free block, or none
-claims : Acts (physical (block 85 ∷ block 86 ∷ [])) (Request (vio first asks.Write phase.Claim 0) ∷ []) (physical (block 86 ∷ [])) (Takes first None (block 85) ∷ []) ((id.Device, Request (writes phase.Store)) ∷ [])
-claims = takes (PhysicalServes.claims (block 85) (block 86 ∷ []) refl refl refl refl refl)
+-- Claim: the lowest free block, or none is free
+abbrev pub has_block : Phase → Vio
+has_block now = record (writes now) { claim = Some (block 85) }
 
-claims_none : Acts (physical []) (Request (vio first asks.Write phase.Claim 0) ∷ []) (physical []) [] ((id.Logical 0, Request (answered reply.Full (vio first asks.Write phase.Abort 0))) ∷ [])
-claims_none = takes (PhysicalServes.is_full refl refl refl refl refl)
+used : (k : ℕ) → k < 6 → slice_index six k ≡ 1
+used k below = get_or_append_left (replicate 6 1) (replicate 58 0) 0 k (omega (arith, below)) ∙ get_or-replicate 6 k 1 0 below
+
+claims_85 : ClaimsFree (slab_with six nothing) (slab_with six one) (block 85)
+claims_85 = record {
+  of_slab = (omega arith, omega arith);
+  free = (refl, refl);
+  lowest = λ other here below free. let place : other.0 - 79 < 6 = omega (arith, here.0, below) in omega (arith, used (other.0 - 79) place, free.0);
+  now_claimed = refl;
+}
+
+pub gives_85 : GivesBlock (zone_with (slab_with six nothing)) (zone_with (slab_with six one)) (block 85)
+gives_85 = record { claims = record { place = 0; inside = omega arith; before = λ k below. absurd (omega (arith, below)); slab = slab_with six one; claims = claims_85; after = refl }; same = refl }
+
+claims : Acts (physical six nothing) (Request (vio first asks.Write phase.Claim 0) ∷ []) (physical six one) (Takes first None (block 85) ∷ []) ((id.Device, Request (has_block phase.Store)) ∷ [])
+claims = takes (PhysicalServes.claims (block 85) (zone_with (slab_with six one)) refl gives_85 refl refl refl)
+
+all_used : HasNoFree (slab_with all nothing)
+all_used at here free = let is : slice_index all (at.0 - 79) ≡ 1 = get_or-replicate 64 (at.0 - 79) 1 0 (omega (arith, here.0, here.1)) in omega (arith, is, free.0)
+
+pub none_free : NoneFree (zone_with (slab_with all nothing)).slabs
+none_free k below = let first_one : 0 ≡ k = omega (arith, below) in subst (λ (n : ℕ). HasNoFree (slab_at ((slab_with all nothing) ∷ []) n)) first_one all_used
+
+claims_none : Acts (physical all nothing) (Request (vio first asks.Write phase.Claim 0) ∷ []) (physical all nothing) [] ((id.Logical 0, Request (answered reply.NoSpace (vio first asks.Write phase.Abort 0))) ∷ [])
+claims_none = takes (PhysicalServes.has_no_space refl none_free refl refl refl)
+
+claims_though_none_is_free : (x : Pbn) (z : Zone) → ¬ GivesBlock (zone_with (slab_with all nothing)) z x
+claims_though_none_is_free x z = λ gives. none_free gives.claims.place gives.claims.inside x gives.claims.claims.of_slab gives.claims.claims.free
+
+-- Count: the increment is taken and the claim spent; that of a page too, which from now on nobody shares
+pub claimed_85 : IsClaimedIn (zone_with (slab_with six one)) (block 85)
+claimed_85 = record { own = record { data_block = record { slab = 0; offset = 6; inside = (omega arith, omega arith); stands = refl }; own = refl }; some = omega arith }
+
+counts_one : Acts (physical six one) (Request (has_block phase.Count) ∷ []) (physical seven nothing) (Adds (Remaps of_first) ∷ []) ((id.Logical 0, Request (writes phase.Settle)) ∷ [])
+counts_one = takes (PhysicalServes.counts (block 85) (slab_with seven nothing) (zone_with (slab_with seven nothing)) refl refl claimed_85 (omega arith, omega arith, refl) (record { serves = inl (inl refl, refl, refl); same = refl }) refl refl refl)
+
+counts_without_a_claim : ¬ IsClaimedIn (zone_with (slab_with six nothing)) (block 85)
+counts_without_a_claim = λ is. omega (arith, is.some)
+
+abbrev pub with_page_at : ℕ → Counts → Counts
+with_page_at k slab = record slab { pages = slice_set slab.pages k true }
+
+-- Decrement: it is taken, and reported; where its block's counter is 0 it is reported too, and the device's zone is told, once
+removes : Acts (physical seven nothing) (Decrement of_second ∷ []) (physical six nothing) (Removes of_second ∷ []) ((id.Logical 0, Report of_second) ∷ [])
+removes = updates (PhysicalTakes.removes (block 85) (slab_with six nothing) (zone_with (slab_with six nothing)) refl claimed_85.own (omega arith, refl) (record { serves = inl (inl refl, refl, refl); same = refl }) refl refl refl)
+
+abbrev with_strays : List Remapping → ZoneData
+with_strays strays = at.Physical (record { notified = false; strays = strays; counts = zone_with (slab_with six nothing) })
+
+strays : Acts (physical six nothing) (Decrement of_second ∷ []) (with_strays (of_second ∷ [])) (Strays of_second ∷ []) ((id.Logical 0, Report of_second) ∷ (id.Device, item.Damage (Stray (block 85) 0)) ∷ [])
+strays = updates (PhysicalTakes.is_stray (block 85) refl claimed_85.own refl refl refl refl)
+
+strays_again : Acts (with_strays (of_first ∷ [])) (Decrement of_second ∷ []) (with_strays (of_second ∷ of_first ∷ [])) (Strays of_second ∷ []) ((id.Logical 0, Report of_second) ∷ [])
+strays_again = updates (PhysicalTakes.is_stray (block 85) refl claimed_85.own refl refl refl refl)
+
+-- a decrement finds 0 where it is taken from nothing
+removes_from_nothing : (slab : Counts) → ¬ Fits half.Decrement (slab_with six nothing) slab (block 85)
+removes_from_nothing slab = λ fits. omega (arith, fits.0)
+
+-- the device's zone is told, and stops the session, once
+is_told : Acts (device false 6) (item.Damage (Stray (block 85) 0) ∷ []) (at.Device (record { stopped = true; calls = 6; superblock = Durable; damage = Some (Stray (block 85) 0) })) (Hears (Stray (block 85) 0) ∷ []) notify
+is_told = halts (record { new_is = refl; made_is = refl; posts_are = refl })
 
 -- Before all else the superblock is written and flushed, or that fails; what came waits.
 announces : Acts (beginning false 0 AsOpened) (Request (writes phase.Store) ∷ []) (beginning false 1 Written) (Calls (Write (block 0) (superblock_bytes sizes) true) ∷ []) ((id.Device, Request (writes phase.Store)) ∷ [])
@@ -452,12 +544,19 @@ hardens_in_vain = works (DeviceWorks.fails (Flush false) (block 2) false _ _ ref
 hardens_no_more : Acts (device true 9) (Block (sealed stage.Harden) ∷ []) (device true 9) [] ((id.Journal, Block (sealed stage.Fail)) ∷ [])
 hardens_no_more = works (DeviceWorks.unmade (Flush false) (block 2) _ _ refl refl refl refl refl refl)
 
--- Commit, Fail: the oldest entry goes to its slot; behind the last one the next block is sealed, or there is none; or all are
+-- Commit, Fail: the oldest entry goes to be counted, with the decrement of what it replaces; behind the last one the next block is sealed, or there is none; or all are
 -- aborted, and those that wait are stopped
 commits : Acts (journal true (log_with 2 [] (placed 1 0 (of_write ∷ of_read ∷ [])) 0 1) [] [] (of_first ∷ []) []) (Block (block_of stage.Commit (writes phase.Pending ∷ reads phase.Pending ∷ [])) ∷ [])
     (journal true (full_log 1) [] [] (of_first ∷ []) (of_first ∷ [])) (Commits (Remaps of_first) ∷ [])
-    ((id.Logical 0, Request (writes phase.Settle)) ∷ (id.Journal, Block (block_of stage.Commit (reads phase.Pending ∷ []))) ∷ [])
+    ((id.Physical 0, Request (writes phase.Count)) ∷ (id.Journal, Block (block_of stage.Commit (reads phase.Pending ∷ []))) ∷ [])
 commits = ends (JournalEnds.commits _ _ refl refl (omega arith) refl refl refl)
+
+-- one that has no block goes to its slot; and one that replaces a block has its decrement behind it
+hands_to_its_slot : hands_out (record (writes phase.Pending) { new = Zero }) ≡ (id.Logical 0, Request (record (writes phase.Settle) { new = Zero })) ∷ []
+hands_to_its_slot = refl
+
+hands_a_decrement : hands_out (record (writes phase.Pending) { old = At (block 90) }) ≡ (id.Physical 0, Request (record (writes phase.Count) { old = At (block 90) })) ∷ (id.Physical 0, Decrement (record of_first { old = At (block 90) })) ∷ []
+hands_a_decrement = refl
 
 seals : Acts (journal true (log_with 1 (of_write ∷ []) [] 0 1) (writes phase.Pending ∷ []) (reads phase.Enter ∷ []) [] []) (Block (block_of stage.Commit []) ∷ [])
     (journal true (log_with 2 [] (placed 1 0 (of_write ∷ [])) 0 1) [] [] [] []) (Seals ∷ [])
@@ -476,7 +575,39 @@ fails = ends (JournalEnds.fails refl refl refl refl)
 -- Settle: the slot is set, and the lock goes to the reader
 settles : Acts (logical 3 [] (lock 0 ∷ []) (reads phase.Wait ∷ []) [] []) (Request (writes phase.Settle) ∷ []) (logical 3 [] (lock 2 ∷ []) [] [] (of_first ∷ [])) (Sets (Remaps of_first) ∷ [])
     ((id.Desk, Request (answered reply.Ok (writes phase.Reply))) ∷ (id.Logical 0, Request (reads phase.Look)) ∷ [])
-settles = serves (LogicalServes.settles refl refl refl refl refl)
+settles = serves (LogicalServes.settles refl refl refl refl refl refl)
+
+-- where its entry replaces a block, once its decrement is reported; or the report comes first, and is kept
+abbrev replaces : Phase → Vio
+replaces now = record (writes now) { old = At (block 90) }
+
+abbrev of_replaces : Remapping
+of_replaces = record of_first { old = At (block 90) }
+
+abbrev zone_awaiting : List Vio → List Remapping → List Remapping → List Lock → LogicalZone
+zone_awaiting settling reported slots held =
+    record { zone = 0; notified = false; next = 3; places = []; held = held; waiting = []; retired = []; tree = leafy; making = []; lacking = []; unlinkable = []; settling = settling; reported = reported; slots = slots }
+
+abbrev awaiting : List Vio → List Remapping → List Remapping → List Lock → ZoneData
+awaiting settling reported slots held = at.Logical (zone_awaiting settling reported slots held)
+
+awaits : Acts (awaiting [] [] [] (lock 0 ∷ [])) (Request (replaces phase.Settle) ∷ []) (awaiting (replaces phase.Settle ∷ []) [] [] (lock 0 ∷ [])) [] []
+awaits = serves (LogicalServes.awaits refl refl refl refl refl refl)
+
+settles_by_the_report : Acts (awaiting (replaces phase.Settle ∷ []) [] [] (lock 0 ∷ [])) (Report of_replaces ∷ []) (awaiting [] [] (of_replaces ∷ []) []) (Sets (Remaps of_replaces) ∷ [])
+    ((id.Desk, Request (answered reply.Ok (replaces phase.Reply))) ∷ [])
+settles_by_the_report = step.settles (LogicalHears.settles (replaces phase.Settle) refl refl refl refl)
+
+keeps_the_report : Acts (awaiting [] [] [] (lock 0 ∷ [])) (Report of_replaces ∷ []) (awaiting [] (of_replaces ∷ []) [] (lock 0 ∷ [])) [] []
+keeps_the_report = step.settles (LogicalHears.keeps refl refl refl refl)
+
+settles_behind_the_report : Acts (awaiting [] (of_replaces ∷ []) [] (lock 0 ∷ [])) (Request (replaces phase.Settle) ∷ []) (awaiting [] [] (of_replaces ∷ []) []) (Sets (Remaps of_replaces) ∷ [])
+    ((id.Desk, Request (answered reply.Ok (replaces phase.Reply))) ∷ [])
+settles_behind_the_report = serves (LogicalServes.settles refl refl refl refl refl refl)
+
+-- it doesn't wait where the report came, nor where its entry replaces no block
+waits_for_no_more : (awaits_report (zone_awaiting [] (of_replaces ∷ []) [] []) (replaces phase.Settle) ≡ false) × (awaits_report (zone_awaiting [] [] [] []) (writes phase.Settle) ≡ false)
+waits_for_no_more = (refl, refl)
 
 -- Load: the block is read, or not
 loads : Acts (device true 6) (Request (finds phase.Load) ∷ []) (device true 7) (Calls (Read (block 85) y true) ∷ []) ((id.Logical 0, Request (record (finds phase.Loaded) { bytes = y })) ∷ [])
@@ -530,12 +661,15 @@ no_leaf_of_damage mappings is = no_page_fault (leaf_head sizes.geometry 0 (block
 gives : Acts (logical 3 [] (lock 2 ∷ []) [] [] []) (Request (reads phase.Loaded) ∷ []) (logical 3 [] [] [] [] []) (Gives (given 2) ∷ []) ((id.Desk, Request (answered (reply.Bytes x) (reads phase.Reply))) ∷ [])
 gives = serves (LogicalServes.gives refl refl refl refl)
 
--- AbortClaim, AbortEnteredClaim: it passes by
-aborts_claim : Acts (physical []) (Request (answered reply.Full (writes phase.AbortClaim)) ∷ []) (physical []) [] ((id.Logical 0, Request (answered reply.Full (writes phase.Abort))) ∷ [])
-aborts_claim = takes (PhysicalServes.aborts_claim refl refl refl refl)
+-- AbortClaim: its claim is dropped, where it has one; AbortEnteredClaim: its claim stays counted
+aborts_claim : Acts (physical six one) (Request (answered reply.Full (has_block phase.AbortClaim)) ∷ []) (physical six nothing) (Drops first (block 85) ∷ []) ((id.Logical 0, Request (answered reply.Full (writes phase.Abort))) ∷ [])
+aborts_claim = takes (PhysicalServes.drops (block 85) (zone_with (slab_with six nothing)) refl refl claimed_85 (record { serves = inl (inl refl, refl, refl); same = refl }) refl refl refl)
 
-aborts_entered_claim : Acts (physical []) (Request (answered reply.Stopped (writes phase.AbortEnteredClaim)) ∷ []) (physical []) [] ((id.Logical 0, Request (answered reply.Stopped (writes phase.AbortEntered))) ∷ [])
-aborts_entered_claim = takes (PhysicalServes.aborts_entered_claim refl refl refl refl)
+aborts_no_claim : Acts (physical six nothing) (Request (answered reply.Full (writes phase.AbortClaim)) ∷ []) (physical six nothing) [] ((id.Logical 0, Request (answered reply.Full (writes phase.Abort))) ∷ [])
+aborts_no_claim = takes (PhysicalServes.drops_none refl refl refl refl refl)
+
+aborts_entered_claim : Acts (physical six one) (Request (answered reply.Stopped (has_block phase.AbortEnteredClaim)) ∷ []) (physical six one) [] ((id.Logical 0, Request (answered reply.Stopped (writes phase.AbortEntered))) ∷ [])
+aborts_entered_claim = takes (PhysicalServes.spends refl refl refl refl)
 
 -- Abort: the lock goes to the reader; AbortEntered: the address is retired, and the reader is stopped
 aborts : Acts (logical 3 [] (lock 0 ∷ []) (reads phase.Wait ∷ []) [] []) (Request (answered reply.Full (writes phase.Abort)) ∷ []) (logical 3 [] (lock 2 ∷ []) [] [] []) []
@@ -559,11 +693,11 @@ flushes_no_more : Acts (device true 9) (Request (vio flush asks.Flush phase.Flus
 flushes_no_more = calls (DeviceServes.flush_unmade refl refl refl refl refl)
 
 -- (stop notice): it is passed on to the desk; in the journal those that wait are aborted, and no entry is handed in any more
-notifies : Acts (logical 0 [] [] [] [] []) (StopNotice ∷ []) (at.Logical (record { zone = 0; notified = true; next = 0; places = []; held = []; waiting = []; retired = []; tree = leafy; making = []; lacking = []; unlinkable = []; slots = [] })) []
+notifies : Acts (logical 0 [] [] [] [] []) (StopNotice ∷ []) (at.Logical (record { zone = 0; notified = true; next = 0; places = []; held = []; waiting = []; retired = []; tree = leafy; making = []; lacking = []; unlinkable = []; settling = []; reported = []; slots = [] })) []
     ((id.Desk, StopNotice) ∷ [])
 notifies = serves_notice
 
-notifies_physical : Acts (physical []) (StopNotice ∷ []) (at.Physical (record { notified = true; free = [] })) [] ((id.Desk, StopNotice) ∷ [])
+notifies_physical : Acts (physical six one) (StopNotice ∷ []) (at.Physical (record { notified = true; strays = []; counts = zone_with (slab_with six one) })) [] ((id.Desk, StopNotice) ∷ [])
 notifies_physical = takes_notice
 
 abbrev closed : ZoneData

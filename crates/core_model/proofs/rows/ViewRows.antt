@@ -4,7 +4,7 @@ use Rattle.std.proofs.lemmas.Option.{same_Some}
 use Rattle.data_vio.specs.declared.items.Item.{Item}
 use Rattle.data_vio.specs.declared.items.Item.TheVariants.{StopNotice}
 use Rattle.core_model.specs.Views.{AreEmptyLanes, LaneHolds, PostsBatch, ReceivesBatch, TakesBatch, View, zones_seen}
-use Rattle.core_model.proofs.rows.PhaseRows.{physical}
+use Rattle.core_model.proofs.rows.PhaseRows.{nothing, physical}
 
 abbrev Lanes : Type 0
 Lanes = List (List (List Item))
@@ -18,10 +18,10 @@ two = StopNotice ∷ StopNotice ∷ []
 
 -- zone 0 with its outbox to zone 1, and zone 1 with its inbox and what it received from zone 0
 abbrev sender : List Item → View
-sender outbox = record { zone = record { number = 0; steps = 0; keeps = physical []; ports = record { inbox = []; outboxes = [] ∷ outbox ∷ [] } }; received = [] ∷ [] ∷ [] }
+sender outbox = record { zone = record { number = 0; steps = 0; keeps = physical nothing nothing; ports = record { inbox = []; outboxes = [] ∷ outbox ∷ [] } }; received = [] ∷ [] ∷ [] }
 
 abbrev receiver : List Item → List Item → View
-receiver inbox received = record { zone = record { number = 1; steps = 0; keeps = physical []; ports = record { inbox = inbox; outboxes = [] ∷ [] ∷ [] } }; received = received ∷ [] ∷ [] }
+receiver inbox received = record { zone = record { number = 1; steps = 0; keeps = physical nothing nothing; ports = record { inbox = inbox; outboxes = [] ∷ [] ∷ [] } }; received = received ∷ [] ∷ [] }
 
 abbrev views : List Item → List Item → List Item → List View
 views outbox inbox received = sender outbox ∷ receiver inbox received ∷ []

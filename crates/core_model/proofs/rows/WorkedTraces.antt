@@ -1,6 +1,6 @@
 -- A small session of three streams and two zones, and what happens in it: at these the definitions of a right trace are
 -- computed. Its journal takes one block, and two data blocks are free.
-use Rattle.std.proofs.Common.{Option, None, Some, ℕ, ◌≡◌, ◌≢◌, true, false, List, [], ◌∷◌, length, ap, arith, if◌then◌else◌}
+use Rattle.std.proofs.Common.{Option, None, Some, ℕ, ◌≡◌, ◌≢◌, true, false, List, [], ◌∷◌, length, replicate, ap, arith, if◌then◌else◌}
 use Rattle.std.proofs.lemmas.List.{length-replicate}
 use Rattle.image_model.specs.Pages.{is_page, leaf_of}
 use Rattle.blk_base.specs.Sectors.{zero_block}
@@ -19,7 +19,7 @@ use Rattle.data_vio.specs.declared.logged.Logged.TheVariants.{Remaps}
 use Rattle.data_vio.specs.declared.sizes.Sizes.{Sizes}
 use Rattle.data_vio.specs.declared.logged.Remapping.{Remapping}
 use Rattle.core_model.specs.Sessions.{Session}
-use Rattle.core_model.specs.Trace.{Gift, Says, Draws, Enters, Seals, Commits, Sets, Takes, Fails, Trace}
+use Rattle.core_model.specs.Trace.{Gift, Says, Draws, Enters, Seals, Commits, Adds, Sets, Takes, Fails, Trace}
 
 abbrev pub address : ℕ → Lba
 address a = record { 0 = a }
@@ -83,7 +83,7 @@ sizes = record {
 }
 
 abbrev pub session : Session
-session = record { sizes = sizes; script = script; links = λ page. None; free = block 85 ∷ block 86 ∷ []; blocks = []; before = []; image = [] }
+session = record { sizes = sizes; script = script; links = λ page. None; counters = replicate 64 0; blocks = []; before = []; image = [] }
 
 -- the same, where the image links the leaves of both addresses
 abbrev pub leaves : PageId → Option Pbn
@@ -115,7 +115,7 @@ of_second = entry second 0 1 (At (block 85)) 86
 abbrev pub of_other : Remapping
 of_other = entry other 812 0 Unmapped 86
 
--- the first write has its block, hands its entry in, has it sealed in a block and committed, and sets its slot
+-- the first write has its block, hands its entry in, has it sealed in a block, committed and counted, and sets its slot
 abbrev pub took : Trace
 took = Takes first None (block 85) ∷ drawn
 
@@ -128,8 +128,11 @@ in_block = Seals ∷ handed_in
 abbrev pub lasting : Trace
 lasting = Commits (Remaps of_first) ∷ in_block
 
+abbrev pub counted : Trace
+counted = Adds (Remaps of_first) ∷ lasting
+
 abbrev pub set : Trace
-set = Sets (Remaps of_first) ∷ lasting
+set = Sets (Remaps of_first) ∷ counted
 
 -- a flush of the device failed that was made for the first write
 abbrev pub stopped : Trace → Trace

@@ -1,5 +1,5 @@
 -- How long the lists of the other zones get, and the lanes of a zone: each clause at its limit, and one past it.
-use Rattle.std.proofs.Common.{None, ℕ, ◌-◌, ◌^◌, false, List, [], ◌∷◌, replicate, arith}
+use Rattle.std.proofs.Common.{None, ℕ, ◌≡◌, ◌-◌, ◌^◌, length, false, List, [], ◌∷◌, replicate, arith}
 use Rattle.std.proofs.lemmas.List.{length-replicate}
 use Rattle.vdo_model.specs.declared.report.Placed.{Placed}
 use Rattle.data_vio.specs.declared.logged.Logged.TheVariants.{Remaps}
@@ -15,7 +15,8 @@ use Rattle.core_model.specs.JournalData.{JournalZone}
 use Rattle.core_model.specs.LogicalData.{Lock, LogicalZone}
 use Rattle.core_model.specs.declared.zones.Zone.{Zone}
 use Rattle.core_model.specs.declared.zones.ZoneData.TheVariants as at
-use Rattle.core_model.specs.Limits.{IsJournalWithin, IsLogicalWithin, IsWithin}
+use Rattle.core_model.specs.Limits.{IsJournalWithin, IsLogicalWithin, IsPhysicalWithin, IsWithin}
+use Rattle.core_model.specs.declared.zones.PhysicalZone.{PhysicalZone}
 use Rattle.core_model.proofs.rows.PhaseRows.{empty_log, writes}
 use Rattle.core_model.proofs.rows.WorkedTraces.{address, first, of_first, place, sizes}
 
@@ -48,6 +49,8 @@ logical next places held waiting retired slots = record {
   making = [];
   lacking = [];
   unlinkable = [];
+  settling = [];
+  reported = [];
   slots = replicate slots of_first;
 }
 
@@ -55,47 +58,59 @@ logical next places held waiting retired slots = record {
 abbrev with_pages : LogicalZone → ℕ → ℕ → ℕ → LogicalZone
 with_pages l making lacking unlinkable = record l { making = replicate making leaf; lacking = replicate lacking waits; unlinkable = replicate unlinkable leaf }
 
--- one that made nine steps: nine places at most, 65,536 requests in all, 263 items under way, one entry of each request for its
+-- with who waits for the report of its decrement, and the reports that came first
+abbrev with_reports : LogicalZone → ℕ → ℕ → LogicalZone
+with_reports l settling reported = record l { settling = replicate settling waits; reported = replicate reported of_first }
+
+-- one that made nine steps: nine places at most, 65,536 requests in all, 520 items under way, one entry of each request for its
 -- address, and two for pages
-logical_full : IsLogicalWithin 9 (with_pages (logical 9 65536 263 263 65536 65536) 263 263 196608)
+logical_full : IsLogicalWithin 9 (with_reports (with_pages (logical 9 65536 520 520 65536 65536) 520 520 196608) 520 520)
 logical_full = record {
   next = omega arith;
   places = omega (arith, length-replicate 65536 drawn);
-  held = omega (arith, length-replicate 263 lock);
-  waiting = omega (arith, length-replicate 263 waits);
+  held = omega (arith, length-replicate 520 lock);
+  waiting = omega (arith, length-replicate 520 waits);
   retired = omega (arith, length-replicate 65536 (address 0));
   slots = omega (arith, length-replicate 65536 of_first);
-  making = omega (arith, length-replicate 263 leaf);
-  lacking = omega (arith, length-replicate 263 waits);
+  making = omega (arith, length-replicate 520 leaf);
+  lacking = omega (arith, length-replicate 520 waits);
   unlinkable = omega (arith, length-replicate 196608 leaf);
+  settling = omega (arith, length-replicate 520 waits);
+  reported = omega (arith, length-replicate 520 of_first);
 }
 
-logical_making : IsLogicalWithin 9 (with_pages (logical 9 65536 263 263 65536 65536) 264 263 196608) → ⊥
-logical_making is = absurd (omega (arith, is.making, length-replicate 264 leaf))
+logical_settling : IsLogicalWithin 9 (with_reports (logical 9 65536 520 520 65536 65536) 521 520) → ⊥
+logical_settling is = absurd (omega (arith, is.settling, length-replicate 521 waits))
 
-logical_lacking : IsLogicalWithin 9 (with_pages (logical 9 65536 263 263 65536 65536) 263 264 196608) → ⊥
-logical_lacking is = absurd (omega (arith, is.lacking, length-replicate 264 waits))
+logical_reported : IsLogicalWithin 9 (with_reports (logical 9 65536 520 520 65536 65536) 520 521) → ⊥
+logical_reported is = absurd (omega (arith, is.reported, length-replicate 521 of_first))
 
-logical_unlinkable : IsLogicalWithin 9 (with_pages (logical 9 65536 263 263 65536 65536) 263 263 196609) → ⊥
+logical_making : IsLogicalWithin 9 (with_pages (logical 9 65536 520 520 65536 65536) 521 520 196608) → ⊥
+logical_making is = absurd (omega (arith, is.making, length-replicate 521 leaf))
+
+logical_lacking : IsLogicalWithin 9 (with_pages (logical 9 65536 520 520 65536 65536) 520 521 196608) → ⊥
+logical_lacking is = absurd (omega (arith, is.lacking, length-replicate 521 waits))
+
+logical_unlinkable : IsLogicalWithin 9 (with_pages (logical 9 65536 520 520 65536 65536) 520 520 196609) → ⊥
 logical_unlinkable is = absurd (omega (arith, is.unlinkable, length-replicate 196609 leaf))
 
 -- one more of each
-logical_next : IsLogicalWithin 9 (logical 10 65536 263 263 65536 65536) → ⊥
+logical_next : IsLogicalWithin 9 (logical 10 65536 520 520 65536 65536) → ⊥
 logical_next is = absurd (omega (arith, is.next))
 
-logical_places : IsLogicalWithin 9 (logical 9 65537 263 263 65536 65536) → ⊥
+logical_places : IsLogicalWithin 9 (logical 9 65537 520 520 65536 65536) → ⊥
 logical_places is = absurd (omega (arith, is.places, length-replicate 65537 drawn))
 
-logical_held : IsLogicalWithin 9 (logical 9 65536 264 263 65536 65536) → ⊥
-logical_held is = absurd (omega (arith, is.held, length-replicate 264 lock))
+logical_held : IsLogicalWithin 9 (logical 9 65536 521 520 65536 65536) → ⊥
+logical_held is = absurd (omega (arith, is.held, length-replicate 521 lock))
 
-logical_waiting : IsLogicalWithin 9 (logical 9 65536 263 264 65536 65536) → ⊥
-logical_waiting is = absurd (omega (arith, is.waiting, length-replicate 264 waits))
+logical_waiting : IsLogicalWithin 9 (logical 9 65536 520 521 65536 65536) → ⊥
+logical_waiting is = absurd (omega (arith, is.waiting, length-replicate 521 waits))
 
-logical_retired : IsLogicalWithin 9 (logical 9 65536 263 263 65537 65536) → ⊥
+logical_retired : IsLogicalWithin 9 (logical 9 65536 520 520 65537 65536) → ⊥
 logical_retired is = absurd (omega (arith, is.retired, length-replicate 65537 (address 0)))
 
-logical_slots : IsLogicalWithin 9 (logical 9 65536 263 263 65536 65537) → ⊥
+logical_slots : IsLogicalWithin 9 (logical 9 65536 520 520 65536 65537) → ⊥
 logical_slots is = absurd (omega (arith, is.slots, length-replicate 65537 of_first))
 
 -- a journal with so many of each
@@ -111,28 +126,28 @@ journal sequence filling waiting entered committed = record {
   committed = replicate committed (Remaps of_first);
 }
 
-journal_full : IsJournalWithin (journal (2 ^ 55 - 1) 192 263 196608 196608)
+journal_full : IsJournalWithin (journal (2 ^ 55 - 1) 192 520 196608 196608)
 journal_full = record {
   sequence = omega arith;
   filling = omega (arith, length-replicate 192 waits);
-  waiting = omega (arith, length-replicate 263 waits);
+  waiting = omega (arith, length-replicate 520 waits);
   entered = omega (arith, length-replicate 196608 (Remaps of_first));
   committed = omega (arith, length-replicate 196608 (Remaps of_first));
 }
 
-journal_sequence : IsJournalWithin (journal (2 ^ 55) 192 263 196608 196608) → ⊥
+journal_sequence : IsJournalWithin (journal (2 ^ 55) 192 520 196608 196608) → ⊥
 journal_sequence is = absurd (omega (arith, is.sequence))
 
-journal_filling : IsJournalWithin (journal 1 193 263 196608 196608) → ⊥
+journal_filling : IsJournalWithin (journal 1 193 520 196608 196608) → ⊥
 journal_filling is = absurd (omega (arith, is.filling, length-replicate 193 waits))
 
-journal_waiting : IsJournalWithin (journal 1 192 264 196608 196608) → ⊥
-journal_waiting is = absurd (omega (arith, is.waiting, length-replicate 264 waits))
+journal_waiting : IsJournalWithin (journal 1 192 521 196608 196608) → ⊥
+journal_waiting is = absurd (omega (arith, is.waiting, length-replicate 521 waits))
 
-journal_entered : IsJournalWithin (journal 1 192 263 196609 196608) → ⊥
+journal_entered : IsJournalWithin (journal 1 192 520 196609 196608) → ⊥
 journal_entered is = absurd (omega (arith, is.entered, length-replicate 196609 (Remaps of_first)))
 
-journal_committed : IsJournalWithin (journal 1 192 263 196608 196609) → ⊥
+journal_committed : IsJournalWithin (journal 1 192 520 196608 196609) → ⊥
 journal_committed is = absurd (omega (arith, is.committed, length-replicate 196609 (Remaps of_first)))
 
 -- a device that made so many calls, as the zone that made nine steps, with so many items in its inbox and its two outboxes
@@ -145,18 +160,25 @@ lane items = replicate items StopNotice
 abbrev zone : (inbox one other calls : ℕ) → Zone
 zone inbox one other calls = record { number = 5; steps = 9; keeps = at.Device (device calls); ports = record { inbox = lane inbox; outboxes = lane one ∷ lane other ∷ [] } }
 
-zone_full : IsWithin (zone 263 263 263 9)
+zone_full : IsWithin (zone 520 520 520 9)
 zone_full = record {
-  inbox = omega (arith, length-replicate 263 StopNotice);
-  outboxes = (omega (arith, length-replicate 263 StopNotice), (omega (arith, length-replicate 263 StopNotice), tt));
+  inbox = omega (arith, length-replicate 520 StopNotice);
+  outboxes = (omega (arith, length-replicate 520 StopNotice), (omega (arith, length-replicate 520 StopNotice), tt));
   own = omega arith;
 }
 
-zone_inbox : IsWithin (zone 264 263 263 9) → ⊥
-zone_inbox is = absurd (omega (arith, is.inbox, length-replicate 264 StopNotice))
+zone_inbox : IsWithin (zone 521 520 520 9) → ⊥
+zone_inbox is = absurd (omega (arith, is.inbox, length-replicate 521 StopNotice))
 
-zone_outbox : IsWithin (zone 263 263 264 9) → ⊥
-zone_outbox is = absurd (omega (arith, is.outboxes.1.0, length-replicate 264 StopNotice))
+zone_outbox : IsWithin (zone 520 520 521 9) → ⊥
+zone_outbox is = absurd (omega (arith, is.outboxes.1.0, length-replicate 521 StopNotice))
 
-zone_calls : IsWithin (zone 263 263 263 10) → ⊥
+zone_calls : IsWithin (zone 520 520 520 10) → ⊥
 zone_calls is = absurd (omega (arith, is.own))
+
+-- the physical zone: as many decrements that found 0 as requests
+physical_full : (p : PhysicalZone) → length p.strays ≡ 65536 → IsPhysicalWithin p
+physical_full p all = omega (arith, all)
+
+physical_strays : (p : PhysicalZone) → length p.strays ≡ 65537 → IsPhysicalWithin p → ⊥
+physical_strays p more is = omega (arith, more, is)

@@ -13,12 +13,12 @@ use Rattle.core_model.specs.declared.zones.Zone.{Zone}
 use Rattle.core_model.specs.declared.zones.ZoneData.{ZoneData}
 use Rattle.core_model.specs.declared.zones.ZoneData.TheVariants as at
 use Rattle.core_model.specs.Facts.{zone_at, zone_of_stage, arriving}
-use Rattle.data_vio.specs.Phases.{stage_row}
+use Rattle.data_vio.specs.Phases.{row, stage_row}
 use Rattle.core_model.specs.Steps.{ZoneStep, IsIdle, takes_notice}
-use Rattle.core_model.specs.Tokens.{holds, claims, has_entry, kept_items}
+use Rattle.core_model.specs.Tokens.{holds, owes, has_entry, kept_items}
 use Rattle.data_vio.specs.Zones.{IsZone, zone_number, zone_count, notified, notified_zones}
-use Rattle.core_model.proofs.rows.PhaseRows.{writes, reads, desk, empty_log, logical, physical, journal, device}
-use Rattle.core_model.proofs.rows.WorkedTraces.{block, first, sizes}
+use Rattle.core_model.proofs.rows.PhaseRows.{writes, reads, desk, empty_log, logical, nothing, one, physical, slab_with, zone_with, journal, device}
+use Rattle.core_model.proofs.rows.WorkedTraces.{first, sizes}
 
 -- the desk, two logical zones, one physical zone, the journal and the device are there, and have the numbers from 0 to 5
 are_zones : IsZone sizes id.Desk × IsZone sizes (id.Logical 0) × IsZone sizes (id.Logical 1) × IsZone sizes (id.Physical 0) × IsZone sizes id.Journal × IsZone sizes id.Device
@@ -47,63 +47,67 @@ are_notified : (notified sizes ≡ id.Journal ∷ id.Physical 0 ∷ id.Logical 1
 are_notified = (refl, refl)
 
 -- A line of the table of phases, of a request of logical zone 1: the number of the zone where it is done (the count of the
--- zones is none), and whether it has the lock, has a block, has yet to arrive, and has an entry.
-abbrev IsRow : Phase → ℕ → Bool → Bool → List Writer → Bool → Type 0
-IsRow now number locks has_block arrives entered = (zone_at sizes (id.Logical 1) now ≡ number) × (holds now ≡ locks) × (claims now ≡ has_block) × (arriving now first ≡ arrives) × (has_entry now ≡ entered)
+-- zones is none), and whether it has the lock, has a claim, owes an increment, has yet to arrive, and has an entry.
+abbrev IsRow : Phase → ℕ → Bool → Bool → Bool → List Writer → Bool → Type 0
+IsRow now number locks claims owing arrives entered =
+    (zone_at sizes (id.Logical 1) now ≡ number) × (holds now ≡ locks) × ((row now).claims ≡ claims) × (owes now ≡ owing) × (arriving now first ≡ arrives) × (has_entry now ≡ entered)
 
-row_arrive : IsRow phase.Arrive 2 false false (first ∷ []) false
-row_arrive = (refl, refl, refl, refl, refl)
+row_arrive : IsRow phase.Arrive 2 false false false (first ∷ []) false
+row_arrive = (refl, refl, refl, refl, refl, refl)
 
-row_wait : IsRow phase.Wait (zone_count sizes) false false [] false
-row_wait = (refl, refl, refl, refl, refl)
+row_wait : IsRow phase.Wait (zone_count sizes) false false false [] false
+row_wait = (refl, refl, refl, refl, refl, refl)
 
-row_look : IsRow phase.Look 2 true false [] false
-row_look = (refl, refl, refl, refl, refl)
+row_look : IsRow phase.Look 2 true false false [] false
+row_look = (refl, refl, refl, refl, refl, refl)
 
-row_load_leaf : IsRow phase.LoadLeaf 5 true false [] false
-row_load_leaf = (refl, refl, refl, refl, refl)
+row_load_leaf : IsRow phase.LoadLeaf 5 true false false [] false
+row_load_leaf = (refl, refl, refl, refl, refl, refl)
 
-row_loaded_leaf : IsRow phase.LoadedLeaf 2 true false [] false
-row_loaded_leaf = (refl, refl, refl, refl, refl)
+row_loaded_leaf : IsRow phase.LoadedLeaf 2 true false false [] false
+row_loaded_leaf = (refl, refl, refl, refl, refl, refl)
 
-row_claim : IsRow phase.Claim 3 true false [] false
-row_claim = (refl, refl, refl, refl, refl)
+row_claim : IsRow phase.Claim 3 true false false [] false
+row_claim = (refl, refl, refl, refl, refl, refl)
 
-row_store : IsRow phase.Store 5 true true [] false
-row_store = (refl, refl, refl, refl, refl)
+row_store : IsRow phase.Store 5 true true false [] false
+row_store = (refl, refl, refl, refl, refl, refl)
 
-row_enter : IsRow phase.Enter 4 true true [] false
-row_enter = (refl, refl, refl, refl, refl)
+row_enter : IsRow phase.Enter 4 true true false [] false
+row_enter = (refl, refl, refl, refl, refl, refl)
 
-row_pending : IsRow phase.Pending (zone_count sizes) true false [] true
-row_pending = (refl, refl, refl, refl, refl)
+row_pending : IsRow phase.Pending (zone_count sizes) true true true [] true
+row_pending = (refl, refl, refl, refl, refl, refl)
 
-row_settle : IsRow phase.Settle 2 true false [] true
-row_settle = (refl, refl, refl, refl, refl)
+row_count : IsRow phase.Count 3 true true true [] true
+row_count = (refl, refl, refl, refl, refl, refl)
 
-row_load : IsRow phase.Load 5 true false [] false
-row_load = (refl, refl, refl, refl, refl)
+row_settle : IsRow phase.Settle 2 true false false [] true
+row_settle = (refl, refl, refl, refl, refl, refl)
 
-row_loaded : IsRow phase.Loaded 2 true false [] false
-row_loaded = (refl, refl, refl, refl, refl)
+row_load : IsRow phase.Load 5 true false false [] false
+row_load = (refl, refl, refl, refl, refl, refl)
 
-row_abort_claim : IsRow phase.AbortClaim 3 true false [] false
-row_abort_claim = (refl, refl, refl, refl, refl)
+row_loaded : IsRow phase.Loaded 2 true false false [] false
+row_loaded = (refl, refl, refl, refl, refl, refl)
 
-row_abort : IsRow phase.Abort 2 true false [] false
-row_abort = (refl, refl, refl, refl, refl)
+row_abort_claim : IsRow phase.AbortClaim 3 true true false [] false
+row_abort_claim = (refl, refl, refl, refl, refl, refl)
 
-row_abort_entered_claim : IsRow phase.AbortEnteredClaim 3 true false [] true
-row_abort_entered_claim = (refl, refl, refl, refl, refl)
+row_abort : IsRow phase.Abort 2 true false false [] false
+row_abort = (refl, refl, refl, refl, refl, refl)
 
-row_abort_entered : IsRow phase.AbortEntered 2 true false [] true
-row_abort_entered = (refl, refl, refl, refl, refl)
+row_abort_entered_claim : IsRow phase.AbortEnteredClaim 3 true true true [] true
+row_abort_entered_claim = (refl, refl, refl, refl, refl, refl)
 
-row_flush : IsRow phase.Flush 5 false false [] false
-row_flush = (refl, refl, refl, refl, refl)
+row_abort_entered : IsRow phase.AbortEntered 2 true false false [] true
+row_abort_entered = (refl, refl, refl, refl, refl, refl)
 
-row_reply : IsRow phase.Reply 0 false false [] false
-row_reply = (refl, refl, refl, refl, refl)
+row_flush : IsRow phase.Flush 5 false false false [] false
+row_flush = (refl, refl, refl, refl, refl, refl)
+
+row_reply : IsRow phase.Reply 0 false false false [] false
+row_reply = (refl, refl, refl, refl, refl, refl)
 
 -- a line of the table of stages: the number of the zone where it is done, and the stage behind it
 abbrev IsStageRow : Stage → ℕ → Stage → Type 0
@@ -117,7 +121,7 @@ kept_requests : (kept_items (desk [] [] 0 (writes phase.Reply ∷ [])) ≡ Reque
     × (kept_items (journal true empty_log (writes phase.Pending ∷ []) (reads phase.Enter ∷ []) [] []) ≡ Request (writes phase.Pending) ∷ Request (reads phase.Enter) ∷ [])
 kept_requests = (refl, refl, refl)
 
-kept_none : (kept_items (physical (block 85 ∷ [])) ≡ []) × (kept_items (device false 6) ≡ [])
+kept_none : (kept_items (physical nothing one) ≡ []) × (kept_items (device false 6) ≡ [])
 kept_none = (refl, refl)
 
 -- the physical zone that made so many steps, with the stop notice in its inbox
@@ -125,26 +129,26 @@ abbrev of_steps : ℕ → ZoneData → List Item → List (List Item) → Zone
 of_steps made keeps inbox outboxes = record { number = 3; steps = made; keeps = keeps; ports = record { inbox = inbox; outboxes = outboxes } }
 
 abbrev told : ZoneData
-told = at.Physical (record { notified = true; free = [] })
+told = at.Physical (record { notified = true; strays = []; counts = zone_with (slab_with nothing one) })
 
 -- a step is counted, up to the last one
-counts_a_step : ZoneStep sizes (of_steps 7 (physical []) (StopNotice ∷ []) ([] ∷ [])) (of_steps 8 told [] ((StopNotice ∷ []) ∷ [])) []
+counts_a_step : ZoneStep sizes (of_steps 7 (physical nothing one) (StopNotice ∷ []) ([] ∷ [])) (of_steps 8 told [] ((StopNotice ∷ []) ∷ [])) []
 counts_a_step = record { front = StopNotice ∷ []; rest = []; posts = _; counts = omega arith; taken = refl; in_turn = λ none. absurd cc; act = takes_notice; lanes = refl }
 
-counts_the_last : ZoneStep sizes (of_steps 18446744073709551614 (physical []) (StopNotice ∷ []) ([] ∷ [])) (of_steps 18446744073709551615 told [] ((StopNotice ∷ []) ∷ [])) []
+counts_the_last : ZoneStep sizes (of_steps 18446744073709551614 (physical nothing one) (StopNotice ∷ []) ([] ∷ [])) (of_steps 18446744073709551615 told [] ((StopNotice ∷ []) ∷ [])) []
 counts_the_last = record { front = StopNotice ∷ []; rest = []; posts = _; counts = omega arith; taken = refl; in_turn = λ none. absurd cc; act = takes_notice; lanes = refl }
 
 -- none is made behind that, and then the zone has no work, though an item lies in its inbox
-makes_no_more : (new : Zone) → ZoneStep sizes (of_steps 18446744073709551615 (physical []) (StopNotice ∷ []) ([] ∷ [])) new [] → ⊥
+makes_no_more : (new : Zone) → ZoneStep sizes (of_steps 18446744073709551615 (physical nothing one) (StopNotice ∷ []) ([] ∷ [])) new [] → ⊥
 makes_no_more new step = let below = step.counts in absurd (omega (arith, below))
 
-has_no_more_work : IsIdle sizes (of_steps 18446744073709551615 (physical []) (StopNotice ∷ []) ([] ∷ []))
+has_no_more_work : IsIdle sizes (of_steps 18446744073709551615 (physical nothing one) (StopNotice ∷ []) ([] ∷ []))
 has_no_more_work = inr (omega arith)
 
 -- before that it has work where an item lies in its inbox, and none where none does
-has_work : IsIdle sizes (of_steps 18446744073709551614 (physical []) (StopNotice ∷ []) ([] ∷ [])) → ⊥
+has_work : IsIdle sizes (of_steps 18446744073709551614 (physical nothing one) (StopNotice ∷ []) ([] ∷ [])) → ⊥
 has_work (inl nothing) = let empty = nothing.inbox in absurd cc
 has_work (inr all) = absurd (omega (arith, all))
 
-has_no_work : IsIdle sizes (of_steps 7 (physical []) [] ([] ∷ []))
+has_no_work : IsIdle sizes (of_steps 7 (physical nothing one) [] ([] ∷ []))
 has_no_work = inl (record { inbox = refl; none_begins = λ may. may })

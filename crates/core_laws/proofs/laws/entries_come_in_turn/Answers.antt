@@ -1,8 +1,10 @@
 use Rattle.std.proofs.Common.{◌∷◌, ◌++◌, ◌≡◌, subst}
-use Rattle.core_laws.proofs.Common.{Enters, Logged, Makes, Remaps, RightTrace, Session, Trace}
+use Rattle.core_laws.proofs.Common.{Enters, Logged, Makes, Remaps, RightTrace, Session, Trace, journaled}
 use Rattle.core_model.specs.Legal.{Legal}
 use Rattle.core_model.specs.Steps.{Core}
 use Rattle.core_laws.proofs.trace.Cuts.{right_part}
+use Rattle.core_laws.proofs.trace.EntriesInTurn.{in_turn, ordered}
+use Rattle.core_laws.proofs.trace.EntryMaps.{turned}
 use Rattle.core_laws.proofs.trace.PagesOfTrace.{leafy_entered, linked_entered}
 use Rattle.core_laws.proofs.laws.entries_come_in_turn.Goals as goal
 
@@ -24,3 +26,6 @@ returns-clause-above c = λ s core newer older p legal is. let right = right_the
 
 pub returns-clause-page_block : goal.returns-clause-page_block
 returns-clause-page_block c = λ s core newer older p legal is. (right_then s core newer older (Makes p) legal is).0.unused
+
+pub returns-clause-in_turn : goal.returns-clause-in_turn
+returns-clause-in_turn c = λ s core entries session legal fair said. in_turn s session fair.opened (journaled core.trace) entries said (turned s core.trace legal.right) (ordered s core.trace legal.right fair)

@@ -1,5 +1,4 @@
 use Rattle.std.proofs.Common.{subst, sym, arith}
-use Rattle.blk_base.specs.Points.{half_of}
 use Rattle.zone_counts.specs.Calls.{Applies}
 use Rattle.zone_counts.specs.Zone.{IsOfZone}
 use Rattle.slab_zone.specs.Viewed.{whole_of}
@@ -20,6 +19,6 @@ invariant_of-self-2 c =
     let at = c.args.update.now.at in
     let own = subst (λ (x : WholeZone). IsOfZone x.counts at) (sym c.self.view_is) c.requires.own in
     let did = c.in_ok-apply.ensures.taken in
-    let counted = call_keeps (Applies (half_of c.args.update.now.point.0) at did.0) z c.apply.new.self c.self.invariant (own, did.1, did.2) in
+    let counted = call_keeps (Applies c.half.result at did.0) z c.apply.new.self c.self.invariant (own, did.1, did.2) in
     taken_keeps (record { counts = c.apply.new.self; writes = z.writes }) c.place-place.result c.index_mut-slab.result.now c.take.new.self c.args.update.now counted
     (omega (arith, c.place-place.ensures.inside, c.self.invariant.writes.many)) c.index_mut-slab.ensures.value c.take.ensures

@@ -1,5 +1,4 @@
 use Rattle.std.proofs.Common.{◌<◌, List, length, sym, subst, refl}
-use Rattle.blk_base.specs.Points.{half_of}
 use Rattle.slab_counts.specs.Counts.{Counts, IsOfSlab, Takes}
 use Rattle.slab_counts.specs.Calls.{Applied}
 use Rattle.zone_counts.specs.Viewed.{zone_of}
@@ -15,8 +14,8 @@ invariant_of-self-2 c =
     let k = c.place_of-place.result in
     let s = c.index_mut-slab.result.now in
     let now = c.apply.new.self in
-    let at = c.args.update.now.at in
-    let half = half_of c.args.update.now.point.0 in
+    let at = c.args.at in
+    let half = c.args.half in
     let is = c.self.invariant.is in
     let below = c.self.invariant.below in
     let read = c.index_mut-slab.ensures.value in
@@ -37,8 +36,8 @@ returns-clause-taken c =
     let k = c.place_of-place.result in
     let s = c.index_mut-slab.result.now in
     let now = c.apply.new.self in
-    let at = c.args.update.now.at in
-    let half = half_of c.args.update.now.point.0 in
+    let at = c.args.at in
+    let half = c.args.half in
     let is = c.self.invariant.is in
     let below = c.self.invariant.below in
     let read = c.index_mut-slab.ensures.value in

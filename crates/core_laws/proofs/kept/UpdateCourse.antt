@@ -1,0 +1,332 @@
+-- What each act owes of the updates of counters: the journal alone sends them, in the order of its entries, and the physical zone takes them.
+use Rattle.std.proofs.Common.{◌∙◌, ◌≡◌, ◌<◌, ◌≤◌, ℕ, ◌⊎◌, Bool, true, false, cond, Option, None, Some, IsSome, List, [], ◌∷◌, ◌++◌, nat_eq, refl, sym, subst, ap, inl, inr, arith}
+use Rattle.core_laws.proofs.Common.{AllByRecursion, Answer, Asks, Carries, DataOk, Desk, DeviceZone, Happening, HasAddress, HasCause, IsEarned, Item, ItemOk, JournalZone, LogicalZone, Mapping, MayFollow, MayReply, Phase, PhysicalZone, Placed, Post, Request, RightTrace, Says, SealedBlock, Session, Sizes, Trace, Vio, VioOk, Writer, ZoneData, ZoneId, append-nil, arrival, arriving, asked, begun, desk_number, device_number, eqb_tells, every-append, every-front, every-map, lines, logical_number, none_of, notified, place_of, places, request_at, request_of, same_Some, same_tells, some_of, zone_number, zone_of, Pbn, Remapping, remapping}
+use Rattle.blk_base.specs.declared.place.Mapping.TheVariants.{Unmapped, Zero, At}
+use Rattle.blk_base.specs.declared.place.ZoneId.TheVariants as id
+use Rattle.blk_base.specs.declared.request.Request.TheVariants as request
+use Rattle.vdo_model.specs.declared.report.DeskLine.TheVariants as line
+use Rattle.data_vio.specs.declared.items.Asks.TheVariants.{Read, Write, Discard, Flush}
+use Rattle.data_vio.specs.declared.items.Item.TheVariants as item
+use Rattle.data_vio.specs.declared.items.Phase.TheVariants as phase
+use Rattle.core_model.specs.declared.zones.ZoneData.TheVariants as at
+use Rattle.core_model.specs.DeskRules as desk
+use Rattle.core_model.specs.DeskRules.{DeskBegins, DeskServes, first_zone, is_marked, vio_of, woken, mark_of_vio}
+use Rattle.core_model.specs.DeviceRules as device
+use Rattle.core_model.specs.DeviceRules.{Announces, DeviceServes, DeviceWorks, notices_after, stop_notices}
+use Rattle.data_vio.specs.Phases.{AtDevice, row}
+use Rattle.core_model.specs.JournalRules as journal
+use Rattle.core_model.specs.PhysicalRules as physical
+use Rattle.core_model.specs.PhysicalRules.{PhysicalServes, PhysicalTakes}
+use Rattle.core_model.specs.JournalRules.{JournalServes, JournalEnds, all_again, all_dropped, all_refused}
+use Rattle.core_model.specs.LogicalRules as logical
+use Rattle.core_model.specs.LogicalRules.{LogicalHears, LogicalServes, goes_on, passes_on, read_next, looked, first_for, all_for, all_stopped, placed, place_of_vio}
+use Rattle.core_model.specs.Steps.{Act}
+use Rattle.core_model.specs.Steps as steps
+use Rattle.core_model.specs.Streams.{counted}
+use Rattle.blk_base.specs.declared.place.PageId.{PageId}
+use Rattle.core_laws.proofs.kept.Streams.{Keeps, items_to}
+use Rattle.core_laws.proofs.tokens.Posts.{goes_by}
+use Rattle.core_laws.proofs.tokens.Known.{IsIn, KeptIn}
+use Rattle.core_laws.proofs.Common.{KeptOk, Logged, Makes, Remaps, durable, eq-eqb, journal_number, logged, physical_number}
+use Rattle.core_model.specs.CountUpdates.{CountUpdate, Decrement, Increment, decrement_of, increment_of, updates_by, updates_of, updates_taken}
+use Rattle.core_model.specs.Facts.{CarriesFor, IsToBlock}
+use Rattle.core_model.specs.UpdateStream.{counting, updates_at, updating}
+use Rattle.data_vio.specs.Vios.{logged_for}
+
+-- what is posted has its place, or needs none
+abbrev pub Still : Post → Type 0
+Still p = updating p.1 ≡ []
+
+-- a request in another phase than Arrive
+arrives : (v : Vio) (q : Phase) → v.phase ≡ q → counting v.phase (logged v) ≡ counting q (logged v)
+arrives v q p = ap (λ (h : Phase). counting h (logged v)) p
+
+past : (v : Vio) {q : Phase} → v.phase ≡ q → counted updating (item.Request v ∷ []) ≡ counting q (logged v) ++ []
+past v p = ap (λ (q : Phase). counting q (logged v) ++ []) p
+
+-- the posts of each row that are lists
+
+goes_still : (v : Vio) (post : Post) → goes_on v ≡ Some post → Still post
+goes_still v post goes = goes_by Still v post goes (λ reads. read v.old) (λ writes zeros. refl) (λ writes others. refl) (λ discards. refl)
+  where
+    read : (m : Mapping) → Still (read_next v m)
+    read Unmapped = refl
+    read Zero = refl
+    read (At x) = refl
+
+passes_still : (o : Option Vio) → AllByRecursion Still (passes_on o)
+passes_still None = tt
+passes_still (Some v) = (refl, tt)
+
+stopped_still : (vs : List Vio) → AllByRecursion Still (all_stopped vs)
+stopped_still [] = tt
+stopped_still (v ∷ vs) = (refl, stopped_still vs)
+
+refused_still : (sizes : Sizes) (answer : Answer) (vs : List Vio) → AllByRecursion Still (all_refused sizes answer vs)
+refused_still sizes answer [] = tt
+refused_still sizes answer (v ∷ vs) = (refl, refused_still sizes answer vs)
+
+notices_still : (ids : List ZoneId) → AllByRecursion Still (stop_notices ids)
+notices_still [] = tt
+notices_still (to ∷ ids) = (refl, notices_still ids)
+
+after_still : (sizes : Sizes) (stopped : Bool) → AllByRecursion Still (notices_after stopped sizes)
+after_still sizes true = tt
+after_still sizes false = notices_still (notified sizes)
+
+dropped_still : (vs : List Vio) → AllByRecursion Still (all_dropped vs)
+dropped_still [] = tt
+dropped_still (v ∷ vs) = (refl, dropped_still vs)
+
+again_still : (vs : List Vio) → AllByRecursion (IsIn phase.Enter) vs → AllByRecursion Still (all_again vs)
+again_still [] h = tt
+again_still (v ∷ vs) h = (arrives v phase.Enter h.0, again_still vs h.1)
+
+looks_still : (vs : List Vio) → AllByRecursion (IsIn phase.Look) vs → AllByRecursion Still (logical.all_again vs)
+looks_still [] h = tt
+looks_still (v ∷ vs) h = (arrives v phase.Look h.0, looks_still vs h.1)
+
+woken_still : (vs : List Vio) → AllByRecursion (IsIn phase.Reply) vs → AllByRecursion Still (woken vs)
+woken_still [] h = tt
+woken_still (v ∷ vs) h = (arrives v phase.Reply h.0, woken_still vs h.1)
+
+-- What posts count for at the zone of a number.
+silent : (sizes : Sizes) (n : ℕ) (p : Post) (ps : List Post) → Still p → counted updating (items_to sizes n (p ∷ ps)) ≡ counted updating (items_to sizes n ps)
+silent sizes n p ps none = by (nat_eq (zone_number sizes p.0) n)
+  where
+    by : (b : Bool) → counted updating (cond b (p.1 ∷ items_to sizes n ps) (items_to sizes n ps)) ≡ counted updating (items_to sizes n ps)
+    by true = ap (λ (us : List CountUpdate). us ++ counted updating (items_to sizes n ps)) none
+    by false = refl
+
+comes : (sizes : Sizes) (n : ℕ) (p : Post) (ps : List Post) → zone_number sizes p.0 ≡ n → counted updating (items_to sizes n (p ∷ ps)) ≡ updating p.1 ++ counted updating (items_to sizes n ps)
+comes sizes n p ps there = ap (λ (b : Bool). counted updating (cond b (p.1 ∷ items_to sizes n ps) (items_to sizes n ps))) (eq-eqb (zone_number sizes p.0) n there)
+
+still_counted : (sizes : Sizes) (n : ℕ) (ps : List Post) → AllByRecursion Still ps → counted updating (items_to sizes n ps) ≡ []
+still_counted sizes n [] h = refl
+still_counted sizes n (p ∷ ps) h = silent sizes n p ps h.0 ∙ still_counted sizes n ps h.1
+
+-- A committed entry sends its updates to the physical zone, its increment first.
+abbrev increment : Logged → Mapping → List CountUpdate
+increment e (At x) = Increment e ∷ []
+increment e other = []
+
+abbrev decrement : Option PageId → Remapping → Mapping → List CountUpdate
+decrement None e (At x) = Decrement e ∷ []
+decrement page e other = []
+
+entry_updates : (v : Vio) (o : Option PageId) (m k : Mapping) → v.page ≡ o → v.new ≡ m → v.old ≡ k → ((page : PageId) → o ≡ Some page → IsToBlock m)
+    → updates_by (logged v) ≡ increment (logged v) m ++ decrement o (remapping v) k
+entry_updates v None m k bare to from fresh = subst (λ (e : Logged). updates_by e ≡ increment e m ++ decrement None (remapping v) k) (sym own) (both v.new v.old ∙ ap (λ (n : Mapping). increment (Remaps (remapping v)) n ++ decrement None (remapping v) v.old) to ∙ ap (λ (n : Mapping). increment (Remaps (remapping v)) m ++ decrement None (remapping v) n) from)
+  where
+    own : logged v ≡ Remaps (remapping v)
+    own = ap (λ (o : Option PageId). logged_for v o v.new) bare
+
+    both : (m k : Mapping) → increment_of (Remaps (remapping v)) m ++ decrement_of (remapping v) k ≡ increment (Remaps (remapping v)) m ++ decrement None (remapping v) k
+    both (At x) (At y) = refl
+    both (At x) Unmapped = refl
+    both (At x) Zero = refl
+    both Unmapped (At y) = refl
+    both Unmapped Unmapped = refl
+    both Unmapped Zero = refl
+    both Zero (At y) = refl
+    both Zero Unmapped = refl
+    both Zero Zero = refl
+entry_updates v (Some page) (At x) k some to from fresh =
+    let own : logged v ≡ Makes (record { request = v.request; page = page; at = x }) = ap (λ (o : Option PageId). logged_for v o v.new) some ∙ ap (λ (m : Mapping). logged_for v (Some page) m) to in
+    subst (λ (e : Logged). updates_by e ≡ Increment e ∷ []) (sym own) refl ∙ nothing k
+  where
+    nothing : (k : Mapping) → Increment (logged v) ∷ [] ≡ Increment (logged v) ∷ decrement (Some page) (remapping v) k
+    nothing (At y) = refl
+    nothing Unmapped = refl
+    nothing Zero = refl
+entry_updates v (Some page) Unmapped k some to from fresh = absurd (fresh page refl)
+entry_updates v (Some page) Zero k some to from fresh = absurd (fresh page refl)
+
+hands_counted : (sizes : Sizes) (v : Vio) (m : Mapping) (ps : List Post) → counted updating (items_to sizes (physical_number sizes) (journal.hands_to v m ∷ ps)) ≡ increment (logged v) m ++ counted updating (items_to sizes (physical_number sizes) ps)
+hands_counted sizes v (At x) ps = comes sizes (physical_number sizes) (journal.hands_to v (At x)) ps refl
+hands_counted sizes v Unmapped ps = silent sizes (physical_number sizes) (journal.hands_to v Unmapped) ps refl
+hands_counted sizes v Zero ps = silent sizes (physical_number sizes) (journal.hands_to v Zero) ps refl
+
+decrement_counted : (sizes : Sizes) (o : Option PageId) (e : Remapping) (k : Mapping) (ps : List Post)
+    → counted updating (items_to sizes (physical_number sizes) (journal.decrement_for o e k ++ ps)) ≡ decrement o e k ++ counted updating (items_to sizes (physical_number sizes) ps)
+decrement_counted sizes None e (At x) ps = comes sizes (physical_number sizes) (id.Physical 0, item.Decrement e) ps refl
+decrement_counted sizes None e Unmapped ps = refl
+decrement_counted sizes None e Zero ps = refl
+decrement_counted sizes (Some page) e (At x) ps = refl
+decrement_counted sizes (Some page) e Unmapped ps = refl
+decrement_counted sizes (Some page) e Zero ps = refl
+
+-- What an act does with the updates: the journal alone sends them, and the physical zone takes them.
+pub data Course (s : Session) (t : Trace) (old : ZoneData) (front : List Item) (made : Trace) (posts : List Post) : Type 0 where
+  still : counted updating front ≡ [] → AllByRecursion Still posts → updates_taken (made ++ t) ≡ updates_taken t → updates_of (durable (made ++ t)) ≡ updates_of (durable t)
+      → Course s t old front made posts
+  takes : (p : PhysicalZone) → old ≡ at.Physical p → AllByRecursion Still posts → updates_taken (made ++ t) ≡ updates_taken t ++ counted updating front → updates_of (durable (made ++ t)) ≡ updates_of (durable t)
+      → Course s t old front made posts
+  sends : (j : JournalZone) → old ≡ at.Journal j → updates_taken (made ++ t) ≡ updates_taken t
+      → updates_of (durable (made ++ t)) ≡ updates_of (durable t) ++ counted updating (items_to s.sizes (physical_number s.sizes) posts)
+      → Course s t old front made posts
+
+module _ (s : Session) (t : Trace) where
+  logical_course : (old : LogicalZone) (v : Vio) (new : LogicalZone) (made : Trace) (posts : List Post) → KeptIn (at.Logical old) → LogicalServes s.sizes old v new made posts → Course s t (at.Logical old) (item.Request v ∷ []) made posts
+  logical_course old v new made posts kept (logical.arrives_retired p d n m q) = still (past v p) (rw q (refl, tt)) (rw m refl) (rw m refl)
+  logical_course old v new made posts kept (logical.arrives_free p d f n m q) = still (past v p) (rw q (refl, tt)) (rw m refl) (rw m refl)
+  logical_course old v new made posts kept (logical.arrives_held p d f n m q) = still (past v p) (rw q tt) (rw m refl) (rw m refl)
+  logical_course old v new made posts kept (logical.looks mapping post p path stays leaf knows goes n m q) = still (past v p) (rw q (goes_still (looked old mapping v) post goes, tt)) (rw m refl) (rw m refl)
+  logical_course old v new made posts kept (logical.needs_leaf x p path stays leaf unknown there n m q) = still (past v p) (rw q (refl, tt)) (rw m refl) (rw m refl)
+  logical_course old v new made posts kept (logical.leafed post p goes n m q) = still (past v p) (rw q (goes_still v post goes, tt)) (rw m refl) (rw m refl)
+  logical_course old v new made posts kept (logical.passes p path passes n m q) = still (past v p) (rw q (refl, passes_still (first_for v.at.0 old.waiting))) (rw m refl) (rw m refl)
+  logical_course old v new made posts kept (logical.settles p bare none n m q) = still (past v p) (rw q (refl, passes_still (first_for v.at.0 old.waiting))) (rw m refl) (rw m refl)
+  logical_course old v new made posts kept (logical.awaits p bare some n m q) = still (past v p) (rw q tt) (rw m refl) (rw m refl)
+  logical_course old v new made posts kept (logical.gives p n m q) = still (past v p) (rw q (refl, passes_still (first_for v.at.0 old.waiting))) (rw m refl) (rw m refl)
+  logical_course old v new made posts kept (logical.aborts p bare n m q) = still (past v p) (rw q (refl, passes_still (first_for v.at.0 old.waiting))) (rw m refl) (rw m refl)
+  logical_course old v new made posts kept (logical.aborts_entered p bare n m q) = still (past v p) (rw q (refl, stopped_still (all_for v.at.0 old.waiting))) (rw m refl) (rw m refl)
+  logical_course old v new made posts kept (logical.is_dropped page p path lack dropped n m q) = still (past v p) (rw q (refl, passes_still (first_for v.at.0 old.waiting))) (rw m refl) (rw m refl)
+  logical_course old v new made posts kept (logical.waits page p path lack linkable made_yet n m q) = still (past v p) (rw q tt) (rw m refl) (rw m refl)
+  logical_course old v new made posts kept (logical.makes_page page p path lack linkable unmade n m q) = still (past v p) (rw q (refl, tt)) (rw m refl) (rw m refl)
+  logical_course old v new made posts kept (logical.links page x between p some to may linked n m q) = still (past v p) (rw q (refl, looks_still old.lacking kept.1)) (rw m refl) (rw m refl)
+  logical_course old v new made posts kept (logical.unmakes page p some n m q) =
+      still (past v p) (rw q (refl, every-append Still (logical.granted v.at.0 old) (logical.all_again old.lacking) (passes_still (first_for v.at.0 old.waiting)) (looks_still old.lacking kept.1))) (rw m refl) (rw m refl)
+  logical_course old v new made posts kept (logical.drops page p some n m q) =
+      still (past v p) (rw q (refl, every-append Still (logical.granted v.at.0 old) (logical.all_again old.lacking) (passes_still (first_for v.at.0 old.waiting)) (looks_still old.lacking kept.1))) (rw m refl) (rw m refl)
+
+  physical_course : (old : PhysicalZone) (v : Vio) (new : PhysicalZone) (made : Trace) (posts : List Post) → PhysicalServes s.sizes old v new made posts → Course s t (at.Physical old) (item.Request v ∷ []) made posts
+  physical_course old v new made posts (physical.claims x z p f n m q) = still (past v p) (rw q (refl, tt)) (rw m refl) (rw m refl)
+  physical_course old v new made posts (PhysicalServes.has_no_space p f n m q) = still (past v p) (rw q (refl, tt)) (rw m refl) (rw m refl)
+  physical_course old v new made posts (PhysicalServes.counts x slab z p claim own fits change n m q) =
+      takes old refl (rw q (refl, tt)) (rw m (ap (λ (us : List CountUpdate). updates_taken t ++ us) (sym (past v p)))) (rw m refl)
+  physical_course old v new made posts (PhysicalServes.drops x z p claim own change n m q) = still (past v p) (rw q (refl, tt)) (rw m refl) (rw m refl)
+  physical_course old v new made posts (PhysicalServes.drops_none p none n m q) = still (past v p) (rw q (refl, tt)) (rw m refl) (rw m refl)
+  physical_course old v new made posts (PhysicalServes.spends p n m q) = still (past v p) (rw q (refl, tt)) (rw m refl) (rw m refl)
+
+  -- a decrement, its report, and what is told of damage are no requests
+  update_course : (old : PhysicalZone) (e : Remapping) (new : PhysicalZone) (made : Trace) (posts : List Post) → PhysicalTakes s.sizes old e new made posts → Course s t (at.Physical old) (item.Decrement e ∷ []) made posts
+  update_course old e new made posts (PhysicalTakes.removes x slab z from own fits change n m q) = takes old refl (rw q (refl, tt)) (rw m refl) (rw m refl)
+  update_course old e new made posts (PhysicalTakes.is_stray x from own stray n m q) = takes old refl (rw q (refl, told old.strays x)) (rw m refl) (rw m refl)
+    where
+      told : (strays : List Remapping) (x : Pbn) → AllByRecursion Still (physical.tells strays x)
+      told [] x = (refl, tt)
+      told (f ∷ strays) x = tt
+
+  heard_course : (old : LogicalZone) (e : Remapping) (new : LogicalZone) (made : Trace) (posts : List Post) → LogicalHears s.sizes old e new made posts → Course s t (at.Logical old) (item.Report e ∷ []) made posts
+  heard_course old e new made posts (LogicalHears.settles v is n m q) = still refl (rw q (refl, passes_still (first_for v.at.0 old.waiting))) (rw m refl) (rw m refl)
+  heard_course old e new made posts (LogicalHears.keeps none n m q) = still refl (rw q tt) (rw m refl) (rw m refl)
+
+  journal_course : (old : JournalZone) (v : Vio) (new : JournalZone) (made : Trace) (posts : List Post) → JournalServes s.sizes old v new made posts → Course s t (at.Journal old) (item.Request v ∷ []) made posts
+  journal_course old v new made posts (journal.is_stopped p c n m q) = still (past v p) (rw q (refl, tt)) (rw m refl) (rw m refl)
+  journal_course old v new made posts (journal.is_full p c h n m q) = still (past v p) (rw q (refl, tt)) (rw m refl) (rw m refl)
+  journal_course old v new made posts (journal.waits p c h r n m q) = still (past v p) (rw q tt) (rw m refl) (rw m refl)
+  journal_course old v new made posts (journal.enters p c h r b n m q) = still (past v p) (rw q tt) (rw m refl) (rw m refl)
+  journal_course old v new made posts (journal.enters_first p c h r b n m q) = still (past v p) (rw q (refl, tt)) (rw m refl) (rw m refl)
+
+  end_course : (old : JournalZone) (b : SealedBlock) (new : JournalZone) (made : Trace) (posts : List Post) → KeptIn (at.Journal old) → AllByRecursion (KeptOk s t phase.Pending) b.vios → JournalEnds s.sizes old b new made posts
+      → Course s t (at.Journal old) (item.Block b ∷ []) made posts
+  end_course old b new made posts kept vios (journal.commits v vs c f d n m q) =
+      let here : KeptOk s t phase.Pending v = (subst (λ (us : List Vio). AllByRecursion (KeptOk s t phase.Pending) us) f vios).0 in
+      let fresh : (page : PageId) → v.page ≡ Some page → IsToBlock v.new = λ page some. (subst (CarriesFor s t v phase.Pending) some (subst (λ (p : Phase). Carries s t v p) here.2 here.1)).1 in
+      let behind : List Post = (id.Journal, item.Block (record b { vios = vs })) ∷ [] in
+      let phys = physical_number s.sizes in
+      let posted = hands_counted s.sizes v v.new (journal.decrement_for v.page (remapping v) v.old ++ behind)
+      ∙ ap (λ (us : List CountUpdate). increment (logged v) v.new ++ us) (decrement_counted s.sizes v.page (remapping v) v.old behind ∙ ap (λ (us : List CountUpdate). decrement v.page (remapping v) v.old ++ us) (silent s.sizes phys (id.Journal, item.Block (record b { vios = vs })) [] refl) ∙ append-nil (decrement v.page (remapping v) v.old)) in
+      sends old refl (rw m refl) (rw (m, q) (ap (λ (us : List CountUpdate). updates_of (durable t) ++ us) (entry_updates v v.page v.new v.old refl refl refl fresh ∙ sym posted)))
+  end_course old b new made posts kept vios (journal.seals v vs c f g d n m q) = still refl (rw q (refl, again_still old.waiting kept.1)) (rw m refl) (rw m refl)
+  end_course old b new made posts kept vios (journal.rests c f g n m q) = still refl (rw q (again_still old.waiting kept.1)) (rw m refl) (rw m refl)
+  end_course old b new made posts kept vios (journal.fails c n m q) =
+      still refl (rw q (every-append Still (all_dropped b.vios) (all_dropped old.filling ++ all_refused s.sizes _ old.waiting) (dropped_still b.vios)
+      (every-append Still (all_dropped old.filling) (all_refused s.sizes _ old.waiting) (dropped_still old.filling) (refused_still s.sizes _ old.waiting)))) (rw m refl) (rw m refl)
+
+  -- what waits for the superblock is none that has yet to draw its place
+  at_device : (v : Vio) (q : Phase) → (row q).zone ≡ AtDevice → counting q (logged v) ≡ []
+  at_device v phase.Count is = absurd cc
+  at_device v other is = refl
+
+  announce_course : (old : DeviceZone) (front : Item) (w : Writer) (new : DeviceZone) (made : Trace) (posts : List Post) → updating front ≡ [] → Announces s.sizes old front w new made posts
+      → Course s t (at.Device old) (front ∷ []) made posts
+  announce_course old front w new made posts none (Announces.succeeds call is goes n m q) = still (ap (λ (us : List CountUpdate). us ++ []) none) (rw q (none, tt)) (rw m refl) (rw m refl)
+  announce_course old front w new made posts none (Announces.fails call kept is goes n m q) = still (ap (λ (us : List CountUpdate). us ++ []) none) (rw q (none, notices_still (notified s.sizes))) (rw m refl) (rw m refl)
+
+  device_course : (old : DeviceZone) (v : Vio) (new : DeviceZone) (made : Trace) (posts : List Post) → DeviceServes s.sizes old v new made posts → Course s t (at.Device old) (item.Request v ∷ []) made posts
+  device_course old v new made posts (device.announces there act) = announce_course old (item.Request v) v.request new made posts (at_device v v.phase there) act
+  device_course old v new made posts (device.stores x p to s durable inside n m q) = still (past v p) (rw q (refl, tt)) (rw m refl) (rw m refl)
+  device_course old v new made posts (device.store_fails x kept p to up durable inside n m q) = still (past v p) (rw q (refl, notices_still (notified s.sizes))) (rw m refl) (rw m refl)
+  device_course old v new made posts (device.store_unmade p s n m q) = still (past v p) (rw q (refl, tt)) (rw m refl) (rw m refl)
+  device_course old v new made posts (device.loads x bytes p from ready inside n m q) = still (past v p) (rw q (refl, tt)) (rw m refl) (rw m refl)
+  device_course old v new made posts (device.load_fails x bytes kept p from ready inside n m q) = still (past v p) (rw q (refl, tt)) (rw m refl) (rw m refl)
+  device_course old v new made posts (device.loads_leaf x bytes mappings p there ready inside page n m q) = still (past v p) (rw q (refl, tt)) (rw m refl) (rw m refl)
+  device_course old v new made posts (device.leaf_fails x bytes kept p there ready inside n m q) = still (past v p) (rw q (refl, tt)) (rw m refl) (rw m refl)
+  device_course old v new made posts (device.harms x bytes fault p there ready inside damaged n m q) = still (past v p) (rw q (refl, after_still s.sizes old.stopped)) (rw m refl) (rw m refl)
+  device_course old v new made posts (device.flushes p s durable n m q) = still (past v p) (rw q (refl, tt)) (rw m refl) (rw m refl)
+  device_course old v new made posts (device.flush_fails kept p up durable n m q) = still (past v p) (rw q (refl, notices_still (notified s.sizes))) (rw m refl) (rw m refl)
+  device_course old v new made posts (device.flush_unmade p s n m q) = still (past v p) (rw q (refl, tt)) (rw m refl) (rw m refl)
+
+  work_course : (old : DeviceZone) (b : SealedBlock) (new : DeviceZone) (made : Trace) (posts : List Post) → DeviceWorks s.sizes old b new made posts → Course s t (at.Device old) (item.Block b ∷ []) made posts
+  work_course old b new made posts (device.announces v vs first there act) = announce_course old (item.Block b) v.request new made posts refl act
+  work_course old b new made posts (device.makes call slot v vs first i c s durable n m q) = still refl (rw q (refl, tt)) (rw m refl) (rw m refl)
+  work_course old b new made posts (device.fails call slot kept v vs w i c up durable n m q) = still refl (rw q (refl, notices_still (notified s.sizes))) (rw m refl) (rw m refl)
+  work_course old b new made posts (device.unmade call slot v vs first c s n m q) = still refl (rw q (refl, tt)) (rw m refl) (rw m refl)
+
+-- a request that is begun brings no update
+begun_still : (sizes : Sizes) (w : Writer) (r : Request) (v : Vio) → vio_of sizes w r ≡ Some v → updating (item.Request v) ≡ []
+begun_still sizes w (request.Read at) v is = subst (λ (v : Vio). updating (item.Request v) ≡ []) (same_Some _ _ is) refl
+begun_still sizes w (request.Write at bytes false) v is = subst (λ (v : Vio). updating (item.Request v) ≡ []) (same_Some _ _ is) refl
+begun_still sizes w (request.Write at bytes true) v is = absurd cc
+begun_still sizes w (request.Discard at) v is = subst (λ (v : Vio). updating (item.Request v) ≡ []) (same_Some _ _ is) refl
+begun_still sizes w request.Flush v is = subst (λ (v : Vio). updating (item.Request v) ≡ []) (same_Some _ _ is) refl
+
+module _ (s : Session) (t : Trace) where
+  begin_course : (old new : Desk) (made : Trace) (posts : List Post) → DeskBegins s.sizes old new made posts → Course s t (at.Desk old) [] made posts
+  begin_course old new made posts (desk.answers w r v reply i h served o n m q) = still refl (rw q tt) (rw m refl) (rw m refl)
+  begin_course old new made posts (desk.sends w r v i h served o n m q) = still refl (rw q (begun_still s.sizes w r v served, tt)) (rw m refl) (rw m refl)
+
+  desk_course : (old : Desk) (v : Vio) (new : Desk) (made : Trace) (posts : List Post) → DeskServes s.sizes old v new made posts → Course s t (at.Desk old) (item.Request v ∷ []) made posts
+  desk_course old v new made posts (desk.parks reply p h stopped told n m q) = still (past v p) (rw q tt) (rw m refl) (rw m refl)
+  desk_course old v new made posts (desk.answers reply p h stopped k n m q) = still (past v p) (rw q tt) (rw m refl) (rw m refl)
+  desk_course old v new made posts (desk.marks p k h n m q) = still (past v p) (rw q tt) (rw m refl) (rw m refl)
+
+  -- each act is one of the three
+  pub course : (n : ℕ) (old : ZoneData) (front : List Item) (new : ZoneData) (made : Trace) (posts : List Post) → Act s.sizes old front new made posts → AllByRecursion (ItemOk s t n) front → KeptIn old
+      → Course s t old front made posts
+  course n old front new made posts (steps.begins act) fronts kept = begin_course _ _ _ _ act
+  course n old front new made posts (steps.answers act) fronts kept = desk_course _ _ _ _ _ act
+  course n old front new made posts (steps.hears {old = d}) fronts kept = still refl (woken_still d.parked kept) refl refl
+  course n old front new made posts (steps.serves act) fronts kept = logical_course s t _ _ _ _ _ kept act
+  course n old front new made posts (steps.settles act) fronts kept = heard_course s t _ _ _ _ _ act
+  course n old front new made posts (steps.updates act) fronts kept = update_course s t _ _ _ _ _ act
+  course n old front new made posts (steps.halts {old = d} act) fronts kept =
+      still refl (subst (AllByRecursion Still) (sym act.posts_are) (after_still s.sizes d.stopped)) (ap (λ (made : Trace). updates_taken (made ++ t)) act.made_is) (ap (λ (made : Trace). updates_of (durable (made ++ t))) act.made_is)
+  course n old front new made posts steps.serves_notice fronts kept = still refl (refl, tt) refl refl
+  course n old front new made posts (steps.takes act) fronts kept = physical_course s t _ _ _ _ _ act
+  course n old front new made posts steps.takes_notice fronts kept = still refl (refl, tt) refl refl
+  course n old front new made posts (steps.enters act) fronts kept = journal_course s t _ _ _ _ _ act
+  course n old front new made posts (steps.ends act) fronts kept = end_course s t _ _ _ _ _ kept fronts.0.0.0 act
+  course n old front new made posts (steps.enters_notice {old = j}) fronts kept = still refl (refl, refused_still s.sizes _ j.waiting) refl refl
+  course n old front new made posts (steps.calls act) fronts kept = device_course s t _ _ _ _ _ act
+  course n old front new made posts (steps.works act) fronts kept = work_course s t _ _ _ _ _ act
+
+-- What each act owes of the updates.
+pub updates_kept : (s : Session) (t : Trace) (n : ℕ) (old : ZoneData) (front : List Item) (made : Trace) (posts : List Post) → DataOk s t n old → Course s t old front made posts
+    → Keeps (updates_at s) s.sizes n t front made posts
+updates_kept s t n old front made posts ok (still f q p sent) = record {
+  sends = λ is. sent ∙ sym (ap (λ (us : List CountUpdate). updates_of (durable t) ++ us) (still_counted s.sizes (physical_number s.sizes) posts q) ∙ append-nil (updates_of (durable t)));
+  sent_same = λ ne. sent;
+  nothing = λ ne. still_counted s.sizes (physical_number s.sizes) posts q;
+  takes = λ is. p ∙ sym (ap (λ (us : List CountUpdate). updates_taken t ++ us) f ∙ append-nil (updates_taken t));
+  taken_same = λ ne. p;
+}
+updates_kept s t n old front made posts ok (takes d is q p sent) =
+    let number : n ≡ physical_number s.sizes = (subst (λ (d : ZoneData). DataOk s t n d) is ok).number_is in
+    record {
+      sends = λ from. absurd (omega (arith, from, number));
+      sent_same = λ ne. sent;
+      nothing = λ ne. still_counted s.sizes (physical_number s.sizes) posts q;
+      takes = λ to. p;
+      taken_same = λ ne. absurd (ne number);
+    }
+updates_kept s t n old front made posts ok (sends j is p sent) =
+    let number : n ≡ journal_number s.sizes = (subst (λ (d : ZoneData). DataOk s t n d) is ok).number_is in
+    record {
+      sends = λ from. sent;
+      sent_same = λ ne. absurd (ne number);
+      nothing = λ ne. absurd (ne number);
+      takes = λ to. absurd (omega (arith, to, number));
+      taken_same = λ ne. p;
+    }

@@ -1,0 +1,159 @@
+-- How often blocks are used by what happened, the updates in their order, and what tokens weigh: each at a small case that has it,
+-- and at one that hasn't.
+use Rattle.std.proofs.Common.{ℕ, ◌≡◌, ◌+◌, true, false, None, Some, List, [], ◌∷◌, replicate, refl, arith, length, ap}
+use Rattle.blk_base.specs.Regions.{IsDataBlock}
+use Rattle.blk_base.specs.declared.place.Mapping.TheVariants.{Unmapped, Zero, At}
+use Rattle.blk_base.specs.declared.place.PageId.{PageId}
+use Rattle.blk_base.specs.declared.place.Pbn.{Pbn}
+use Rattle.data_vio.specs.declared.items.Asks.TheVariants as asks
+use Rattle.data_vio.specs.declared.items.Item.{Item}
+use Rattle.data_vio.specs.declared.items.Item.TheVariants.{Request, Decrement, Report, Damage, StopNotice}
+use Rattle.data_vio.specs.declared.items.Phase.TheVariants as phase
+use Rattle.data_vio.specs.declared.logged.Logged.TheVariants.{Remaps, Makes}
+use Rattle.data_vio.specs.declared.logged.Remapping.{Remapping}
+use Rattle.core_model.specs.CountUpdates.{IsNextUpdate, updates_by, updates_of, updates_taken}
+use Rattle.core_model.specs.CountUpdates as update
+use Rattle.core_model.specs.Facts.{AwaitsReport}
+use Rattle.core_model.specs.Sessions.{Session}
+use Rattle.core_model.specs.Tokens.{Token, block_token, claim_token, damage_token, is_entry, is_old, leads_to, report_token, waiter_token}
+use Rattle.core_model.specs.Trace.{Adds, Commits, Drops, Hears, Removes, Strays, Takes, Trace, added, claimed, damage_in, has_stopped, removed, strayed, unclaimed}
+use Rattle.core_model.specs.Uses.{IsFreeAt, NoneFree, counted, data_blocks, gained, is_used, lost, sum_below, uncounted, used_at, used_of_slab}
+use Rattle.core_model.specs.declared.zones.ZoneData.{ZoneData}
+use Rattle.core_model.specs.declared.zones.ZoneData.TheVariants as at
+use Rattle.vdo_model.specs.declared.report.Damage.TheVariants.{Stray}
+use Rattle.core_model.proofs.rows.PhaseRows.{empty_log, has_block, journal, logical, nothing, one, physical, seven, slab_with, writes, zone_with}
+use Rattle.core_model.proofs.rows.WorkedTraces.{block, first, of_first, of_second, second, session, took}
+use Rattle.blk_base.specs.declared.place.ZoneId.TheVariants as id
+
+abbrev leaf : PageId
+leaf = record { tree = 0; level = 0; index = 0 }
+
+-- a page that the first write made; and an entry that maps an address of block 85 to nothing
+abbrev made : ℕ → Trace → Trace
+made b t = Adds (Makes (record { request = first; page = leaf; at = block b })) ∷ t
+
+abbrev unmaps : Remapping
+unmaps = record of_second { new = Unmapped }
+
+-- the lists by what happened
+lists : (claimed took ≡ block 85 ∷ []) × (unclaimed (Drops first (block 85) ∷ took) ≡ block 85 ∷ []) × (added (made 85 took) ≡ Makes (record { request = first; page = leaf; at = block 85 }) ∷ [])
+    × (removed (Removes of_second ∷ took) ≡ of_second ∷ []) × (strayed (Strays of_second ∷ took) ≡ of_second ∷ [])
+lists = (refl, refl, refl, refl, refl)
+
+not_the_others : (claimed (Drops first (block 85) ∷ []) ≡ []) × (unclaimed took ≡ []) × (added (Commits (Remaps of_first) ∷ took) ≡ []) × (removed (Strays of_second ∷ took) ≡ []) × (strayed (Removes of_second ∷ took) ≡ [])
+not_the_others = (refl, refl, refl, refl, refl)
+
+-- gained, lost: by the opened image and claims; by drops and decrements of this block
+used : (gained session took (block 85) ≡ 1) × (gained (record session { counters = replicate 64 2 }) took (block 85) ≡ 3) × (gained session took (block 86) ≡ 0)
+used = (refl, refl, refl)
+
+let_go : (lost (Drops first (block 85) ∷ took) (block 85) ≡ 1) × (lost (Removes of_second ∷ Drops first (block 85) ∷ took) (block 85) ≡ 2) × (lost (Strays of_second ∷ took) (block 85) ≡ 0) × (lost (Removes of_second ∷ took) (block 86) ≡ 0)
+let_go = (refl, refl, refl, refl)
+
+-- an increment uses no block anew
+not_by_an_increment : gained session (made 85 took) (block 85) ≡ 1
+not_by_an_increment = refl
+
+-- counted, uncounted
+counts : (counted (record session { counters = replicate 64 2 }) (made 85 took) (block 85) ≡ 3) × (counted session (Adds (Remaps of_first) ∷ took) (block 85) ≡ 1) × (counted session took (block 85) ≡ 0)
+    × (uncounted (Removes of_second ∷ took) (block 85) ≡ 1) × (uncounted (Drops first (block 85) ∷ took) (block 85) ≡ 0)
+counts = (refl, refl, refl, refl, refl)
+
+-- IsFreeAt, NoneFree
+free_again : IsFreeAt session (Drops first (block 85) ∷ took) (block 85)
+free_again = refl
+
+not_free : ¬ IsFreeAt session took (block 85)
+not_free = λ free. omega (arith, free)
+
+some_is_free : ¬ NoneFree session took
+some_is_free = λ none. none (block 90) (record { slab = 0; offset = 11; inside = (omega arith, omega arith); stands = refl }) refl
+
+-- is_used: where more mappings were counted than taken off, whatever was claimed
+used_ones : (is_used session (made 85 took) (block 85) ≡ true) × (is_used (record session { counters = replicate 64 2 }) (Removes of_second ∷ []) (block 85) ≡ true)
+used_ones = (refl, refl)
+
+not_used : (is_used session took (block 85) ≡ false) × (is_used session (made 85 took) (block 86) ≡ false) × (is_used session (Removes of_second ∷ made 85 took) (block 85) ≡ false)
+not_used = (refl, refl, refl)
+
+-- sum_below, used_of_slab, used_at, data_blocks
+sums : (sum_below (λ n. n) 4 ≡ 6) × (sum_below (λ n. 7) 0 ≡ 0)
+sums = (refl, refl)
+
+used_of_all : (used_at (record session { counters = replicate 64 2 }) took ≡ 64) × (used_at session (made 85 (made 90 took)) ≡ 2) × (used_of_slab session (made 85 (made 90 took)) 1 ≡ 0)
+    × (used_at session (Removes of_second ∷ made 85 took) ≡ 0) × (data_blocks session.sizes.geometry ≡ 64)
+used_of_all = (refl, refl, refl, refl, refl)
+
+-- updates: an increment, then the decrement; of a new page an increment; of zeros and of nothing none
+of_an_entry : updates_by (Remaps of_second) ≡ update.Increment (Remaps of_second) ∷ update.Decrement of_second ∷ []
+of_an_entry = refl
+
+of_others : (updates_by (Makes (record { request = first; page = leaf; at = block 85 })) ≡ update.Increment (Makes (record { request = first; page = leaf; at = block 85 })) ∷ [])
+    × (updates_by (Remaps unmaps) ≡ update.Decrement unmaps ∷ []) × (updates_by (Remaps (record of_first { new = Zero })) ≡ [])
+of_others = (refl, refl, refl)
+
+in_their_order : updates_of (Remaps of_second ∷ Remaps of_first ∷ []) ≡ update.Increment (Remaps of_first) ∷ update.Increment (Remaps of_second) ∷ update.Decrement of_second ∷ []
+in_their_order = refl
+
+taken_so_far : (updates_taken (Strays of_second ∷ Adds (Remaps of_second) ∷ Adds (Remaps of_first) ∷ took) ≡ updates_of (Remaps of_second ∷ Remaps of_first ∷ []))
+    × (updates_taken (Removes of_second ∷ Adds (Remaps of_second) ∷ Adds (Remaps of_first) ∷ took) ≡ updates_of (Remaps of_second ∷ Remaps of_first ∷ []))
+taken_so_far = (refl, refl)
+
+next_one : IsNextUpdate (Remaps of_second ∷ Remaps of_first ∷ []) (Adds (Remaps of_first) ∷ took) (update.Increment (Remaps of_second))
+next_one = (update.Decrement of_second ∷ [], refl)
+
+none_is_next : (u : update.CountUpdate) → ¬ IsNextUpdate (Remaps of_first ∷ []) (Adds (Remaps of_first) ∷ took) u
+none_is_next u = λ is. let all = ap length is.1 in omega (arith, all)
+
+-- damage of another zone stops the session, and is its damage
+stops : (has_stopped (Hears (Stray (block 85) 0) ∷ took) ≡ true) × (damage_in (Hears (Stray (block 86) 0) ∷ Hears (Stray (block 85) 0) ∷ took) ≡ Some (Stray (block 85) 0)) × (has_stopped (Strays of_second ∷ took) ≡ false)
+stops = (refl, refl, refl)
+
+-- What items weigh for a block, and for its claims: a claim, before its entry is handed in, and then too; a decrement.
+abbrev blocks : Token
+blocks = block_token (λ x. 0) (block 85)
+
+weighs : (blocks.item (Request (has_block phase.Store)) ≡ 1) × (blocks.item (Request (has_block phase.Pending)) ≡ 0) × (blocks.item (Request (writes phase.Settle)) ≡ 0) × (blocks.item (Decrement of_second) ≡ 1)
+    × (blocks.item (Report of_second) ≡ 0) × ((claim_token (block 85)).item (Request (has_block phase.Pending)) ≡ 1) × ((claim_token (block 86)).item (Request (has_block phase.Pending)) ≡ 0)
+weighs = (refl, refl, refl, refl, refl, refl, refl)
+
+-- what zones have, and give: the entries that were handed in, with the opened mappings; counters, claims, and what was replaced
+zones_weigh : (blocks.own (journal true empty_log [] [] (of_first ∷ []) []) ≡ 1) × ((block_token (λ x. 7) (block 85)).own (journal true empty_log [] [] [] []) ≡ 7) × (blocks.gave (journal true empty_log [] [] [] (of_second ∷ [])) ≡ 1)
+    × (blocks.gave (physical seven one) ≡ 2) × (blocks.gave (physical nothing nothing) ≡ 0) × ((claim_token (block 85)).gave (physical seven one) ≡ 1)
+zones_weigh = (refl, refl, refl, refl, refl, refl)
+
+-- reports and their requests: of an entry that replaces a block
+reports_weigh : ((report_token second).item (Decrement of_second) ≡ 1) × ((report_token second).item (Report of_second) ≡ 1) × ((report_token first).item (Report of_second) ≡ 0) × ((report_token first).item (Decrement of_first) ≡ 0)
+    × ((report_token second).gave (journal true empty_log [] [] [] (of_second ∷ [])) ≡ 1) × ((report_token second).own (logical 3 [] [] [] [] (of_second ∷ [])) ≡ 1)
+reports_weigh = (refl, refl, refl, refl, refl, refl)
+
+waiters_weigh : ((waiter_token first).item (Request (record (writes phase.Settle) { old = At (block 90) })) ≡ 1) × ((waiter_token first).item (Request (record (writes phase.Count) { old = At (block 90) })) ≡ 1)
+    × ((waiter_token first).item (Request (record (writes phase.Pending) { old = At (block 90) })) ≡ 0) × ((waiter_token first).item (Request (writes phase.Settle)) ≡ 0)
+    × ((waiter_token first).item (Request (record (writes phase.Settle) { old = At (block 90); page = Some leaf })) ≡ 0)
+waiters_weigh = (refl, refl, refl, refl, refl)
+
+abbrev strayed_zone : ZoneData
+strayed_zone = at.Physical (record { notified = false; strays = of_second ∷ []; counts = zone_with (slab_with nothing nothing) })
+
+strays_weigh : (blocks.own strayed_zone ≡ 1) × (blocks.own (physical seven one) ≡ 0)
+strays_weigh = (refl, refl)
+
+damage_weighs : (damage_token.item (Damage (Stray (block 85) 0)) ≡ 1) × (damage_token.item StopNotice ≡ 0) × (damage_token.gave (physical nothing nothing) ≡ 0)
+    × (damage_token.gave strayed_zone ≡ 1)
+damage_weighs = (refl, refl, refl, refl)
+
+-- AwaitsReport: its entry replaces a block, and the report isn't there
+awaits : AwaitsReport 0 [] (record (writes phase.Settle) { old = At (block 90) })
+awaits = record { at_home = refl; own = refl; replaces = tt; none = refl }
+
+awaits_though_reported : ¬ AwaitsReport 0 (of_first ∷ []) (record (writes phase.Settle) { old = At (block 90) })
+awaits_though_reported = λ is. let no = is.none in absurd cc
+
+awaits_for_nothing : ¬ AwaitsReport 0 [] (writes phase.Settle)
+awaits_for_nothing = λ is. is.replaces
+
+awaits_elsewhere : ¬ AwaitsReport 1 [] (record (writes phase.Settle) { old = At (block 90) })
+awaits_elsewhere = λ is. let no = is.at_home in absurd cc
+
+awaits_for_a_page : ¬ AwaitsReport 0 [] (record (writes phase.Settle) { old = At (block 90); page = Some leaf })
+awaits_for_a_page = λ is. let no = is.own in absurd cc
