@@ -1,8 +1,9 @@
 -- The zones of a legal core have what its report says.
 use Rattle.std.proofs.Common.{ℕ, suc, ◌≡◌, ◌<◌, ◌≤◌, ◌+◌, ◌-◌, ◌++◌, Option, Some, List, [], ◌∷◌, length, slice_get, refl, sym, ◌∙◌, ap, subst, append_assoc, inl, inr, arith}
 use Rattle.std.proofs.lemmas.List.{append-nil}
+use Rattle.std.proofs.lemmas.Option.{same_Some}
 use Rattle.core_laws.proofs.Common.{AllAnswered, AllByRecursion, AreDrawn, DataOk, DeskLine, HistoryEntry, IsSession, Placed, RunReport, Script, Session, Trace, Zone, ZoneData, desk_number, journal_number, journaled, lines, marks, places, some_is, cases_lt}
-use Rattle.core_laws.proofs.kept.ZoneKinds.{desk_sits, device_sits, journal_sits}
+use Rattle.core_laws.proofs.kept.ZoneKinds.{desk_sits, device_sits, journal_sits, physical_sits}
 use Rattle.core_laws.proofs.trace.PlacesOfTrace.{places_drawn}
 use Rattle.core_limits.proofs.DeskLimits.{asked_inside}
 use Rattle.core_limits.proofs.PlaceLimits.{places_few}
@@ -11,7 +12,11 @@ use Rattle.vdo_model.specs.Histories.{histories_of}
 use Rattle.vdo_model.specs.ZoneOrder.{by_zone}
 use Rattle.core_model.specs.DeskData.{Desk}
 use Rattle.core_model.specs.Trace.{damage_in}
-use Rattle.data_vio.specs.Zones.{device_number}
+use Rattle.core_model.specs.Uses.{data_blocks, used_at}
+use Rattle.core_model.specs.declared.zones.PhysicalZone.{PhysicalZone}
+use Rattle.data_vio.specs.Zones.{device_number, physical_number}
+use Rattle.blk_base.specs.declared.geometry.Geometry.{Geometry}
+use Rattle.zone_counts.specs.Zone.{Zone as Counters, used_in}
 use Rattle.vdo_model.specs.declared.report.Damage.{Damage}
 use Rattle.core_model.specs.declared.desk.DeskReport.{DeskReport}
 use Rattle.core_model.specs.Legal.{Legal}
@@ -20,8 +25,9 @@ use Rattle.core_model.specs.Reports.{listed_places, progress_of, report_of}
 use Rattle.core_model.specs.SessionLimits.{most_requests, most_streams}
 use Rattle.core_model.specs.declared.zones.ZoneData.TheVariants as at
 use Rattle.core_reports.specs.Found.{AreFound, IsFound}
-use Rattle.core_reports.specs.Listed.{HasDamage, HasDesk, HasEntered, places_at, places_of_all}
+use Rattle.core_reports.specs.Listed.{HasCounters, HasDamage, HasDesk, HasEntered, places_at, places_of_all}
 use Rattle.core_reports.specs.Rooms.{IsRoomFor}
+use Rattle.core_reports.proofs.UsedLaws.{used_told}
 
 module _ (s : Session) (t : Trace) where
   -- so many logical zones stand below this number
@@ -165,12 +171,39 @@ module _ (s : Session) (t : Trace) (zones : List Zone) (session : IsSession s) (
         each = λ n z d had keeps. (own n z (at.Device d) had keeps).lists.damage_is;
       }
 
-  -- so the desk, the places, the histories and the damage make the report
-  pub report_is : (rows : DeskReport) (ps : List Placed) (hs : List HistoryEntry) (damage : Option Damage)
+  -- the counters of the physical zone, with what they say of the space
+  pub record ItsCounters : Type 0 where
+    pub counts : Counters
+    pub has : HasCounters counts zones
+    pub used_is : used_in counts.slabs ≡ used_at s t
+    pub total_is : data_blocks counts.geometry ≡ data_blocks s.sizes.geometry
+
+  pub its_counters : ItsCounters
+  its_counters =
+      let sits = physical_sits s t zones legal.each legal.count in
+      let is = own (physical_number s.sizes) sits.zone (at.Physical sits.it) sits.had sits.keeps in
+      record {
+        counts = sits.it.counts;
+        has = record { number = physical_number s.sizes; zone = sits.zone; physical = sits.it; had = sits.had; keeps = sits.keeps; each = each sits.zone sits.it sits.had sits.keeps };
+        used_is = used_told s t sits.it.counts is.sound.is_zone is.sound.geometry is.sound.zones is.lists.counters;
+        total_is = ap data_blocks is.sound.geometry;
+      }
+    where
+      each : (first : Zone) (it : PhysicalZone) → slice_get zones (physical_number s.sizes) ≡ Some first → first.keeps ≡ at.Physical it
+          → (n : ℕ) (z : Zone) (p : PhysicalZone) → slice_get zones n ≡ Some z → z.keeps ≡ at.Physical p → p.counts ≡ it.counts
+      each first it there keeps n z p had has =
+          let number = (own n z (at.Physical p) had has).number_is in
+          let zone : z ≡ first = same_Some _ _ (sym had ∙ ap (λ (k : ℕ). slice_get zones k) number ∙ there) in
+          let same : at.Physical p ≡ at.Physical it = sym has ∙ ap (λ (y : Zone). y.keeps) zone ∙ keeps in
+          let parts : p ≡ it = cc same in
+          ap (λ (q : PhysicalZone). q.counts) parts
+
+  -- so the desk, the places, the histories, the damage and the counters make the report
+  pub report_is : (rows : DeskReport) (ps : List Placed) (hs : List HistoryEntry) (damage : Option Damage) (used total : ℕ)
       → rows ≡ record { requests = its_desk.desk.requests; log = its_desk.desk.log; marks = its_desk.desk.marks } → ps ≡ places_of_all zones
-      → hs ≡ histories_of its_desk.desk.requests its_desk.desk.log (progress_of t) ps → damage ≡ damage_in t
-      → ◌≡◌ {A = RunReport} (record { requests = rows.requests; desk = rows.log; marks = rows.marks; places = ps; histories = hs; damage = damage }) (report_of s t)
-  report_is rows ps hs damage rows_are ps_are hs_are damage_is =
+      → hs ≡ histories_of its_desk.desk.requests its_desk.desk.log (progress_of t) ps → damage ≡ damage_in t → used ≡ used_in its_counters.counts.slabs → total ≡ data_blocks its_counters.counts.geometry
+      → ◌≡◌ {A = RunReport} (record { requests = rows.requests; desk = rows.log; marks = rows.marks; places = ps; histories = hs; damage = damage; used = used; total = total }) (report_of s t)
+  report_is rows ps hs damage used total rows_are ps_are hs_are damage_is used_is total_is =
       let placed : ps ≡ listed_places s t = ps_are ∙ places_listed in
       let requests : rows.requests ≡ s.script = ap (λ (r : DeskReport). r.requests) rows_are ∙ its_desk.requests_is in
       let log : rows.log ≡ lines t = ap (λ (r : DeskReport). r.log) rows_are ∙ its_desk.log_is in
@@ -180,4 +213,6 @@ module _ (s : Session) (t : Trace) (zones : List Zone) (session : IsSession s) (
       ∙ ap (λ (script : Script). histories_of script its_desk.desk.log (progress_of t) ps) its_desk.requests_is
       ∙ ap (λ (desk : List DeskLine). histories_of s.script desk (progress_of t) ps) its_desk.log_is
       ∙ ap (λ (qs : List Placed). histories_of s.script (lines t) (progress_of t) qs) placed in
-      rw (requests, log, marked, placed, histories, damage_is) refl
+      let used_blocks : used ≡ used_at s t = used_is ∙ its_counters.used_is in
+      let blocks : total ≡ data_blocks s.sizes.geometry = total_is ∙ its_counters.total_is in
+      rw (requests, log, marked, placed, histories, damage_is, used_blocks, blocks) refl

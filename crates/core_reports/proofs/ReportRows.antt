@@ -18,6 +18,8 @@ use Rattle.core_model.specs.Reports.{is_there}
 use Rattle.core_model.specs.Trace.{logged_of, remappings}
 use Rattle.core_model.specs.JournalData.{JournalZone}
 use Rattle.core_model.specs.declared.zones.DeviceZone.{DeviceZone}
+use Rattle.core_model.specs.declared.zones.PhysicalZone.{PhysicalZone}
+use Rattle.zone_counts.specs.Zone.{Zone as Counters, used_in}
 use Rattle.core_model.specs.declared.zones.SuperblockStage.TheVariants.{Durable}
 use Rattle.page_codec.specs.declared.fault.PageFault.TheVariants.{Header}
 use Rattle.vdo_model.specs.declared.report.Damage.{Damage}
@@ -27,10 +29,10 @@ use Rattle.data_vio.specs.declared.logged.Remapping.{Remapping}
 use Rattle.core_model.specs.declared.zones.Zone.{Zone}
 use Rattle.core_model.specs.declared.zones.ZoneData.{ZoneData}
 use Rattle.core_model.specs.declared.zones.ZoneData.TheVariants as at
-use Rattle.core_model.proofs.rows.PhaseRows.{desk, device, empty_log, journal, logical, physical}
+use Rattle.core_model.proofs.rows.PhaseRows.{desk, device, empty_log, journal, logical, nothing, one, physical, slab_with, zone_with}
 use Rattle.core_model.proofs.rows.WorkedTraces.{block, first, of_first, other, place, script, second, writer}
 use Rattle.core_reports.specs.Found.{AreFound, AreNoted, IsFound}
-use Rattle.core_reports.specs.Listed.{HasDamage, HasDesk, HasEntered, places_at, places_of_all}
+use Rattle.core_reports.specs.Listed.{HasCounters, HasDamage, HasDesk, HasEntered, places_at, places_of_all}
 use Rattle.core_reports.specs.Rooms.{IsRoomFor}
 
 -- room: for one request of stream 0 and two of stream 1, and too little for stream 1
@@ -59,7 +61,7 @@ abbrev of_journal : List Remapping → Zone
 of_journal entries = zone 4 (journal false empty_log [] [] entries [])
 
 abbrev zones : List Zone
-zones = front ∷ zone 1 (logical 2 near [] [] [] []) ∷ zone 2 (logical 1 far [] [] [] []) ∷ zone 3 (physical []) ∷ of_journal (of_first ∷ []) ∷ zone 5 (device false 0) ∷ []
+zones = front ∷ zone 1 (logical 2 near [] [] [] []) ∷ zone 2 (logical 1 far [] [] [] []) ∷ zone 3 (physical nothing nothing) ∷ of_journal (of_first ∷ []) ∷ zone 5 (device false 0) ∷ []
 
 -- a logical zone alone has places
 places_at_logical : places_at (logical 2 near [] [] [] []) ≡ near
@@ -163,6 +165,33 @@ no_device is = by is.number is.zone is.device is.had is.keeps
 
 two_devices : HasDamage bad_leaf (of_device bad_leaf ∷ of_device None ∷ []) → ⊥
 two_devices is = absurd (let none = is.each 1 (of_device None) _ refl refl in cc)
+
+-- the physical zone, with these counters
+abbrev of_counters : List ℕ → Zone
+of_counters counters = zone 3 (physical counters nothing)
+
+abbrev counters_at : ZoneData → Option Counters
+counters_at (at.Physical p) = Some p.counts
+counters_at kept = None
+
+counters_there : HasCounters (zone_with (slab_with one nothing)) (front ∷ of_counters one ∷ [])
+counters_there = record { number = 1; zone = of_counters one; physical = _; had = refl; keeps = refl; each = each }
+  where
+    each : (n : ℕ) (z : Zone) (p : PhysicalZone) → slice_get (front ∷ of_counters one ∷ []) n ≡ Some z → z.keeps ≡ at.Physical p → p.counts ≡ zone_with (slab_with one nothing)
+    each zero z p had keeps = absurd (let same : desk [] [] 0 [] ≡ at.Physical p = ap (λ (y : Zone). y.keeps) (same_Some _ _ had) ∙ keeps in cc)
+    each (suc zero) z p had keeps = same_Some _ _ (ap counters_at (sym (ap (λ (y : Zone). y.keeps) (same_Some _ _ had) ∙ keeps)))
+    each (suc (suc n)) z p had keeps = absurd cc
+
+-- had, keeps: there is none; each: there are two, and one of them has other counters
+no_physical : HasCounters (zone_with (slab_with one nothing)) (front ∷ []) → ⊥
+no_physical is = by is.number is.zone is.physical is.had is.keeps
+  where
+    by : (n : ℕ) (z : Zone) (p : PhysicalZone) → slice_get (front ∷ []) n ≡ Some z → z.keeps ≡ at.Physical p → ⊥
+    by zero z p had keeps = let same : desk [] [] 0 [] ≡ at.Physical p = ap (λ (y : Zone). y.keeps) (same_Some _ _ had) ∙ keeps in cc
+    by (suc n) z p had keeps = cc
+
+two_physical : HasCounters (zone_with (slab_with one nothing)) (of_counters one ∷ of_counters nothing ∷ []) → ⊥
+two_physical is = absurd (let none = is.each 1 (of_counters nothing) _ refl refl in let used = ap (λ (c : Counters). used_in c.slabs) none in cc)
 
 -- notes: the first request of stream 0 is answered by line 1
 abbrev answered : Writer → List DeskLine

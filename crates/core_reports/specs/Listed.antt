@@ -7,9 +7,11 @@ use Rattle.data_vio.specs.Zones.{desk_number}
 use Rattle.core_model.specs.JournalData.{JournalZone}
 use Rattle.data_vio.specs.declared.logged.Logged.{Logged}
 use Rattle.core_model.specs.declared.zones.DeviceZone.{DeviceZone}
+use Rattle.core_model.specs.declared.zones.PhysicalZone.{PhysicalZone}
 use Rattle.core_model.specs.declared.zones.Zone.{Zone}
 use Rattle.core_model.specs.declared.zones.ZoneData.{ZoneData}
 use Rattle.core_model.specs.declared.zones.ZoneData.TheVariants as at
+use Rattle.zone_counts.specs.Zone.{Zone as Counters}
 
 -- the places that a zone drew
 abbrev pub places_at : ZoneData → List Placed
@@ -44,3 +46,12 @@ pub record HasDamage (damage : Option Damage) (zones : List Zone) : Type 0 where
   pub had : slice_get zones number ≡ Some zone
   pub keeps : zone.keeps ≡ at.Device device
   pub each : (n : ℕ) (z : Zone) (d : DeviceZone) → slice_get zones n ≡ Some z → z.keeps ≡ at.Device d → d.damage ≡ damage
+
+-- the physical zone is there, and each that is there has these counters
+pub record HasCounters (counts : Counters) (zones : List Zone) : Type 0 where
+  pub number : ℕ
+  pub zone : Zone
+  pub physical : PhysicalZone
+  pub had : slice_get zones number ≡ Some zone
+  pub keeps : zone.keeps ≡ at.Physical physical
+  pub each : (n : ℕ) (z : Zone) (p : PhysicalZone) → slice_get zones n ≡ Some z → z.keeps ≡ at.Physical p → p.counts ≡ counts

@@ -2,8 +2,10 @@ ghost use Rattle.std.specs.Prelude.{◌≡◌, ◌+◌, ◌≤◌, ◌++◌, Opt
 ghost use Rattle.core_model.specs.DeskData.{Desk as DeskData};
 ghost use Rattle.core_model.specs.SessionLimits.{most_requests};
 ghost use Rattle.data_vio.specs.declared.logged.Logged.{Logged as Entered};
-ghost use Rattle.core_reports.specs.Listed.{HasDamage, HasDesk, HasEntered, places_at, places_of_all};
+ghost use Rattle.core_model.specs.Uses.{data_blocks};
+ghost use Rattle.core_reports.specs.Listed.{HasCounters, HasDamage, HasDesk, HasEntered, places_at, places_of_all};
 ghost use Rattle.vdo_model.specs.declared.report.Damage.{Damage as Found};
+ghost use Rattle.zone_counts.specs.Zone.{Zone as Counters, used_in};
 
 use core_model::{DeskReport, Zone, ZoneData};
 use data_vio::{Logged, REQUEST_ROOM, Register};
@@ -64,6 +66,29 @@ pub(crate) fn damage(zones: &[Zone]) -> Option<Damage>
         }
     }
     None
+}
+
+/// How many data blocks have a counter above 0, and how many there are.
+#[derive(Clone, Copy, Debug, PartialEq, Eq)]
+pub(crate) struct Space {
+    pub(crate) used: u32,
+    pub(crate) total: u32,
+}
+
+/// How much of the space is used, by the counters of the physical zone.
+pub(crate) fn used_space(zones: &[Zone]) -> Space
+    ensures { (counts : Counters) → HasCounters counts zones.now →
+        result ≡ record { used = used_in counts.slabs; total = data_blocks counts.geometry } }
+{
+    for zone in zones {
+        if let ZoneData::Physical(physical) = &zone.keeps {
+            return Space {
+                used: physical.counts.used(),
+                total: physical.counts.total(),
+            };
+        }
+    }
+    Space { used: 0, total: 0 }
 }
 
 /// What a report has of the desk.

@@ -12,22 +12,21 @@ ghost use Rattle.step_parts.specs.Acts.{ActsAlone};
 ghost use Rattle.desk_zone.specs.Begins.{CanBegin};
 
 use crate::replies::is_notified;
-use blk_base::{Answer, Block, Lba, Mapping, PAGE_SLOTS, Request, TREES, Writer, ZoneId};
+use blk_base::{Answer, Block, Lba, Mapping, Request, Writer, ZoneId};
 use core_model::Desk;
 use data_vio::{Asks, Item, Phase, Sizes, Vio};
-use step_parts::Posts;
+use step_parts::{Posts, home_of};
 
 // A request for an address when it is begun.
 fn begun_vio(sizes: &Sizes, request: Writer, asks: Asks, at: Lba, bytes: Block) -> Vio
     requires { 0 < sizes.now.zones }
     ensures { result ≡ vios.begun_vio sizes.now request asks at bytes }
 {
-    let tree = (at.0 / u32::from(PAGE_SLOTS) % u32::from(TREES)) as u8;
     Vio {
         request,
         asks,
         at,
-        home: ZoneId::Logical(u32::from(tree % sizes.zones)),
+        home: home_of(sizes, at),
         phase: Phase::Arrive,
         page: None,
         leaf: None,
@@ -36,6 +35,7 @@ fn begun_vio(sizes: &Sizes, request: Writer, asks: Asks, at: Lba, bytes: Block) 
         old: Mapping::Unmapped,
         latest: None,
         new: Mapping::Unmapped,
+        claim: None,
         answer: None,
         calls: 0,
     }

@@ -19,6 +19,6 @@ pub fn act(sizes: &Sizes, desk: &mut Desk, item: Item, posts: &mut Posts)
     match item {
         Item::Request(vio) => serve_desk(sizes, desk, vio),
         Item::StopNotice => hear_stop(desk, posts),
-        Item::Block(_) => unreachable!(),
+        Item::Decrement(_) | Item::Report(_) | Item::Damage(_) | Item::Block(_) => unreachable!(),
     }
 }

@@ -1,5 +1,5 @@
 -- What the device's zone did is an act, with its calls.
-use Rattle.std.proofs.Common.{◌≡◌, ◌⊎◌, ◌<◌, Bool, true, false, Some, List, [], ◌∷◌, length, refl, sym, ◌∙◌, subst, inl, inr, arith}
+use Rattle.std.proofs.Common.{◌≡◌, ◌⊎◌, ◌<◌, Bool, true, false, Some, List, [], ◌∷◌, ◌++◌, length, refl, ap, sym, ◌∙◌, subst, inl, inr, arith}
 use Rattle.blk_base.specs.declared.place.ZoneId.TheVariants as id
 use Rattle.blk_base.specs.declared.request.Writer.{Writer}
 use Rattle.blk_base.specs.declared.place.Pbn.{Pbn}
@@ -17,7 +17,7 @@ use Rattle.data_vio.specs.declared.items.Vio.{Vio}
 use Rattle.data_vio.specs.declared.sizes.Sizes.{Sizes}
 use Rattle.core_model.specs.declared.zones.ZoneData.TheVariants as at
 use Rattle.core_model.specs.declared.zones.DeviceZone.{DeviceZone}
-use Rattle.core_model.specs.DeviceRules.{Announces, DeviceServes, DeviceWorks, IsReady, call_of, superblock_call}
+use Rattle.core_model.specs.DeviceRules.{Announces, DeviceServes, DeviceWorks, IsReady, call_of, harmed, notices_after, superblock_call}
 use Rattle.core_model.specs.declared.zones.SuperblockStage.{SuperblockStage}
 use Rattle.core_model.specs.declared.zones.SuperblockStage.TheVariants.{AsOpened, Written, Durable}
 use Rattle.core_model.specs.DeviceRules as device
@@ -25,11 +25,13 @@ use Rattle.disk_model.specs.declared.call.Call.TheVariants.{Flush}
 use Rattle.device_zone.specs.DeviceCalls.{is_awaited, needs_call}
 use Rattle.device_zone.specs.Served.{CanServe, IsAtInside, IsLeafInside}
 use Rattle.core_model.specs.Steps.{HasAct}
-use Rattle.core_model.specs.Steps.Act.{calls, works}
-use Rattle.core_model.specs.Trace.{Trace}
+use Rattle.core_model.specs.Steps.Act.{calls, halts, works}
+use Rattle.core_model.specs.Trace.{Hears, Trace}
 use Rattle.data_vio.specs.Vios.{Post}
 use Rattle.step_parts.specs.Acts.{Acts}
 use Rattle.step_parts.specs.DeviceLog.{HasCalled}
+use Rattle.step_parts.proofs.SilentLaws.{none_called}
+use Rattle.vdo_model.specs.declared.report.Damage.{Damage}
 
 pub acts : (tells honest : Bool) (sizes : Sizes) (old new : DeviceZone) (v : Vio) (posts : List Post) (before after : Seen)
     → ((made : Trace) × DeviceServes sizes old v new made posts × HasCalled tells honest before after made)
@@ -40,6 +42,16 @@ pub works_on : (tells honest : Bool) (sizes : Sizes) (old new : DeviceZone) (b :
     → ((made : Trace) × DeviceWorks sizes old b new made posts × HasCalled tells honest before after made)
     → Acts tells honest sizes (at.Device old) (item.Block b ∷ []) (at.Device new) posts before after
 works_on tells honest sizes old new b posts before after (made, row, log) = (made, works row, log)
+
+-- it is told of damage, and the device isn't called
+pub hears : (tells honest : Bool) (sizes : Sizes) (old new : DeviceZone) (damage : Damage) (held posts : List Post) (seen : Seen)
+    → new ≡ harmed damage old → held ≡ [] → posts ≡ held ++ notices_after old.stopped sizes
+    → Acts tells honest sizes (at.Device old) (item.Damage damage ∷ []) (at.Device new) posts seen seen
+hears tells honest sizes old new damage held posts seen new_is none posts_are = (
+  Hears damage ∷ [],
+  halts (record { new_is = new_is; made_is = refl; posts_are = posts_are ∙ ap (λ (ps : List Post). ps ++ notices_after old.stopped sizes) none }),
+  none_called (Hears damage ∷ []) refl refl refl tells honest seen,
+)
 
 served_there : (sizes : Sizes) (old : DeviceZone) (v : Vio) (q : Phase) → CanServe sizes old v q → (row q).zone ≡ AtDevice
 served_there sizes old v phase.Store can = refl
@@ -101,7 +113,7 @@ serves : (sizes : Sizes) (old : DeviceZone) (v : Vio) (new : DeviceZone) (made :
 serves sizes old v new made posts (device.announces there act) = by_phase sizes old v v.phase there (waits_still sizes old (item.Request v) v.request new made posts act)
 serves sizes old v new made posts (device.stores x p to r durable inside h1 h2 h3) = subst (CanServe sizes old v) (sym p) (λ runs lasts. subst (IsAtInside sizes) (sym to) inside)
 serves sizes old v new made posts (device.store_fails x kept p to r durable inside h1 h2 h3) = subst (CanServe sizes old v) (sym p) (λ runs lasts. subst (IsAtInside sizes) (sym to) inside)
-serves sizes old v new made posts (device.store_unmade p halts h1 h2 h3) = subst (CanServe sizes old v) (sym p) (λ runs lasts. absurd cc)
+serves sizes old v new made posts (device.store_unmade p stops h1 h2 h3) = subst (CanServe sizes old v) (sym p) (λ runs lasts. absurd cc)
 serves sizes old v new made posts (device.loads x bytes p from ready inside h1 h2 h3) = subst (CanServe sizes old v) (sym p) (λ now. subst (IsAtInside sizes) (sym from) inside)
 serves sizes old v new made posts (device.load_fails x bytes kept p from ready inside h1 h2 h3) = subst (CanServe sizes old v) (sym p) (λ now. subst (IsAtInside sizes) (sym from) inside)
 serves sizes old v new made posts (device.loads_leaf x bytes ms p from ready inside is h1 h2 h3) = subst (CanServe sizes old v) (sym p) (λ now. subst (IsLeafInside sizes) (sym from) inside)
@@ -109,7 +121,7 @@ serves sizes old v new made posts (device.leaf_fails x bytes kept p from ready i
 serves sizes old v new made posts (device.harms x bytes fault p from ready inside is h1 h2 h3) = subst (CanServe sizes old v) (sym p) (λ now. subst (IsLeafInside sizes) (sym from) inside)
 serves sizes old v new made posts (device.flushes p r durable h1 h2 h3) = subst (CanServe sizes old v) (sym p) tt
 serves sizes old v new made posts (device.flush_fails kept p r durable h1 h2 h3) = subst (CanServe sizes old v) (sym p) tt
-serves sizes old v new made posts (device.flush_unmade p halts h1 h2 h3) = subst (CanServe sizes old v) (sym p) tt
+serves sizes old v new made posts (device.flush_unmade p stops h1 h2 h3) = subst (CanServe sizes old v) (sym p) tt
 
 pub can_serve : (sizes : Sizes) (old : DeviceZone) (v : Vio) → HasAct sizes (at.Device old) (item.Request v ∷ []) → CanServe sizes old v v.phase
 can_serve sizes old v (new, made, posts, calls row) = serves sizes old v _ _ _ row

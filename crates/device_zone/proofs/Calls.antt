@@ -1,5 +1,5 @@
 -- What a call leaves in the log of the device, as a part of the trace.
-use Rattle.std.proofs.Common.{◌≡◌, ◌<◌, ◌≤◌, Bool, true, false, List, [], ◌∷◌, Result, Ok, Err, OnOk, OnErr, Some, IsTrue, ℕ, length, slice_index_or, refl, ap, sym, ◌∙◌, inl, inr, arith}
+use Rattle.std.proofs.Common.{◌≡◌, ◌<◌, ◌≤◌, Bool, true, false, List, [], ◌∷◌, ◌++◌, Result, Ok, Err, OnOk, OnErr, Some, IsTrue, ℕ, length, slice_index_or, refl, ap, sym, ◌∙◌, inl, inr, arith}
 use Rattle.blk_base.specs.declared.place.Pbn.{Pbn}
 use Rattle.blk_base.specs.declared.place.ZoneId.{ZoneId}
 use Rattle.blk_base.specs.declared.request.Writer.{Writer}
@@ -103,5 +103,6 @@ pub posts_leaf : (posts : List Post) (v w seen seen_too : Vio) (mapping : Mappin
     → mapping ≡ slice_index_or ms (slot_of_address seen_too.at.0) Unmapped → seen ≡ v → seen_too ≡ v → posts ≡ (v.home, item.Request (has_leaf (slice_index_or ms (slot_of_address v.at.0) Unmapped) v)) ∷ []
 posts_leaf posts v w seen seen_too mapping ms posted w_is m_is seen_is seen_too_is = rw (posted, w_is, m_is, seen_is, seen_too_is) refl
 
-pub posts_harm : (posts rest : List Post) (v w seen : Vio) → posts ≡ (seen.home, item.Request w) ∷ rest → w ≡ ended phase.Abort reply.Damaged v → seen ≡ v → posts ≡ (v.home, item.Request (ended phase.Abort reply.Damaged v)) ∷ rest
-posts_harm posts rest v w seen posted w_is seen_is = rw (posted, w_is, seen_is) refl
+pub posts_harm : (held posts rest : List Post) (v w seen : Vio) → held ≡ (seen.home, item.Request w) ∷ [] → posts ≡ held ++ rest → w ≡ ended phase.Abort reply.Damaged v → seen ≡ v
+    → posts ≡ (v.home, item.Request (ended phase.Abort reply.Damaged v)) ∷ rest
+posts_harm held posts rest v w seen held_is posted w_is seen_is = rw (posted, held_is, w_is, seen_is) refl

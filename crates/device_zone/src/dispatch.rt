@@ -6,6 +6,7 @@ ghost use Rattle.step_parts.specs.Acts.{Acts};
 ghost use Rattle.device_zone.specs.Served.{MayServe};
 
 use crate::block_work::work_block;
+use crate::harms::harm;
 use crate::requests::call_device;
 use core_model::DeviceZone;
 use data_vio::{Item, Sizes};
@@ -31,6 +32,7 @@ pub fn act<D: Disk>(
     match item {
         Item::Request(vio) => call_device(sizes, zone, vio, disk, posts),
         Item::Block(block) => work_block(sizes, zone, block, disk, posts),
-        Item::StopNotice => unreachable!(),
+        Item::Damage(damage) => harm(sizes, zone, damage, posts),
+        Item::Decrement(_) | Item::Report(_) | Item::StopNotice => unreachable!(),
     }
 }

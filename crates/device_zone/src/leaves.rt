@@ -1,4 +1,4 @@
-ghost use Rattle.std.specs.Prelude.{◌≡◌, ◌<◌, ◌≤◌, List, [], ◌∷◌, IfOk, IfErr, Some, slice_index_or};
+ghost use Rattle.std.specs.Prelude.{◌≡◌, ◌<◌, List, IfOk, IfErr, Some, slice_index_or};
 ghost use Rattle.blk_base.specs.Limits.{IsGeometry};
 ghost use Rattle.blk_base.specs.declared.place.Mapping.{Mapping as Mapped};
 ghost use Rattle.blk_base.specs.declared.place.Mapping.TheVariants.{Unmapped};
@@ -8,15 +8,14 @@ ghost use Rattle.page_codec.specs.Grammar.{IsPage, IsPageFault};
 ghost use Rattle.core_model.specs.DeviceRules as rows;
 ghost use Rattle.core_model.specs.DeviceRules.{DeviceServes, IsReady};
 ghost use Rattle.core_model.specs.PageLinks.{leaf_head};
-ghost use Rattle.core_model.specs.SessionLimits.{most_zones};
 ghost use Rattle.core_model.specs.Trace.{Trace};
 ghost use Rattle.data_vio.specs.declared.items.Phase.TheVariants as phase;
 ghost use Rattle.step_parts.specs.DeviceLog.{HasCalled};
 ghost use Rattle.device_zone.specs.Served.{CanServe, MayServe};
 
 use crate::device_calls::read_block;
-use crate::stop_notices::halt;
-use blk_base::{Answer, Block, Lba, Mapping, Mappings, PAGE_SLOTS, PageId, Pbn, TREES, ZoneId};
+use crate::harms::harm;
+use blk_base::{Answer, Block, Lba, Mapping, Mappings, PAGE_SLOTS, PageId, Pbn, TREES};
 use core_model::DeviceZone;
 use data_vio::{BoxedVio, Item, Phase, Sizes};
 use disk_model::Disk;
@@ -59,30 +58,6 @@ fn mapping_in(sizes: &Sizes, at: Lba, leaf: Pbn, bytes: &Block) -> Result<Mappin
     Ok(page.mappings.get(slot))
 }
 
-// A leaf doesn't decode: the session is stopped, where it isn't yet. The damage is kept that was found first.
-fn harm(
-    sizes: &Sizes,
-    zone: &mut DeviceZone,
-    damage: Damage,
-    to: ZoneId,
-    item: Item,
-    posts: &mut Posts,
-)
-    requires few { sizes.now.zones ≤ most_zones }
-    requires none { posts.old ≡ [] }
-    ensures zone { zone.new ≡ rows.harmed damage zone.old }
-    ensures posts { posts.new ≡ (to, item) ∷ rows.notices_after zone.old.stopped sizes.now }
-{
-    if zone.damage.is_none() {
-        zone.damage = Some(damage);
-    }
-    if zone.stopped {
-        posts.first(to, item);
-    } else {
-        halt(sizes, zone, to, item, posts);
-    }
-}
-
 // The leaf of an address, at this block.
 fn load_leaf<D: Disk>(
     sizes: &Sizes,
@@ -114,8 +89,9 @@ fn load_leaf<D: Disk>(
         Ok(mapping) => posts.first(home, Item::Request(vio.has_leaf(mapping))),
         Err(fault) => {
             let damage = Damage::Page { at: leaf, fault };
-            let harmed = Item::Request(vio.end(Phase::Abort, Answer::Damaged));
-            harm(sizes, zone, damage, home, harmed, posts);
+            let harmed = vio.end(Phase::Abort, Answer::Damaged);
+            posts.first(home, Item::Request(harmed));
+            harm(sizes, zone, damage, posts);
         }
     }
 }

@@ -6,6 +6,7 @@
 mod block_work;
 mod device_calls;
 mod dispatch;
+mod harms;
 mod leaves;
 mod requests;
 mod start;

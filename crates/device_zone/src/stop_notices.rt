@@ -20,7 +20,18 @@ fn notify_logical(sizes: &Sizes, posts: &mut Posts)
     }
 }
 
-/// A call failed: the session is stopped. This item goes on, and the stop notice to every zone that passes it on.
+/// The stop notice, to every zone that passes it on.
+pub(crate) fn notify(sizes: &Sizes, posts: &mut Posts)
+    requires few { sizes.now.zones ≤ most_zones }
+    requires room { length posts.old ≤ 1 }
+    ensures { posts.new ≡ posts.old ++ rows.stop_notices (notified sizes.now) }
+{
+    posts.push(ZoneId::Journal, Item::StopNotice);
+    posts.push(ZoneId::Physical(0), Item::StopNotice);
+    notify_logical(sizes, posts);
+}
+
+/// A call failed: the session is stopped. This item goes on, and the stop notice behind it.
 pub(crate) fn halt(sizes: &Sizes, zone: &mut DeviceZone, to: ZoneId, item: Item, posts: &mut Posts)
     requires few { sizes.now.zones ≤ most_zones }
     requires none { posts.old ≡ [] }
@@ -29,7 +40,5 @@ pub(crate) fn halt(sizes: &Sizes, zone: &mut DeviceZone, to: ZoneId, item: Item,
 {
     zone.stopped = true;
     posts.first(to, item);
-    posts.push(ZoneId::Journal, Item::StopNotice);
-    posts.push(ZoneId::Physical(0), Item::StopNotice);
-    notify_logical(sizes, posts);
+    notify(sizes, posts);
 }

@@ -1,34 +1,58 @@
-ghost use Rattle.std.specs.Prelude.{◌≡◌, [], ◌∷◌, false, true};
+ghost use Rattle.std.specs.Prelude.{◌≡◌, ◌+◌, ◌<◌, ◌≤◌, [], ◌∷◌, ◌++◌, false, length, true};
 ghost use Rattle.blk_base.specs.declared.place.ZoneId.TheVariants as id;
 ghost use Rattle.blk_base.specs.declared.request.Answer.TheVariants.{Stopped};
 ghost use Rattle.core_model.specs.JournalRules as rows;
 ghost use Rattle.core_model.specs.JournalRules.{HasNext, IsSealable, JournalEnds};
 ghost use Rattle.core_model.specs.Limits.{IsJournalWithin};
 ghost use Rattle.core_model.specs.Trace.{Trace};
-ghost use Rattle.data_vio.specs.declared.items.Item.TheVariants.{Block, Request, StopNotice};
-ghost use Rattle.data_vio.specs.declared.items.Phase.TheVariants.{Settle};
+ghost use Rattle.data_vio.specs.declared.items.Item.TheVariants.{Block, StopNotice};
 ghost use Rattle.data_vio.specs.declared.items.Stage.TheVariants.{Commit, Cover, Fail};
 ghost use Rattle.step_parts.specs.Rules.{Applies};
 
 use crate::dropped::{drop_block, drop_filling};
 use crate::refusals::{refuse_waiting, send_again};
-use blk_base::ZoneId;
+use blk_base::{Mapping, PageId, ZoneId};
 use core_model::JournalZone;
-use data_vio::{BoxedVio, Item, Phase, SealedBlock, Sizes, Stage};
+use data_vio::{BoxedVio, Item, POST_ROOM, Phase, Remapping, SealedBlock, Sizes, Stage};
 use step_parts::Posts;
 
+// A request whose entry is committed goes to be counted where that has a block, else to its slot.
+fn pass_on(vio: BoxedVio, posts: &mut Posts)
+    requires { length posts.old < POST_ROOM }
+    ensures { posts.new ≡ posts.old ++ rows.hands_to vio vio.new ∷ [] }
+{
+    let (to, phase) = match vio.get().new {
+        Mapping::At(_) => (ZoneId::Physical(0), Phase::Count),
+        Mapping::Zero | Mapping::Unmapped => (vio.get().home, Phase::Settle),
+    };
+    posts.push(to, Item::Request(vio.turn(phase)));
+}
+
+// The decrement of the block that the entry of an address replaces, where it replaces one. That of a page replaces none.
+fn post_decrement(page: Option<PageId>, entry: Remapping, posts: &mut Posts)
+    requires { length posts.old < POST_ROOM }
+    ensures posts { posts.new ≡ posts.old ++ rows.decrement_for page entry entry.old }
+    ensures one { length posts.new ≤ length posts.old + 1 }
+{
+    if let (None, Mapping::At(_)) = (page, entry.old) {
+        posts.push(ZoneId::Physical(0), Item::Decrement(entry));
+    }
+}
+
 // The oldest entry of a block is committed, and the block goes round with the others.
-// One entry a step: so what a step posts is bounded, and the entries go to their slots in the order of their points.
+// One entry a step: so what a step posts is bounded, and the entries go to be counted in the order of their points.
 fn commit(zone: &mut JournalZone, vio: BoxedVio, block: SealedBlock, posts: &mut Posts)
     requires next { HasNext zone.old.log }
     requires within { IsJournalWithin zone.old }
     requires none { posts.old ≡ [] }
     ensures zone { zone.new ≡ rows.committed_by vio zone.old }
-    ensures posts { posts.new ≡ rows.hands_out vio ∷ (id.Journal, Block block) ∷ [] }
+    ensures posts { posts.new ≡ rows.hands_out vio ++ (id.Journal, Block block) ∷ [] }
 {
     zone.commit(&vio);
-    let home = vio.get().home;
-    posts.first(home, Item::Request(vio.turn(Phase::Settle)));
+    let page = vio.get().page;
+    let entry = vio.remapping();
+    pass_on(vio, posts);
+    post_decrement(page, entry, posts);
     posts.push(ZoneId::Journal, Item::Block(block));
 }
 

@@ -22,5 +22,6 @@ pub fn act(sizes: &Sizes, zone: &mut JournalZone, item: Item, posts: &mut Posts)
         Item::Request(vio) => enter(sizes, zone, vio, posts),
         Item::Block(block) => end_block(sizes, zone, block, posts),
         Item::StopNotice => hear_stop(sizes, zone, posts),
+        Item::Decrement(_) | Item::Report(_) | Item::Damage(_) => unreachable!(),
     }
 }

@@ -1,6 +1,7 @@
 mod ActLaws
 mod PageLaws
 mod ServedLaws
+mod SettlingLaws
 mod TreeLaws
 mod WaitingLaws
 mod ZeroLaws

@@ -29,7 +29,8 @@ serves sizes old v new made posts (logical.is_dropped page p path lack dropped h
 serves sizes old v new made posts (logical.waits page p path lack linkable made_yet h1 h2 h3) = subst (CanServe old v) (sym p) (path, λ stays none. absurd (let both = sym lack ∙ none in cc))
 serves sizes old v new made posts (logical.makes_page page p path lack linkable unmade h1 h2 h3) = subst (CanServe old v) (sym p) (path, λ stays none. absurd (let both = sym lack ∙ none in cc))
 serves sizes old v new made posts (logical.links page x between p some to may linked h1 h2 h3) = subst (CanServe old v) (sym p) (rw (some, to) may)
-serves sizes old v new made posts (logical.settles p bare h1 h2 h3) = subst (CanServe old v) (sym p) (rw bare tt)
+serves sizes old v new made posts (logical.settles p bare report h1 h2 h3) = subst (CanServe old v) (sym p) (rw bare tt)
+serves sizes old v new made posts (logical.awaits p bare report h1 h2 h3) = subst (CanServe old v) (sym p) (rw bare tt)
 serves sizes old v new made posts (logical.unmakes page p some h1 h2 h3) = subst (CanServe old v) (sym p) tt
 serves sizes old v new made posts (logical.drops page p some h1 h2 h3) = subst (CanServe old v) (sym p) tt
 serves sizes old v new made posts (logical.gives p h1 h2 h3) = subst (CanServe old v) (sym p) tt

@@ -4,6 +4,7 @@ ghost use Rattle.core_model.specs.Limits.{IsLogicalWithin};
 ghost use Rattle.core_model.specs.Steps.{HasAct};
 ghost use Rattle.step_parts.specs.Acts.{ActsAlone};
 
+use crate::reports::hear_report;
 use crate::requests::{hear_stop, serve_logical};
 use core_model::LogicalZone;
 use data_vio::{Item, Sizes};
@@ -20,6 +21,9 @@ pub fn act(sizes: &Sizes, zone: &mut LogicalZone, item: Item, posts: &mut Posts)
     match item {
         Item::Request(vio) => serve_logical(sizes, zone, vio, posts),
         Item::StopNotice => hear_stop(zone, posts),
+        Item::Report(entry) => hear_report(sizes, zone, entry, posts),
         Item::Block(_) => unreachable!(),
+        Item::Decrement(_) => unreachable!(),
+        Item::Damage(_) => unreachable!(),
     }
 }

@@ -6,11 +6,12 @@ ghost use Rattle.data_vio.specs.declared.items.Phase.TheVariants as phase;
 ghost use Rattle.core_model.specs.Limits.{IsLogicalWithin};
 ghost use Rattle.core_model.specs.LogicalRules as rows;
 ghost use Rattle.core_model.specs.PageTrees.{HasPath};
-ghost use Rattle.core_model.specs.Trace.{Trace, Aborts, Draws, Gives, Passes, Sets};
+ghost use Rattle.core_model.specs.Trace.{Trace, Aborts, Draws, Gives, Passes};
 ghost use Rattle.data_vio.specs.Vios as vios;
 ghost use Rattle.logical_zone.specs.Served.{CanServe, GoesOn, GoesWithAll};
 
-use crate::pages::{drop_page, lacks, link, make, unmake};
+use crate::pages::{drop_page, lacks, make, unmake};
+use crate::settling::settle;
 use crate::waiters::stop_all;
 use blk_base::{Answer, Block, Lba, Mapping, ZoneId};
 use core_model::LogicalZone;
@@ -248,28 +249,6 @@ fn look_on(sizes: &Sizes, zone: &mut LogicalZone, vio: BoxedVio, posts: &mut Pos
     } else {
         find(sizes, zone, vio, posts);
     }
-}
-
-// The entry of a write is committed: its slot is set, and the lock released.
-fn settle(sizes: &Sizes, zone: &mut LogicalZone, vio: BoxedVio, posts: &mut Posts)
-    requires phase { vio.phase ≡ phase.Settle }
-    requires can { CanServe zone.old vio phase.Settle }
-    requires within { IsLogicalWithin (2 ^ 64 - 2) zone.old }
-    requires none { posts.old ≡ [] }
-    ensures { rows.LogicalServes sizes.now zone.old vio zone.new
-        (Sets (vios.logged vio) ∷ []) posts.new }
-{
-    if let Some(page) = vio.get().page {
-        link(sizes, zone, vio, page, posts);
-        return;
-    }
-    let at = vio.get().at;
-    zone.set(vio.remapping());
-    posts.first(
-        ZoneId::Desk,
-        Item::Request(vio.end(Phase::Reply, Answer::Ok)),
-    );
-    release(zone, at, posts);
 }
 
 // A read is given its bytes, and the lock is released.

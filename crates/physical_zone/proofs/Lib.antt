@@ -1,1 +1,2 @@
 mod ActLaws
+mod StartLaws

@@ -1,4 +1,5 @@
-//! The physical zone: what it does with the item in front of its inbox. Writes take data blocks here.
+//! The physical zone: what it does with the item in front of its inbox. Writes claim data blocks here, and the counters of these
+//! take their updates.
 //!
 //! Only tested: as part of the core.
 #![tactic(auto)]
@@ -6,6 +7,7 @@
 mod dispatch;
 mod requests;
 mod start;
+mod updates;
 
 pub use dispatch::act;
 pub use start::first;

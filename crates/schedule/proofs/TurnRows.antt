@@ -11,7 +11,7 @@ use Rattle.core_model.specs.declared.zones.ZoneData.{ZoneData}
 use Rattle.core_model.specs.declared.zones.ZoneData.TheVariants as at
 use Rattle.core_model.specs.Steps.{IsIdle}
 use Rattle.core_model.specs.Trace.{Seals, Trace}
-use Rattle.core_model.proofs.rows.PhaseRows.{physical}
+use Rattle.core_model.proofs.rows.PhaseRows.{nothing, physical}
 use Rattle.vdo_core.specs.Done.{IsDone}
 use Rattle.vdo_core.specs.Moves.{has_items}
 use Rattle.vdo_core.specs.Plays.{HasNoWork, PlaysOne}
@@ -48,7 +48,7 @@ abbrev sender : ZoneData → List Item → Zone
 sender keeps outbox = record { number = 0; steps = 0; keeps = keeps; ports = record { inbox = one; outboxes = [] ∷ outbox ∷ [] } }
 
 abbrev receiver : List Item → Zone
-receiver inbox = record { number = 1; steps = 0; keeps = physical []; ports = record { inbox = inbox; outboxes = [] ∷ [] ∷ [] } }
+receiver inbox = record { number = 1; steps = 0; keeps = physical nothing nothing; ports = record { inbox = inbox; outboxes = [] ∷ [] ∷ [] } }
 
 -- before that item moves, and after
 abbrev zones : ZoneData → List Zone
@@ -62,7 +62,7 @@ abbrev done : ZoneData
 done = at.Desk (record { requests = []; log = []; marks = []; notices = 0; parked = [] })
 
 abbrev undone : ZoneData
-undone = physical []
+undone = physical nothing nothing
 
 is_done : IsDone (zones done)
 is_done = record { zone = sender done one; desk = record { requests = []; log = []; marks = []; notices = 0; parked = [] }; had = refl; keeps = refl; full = refl }

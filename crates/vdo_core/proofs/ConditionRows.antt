@@ -13,7 +13,8 @@ use Rattle.data_vio.specs.declared.sizes.Sizes.{Sizes}
 use Rattle.core_model.specs.declared.zones.Zone.{Zone}
 use Rattle.core_model.specs.declared.zones.ZoneData.{ZoneData}
 use Rattle.core_model.specs.declared.zones.ZoneData.TheVariants as at
-use Rattle.core_model.specs.PhysicalRules.PhysicalServes.{claims, is_full, aborts_claim, aborts_entered_claim}
+use Rattle.core_model.proofs.rows.PhaseRows.{nothing, slab_with, zone_with}
+use Rattle.core_model.specs.PhysicalRules.PhysicalServes.{claims, counts, drops, drops_none, has_no_space, spends}
 use Rattle.core_model.specs.Limits.{HasRoomToBegin}
 use Rattle.core_model.specs.Steps.{Act, HasAct, MayBegin, takes, takes_notice}
 use Rattle.core_model.specs.Trace.{Trace}
@@ -27,40 +28,46 @@ module _ (g : Geometry) where
 
   -- the physical zone of a core of two logical ones, with these in its inbox, and so many outboxes
   abbrev physical : List Item → List (List Item) → Zone
-  physical inbox outboxes = record { number = 3; steps = 0; keeps = at.Physical (record { notified = false; free = [] }); ports = record { inbox = inbox; outboxes = outboxes } }
+  physical inbox outboxes = record { number = 3; steps = 0; keeps = at.Physical (record { notified = false; strays = []; counts = zone_with (slab_with nothing nothing) }); ports = record { inbox = inbox; outboxes = outboxes } }
 
   -- its notice goes to the desk
-  lane_there : (new : ZoneData) (made : Trace) (posts : List Post) → Act (sizes 2) (at.Physical (record { notified = false; free = [] })) (StopNotice ∷ []) new made posts
+  lane_there : (new : ZoneData) (made : Trace) (posts : List Post) → Act (sizes 2) (at.Physical (record { notified = false; strays = []; counts = zone_with (slab_with nothing nothing) })) (StopNotice ∷ []) new made posts
       → AllByRecursion (HasLane (sizes 2) (physical (StopNotice ∷ []) ([] ∷ []))) posts
   lane_there new made posts takes_notice = (inr (omega arith), tt)
 
-  notice_applies : (zones : ℕ) (front : Item) (rest : List Item) → StopNotice ∷ [] ≡ front ∷ rest → HasAct (sizes zones) (at.Physical (record { notified = false; free = [] })) (front ∷ [])
+  notice_applies : (zones : ℕ) (front : Item) (rest : List Item) → StopNotice ∷ [] ≡ front ∷ rest → HasAct (sizes zones) (at.Physical (record { notified = false; strays = []; counts = zone_with (slab_with nothing nothing) })) (front ∷ [])
   notice_applies zones StopNotice rest is = (_, _, _, takes_notice)
   notice_applies zones other rest is = absurd cc
 
   can_step : CanStep (sizes 2) (physical (StopNotice ∷ []) ([] ∷ []))
   can_step = record {
+    some = omega arith;
     few = omega arith;
     begins = tt;
-    within = record { inbox = omega arith; outboxes = (omega arith, tt); own = tt };
+    within = record { inbox = omega arith; outboxes = (omega arith, tt); own = omega arith };
     rule = notice_applies 2;
     lanes = lane_there;
   }
 
-  -- few: not beside five logical zones
+  -- some, few: not beside no logical zone, or five
+  can_step-not_of_none : (z : Zone) → CanStep (sizes 0) z → ⊥
+  can_step-not_of_none z can = omega (arith, can.some)
+
   can_step-not_of_five : (z : Zone) → CanStep (sizes 5) z → ⊥
   can_step-not_of_five z can = omega (arith, can.few)
 
   -- within: not past its room
-  can_step-not_past_its_room : (z : Zone) → 264 ≤ length z.ports.inbox → CanStep (sizes 2) z → ⊥
+  can_step-not_past_its_room : (z : Zone) → 521 ≤ length z.ports.inbox → CanStep (sizes 2) z → ⊥
   can_step-not_past_its_room z many can = omega (arith, can.within.inbox, many)
 
   -- rule: not with a request in front that no rule serves
-  none_serves : (v : Vio) → v.phase ≡ phase.Reply → HasAct (sizes 2) (at.Physical (record { notified = false; free = [] })) (Asked v ∷ []) → ⊥
-  none_serves v is (new, made, posts, takes (claims x others p free n m q)) = let both = sym is ∙ p in cc
-  none_serves v is (new, made, posts, takes (is_full p free n m q)) = let both = sym is ∙ p in cc
-  none_serves v is (new, made, posts, takes (aborts_claim p n m q)) = let both = sym is ∙ p in cc
-  none_serves v is (new, made, posts, takes (aborts_entered_claim p n m q)) = let both = sym is ∙ p in cc
+  none_serves : (v : Vio) → v.phase ≡ phase.Reply → HasAct (sizes 2) (at.Physical (record { notified = false; strays = []; counts = zone_with (slab_with nothing nothing) })) (Asked v ∷ []) → ⊥
+  none_serves v is (new, made, posts, takes (claims x z p gives n m q)) = let both = sym is ∙ p in cc
+  none_serves v is (new, made, posts, takes (has_no_space p none n m q)) = let both = sym is ∙ p in cc
+  none_serves v is (new, made, posts, takes (counts x slab z p has claimed fits changes n m q)) = let both = sym is ∙ p in cc
+  none_serves v is (new, made, posts, takes (drops x z p has claimed changes n m q)) = let both = sym is ∙ p in cc
+  none_serves v is (new, made, posts, takes (drops_none p none n m q)) = let both = sym is ∙ p in cc
+  none_serves v is (new, made, posts, takes (spends p n m q)) = let both = sym is ∙ p in cc
 
   can_step-not_without_a_rule : (v : Vio) → v.phase ≡ phase.Reply → CanStep (sizes 2) (physical (Asked v ∷ []) ([] ∷ [])) → ⊥
   can_step-not_without_a_rule v is can = none_serves v is (can.rule (Asked v) [] refl)
@@ -93,5 +100,5 @@ module _ (g : Geometry) where
   can_begin-not_without_room d may crowded can = crowded (can.room may)
 
   -- AllCanStep: each zone of a core
-  all_can_step-not_one_past_its_room : (z : Zone) → 264 ≤ length z.ports.inbox → AllCanStep (sizes 2) (physical (StopNotice ∷ []) ([] ∷ []) ∷ z ∷ []) → ⊥
+  all_can_step-not_one_past_its_room : (z : Zone) → 521 ≤ length z.ports.inbox → AllCanStep (sizes 2) (physical (StopNotice ∷ []) ([] ∷ []) ∷ z ∷ []) → ⊥
   all_can_step-not_one_past_its_room z many all = can_step-not_past_its_room z many (all 1 z refl)

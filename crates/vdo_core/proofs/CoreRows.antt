@@ -1,12 +1,12 @@
 -- Rows that pin what a core is and begins with, when it is done, and what there is to move and room for: for each clause a
 -- small case that it accepts, and one that breaks it alone.
-use Rattle.std.proofs.Common.{ℕ, ◌≡◌, ◌+◌, ◌-◌, ◌*◌, true, false, List, [], ◌∷◌, length, replicate, None, Some, slice_get, refl, ap, sym, ◌∙◌, subst, arith}
+use Rattle.std.proofs.Common.{ℕ, ◌≡◌, ◌+◌, ◌-◌, ◌*◌, true, false, List, [], ◌∷◌, length, replicate, None, Some, slice_get, slice_index_or, refl, ap, sym, ◌∙◌, subst, arith}
 use Rattle.std.proofs.lemmas.List.{length-replicate}
+use Rattle.blk_base.specs.Counters.{limit_of}
 use Rattle.blk_base.specs.declared.geometry.Geometry.{Geometry}
 use Rattle.blk_base.specs.declared.place.Lba.{Lba}
 use Rattle.blk_base.specs.declared.opened.Opened.{Opened}
 use Rattle.blk_base.specs.declared.opened.OpenedPage.{OpenedPage}
-use Rattle.blk_base.specs.declared.place.Pbn.{Pbn}
 use Rattle.blk_base.specs.declared.request.Request.TheVariants as request
 use Rattle.vdo_model.specs.Scripts.{Script}
 use Rattle.vdo_model.specs.declared.report.DeskLine.{DeskLine}
@@ -25,38 +25,10 @@ use Rattle.core_model.specs.Steps.Leads.{rests, steps}
 use Rattle.core_model.specs.Trace.{Trace}
 use Rattle.vdo_core.specs.Cores.{CanBegin, IsReached}
 use Rattle.vdo_core.specs.Done.{IsDone}
-use Rattle.vdo_core.specs.FreeBlocks.{free_among, free_of}
 use Rattle.vdo_core.specs.Lanes.{HasRoomFor}
 use Rattle.vdo_core.specs.Moves.{MovesSome, has_items}
 use Rattle.vdo_core.specs.Plays.{core_with}
 use Rattle.vdo_core.proofs.SessionLaws.{legal_here}
-
--- the data blocks whose counter is 0: those of an image with two slabs of two data blocks each
-abbrev small : Geometry
-small = record { height = 2; nonce = 1; logical = 10; slabs = 2; slab_blocks = 2; journal = 8; index = 4; slab_journal = 2 }
-
-abbrev block : ℕ → Pbn
-block b = record { 0 = b }
-
-abbrev free_with : List ℕ → List Pbn
-free_with counters = free_among small counters 4
-
-all_free : free_with (0 ∷ 0 ∷ 0 ∷ 0 ∷ []) ≡ block 73 ∷ block 74 ∷ block 78 ∷ block 79 ∷ []
-all_free = refl
-
-one_taken : free_with (0 ∷ 1 ∷ 0 ∷ 0 ∷ []) ≡ block 73 ∷ block 78 ∷ block 79 ∷ []
-one_taken = refl
-
--- one that is mapped more than once is taken too
-two_taken : free_with (255 ∷ 0 ∷ 2 ∷ 0 ∷ []) ≡ block 74 ∷ block 79 ∷ []
-two_taken = refl
-
-none_free : free_with (1 ∷ 1 ∷ 1 ∷ 1 ∷ []) ≡ []
-none_free = refl
-
--- free_of: by what was opened
-free_of_opened : (opened : Opened) → opened.head.geometry ≡ small → opened.counters.items ≡ 0 ∷ 1 ∷ 0 ∷ 0 ∷ [] → free_of opened ≡ block 73 ∷ block 78 ∷ block 79 ∷ []
-free_of_opened opened geometry counters = rw (geometry, counters) refl
 
 -- IsDone: the desk stands first, and has two lines for each request
 module _ (lines : List DeskLine) (outboxes : List (List Item)) where
@@ -148,14 +120,14 @@ moves-not_nothing some = none some.source some.had_source some.posted
         absurd cc
 
 -- HasRoomFor: up to the room of a lane, in the inbox and in each outbox
-room-up_to_the_last : (z : Zone) → HasRoomFor 1 (record z { ports = record z.ports { inbox = replicate 925 StopNotice; outboxes = replicate 925 StopNotice ∷ [] } })
-room-up_to_the_last z = let count = length-replicate 925 StopNotice in record { inbox = omega (arith, count); outboxes = (omega (arith, count), tt) }
+room-up_to_the_last : (z : Zone) → HasRoomFor 1 (record z { ports = record z.ports { inbox = replicate 1439 StopNotice; outboxes = replicate 1439 StopNotice ∷ [] } })
+room-up_to_the_last z = let count = length-replicate 1439 StopNotice in record { inbox = omega (arith, count); outboxes = (omega (arith, count), tt) }
 
-room-not_past_it : (z : Zone) → HasRoomFor 1 (record z { ports = record z.ports { inbox = replicate 926 StopNotice; outboxes = [] } }) → ⊥
-room-not_past_it z room = let count = length-replicate 926 StopNotice in omega (arith, count, room.inbox)
+room-not_past_it : (z : Zone) → HasRoomFor 1 (record z { ports = record z.ports { inbox = replicate 1440 StopNotice; outboxes = [] } }) → ⊥
+room-not_past_it z room = let count = length-replicate 1440 StopNotice in omega (arith, count, room.inbox)
 
-room-not_past_it_in_an_outbox : (z : Zone) → HasRoomFor 1 (record z { ports = record z.ports { inbox = []; outboxes = [] ∷ replicate 926 StopNotice ∷ [] } }) → ⊥
-room-not_past_it_in_an_outbox z room = let count = length-replicate 926 StopNotice in omega (arith, count, room.outboxes.1.0)
+room-not_past_it_in_an_outbox : (z : Zone) → HasRoomFor 1 (record z { ports = record z.ports { inbox = []; outboxes = [] ∷ replicate 1440 StopNotice ∷ [] } }) → ⊥
+room-not_past_it_in_an_outbox z room = let count = length-replicate 1440 StopNotice in omega (arith, count, room.outboxes.1.0)
 
 -- CanBegin: with what was opened of an image of these sizes, and a script that is served and within the limits
 module _ (g : Geometry) where
@@ -181,6 +153,7 @@ module _ (g : Geometry) where
       served = can.served;
       pages = can.pages;
       counters = can.counters;
+      limit = can.limit;
     }
 
     begins-not_of_depth_0 : (script : Script) → CanBegin (of_depth 0) script opened → ⊥
@@ -212,3 +185,9 @@ module _ (g : Geometry) where
 
     begins-not_with_a_counter_missing : (script : Script) → length opened.counters.items + 1 ≡ opened.head.geometry.slabs * opened.head.geometry.slab_blocks → CanBegin (sizes 1 1) script opened → ⊥
     begins-not_with_a_counter_missing script fewer can = omega (arith, can.counters, fewer)
+
+    begins-not_with_a_counter_past_the_limit : (script : Script) (counters : List ℕ) → opened.counters.items ≡ (limit_of opened.head.geometry + 1) ∷ counters → CanBegin (sizes 1 1) script opened → ⊥
+    begins-not_with_a_counter_past_the_limit script counters are can =
+        let limited = can.limit 0 0 (omega (arith, ap (λ (ns : List ℕ). length ns) are)) in
+        let first : slice_index_or opened.counters.items 0 0 ≡ limit_of opened.head.geometry + 1 = ap (λ (ns : List ℕ). slice_index_or ns 0 0) are in
+        omega (arith, limited, first)

@@ -1,6 +1,6 @@
 -- A session over a device in memory is fair where that has the image that was opened, whatever was called: such a device tells, and
 -- is honest. And a session for what was opened of a device is never fair where that says nothing of itself.
-use Rattle.std.proofs.Common.{ℕ, ◌≡◌, ◌<◌, ◌≤◌, None, true, length, refl, arith}
+use Rattle.std.proofs.Common.{ℕ, ◌≡◌, ◌<◌, ◌≤◌, None, true, length, slice_index, refl, arith}
 use Rattle.blk_base.specs.Regions.{needed_blocks}
 use Rattle.blk_base.specs.declared.opened.Opened.{Opened}
 use Rattle.blk_base.specs.declared.place.PageId.{PageId}
@@ -16,7 +16,6 @@ use Rattle.core_model.specs.Trace.{Trace}
 use Rattle.core_laws.proofs.kept.NewImages.{new_opened}
 use Rattle.step_parts.specs.DeviceLog.{HasCalled}
 use Rattle.vdo_core.specs.Cores.{CanBegin}
-use Rattle.vdo_core.specs.FreeBlocks.{free_of}
 use Rattle.vdo_core.proofs.SessionLaws.{bare, can_serve, honest_reads}
 
 module _ (sizes : Sizes) (script : Script) (opened : Opened) (image : Blocks) where
@@ -27,7 +26,7 @@ module _ (sizes : Sizes) (script : Script) (opened : Opened) (image : Blocks) wh
         sizes = sizes;
         script = script;
         links = opened_page opened.pages.items;
-        free = free_of opened;
+        counters = opened.counters.items;
         blocks = seen.opening;
         before = seen.log;
         image = image;
@@ -38,10 +37,11 @@ module _ (sizes : Sizes) (script : Script) (opened : Opened) (image : Blocks) wh
 
   -- so where that is a new image, which links no page
   fair-over_a_new_image : (after : Seen) (t : Trace) → CanBegin sizes script opened → IsEmpty sizes.geometry image → needed_blocks sizes.geometry ≤ length image
-      → ((b : ℕ) → b < length image → length (block_at image b) ≡ 4096) → ((page : PageId) → opened_page opened.pages.items page ≡ None) → HasCalled true true (seen_of (fresh image)) after t → IsFair in_memory t
-  fair-over_a_new_image after t can empty room whole links called =
-      let session = can_serve sizes script opened in_memory can (record { sizes_is = refl; script_is = refl; links_is = refl; free_is = refl }) in
-      fair-in_memory after t (new_opened in_memory session (record { empty = empty; room = room; whole = whole; blocks = refl; unwritten = refl; links = links })) called
+      → ((b : ℕ) → b < length image → length (block_at image b) ≡ 4096) → ((page : PageId) → opened_page opened.pages.items page ≡ None) → ((k : ℕ) → slice_index opened.counters.items k ≡ 0)
+      → HasCalled true true (seen_of (fresh image)) after t → IsFair in_memory t
+  fair-over_a_new_image after t can empty room whole links uncounted called =
+      let session = can_serve sizes script opened in_memory can (record { sizes_is = refl; script_is = refl; links_is = refl; counters_are = refl }) in
+      fair-in_memory after t (new_opened in_memory session (record { empty = empty; room = room; whole = whole; blocks = refl; unwritten = refl; links = links; uncounted = uncounted })) called
 
 fair-not_without_a_device : (sizes : Sizes) (script : Script) (opened : Opened) (t : Trace) → IsFair (bare sizes script opened) t → ⊥
 fair-not_without_a_device sizes script opened t fair = let room = fair.opened.room in omega (arith, room)

@@ -1,5 +1,4 @@
 pub mod DoneLaws
-pub mod FreeLaws
 pub mod LinkLaws
 pub mod PlayLaws
 mod StartLaws

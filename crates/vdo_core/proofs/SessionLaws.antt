@@ -1,6 +1,11 @@
 -- A session for what was opened of an image, whatever is on the device: nothing is said of that.
-use Rattle.std.proofs.Common.{◌≡◌, ◌≤◌, Bool, true, List, [], ◌∷◌, ◌++◌, length, refl, sym, ◌∙◌, ap, subst, arith}
-use Rattle.blk_base.specs.Limits.{IsGeometry}
+use Rattle.std.proofs.Common.{ℕ, ◌≡◌, ◌≤◌, ◌*◌, Bool, true, List, slice_index, inl, inr, [], ◌∷◌, ◌++◌, length, refl, sym, ◌∙◌, ap, subst, arith}
+use Rattle.std.proofs.lemmas.Bool.{cases_lt}
+use Rattle.std.proofs.lemmas.List.{get_or_past}
+use Rattle.std.proofs.lemmas.List.Elements.{All-get_or}
+use Rattle.std.specs.List.{All}
+use Rattle.blk_base.specs.Counters.{limit_of}
+use Rattle.blk_base.specs.declared.geometry.Geometry.{Geometry}
 use Rattle.blk_base.specs.declared.opened.Opened.{Opened}
 use Rattle.disk_model.specs.Seen.{Seen}
 use Rattle.disk_model.specs.declared.call.Call.TheVariants.{Read}
@@ -11,7 +16,7 @@ use Rattle.core_model.specs.declared.zones.ZoneData.{ZoneData}
 use Rattle.core_model.specs.Facts.{DataOk}
 use Rattle.core_model.specs.Legal.{Legal}
 use Rattle.core_model.specs.PageLinks.{opened_page}
-use Rattle.core_model.specs.Sessions.{AreDistinct, HasHonestReads, IsSession, Session}
+use Rattle.core_model.specs.Sessions.{AreCounters, HasHonestReads, IsSession, Session}
 use Rattle.core_model.specs.Start.{IsFirst}
 use Rattle.core_model.specs.Steps.Leads.{rests}
 use Rattle.core_model.specs.Trace.{Calls, Harms, Trace}
@@ -22,20 +27,27 @@ use Rattle.core_laws.proofs.kept.ZoneKinds.{desk_sits}
 use Rattle.step_parts.specs.DeviceLog.{GivesSettled}
 use Rattle.vdo_core.specs.Conditions.{AllCanStep, CanStep}
 use Rattle.vdo_core.specs.Cores.{CanBegin, IsReached}
-use Rattle.vdo_core.specs.FreeBlocks.{free_of}
 use Rattle.vdo_core.specs.Plays.{LeadsTo, core_with}
 use Rattle.vdo_core.specs.Starts.{IsOf}
-use Rattle.vdo_core.proofs.FreeLaws.{free_distinct, free_fresh}
 use Rattle.vdo_core.proofs.LinkLaws.{linked_data, linked_up}
 use Rattle.vdo_core.proofs.StepLaws.{can_step}
 use Rattle.vdo_core.proofs.PlayLaws.{leads_on}
+
+-- counters of which each is within the limit: what stands for one past the end is too
+are_counters : (g : Geometry) (counters : List ℕ) → length counters ≡ g.slabs * g.slab_blocks → All (λ counter. counter ≤ limit_of g) counters → AreCounters g counters
+are_counters g counters size limit = record {
+  each = size;
+  limit = λ k. elim (cases_lt k (length counters)) [
+    | inl below ↦ All-get_or (λ counter. counter ≤ limit_of g) counters k 0 below limit
+    | inr past ↦ let none : slice_index counters k ≡ 0 = get_or_past counters k 0 past in omega (arith, none)
+  ];
+}
 
 -- any session of these sizes and this script over what was opened can be served, whatever else it says of a device
 pub can_serve : (sizes : Sizes) (script : Script) (opened : Opened) (s : Session) → CanBegin sizes script opened → IsOf s sizes script opened → IsSession s
 can_serve sizes script opened s can over =
     let g = opened.head.geometry in
     let same : s.sizes.geometry ≡ g = ap (λ (z : Sizes). z.geometry) over.sizes_is ∙ can.same in
-    let geometry : IsGeometry g = subst IsGeometry can.same can.geometry in
     record {
       sizes = rw over.sizes_is can.geometry;
       start = rw over.sizes_is can.start;
@@ -45,17 +57,16 @@ can_serve sizes script opened s can over =
       served = rw over.script_is can.served;
       linked = λ page x is. rw same (linked_data g opened.pages.items can.pages page x (rw over.links_is at is));
       rooted = λ page some. rw (same, over.links_is) (linked_up g opened.pages.items can.pages page (rw over.links_is at some));
-      free = free_fresh s opened geometry same over.free_is;
-      distinct = subst AreDistinct (sym over.free_is) (free_distinct opened geometry);
+      counters = rw (same, over.counters_are) (are_counters g opened.counters.items can.counters can.limit);
     }
 
 -- the session, with no device
 abbrev pub bare : Sizes → Script → Opened → Session
-bare sizes script opened = record { sizes = sizes; script = script; links = opened_page opened.pages.items; free = free_of opened; blocks = []; before = []; image = [] }
+bare sizes script opened = record { sizes = sizes; script = script; links = opened_page opened.pages.items; counters = opened.counters.items; blocks = []; before = []; image = [] }
 
 module _ (sizes : Sizes) (script : Script) (opened : Opened) (can : CanBegin sizes script opened) where
   pub is_of : IsOf (bare sizes script opened) sizes script opened
-  is_of = record { sizes_is = refl; script_is = refl; links_is = refl; free_is = refl }
+  is_of = record { sizes_is = refl; script_is = refl; links_is = refl; counters_are = refl }
 
   pub is_session : IsSession (bare sizes script opened)
   is_session = can_serve sizes script opened (bare sizes script opened) can is_of

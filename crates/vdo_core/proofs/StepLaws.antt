@@ -83,6 +83,7 @@ pub can_step : (s : Session) (core : Core) (n : ℕ) (z : Zone) → IsSession s 
 can_step s core n z session legal had =
     let within = zone_within s core session legal n z had in
     record {
+      some = session.zones;
       few = session.limits.zones;
       begins = can_begin_at s core.trace n z.keeps z.steps session (legal.each n z had).own (desk_log_right s core.trace legal.right) within.own;
       within = within;
@@ -112,6 +113,7 @@ own_lanes sizes batches z (p ∷ posts) all = (own_lane sizes batches z p all.0,
 
 alone : (sizes : Sizes) (batches : List (List Item)) (z : Zone) → CanStep sizes (with_batches batches z) → CanStep sizes z
 alone sizes batches z can = record {
+  some = can.some;
   few = can.few;
   begins = can.begins;
   within = record { inbox = can.within.inbox; outboxes = short_behind batches z.ports.outboxes can.within.outboxes; own = can.within.own };

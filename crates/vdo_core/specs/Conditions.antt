@@ -24,9 +24,10 @@ abbrev pub CanBeginAt : Sizes → ZoneData → Type 0
 CanBeginAt sizes (at.Desk d) = CanBegin sizes d
 CanBeginAt sizes other = ⊤
 
--- A zone can step: each logical zone can be told of a stop, a desk can begin what may begin, the zone keeps within its room,
+-- A zone can step: there are logical zones, each of which can be told of a stop, a desk can begin what may begin, the zone keeps within its room,
 -- a rule applies to the item in front of its inbox, and there is a lane for what a rule posts.
 pub record CanStep (sizes : Sizes) (z : Zone) : Type 0 where
+  pub some : 0 < sizes.zones
   pub few : sizes.zones ≤ most_zones
   pub begins : CanBeginAt sizes z.keeps
   pub within : IsWithin z

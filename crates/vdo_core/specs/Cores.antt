@@ -1,6 +1,7 @@
 -- A core as a whole, and what it can begin with.
 use Rattle.std.specs.Prelude.{ℕ, ◌≡◌, ◌*◌, ◌<◌, ◌≤◌, ◌^◌, List, [], length}
-use Rattle.std.specs.List.{AllByRecursion}
+use Rattle.std.specs.List.{All, AllByRecursion}
+use Rattle.blk_base.specs.Counters.{limit_of}
 use Rattle.blk_base.specs.Limits.{IsGeometry}
 use Rattle.blk_base.specs.declared.geometry.Super.{Super}
 use Rattle.blk_base.specs.declared.opened.Opened.{Opened}
@@ -54,3 +55,4 @@ pub record CanBegin (sizes : Sizes) (script : Script) (opened : Opened) : Type 0
   pub served : AllByRecursion (AllByRecursion IsServed) script
   pub pages : IsOpened (all_trees opened.head.geometry) opened.pages.items
   pub counters : length opened.counters.items ≡ opened.head.geometry.slabs * opened.head.geometry.slab_blocks
+  pub limit : All (λ counter. counter ≤ limit_of opened.head.geometry) opened.counters.items

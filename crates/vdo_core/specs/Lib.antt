@@ -2,7 +2,6 @@ pub mod Lanes
 pub mod Conditions
 pub mod Cores
 pub mod Done
-pub mod FreeBlocks
 pub mod Moves
 pub mod Plays
 pub mod Starts

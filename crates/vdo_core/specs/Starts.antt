@@ -5,11 +5,10 @@ use Rattle.vdo_model.specs.Scripts.{Script}
 use Rattle.data_vio.specs.declared.sizes.Sizes.{Sizes}
 use Rattle.core_model.specs.PageLinks.{opened_page}
 use Rattle.core_model.specs.Sessions.{Session}
-use Rattle.vdo_core.specs.FreeBlocks.{free_of}
 
--- a session of these sizes and requests over an image that was opened: where that links its pages, and its free blocks
+-- a session of these sizes and requests over an image that was opened: where that links its pages, and the counters of its data blocks
 pub record IsOf (s : Session) (sizes : Sizes) (script : Script) (opened : Opened) : Type 0 where
   pub sizes_is : s.sizes ≡ sizes
   pub script_is : s.script ≡ script
   pub links_is : s.links ≡ opened_page opened.pages.items
-  pub free_is : s.free ≡ free_of opened
+  pub counters_are : s.counters ≡ opened.counters.items

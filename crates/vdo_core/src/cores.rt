@@ -13,7 +13,6 @@ ghost use Rattle.vdo_core.specs.Plays.{HasNoWork, PlaysOne, core_with};
 ghost use Rattle.vdo_core.specs.Starts.{IsOf};
 
 use crate::events::{Event, play_one};
-use crate::free_blocks::free_blocks;
 use crate::start::begin;
 use crate::stepped::Stepped;
 use crate::work::{is_done, ready};
@@ -85,9 +84,8 @@ impl Core {
             zones: setup.logical_zones,
             depth: setup.depth,
         };
-        let free = free_blocks(alloc, opened)?;
         let room = ReportRoom::with_room_for(alloc, &requests)?;
-        let zones = begin(alloc, &sizes, requests, opened, free)?;
+        let zones = begin(alloc, &sizes, requests, opened)?;
         Ok(Core { sizes, zones, room })
     }
 

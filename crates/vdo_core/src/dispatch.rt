@@ -15,6 +15,7 @@ use step_parts::Posts;
 /// What a zone that isn't the device's does with the item in front of its inbox, by what it keeps.
 pub(crate) fn act_alone(sizes: &Sizes, keeps: &mut ZoneData, item: Item, posts: &mut Posts)
     requires other { CallsDevice keeps.old → ⊥ }
+    requires zones { 0 < sizes.now.zones }
     requires within { IsDataWithin (2 ^ 64 - 2) keeps.old }
     requires rule { HasAct sizes.now keeps.old (item ∷ []) }
     requires none { posts.old ≡ [] }

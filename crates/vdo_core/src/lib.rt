@@ -10,7 +10,6 @@
 mod cores;
 mod dispatch;
 mod events;
-mod free_blocks;
 mod lanes;
 mod laws;
 mod moves;

@@ -4,19 +4,18 @@ ghost use Rattle.blk_base.specs.Limits.{IsGeometry};
 ghost use Rattle.block_map_tree.specs.Opening.{IsOpened, all_trees};
 ghost use Rattle.data_vio.specs.Zones as numbers;
 ghost use Rattle.core_model.specs.PageLinks.{opened_page};
-ghost use Rattle.core_model.specs.Sessions.{Session, IsServed};
+ghost use Rattle.core_model.specs.Sessions.{AreCounters, Session, IsServed};
 ghost use Rattle.core_model.specs.SessionLimits.{most_requests, most_streams, most_zones, requests_in};
 ghost use Rattle.core_model.specs.Start.{IsFirst, IsFirstZone, IsFirstData};
 ghost use Rattle.plain_laws.specs.Sums.{Each};
 ghost use Rattle.vdo_core.specs.Plays.{core_with};
-ghost use Rattle.vdo_core.specs.FreeBlocks.{free_of};
 ghost use Rattle.vdo_core.specs.Starts.{IsOf};
 
 use crate::numbers::{
     DESK, device_number, journal_number, logical_number, physical_number, zone_count,
 };
 use crate::zones::Zones;
-use blk_base::{Opened, Pbn};
+use blk_base::Opened;
 use core_model::{Desk, Ports, Zone, ZoneData};
 use data_vio::Sizes;
 use std::alloc::{AllocError, Global};
@@ -83,19 +82,27 @@ fn add_logical(
 fn add_others(
     alloc: Global,
     sizes: &Sizes,
-    free: Vec<Pbn>,
+    opened: &Opened,
     zones: &mut Vec<Zone>,
 ) -> Result<(), AllocError>
     requires count { length zones.old.items ≡ numbers.physical_number sizes.now }
     requires geometry { IsGeometry sizes.now.geometry }
+    requires same { sizes.now.geometry ≡ opened.now.head.geometry }
     requires start { (1 ≤ sizes.now.start) × (sizes.now.start < 2 ^ 54) }
+    requires counters { AreCounters sizes.now.geometry opened.now.counters.items }
     ensures count { OnOk result (length zones.new.items ≡ numbers.zone_count sizes.now) }
     ensures first { OnOk result
-        ((s : Session) → s.sizes ≡ sizes.now → s.free ≡ free.items →
+        ((s : Session) → s.sizes ≡ sizes.now → s.counters ≡ opened.now.counters.items →
         Each (IsFirstZone s) zones.old.items → Each (IsFirstZone s) zones.new.items) }
 {
-    let physical = ZoneData::Physical(physical_zone::first(free));
-    add(alloc, sizes, physical_number(sizes), physical, zones)?;
+    let physical = physical_zone::first(alloc, sizes, opened)?;
+    add(
+        alloc,
+        sizes,
+        physical_number(sizes),
+        ZoneData::Physical(physical),
+        zones,
+    )?;
     let journal = journal_zone::first(alloc, sizes)?;
     add(
         alloc,
@@ -110,7 +117,7 @@ fn add_others(
 }
 
 /// The core at the start of a session: it has the requests, no one of which is begun, the pages that the opened image links,
-/// and the free data blocks. There are 4 logical zones at most. Each request must be one that is served, and there may be 16
+/// and the counters of its data blocks. There are 4 logical zones at most. Each request must be one that is served, and there may be 16
 /// streams and 65,536 requests in all. It takes all the room that the session will need, and fails where no memory is found
 /// for it.
 pub fn begin(
@@ -118,14 +125,13 @@ pub fn begin(
     sizes: &Sizes,
     requests: Requests,
     opened: &Opened,
-    free: Vec<Pbn>,
 ) -> Result<Zones, AllocError>
     requires geometry { IsGeometry sizes.now.geometry }
     requires same { sizes.now.geometry ≡ opened.now.head.geometry }
     requires start { (1 ≤ sizes.now.start) × (sizes.now.start < 2 ^ 54) }
     requires zones { sizes.now.zones ≤ most_zones }
     requires pages { IsOpened (all_trees opened.now.head.geometry) opened.now.pages.items }
-    requires free { free.items ≡ free_of opened.now }
+    requires counters { AreCounters sizes.now.geometry opened.now.counters.items }
     requires served { AllByRecursion (AllByRecursion IsServed) requests }
     requires streams { length requests ≤ most_streams }
     requires few { requests_in requests ≤ most_requests }
@@ -136,6 +142,6 @@ pub fn begin(
     let desk = Desk::new(alloc, requests)?;
     add(alloc, sizes, DESK, ZoneData::Desk(desk), &mut zones)?;
     add_logical(alloc, sizes, opened, &mut zones)?;
-    add_others(alloc, sizes, free, &mut zones)?;
+    add_others(alloc, sizes, opened, &mut zones)?;
     Zones::from_vec(alloc, zones)
 }

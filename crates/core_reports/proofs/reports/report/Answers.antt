@@ -7,9 +7,10 @@ use Rattle.core_model.specs.SessionLimits.{most_requests}
 use Rattle.core_model.specs.Trace.{damage_in, journaled}
 use Rattle.core_model.specs.declared.zones.Zone.{Zone}
 use Rattle.core_reports.specs.Found.{AreFound}
-use Rattle.core_reports.specs.Listed.{HasDamage, HasDesk, HasEntered, places_of_all}
+use Rattle.core_reports.specs.Listed.{HasCounters, HasDamage, HasDesk, HasEntered, places_of_all}
 use Rattle.core_reports.specs.Rooms.{IsRoomFor}
-use Rattle.core_reports.proofs.ReportLaws.{its_damage, its_desk, its_entries, places_few_enough, places_found, report_is}
+use Rattle.core_reports.proofs.ReportLaws.{its_counters, its_damage, its_desk, its_entries, places_few_enough, places_found, report_is}
+use Rattle.core_reports.specs.declared.lists.Space.{Space}
 use Rattle.core_reports.proofs.reports.report.Goals as goal
 
 pub returns : goal.returns
@@ -36,7 +37,10 @@ returns c s t session legal answered for =
     = c.list_histories.ensures desk.desk (journaled t) (progress_of t) has entries c.room.invariant.1 found
     ∙ ap (λ (ps : List Placed). histories_of desk.desk.requests desk.desk.log (progress_of t) ps) (sym c.as_slice.ensures) in
     let damaged : HasDamage (damage_in t) c.deref-3.result.now = subst (λ (zs : List Zone). HasDamage (damage_in t) zs) (sym c.deref-3.ensures.value) (its_damage s t zones session legal) in
-    report_is s t zones session legal c.desk_report-desk.result c.into_list.result c.into_list-2.result c.damage-damage.result
+    let its = its_counters s t zones session legal in
+    let counted : HasCounters its.counts c.deref-4.result.now = subst (λ (zs : List Zone). HasCounters its.counts zs) (sym c.deref-4.ensures.value) its.has in
+    let space = c.used_space-space.ensures its.counts counted in
+    report_is s t zones session legal c.desk_report-desk.result c.into_list.result c.into_list-2.result c.damage-damage.result c.used_space-space.result.used c.used_space-space.result.total
     (c.desk_report-desk.ensures desk.desk desk.has) (c.into_list.ensures ∙ placed)
     (c.into_list-2.ensures ∙ histories ∙ ap (λ (ps : List Placed). histories_of desk.desk.requests desk.desk.log (progress_of t) ps) (sym c.into_list.ensures))
-    (c.damage-damage.ensures (damage_in t) damaged)
+    (c.damage-damage.ensures (damage_in t) damaged) (ap (λ (p : Space). p.used) space) (ap (λ (p : Space). p.total) space)

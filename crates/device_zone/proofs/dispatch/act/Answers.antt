@@ -1,4 +1,4 @@
-use Rattle.device_zone.proofs.ActLaws.{acts, can_serve, can_work, works_on}
+use Rattle.device_zone.proofs.ActLaws.{acts, can_serve, can_work, hears, works_on}
 use Rattle.device_zone.proofs.dispatch.act.Goals as goal
 
 pub returns-in-Request-clause-acts : goal.returns-in-Request-clause-acts
@@ -15,3 +15,6 @@ work_block-requires-clause-some g c = (can_work _ _ _ (rw c.in-Block.is at c.req
 
 pub work_block-requires-clause-needed : goal.work_block-requires-clause-needed
 work_block-requires-clause-needed g c = (can_work _ _ _ (rw c.in-Block.is at c.requires.rule)).1
+
+pub returns-in-Damage-clause-acts : goal.returns-in-Damage-clause-acts
+returns-in-Damage-clause-acts g c = rw c.in-Damage.is (hears _ _ _ _ _ _ _ _ _ c.harm.ensures.zone c.requires.may.none c.harm.ensures.posts)

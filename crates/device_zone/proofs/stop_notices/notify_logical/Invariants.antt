@@ -1,11 +1,12 @@
 use Rattle.std.proofs.Common.{◌≡◌, ◌≤◌, ◌+◌, ◌++◌, length}
 use Rattle.core_model.specs.DeviceRules.{stop_notices}
 use Rattle.data_vio.specs.Zones.{logical_zones}
+use Rattle.data_vio.specs.declared.limits.TheConstants.{POST_ROOM}
 use Rattle.device_zone.proofs.stop_notices.notify_logical.Given as goal
 
 abbrev pub invariant-loop-left : goal.invariant-loop-left
 invariant-loop-left l = record {
-  room : length l.posts + l.left ≤ 663;
+  room : length l.posts + l.left ≤ POST_ROOM;
   posts : l.posts ++ stop_notices (logical_zones l.left) ≡ l.initial.posts ++ stop_notices (logical_zones l.initial.left);
 }
 

@@ -4,7 +4,7 @@ use Rattle.logical_zone.proofs.pages.wake.Given as goal
 
 abbrev pub invariant-loop-vio : goal.invariant-loop-vio
 invariant-loop-vio l = record {
-  room : length l.posts + length l.zone.lacking ≤ 663;
+  room : length l.posts + length l.zone.lacking ≤ 920;
   rest : woken l.fn.zone ≡ woken l.zone;
   posts : l.fn.posts ++ all_again l.fn.zone.lacking ≡ l.posts ++ all_again l.zone.lacking;
 }

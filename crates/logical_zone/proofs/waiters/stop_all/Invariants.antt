@@ -5,7 +5,7 @@ use Rattle.logical_zone.proofs.waiters.stop_all.Given as goal
 
 abbrev pub invariant-loop-vio : goal.invariant-loop-vio
 invariant-loop-vio l = record {
-  room : length l.posts + length l.zone.waiting ≤ 663;
+  room : length l.posts + length l.zone.waiting ≤ 920;
   rest : emptied l.at.0 l.fn.zone ≡ emptied l.at.0 l.zone;
   posts : l.fn.posts ++ all_stopped (all_for l.at.0 l.fn.zone.waiting) ≡ l.posts ++ all_stopped (all_for l.at.0 l.zone.waiting);
 }

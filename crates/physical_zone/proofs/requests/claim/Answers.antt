@@ -5,6 +5,6 @@ use Rattle.physical_zone.proofs.requests.claim.Goals as goal
 
 pub returns-in-Some : goal.returns-in-Some
 returns-in-Some c = (
-  Takes c.args.vio.request c.args.vio.page c.in-Some.block ∷ [],
-  claims c.in-Some.block c.take.new.self c.requires.phase (search rules) (search rules) refl (search rules),
+  Takes c.args.vio.request c.args.vio.page c.in-Some.claim ∷ [],
+  claims c.in-Some.claim c.claim_free.new.self c.requires.phase c.in-Some.ensures.some refl refl (search rules),
 )
