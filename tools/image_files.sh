@@ -325,7 +325,8 @@ if [ -n "$python" ]; then
     same "$($large check large)" '0 of 123 leaves and 0 of 99876 blocks differ' 'a large image that has grown'
     script 0 '0 0 write 39560639 ok z0:0
 0 1 flush ok
-0 2 read 39560639 4096*61 z0:1' '0 write 39560639 4096*61\n0 flush\n0 read 39560639\n' large 135233 run
+0 2 read 39560639 4096*61 z0:1
+used 100001 of 131072' '0 write 39560639 4096*61\n0 flush\n0 read 39560639\n' large 135233 run
     try 0 'recovered 2 entries' large 135233 recover
     try 0 'audit clean, used 100001 of 131072' large 135233 audit
     same "$($large check large)" '0 of 123 leaves and 0 of 99876 blocks differ' 'a large image that has grown, behind a run'
@@ -377,15 +378,17 @@ clean' - 154 recover
 
 # Runs one after the other on a file: each finds what was written before, and is recovered where it has to be.
 cp image served
-script 0 '' '' served 154 run
+script 0 'used 0 of 64' '' served 154 run
 alike image served 'a script without a request wrote the image'
 script 0 '0 0 write 5 ok z0:0
-0 1 read 5 4096*61 z0:1' '0 write 5 4096*61\n0 read 5\n' served 154 run
+0 1 read 5 4096*61 z0:1
+used 2 of 64' '0 write 5 4096*61\n0 read 5\n' served 154 run
 agree served 154
 mend served 154
 script 0 'recovered 2 entries
 0 0 write 5 ok z0:0
-0 1 flush ok' '0 write 5 4096*62\n0 flush\n' served 154 run --schedule 7
+0 1 flush ok
+used 2 of 64' '0 write 5 4096*62\n0 flush\n' served 154 run --schedule 7
 cp served kept
 try 4 'bad image: field blocks' served 153 run
 alike served kept 'an image that was refused was written'
@@ -393,7 +396,8 @@ script 2 'recovered 1 entries
 script line 1: word' '0 erase 5\n' served 154 run
 try 0 clean served 154 recover
 script 0 '0 0 read 5 4096*62 z0:0
-0 1 read 1000 range' '0 read 5\n0 read 1000\n' served 4000000000 run
+0 1 read 1000 range
+used 2 of 64' '0 read 5\n0 read 1000\n' served 4000000000 run
 try 0 'recovered 0 entries' served 154 recover
 try 0 'audit clean, used 2 of 64' served 154 audit
 script 4 'bad image: not an image' '0 read 5\n' bare 154 run
@@ -403,13 +407,15 @@ same "$(wc -c <bare | tr -d ' ')" 0 'size of a file without an image on which a 
 for words in '- 154 run' ''; do
     # shellcheck disable=SC2086
     script 0 'formatted 154 blocks, 1 slab of 64, logical 1000
-0 0 write 5 ok z0:0' '0 write 5 4096*61\n' $words
+0 0 write 5 ok z0:0
+used 2 of 64' '0 write 5 4096*61\n' $words
 done
 try 8 'layout: needs 154 blocks, has 153' - 153 run
 
 # A page that is no longer one: where the journal replaces a slot the page's own one isn't looked at.
 cp image served
-script 0 '0 0 write 5 ok z0:0' '0 write 5 4096*61\n' served 154 run
+script 0 '0 0 write 5 ok z0:0
+used 2 of 64' '0 write 5 4096*61\n' served 154 run
 put served 348221 002
 cp served kept
 try 0 'recovered 2 entries' served 154 recover

@@ -245,7 +245,7 @@ fn stops<R: Wait>(rt: &R, alloc: Global, number: u64) -> Result<(u32, u32, u32),
 
 #[test]
 fn stopped_at_calls_of_a_run(rt: HostRuntime) -> Result<(), Fail> {
-    let (stops, wrong, newer) = stops(&rt, rt.alloc(), 0)?;
+    let (stops, wrong, newer) = stops(&rt, rt.alloc(), 2)?;
     assert_eq!(rt; (wrong, stops > 3, newer > 30), (0, true, true));
     Ok(())
 }

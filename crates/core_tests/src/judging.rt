@@ -9,6 +9,7 @@ pub(crate) struct Met {
     pub(crate) wrong: u32,
     /// Requests that were answered so.
     pub(crate) full: u32,
+    pub(crate) no_space: u32,
     pub(crate) stopped: u32,
     pub(crate) read_faults: u32,
     pub(crate) ranges: u32,
@@ -19,6 +20,7 @@ impl Met {
         reads: 0,
         wrong: 0,
         full: 0,
+        no_space: 0,
         stopped: 0,
         read_faults: 0,
         ranges: 0,
@@ -30,6 +32,7 @@ impl Met {
             reads: self.reads.wrapping_add(other.reads),
             wrong: self.wrong.wrapping_add(other.wrong),
             full: self.full.wrapping_add(other.full),
+            no_space: self.no_space.wrapping_add(other.no_space),
             stopped: self.stopped.wrapping_add(other.stopped),
             read_faults: self.read_faults.wrapping_add(other.read_faults),
             ranges: self.ranges.wrapping_add(other.ranges),
@@ -128,6 +131,11 @@ fn byte_before(report: &RunReport, at: Lba, place: (u32, u64)) -> u8 {
     last.1
 }
 
+/// The byte of an address of the first zone at the end of a run on a fresh image.
+pub(crate) fn last_byte(report: &RunReport, at: Lba) -> u8 {
+    byte_before(report, at, (0, u64::MAX))
+}
+
 // Whether a read may be answered with this block.
 fn is_right(report: &RunReport, request: Writer, block: &Block) -> bool {
     let Some(Request::Read(at)) = request_of(report, request) else {
@@ -149,10 +157,11 @@ fn met_by(report: &RunReport, request: Writer, answer: &Answer) -> Met {
             }
         }
         Answer::Full => met.full = 1,
+        Answer::NoSpace => met.no_space = 1,
         Answer::Stopped => met.stopped = 1,
         Answer::ReadFault => met.read_faults = 1,
         Answer::Range => met.ranges = 1,
-        Answer::Ok | Answer::NoSpace | Answer::Damaged => {}
+        Answer::Ok | Answer::Damaged => {}
     }
     met
 }

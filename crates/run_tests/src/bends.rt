@@ -18,6 +18,14 @@ const BEND: BendAt = BendAt {
     value: 2,
 };
 
+/// Byte 62 has the block of its slot 5: a data block that nothing is mapped to.
+const OTHER_BLOCK: BendAt = BendAt {
+    at: Pbn(85),
+    after: 1,
+    byte: 62,
+    value: 90,
+};
+
 // A device whose closed image has the leaf of address 5.
 fn with_a_leaf<R: Threads + Wait + Sync + Abort>(rt: &R, alloc: Global) -> Result<MemDisk, Fail> {
     let first = puts(
@@ -25,10 +33,10 @@ fn with_a_leaf<R: Threads + Wait + Sync + Abort>(rt: &R, alloc: Global) -> Resul
         alloc,
         fresh(alloc)?,
         b"0 write 5 4096*61\n",
-        b"0 0 write 5 ok z0:0\n",
+        b"0 0 write 5 ok z0:0\nused 2 of 64\n",
         0,
     )?;
-    puts(rt, alloc, first, b"", b"recovered 2 entries\n", 0)
+    puts(rt, alloc, first, b"", b"recovered 2 entries\nused 2 of 64\n", 0)
 }
 
 // How many of these calls are writes.
@@ -45,14 +53,14 @@ type Bent = (u8, bool, usize);
 fn bent<R: Threads + Wait + Sync + Abort>(
     rt: &R,
     alloc: Global,
-    schedule: &str,
+    bend: BendAt,
     script: &[u8],
     text: &[u8],
 ) -> Result<Bent, Fail> {
     let device = with_a_leaf(rt, alloc)?;
     let before = writes(device.calls());
-    let bends = vec![in alloc; BEND]?;
-    let mut outside = outside_of(alloc, &["run", "--schedule", schedule], script, None, 2000)?;
+    let bends = vec![in alloc; bend]?;
+    let mut outside = outside_of(alloc, &["run", "--schedule", "0"], script, None, 2000)?;
     let ended = run(
         rt,
         &outside.words,
@@ -76,9 +84,9 @@ fn a_leaf_that_was_bent(rt: HostRuntime) -> Result<(), Fail> {
     let found = bent(
         &rt,
         rt.alloc(),
-        "0",
+        BEND,
         b"0 read 5\n",
-        b"0 0 read 5 damaged z0:0\ndamage: page 85\n",
+        b"0 0 read 5 damaged z0:0\ndamage: page 85\nused 2 of 64\n",
     )?;
     assert_eq!(rt; found, (4, true, 1));
     Ok(())
@@ -90,10 +98,24 @@ fn requests_behind_damage(rt: HostRuntime) -> Result<(), Fail> {
     let found = bent(
         &rt,
         rt.alloc(),
-        "0",
+        BEND,
         b"0 write 6 4096*62\n0 write 7 4096*63\n0 flush\n0 read 900\n",
-        b"0 0 write 6 damaged z0:0\n0 1 write 7 stopped\n0 2 flush stopped\n0 3 read 900 4096*00 z0:1\ndamage: page 85\n",
+        b"0 0 write 6 damaged z0:0\n0 1 write 7 stopped\n0 2 flush stopped\n0 3 read 900 4096*00 z0:1\ndamage: page 85\nused 2 of 64\n",
     )?;
     assert_eq!(rt; found, (4, true, 1));
+    Ok(())
+}
+
+// The block that a write replaces is counted at 0: the session is stopped, and behind the entry nothing is written.
+#[test]
+fn a_mapping_that_was_bent(rt: HostRuntime) -> Result<(), Fail> {
+    let found = bent(
+        &rt,
+        rt.alloc(),
+        OTHER_BLOCK,
+        b"0 write 5 4096*62\n0 read 5\n0 flush\n0 write 6 4096*63\n",
+        b"0 0 write 5 ok z0:0\n0 1 read 5 4096*62 z0:1\n0 2 flush stopped\n0 3 write 6 stopped\ndamage: count 90\nused 3 of 64\n",
+    )?;
+    assert_eq!(rt; found, (4, true, 3));
     Ok(())
 }

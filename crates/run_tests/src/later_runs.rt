@@ -31,22 +31,22 @@ fn a_later_run_finds_what_an_earlier_one_wrote(rt: HostRuntime) -> Result<(), Fa
         &[
             (
                 b"0 write 5 4096*61\n0 read 5\n",
-                b"0 0 write 5 ok z0:0\n0 1 read 5 4096*61 z0:1\n",
+                b"0 0 write 5 ok z0:0\n0 1 read 5 4096*61 z0:1\nused 2 of 64\n",
                 0,
             ),
             (
                 b"0 read 5\n",
-                b"recovered 2 entries\n0 0 read 5 4096*61 z0:0\n",
+                b"recovered 2 entries\n0 0 read 5 4096*61 z0:0\nused 2 of 64\n",
                 0,
             ),
             (
                 b"0 write 5 4096*62\n0 write 999 4096*63\n0 read 5\n",
-                b"recovered 0 entries\n0 0 write 5 ok z0:0\n0 1 write 999 ok z0:1\n0 2 read 5 4096*62 z0:2\n",
+                b"recovered 0 entries\n0 0 write 5 ok z0:0\n0 1 write 999 ok z0:1\n0 2 read 5 4096*62 z0:2\nused 4 of 64\n",
                 0,
             ),
             (
                 b"0 read 5\n0 read 999\n0 read 6\n",
-                b"recovered 3 entries\n0 0 read 5 4096*62 z0:0\n0 1 read 999 4096*63 z0:1\n0 2 read 6 4096*00 z0:2\n",
+                b"recovered 3 entries\n0 0 read 5 4096*62 z0:0\n0 1 read 999 4096*63 z0:1\n0 2 read 6 4096*00 z0:2\nused 4 of 64\n",
                 0,
             ),
         ],
@@ -59,15 +59,15 @@ fn a_later_run_writes_the_same_block(rt: HostRuntime) -> Result<(), Fail> {
         &rt,
         rt.alloc(),
         &[
-            (b"0 write 1 4096*61\n", b"0 0 write 1 ok z0:0\n", 0),
+            (b"0 write 1 4096*61\n", b"0 0 write 1 ok z0:0\nused 2 of 64\n", 0),
             (
                 b"0 write 2 4096*61\n",
-                b"recovered 2 entries\n0 0 write 2 ok z0:0\n",
+                b"recovered 2 entries\n0 0 write 2 ok z0:0\nused 3 of 64\n",
                 0,
             ),
             (
                 b"0 read 1\n0 read 2\n",
-                b"recovered 1 entries\n0 0 read 1 4096*61 z0:0\n0 1 read 2 4096*61 z0:1\n",
+                b"recovered 1 entries\n0 0 read 1 4096*61 z0:0\n0 1 read 2 4096*61 z0:1\nused 3 of 64\n",
                 0,
             ),
         ],
@@ -83,17 +83,17 @@ fn a_later_run_has_the_whole_journal(rt: HostRuntime) -> Result<(), Fail> {
         &[
             (
                 b"0 write 5 4096*61\n0 write 5 4096*62\n0 write 999 4096*63\n",
-                b"0 0 write 5 ok z0:0\n0 1 write 5 ok z0:1\n0 2 write 999 ok z0:2\n",
+                b"0 0 write 5 ok z0:0\n0 1 write 5 ok z0:1\n0 2 write 999 ok z0:2\nused 4 of 64\n",
                 0,
             ),
             (
                 b"0 write 0 4096*64\n0 write 1 4096*65\n0 write 2 4096*66\n0 write 3 4096*67\n0 write 4 4096*68\n0 write 6 4096*69\n0 write 7 4096*6a\n0 write 8 4096*6b\n0 read 5\n",
-                b"recovered 5 entries\n0 0 write 0 ok z0:0\n0 1 write 1 ok z0:1\n0 2 write 2 ok z0:2\n0 3 write 3 ok z0:3\n0 4 write 4 ok z0:4\n0 5 write 6 ok z0:5\n0 6 write 7 ok z0:6\n0 7 write 8 full z0:7\n0 8 read 5 4096*62 z0:8\n",
+                b"recovered 5 entries\n0 0 write 0 ok z0:0\n0 1 write 1 ok z0:1\n0 2 write 2 ok z0:2\n0 3 write 3 ok z0:3\n0 4 write 4 ok z0:4\n0 5 write 6 ok z0:5\n0 6 write 7 ok z0:6\n0 7 write 8 full z0:7\n0 8 read 5 4096*62 z0:8\nused 11 of 64\n",
                 1,
             ),
             (
                 b"0 discard 5 1\n0 read 1\n0 read 7\n0 read 8\n0 read 5\n",
-                b"recovered 7 entries\n0 0 discard 5 ok z0:0\n0 1 read 1 4096*65 z0:1\n0 2 read 7 4096*6a z0:2\n0 3 read 8 4096*00 z0:3\n0 4 read 5 4096*00 z0:4\n",
+                b"recovered 7 entries\n0 0 discard 5 ok z0:0\n0 1 read 1 4096*65 z0:1\n0 2 read 7 4096*6a z0:2\n0 3 read 8 4096*00 z0:3\n0 4 read 5 4096*00 z0:4\nused 10 of 64\n",
                 0,
             ),
         ],
@@ -108,16 +108,16 @@ fn runs_that_read(rt: HostRuntime) -> Result<(), Fail> {
         &rt,
         rt.alloc(),
         &[
-            (b"0 write 5 4096*61\n", b"0 0 write 5 ok z0:0\n", 0),
+            (b"0 write 5 4096*61\n", b"0 0 write 5 ok z0:0\nused 2 of 64\n", 0),
             (
                 b"0 read 5\n0 flush\n",
-                b"recovered 2 entries\n0 0 read 5 4096*61 z0:0\n0 1 flush ok\n",
+                b"recovered 2 entries\n0 0 read 5 4096*61 z0:0\n0 1 flush ok\nused 2 of 64\n",
                 0,
             ),
-            (b"", b"recovered 0 entries\n", 0),
+            (b"", b"recovered 0 entries\nused 2 of 64\n", 0),
             (
                 b"0 read 5\n0 read 6\n",
-                b"0 0 read 5 4096*61 z0:0\n0 1 read 6 4096*00 z0:1\n",
+                b"0 0 read 5 4096*61 z0:0\n0 1 read 6 4096*00 z0:1\nused 2 of 64\n",
                 0,
             ),
         ],
@@ -131,13 +131,13 @@ fn a_refused_script_behind_a_recovery(rt: HostRuntime) -> Result<(), Fail> {
         &rt,
         rt.alloc(),
         &[
-            (b"0 write 5 4096*61\n", b"0 0 write 5 ok z0:0\n", 0),
+            (b"0 write 5 4096*61\n", b"0 0 write 5 ok z0:0\nused 2 of 64\n", 0),
             (
                 b"0 read\n",
                 b"recovered 2 entries\nscript line 1: word\n",
                 2,
             ),
-            (b"0 read 5\n", b"0 0 read 5 4096*61 z0:0\n", 0),
+            (b"0 read 5\n", b"0 0 read 5 4096*61 z0:0\nused 2 of 64\n", 0),
         ],
     )
 }
@@ -152,10 +152,10 @@ fn a_leaf_that_cannot_be_read(rt: HostRuntime) -> Result<(), Fail> {
         alloc,
         fresh(alloc)?,
         b"0 write 5 4096*61\n",
-        b"0 0 write 5 ok z0:0\n",
+        b"0 0 write 5 ok z0:0\nused 2 of 64\n",
         0,
     )?;
-    let mut closed = puts(&rt, alloc, first, b"", b"recovered 2 entries\n", 0)?;
+    let mut closed = puts(&rt, alloc, first, b"", b"recovered 2 entries\nused 2 of 64\n", 0)?;
     let plan = vec![in alloc;
         FaultAt {
             kind: CallKind::Read,
@@ -170,7 +170,7 @@ fn a_leaf_that_cannot_be_read(rt: HostRuntime) -> Result<(), Fail> {
         alloc,
         closed,
         b"0 read 5\n0 read 5\n",
-        b"0 0 read 5 read fault z0:0\n0 1 read 5 4096*61 z0:1\n",
+        b"0 0 read 5 read fault z0:0\n0 1 read 5 4096*61 z0:1\nused 2 of 64\n",
         3,
     )?;
     Ok(())
@@ -199,7 +199,7 @@ fn with_byte_in_leaf(
 // is 61, so that isn't looked at.
 const LEAF_BYTES: [(usize, u8, &[u8], u8); 3] = [
     (51, 2, b"bad image: page 85 slot 3 compressed\n", 4),
-    (61, 2, b"recovered 2 entries\n0 0 read 5 4096*61 z0:0\n", 0),
+    (61, 2, b"recovered 2 entries\n0 0 read 5 4096*61 z0:0\nused 2 of 64\n", 0),
     (0, 255, b"bad image: page 85 header\n", 4),
 ];
 
@@ -211,7 +211,7 @@ fn a_leaf_with_another_byte(rt: HostRuntime) -> Result<(), Fail> {
         alloc,
         fresh(alloc)?,
         b"0 write 5 4096*61\n",
-        b"0 0 write 5 ok z0:0\n",
+        b"0 0 write 5 ok z0:0\nused 2 of 64\n",
         0,
     )?;
     for &(place, byte, text, status) in &LEAF_BYTES {

@@ -302,19 +302,23 @@ const SCRIPTS: [Case; 4] = [
         Device::Fresh,
         b"0 write 5 4096*61\n0 read 5\n",
         (
-            b"0 0 write 5 ok z0:0\n0 1 read 5 4096*61 z0:1\n",
+            b"0 0 write 5 ok z0:0\n0 1 read 5 4096*61 z0:1\nused 2 of 64\n",
             0,
             Calls::Any,
         ),
     ),
     // Where nothing is asked, nothing is written.
-    (Device::Fresh, b"", (b"", 0, Calls::OnlyReads)),
+    (
+        Device::Fresh,
+        b"",
+        (b"used 0 of 64\n", 0, Calls::OnlyReads),
+    ),
     // The last value wins, and another address has its own.
     (
         Device::Fresh,
         b"0 write 1 4096*61\n0 write 2 4096*62\n0 write 1 4096*63\n0 read 1\n0 flush\n0 read 2\n0 read 3",
         (
-            b"0 0 write 1 ok z0:0\n0 1 write 2 ok z0:1\n0 2 write 1 ok z0:2\n0 3 read 1 4096*63 z0:3\n0 4 flush ok\n0 5 read 2 4096*62 z0:4\n0 6 read 3 4096*00 z0:5\n",
+            b"0 0 write 1 ok z0:0\n0 1 write 2 ok z0:1\n0 2 write 1 ok z0:2\n0 3 read 1 4096*63 z0:3\n0 4 flush ok\n0 5 read 2 4096*62 z0:4\n0 6 read 3 4096*00 z0:5\nused 3 of 64\n",
             0,
             Calls::Any,
         ),
@@ -324,7 +328,7 @@ const SCRIPTS: [Case; 4] = [
         Device::Fresh,
         b"0 write 1 4096*61\n0 flush\n0 write 2 4096*61\n0 flush\n0 write 1 4096*62\n0 read 2\n",
         (
-            b"0 0 write 1 ok z0:0\n0 1 flush ok\n0 2 write 2 ok z0:1\n0 3 flush ok\n0 4 write 1 ok z0:2\n0 5 read 2 4096*61 z0:3\n",
+            b"0 0 write 1 ok z0:0\n0 1 flush ok\n0 2 write 2 ok z0:1\n0 3 flush ok\n0 4 write 1 ok z0:2\n0 5 read 2 4096*61 z0:3\nused 3 of 64\n",
             0,
             Calls::Any,
         ),
@@ -340,7 +344,7 @@ const NINE_WRITES: [Case; 1] = [(
     Device::Fresh,
     b"0 write 0 4096*61\n0 write 1 4096*61\n0 write 2 4096*61\n0 write 3 4096*61\n0 write 4 4096*61\n0 write 5 4096*61\n0 write 6 4096*61\n0 write 7 4096*61\n0 write 8 4096*61\n",
     (
-        b"0 0 write 0 ok z0:0\n0 1 write 1 ok z0:1\n0 2 write 2 ok z0:2\n0 3 write 3 ok z0:3\n0 4 write 4 ok z0:4\n0 5 write 5 ok z0:5\n0 6 write 6 full z0:6\n0 7 write 7 full z0:7\n0 8 write 8 full z0:8\n",
+        b"0 0 write 0 ok z0:0\n0 1 write 1 ok z0:1\n0 2 write 2 ok z0:2\n0 3 write 3 ok z0:3\n0 4 write 4 ok z0:4\n0 5 write 5 ok z0:5\n0 6 write 6 full z0:6\n0 7 write 7 full z0:7\n0 8 write 8 full z0:8\nused 7 of 64\n",
         1,
         Calls::Any,
     ),
@@ -358,7 +362,7 @@ const FAILED_WRITES: [Case; 5] = [
         Device::Failing(CallKind::Write, 0),
         b"0 write 5 4096*61\n0 flush\n0 read 5\n",
         (
-            b"0 0 write 5 stopped z0:0\n0 1 flush stopped\n0 2 read 5 4096*00 z0:1\n",
+            b"0 0 write 5 stopped z0:0\n0 1 flush stopped\n0 2 read 5 4096*00 z0:1\nused 0 of 64\n",
             3,
             Calls::Count(OPENING + 1),
         ),
@@ -368,7 +372,7 @@ const FAILED_WRITES: [Case; 5] = [
         Device::Failing(CallKind::Write, 85),
         b"0 write 5 4096*61\n0 flush\n0 read 5\n0 write 6 4096*61\n",
         (
-            b"0 0 write 5 stopped z0:0\n0 1 flush stopped\n0 2 read 5 4096*00 z0:1\n0 3 write 6 stopped\n",
+            b"0 0 write 5 stopped z0:0\n0 1 flush stopped\n0 2 read 5 4096*00 z0:1\n0 3 write 6 stopped\nused 0 of 64\n",
             3,
             Calls::Any,
         ),
@@ -378,7 +382,7 @@ const FAILED_WRITES: [Case; 5] = [
         Device::Failing(CallKind::Write, 2),
         b"0 write 5 4096*61\n0 read 5\n0 discard 5 1\n",
         (
-            b"0 0 write 5 stopped z0:0\n0 1 read 5 4096*00 z0:1\n0 2 discard 5 stopped\n",
+            b"0 0 write 5 stopped z0:0\n0 1 read 5 4096*00 z0:1\n0 2 discard 5 stopped\nused 0 of 64\n",
             3,
             Calls::Any,
         ),
@@ -388,7 +392,7 @@ const FAILED_WRITES: [Case; 5] = [
         Device::Failing(CallKind::Write, 3),
         b"0 write 5 4096*61\n0 read 5\n0 read 6\n",
         (
-            b"0 0 write 5 stopped z0:0\n0 1 read 5 stopped z0:1\n0 2 read 6 4096*00 z0:2\n",
+            b"0 0 write 5 stopped z0:0\n0 1 read 5 stopped z0:1\n0 2 read 6 4096*00 z0:2\nused 1 of 64\n",
             3,
             Calls::Any,
         ),
@@ -398,7 +402,7 @@ const FAILED_WRITES: [Case; 5] = [
         Device::Failing(CallKind::Write, 4),
         b"0 write 5 4096*61\n0 write 5 4096*62\n0 read 5\n",
         (
-            b"0 0 write 5 ok z0:0\n0 1 write 5 stopped z0:1\n0 2 read 5 stopped z0:2\n",
+            b"0 0 write 5 ok z0:0\n0 1 write 5 stopped z0:1\n0 2 read 5 stopped z0:2\nused 2 of 64\n",
             3,
             Calls::Any,
         ),
@@ -415,7 +419,7 @@ const OTHER_FAILED_CALLS: [Case; 4] = [
         Device::Failing(CallKind::Flush, 0),
         b"0 flush\n0 read 0\n0 flush\n",
         (
-            b"0 0 flush stopped\n0 1 read 0 4096*00 z0:0\n0 2 flush stopped\n",
+            b"0 0 flush stopped\n0 1 read 0 4096*00 z0:0\n0 2 flush stopped\nused 0 of 64\n",
             3,
             Calls::Any,
         ),
@@ -425,7 +429,7 @@ const OTHER_FAILED_CALLS: [Case; 4] = [
         Device::Failing(CallKind::Read, 86),
         b"0 write 5 4096*61\n0 read 5\n0 read 5\n",
         (
-            b"0 0 write 5 ok z0:0\n0 1 read 5 read fault z0:1\n0 2 read 5 4096*61 z0:2\n",
+            b"0 0 write 5 ok z0:0\n0 1 read 5 read fault z0:1\n0 2 read 5 4096*61 z0:2\nused 2 of 64\n",
             3,
             Calls::Any,
         ),
@@ -473,7 +477,7 @@ const SERVED_LINES: [Case; 6] = [
         Device::Fresh,
         b"0 write 3 4096*07\n0 write 3 4096*00\n0 read 3\n0 discard 3 2\n0 discard 900 1\n0 read 3\n",
         (
-            b"0 0 write 3 ok z0:0\n0 1 write 3 ok z0:1\n0 2 read 3 4096*00 z0:2\n0 3 discard 3 ok z0:3\n0 4 discard 4 ok z0:4\n0 5 discard 900 ok z0:5\n0 6 read 3 4096*00 z0:6\n",
+            b"0 0 write 3 ok z0:0\n0 1 write 3 ok z0:1\n0 2 read 3 4096*00 z0:2\n0 3 discard 3 ok z0:3\n0 4 discard 4 ok z0:4\n0 5 discard 900 ok z0:5\n0 6 read 3 4096*00 z0:6\nused 1 of 64\n",
             0,
             Calls::Any,
         ),
@@ -482,7 +486,7 @@ const SERVED_LINES: [Case; 6] = [
         Device::Fresh,
         b"0 write 999 4096*07\n0 discard 999 2\n0 read 999\n",
         (
-            b"0 0 write 999 ok z0:0\n0 1 discard 999 ok z0:1\n0 2 discard 1000 range\n0 3 read 999 4096*00 z0:2\n",
+            b"0 0 write 999 ok z0:0\n0 1 discard 999 ok z0:1\n0 2 discard 1000 range\n0 3 read 999 4096*00 z0:2\nused 1 of 64\n",
             0,
             Calls::Any,
         ),
@@ -493,7 +497,7 @@ const SERVED_LINES: [Case; 6] = [
         Device::Tall,
         b"0 write 0 4096*61\n0 read 999\n",
         (
-            b"0 0 write 0 ok z0:0\n0 1 read 999 4096*00 z0:1\n",
+            b"0 0 write 0 ok z0:0\n0 1 read 999 4096*00 z0:1\nused 3 of 64\n",
             0,
             Calls::Count(OPENING + 2 + 3 * 4 + 1),
         ),
@@ -502,7 +506,7 @@ const SERVED_LINES: [Case; 6] = [
         Device::Fresh,
         b"0 read 7\n0 read 1000\n0 write 4294967295 4096*61\n",
         (
-            b"0 0 read 7 4096*00 z0:0\n0 1 read 1000 range\n0 2 write 4294967295 range\n",
+            b"0 0 read 7 4096*00 z0:0\n0 1 read 1000 range\n0 2 write 4294967295 range\nused 0 of 64\n",
             0,
             Calls::Any,
         ),
@@ -510,13 +514,13 @@ const SERVED_LINES: [Case; 6] = [
     (
         Device::Fresh,
         b"0 read 0000000000000000000000000000000000000000000000000000000005\n",
-        (b"0 0 read 5 4096*00 z0:0\n", 0, Calls::Any),
+        (b"0 0 read 5 4096*00 z0:0\nused 0 of 64\n", 0, Calls::Any),
     ),
     (
         Device::Fresh,
         b"0 write 7 1*0A+1*0a+4094*ff\n0 read 7\n",
         (
-            b"0 0 write 7 ok z0:0\n0 1 read 7 2*0a+4094*ff z0:1\n",
+            b"0 0 write 7 ok z0:0\n0 1 read 7 2*0a+4094*ff z0:1\nused 2 of 64\n",
             0,
             Calls::Any,
         ),
@@ -556,7 +560,7 @@ const BY_EVERY_SCHEDULE: [Case; 2] = [
         Device::Fresh,
         b"0 write 5 4096*61\n0 read 5\n",
         (
-            b"0 0 write 5 ok z0:0\n0 1 read 5 4096*61 z0:1\n",
+            b"0 0 write 5 ok z0:0\n0 1 read 5 4096*61 z0:1\nused 2 of 64\n",
             0,
             Calls::Any,
         ),
@@ -564,7 +568,7 @@ const BY_EVERY_SCHEDULE: [Case; 2] = [
     (
         Device::Fresh,
         b"0 write 5 4096*61\n1 read 1000\n",
-        (b"0 0 write 5 ok z0:0\n1 0 read 1000 range\n", 0, Calls::Any),
+        (b"0 0 write 5 ok z0:0\n1 0 read 1000 range\nused 2 of 64\n", 0, Calls::Any),
     ),
 ];
 

@@ -12,22 +12,22 @@ use std::thread::Threads;
 
 const EARLIER: &[u8] = b"0 write 1 4096*60\n0 flush\n";
 
-const EARLIER_ANSWERS: &[u8] = b"0 0 write 1 ok z0:0\n0 1 flush ok\n";
+const EARLIER_ANSWERS: &[u8] = b"0 0 write 1 ok z0:0\n0 1 flush ok\nused 2 of 64\n";
 
 const SCRIPT: &[u8] =
     b"0 write 1 4096*61\n0 flush\n0 write 2 4096*61\n0 flush\n0 write 1 4096*62\n0 read 2\n";
 
 const ANSWERS: &[u8] =
-    b"recovered 2 entries\n0 0 write 1 ok z0:0\n0 1 flush ok\n0 2 write 2 ok z0:1\n0 3 flush ok\n0 4 write 1 ok z0:2\n0 5 read 2 4096*61 z0:3\n";
+    b"recovered 2 entries\n0 0 write 1 ok z0:0\n0 1 flush ok\n0 2 write 2 ok z0:1\n0 3 flush ok\n0 4 write 1 ok z0:2\n0 5 read 2 4096*61 z0:3\nused 3 of 64\n";
 
-/// What reads of addresses 1 and 2 give.
-const EARLIER_ZEROS: &[u8] = b"0 0 read 1 4096*60 z0:0\n0 1 read 2 4096*00 z0:1\n";
+/// What reads of addresses 1 and 2 give, and how many blocks are used.
+const EARLIER_ZEROS: &[u8] = b"0 0 read 1 4096*60 z0:0\n0 1 read 2 4096*00 z0:1\nused 2 of 64\n";
 
-const FIRST_ZEROS: &[u8] = b"0 0 read 1 4096*61 z0:0\n0 1 read 2 4096*00 z0:1\n";
+const FIRST_ZEROS: &[u8] = b"0 0 read 1 4096*61 z0:0\n0 1 read 2 4096*00 z0:1\nused 2 of 64\n";
 
-const FIRST_SECOND: &[u8] = b"0 0 read 1 4096*61 z0:0\n0 1 read 2 4096*61 z0:1\n";
+const FIRST_SECOND: &[u8] = b"0 0 read 1 4096*61 z0:0\n0 1 read 2 4096*61 z0:1\nused 3 of 64\n";
 
-const THIRD_SECOND: &[u8] = b"0 0 read 1 4096*62 z0:0\n0 1 read 2 4096*61 z0:1\n";
+const THIRD_SECOND: &[u8] = b"0 0 read 1 4096*62 z0:0\n0 1 read 2 4096*61 z0:1\nused 3 of 64\n";
 
 /// What they may give where so many requests of the script, from the first on, were answered `ok`: the values that a flush
 /// covers, or also that of a write that was begun since.

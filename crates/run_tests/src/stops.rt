@@ -13,27 +13,31 @@ const SCRIPT: &[u8] =
     b"0 write 1 4096*61\n0 flush\n0 write 1 4096*62\n0 write 2 4096*63\n0 flush\n";
 
 const ANSWERS: &[u8] =
-    b"0 0 write 1 ok z0:0\n0 1 flush ok\n0 2 write 1 ok z0:1\n0 3 write 2 ok z0:2\n0 4 flush ok\n";
+    b"0 0 write 1 ok z0:0\n0 1 flush ok\n0 2 write 1 ok z0:1\n0 3 write 2 ok z0:2\n0 4 flush ok\nused 3 of 64\n";
 
 /// The calls of the session: two for the superblock, four for the leaf and for each of the three writes, one for each read of the
 /// leaf, which the first and the third write make, and one for each of the two flushes.
 const SESSION: usize = 22;
 
-/// What reads of addresses 1 and 2 give.
-const ZEROS_ZEROS: &[u8] = b"0 0 read 1 4096*00 z0:0\n0 1 read 2 4096*00 z0:1\n";
+/// What reads of addresses 1 and 2 give, and how many blocks are used.
+const NOTHING: &[u8] = b"0 0 read 1 4096*00 z0:0\n0 1 read 2 4096*00 z0:1\nused 0 of 64\n";
 
-const FIRST_ZEROS: &[u8] = b"0 0 read 1 4096*61 z0:0\n0 1 read 2 4096*00 z0:1\n";
+const LEAF_ALONE: &[u8] = b"0 0 read 1 4096*00 z0:0\n0 1 read 2 4096*00 z0:1\nused 1 of 64\n";
 
-const SECOND_ZEROS: &[u8] = b"0 0 read 1 4096*62 z0:0\n0 1 read 2 4096*00 z0:1\n";
+const FIRST_ZEROS: &[u8] = b"0 0 read 1 4096*61 z0:0\n0 1 read 2 4096*00 z0:1\nused 2 of 64\n";
 
-const FIRST_THIRD: &[u8] = b"0 0 read 1 4096*61 z0:0\n0 1 read 2 4096*63 z0:1\n";
+const SECOND_ZEROS: &[u8] = b"0 0 read 1 4096*62 z0:0\n0 1 read 2 4096*00 z0:1\nused 2 of 64\n";
 
-const SECOND_THIRD: &[u8] = b"0 0 read 1 4096*62 z0:0\n0 1 read 2 4096*63 z0:1\n";
+const FIRST_THIRD: &[u8] = b"0 0 read 1 4096*61 z0:0\n0 1 read 2 4096*63 z0:1\nused 3 of 64\n";
+
+const SECOND_THIRD: &[u8] = b"0 0 read 1 4096*62 z0:0\n0 1 read 2 4096*63 z0:1\nused 3 of 64\n";
 
 // What a stop may show, from the first of these counts of calls to the last: the first flush is marked at the 12th call, the
-// second at the 22nd. The first write is made from the 8th call on, the second from the 13th, and the third from the 18th on.
-const SHOWN: [(usize, usize, &[u8]); 5] = [
-    (0, 11, ZEROS_ZEROS),
+// second at the 22nd. The leaf's entry is written by the 5th call and durable behind the 6th. The first write is made from the 8th
+// call on, the second from the 13th, and the third from the 18th on.
+const SHOWN: [(usize, usize, &[u8]); 6] = [
+    (0, 5, NOTHING),
+    (4, 11, LEAF_ALONE),
     (8, 21, FIRST_ZEROS),
     (13, 21, SECOND_ZEROS),
     (18, 21, FIRST_THIRD),

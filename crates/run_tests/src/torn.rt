@@ -127,7 +127,10 @@ fn text(alloc: Global, front: u32) -> Result<Vec<u8>, AllocError> {
         put_line(&mut text, alloc, 2 * sector, first, sector < front)?;
         put_line(&mut text, alloc, 2 * sector + 1, last, sector < front)?;
     }
-    text.extend_from_slice(b"0 16 write 999 ok z0:16\n")?;
+    // Each of those sectors has its data block, and there are two leaves and the block of the write.
+    let used = front.saturating_add(3);
+    let ending = format!(in alloc; "0 16 write 999 ok z0:16\nused {used} of 64\n")?;
+    text.extend_from_slice(ending.as_bytes())?;
     Ok(text)
 }
 

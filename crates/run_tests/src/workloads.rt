@@ -54,12 +54,12 @@ fn serves_all<R: Threads + Wait + Sync + Abort>(
 const ONE_STREAM: [Case; 3] = [
     (
         &["workload", "--requests", "24", "--streams", "1"],
-        b"requests 24\nok 24\nno space 0\nread sum 266240\n",
+        b"requests 24\nok 24\nno space 0\nread sum 266240\nused 8 of 64\n",
         0,
     ),
     (
         &["workload", "--requests=24", "--streams=1", "--seed=1"],
-        b"recovered 18 entries\nrequests 24\nok 24\nno space 0\nread sum 1028096\n",
+        b"recovered 18 entries\nrequests 24\nok 24\nno space 0\nread sum 1028096\nused 8 of 64\n",
         0,
     ),
     (
@@ -72,7 +72,7 @@ const ONE_STREAM: [Case; 3] = [
             "--depth",
             "1",
         ],
-        b"recovered 12 entries\nrequests 1\nok 1\nno space 0\nread sum 0\n",
+        b"recovered 12 entries\nrequests 1\nok 1\nno space 0\nread sum 0\nused 7 of 64\n",
         0,
     ),
 ];
@@ -86,7 +86,7 @@ fn a_workload_of_one_stream(rt: HostRuntime) -> Result<(), Fail> {
 // The one request is a discard.
 const ONE_REQUEST: [Case; 1] = [(
     &["workload", "--requests", "1"],
-    b"requests 1\nok 1\nno space 0\nread sum 0\n",
+    b"requests 1\nok 1\nno space 0\nread sum 0\nused 0 of 64\n",
     0,
 )];
 

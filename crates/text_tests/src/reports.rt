@@ -19,5 +19,7 @@ pub fn report_of(
         places,
         histories: ReportList::new(alloc),
         damage: None,
+        used: 0,
+        total: 0,
     }
 }

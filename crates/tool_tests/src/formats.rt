@@ -241,7 +241,7 @@ fn a_script_runs_on_an_image_that_was_made(rt: HostRuntime) -> Result<(), Fail> 
         (
             0,
             0,
-            b"formatted 154 blocks, 1 slab of 64, logical 1000\n0 0 write 5 ok z0:0\n0 1 read 5 4096*61 z0:1\n".as_slice()
+            b"formatted 154 blocks, 1 slab of 64, logical 1000\n0 0 write 5 ok z0:0\n0 1 read 5 4096*61 z0:1\nused 2 of 64\n".as_slice()
         )
     );
     Ok(())

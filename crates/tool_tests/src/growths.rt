@@ -310,7 +310,7 @@ fn a_sink_that_is_full(rt: HostRuntime) -> Result<(), Fail> {
 const SCRIPT: &[u8] = b"0 write 2999 4096*61\n0 read 2999\n0 read 1500\n";
 
 const ANSWERS: &[u8] =
-    b"0 0 write 2999 ok z0:0\n0 1 read 2999 4096*61 z0:1\n0 2 read 1500 4096*00 z0:2\n";
+    b"0 0 write 2999 ok z0:0\n0 1 read 2999 4096*61 z0:1\n0 2 read 1500 4096*00 z0:2\nused 2 of 256\n";
 
 /// What an empty image grows to, and the lines.
 const TWICE: [((u32, u32), (&[u8], u8)); 2] = [

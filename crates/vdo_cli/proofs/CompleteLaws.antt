@@ -92,7 +92,7 @@ not_lost reply.Ok fine = refl
 not_lost (reply.Bytes bytes) fine = refl
 not_lost reply.Range fine = refl
 not_lost reply.Full fine = refl
-not_lost reply.NoSpace fine = absurd fine
+not_lost reply.NoSpace fine = refl
 not_lost reply.ReadFault fine = absurd fine
 not_lost reply.Stopped fine = absurd fine
 not_lost reply.Damaged fine = absurd fine
@@ -111,39 +111,6 @@ none_lost depth script newer (Answer w a ∷ older) log own fine =
     let has : answer_of (Answer w a ∷ older) w ≡ Some a = rw (same_self w) refl in
     let answers = answer_later depth script newer (Answer w a ∷ older) w a log has in
     rw (not_lost a (fine w asked.0 a asked.1 answers)) rest
-
--- Answers.
-
-onto : (h : Happening) (t : Trace) (w : Writer) (a : Reply) → (a ≡ reply.Ok) ⊎ ((newer older : Trace) × (t ≡ newer ++ Says (Answer w a) ∷ older))
-    → (a ≡ reply.Ok) ⊎ ((newer older : Trace) × (h ∷ t ≡ newer ++ Says (Answer w a) ∷ older))
-onto h t w a (inl ok) = inl ok
-onto h t w a (inr (newer, older, is)) = inr (h ∷ newer, older, ap (λ (u : Trace). h ∷ u) is)
-
--- an answer was said, but that of a flush
-answered_so : (t : Trace) (w : Writer) (a : Reply) → answer_of (lines t) w ≡ Some a → (a ≡ reply.Ok) ⊎ ((newer older : Trace) × (t ≡ newer ++ Says (Answer w a) ∷ older))
-answered_so [] w a is = absurd (cc is)
-answered_so (Says (Begin v) ∷ t) w a is = onto (Says (Begin v)) t w a (answered_so t w a is)
-answered_so (Says (Answer v b) ∷ t) w a is = elim (same_tells v w) [
-  | inl same ↦
-      let here : Some b ≡ Some a = rw same.0 at is in
-      let answers : b ≡ a = cc here in
-      inr ([], t, subst (λ (x : Writer). Says (Answer v b) ∷ t ≡ Says (Answer x a) ∷ t) same.1 (subst (λ (y : Reply). Says (Answer v b) ∷ t ≡ Says (Answer v y) ∷ t) answers refl))
-  | inr other ↦ onto (Says (Answer v b)) t w a (answered_so t w a (rw other.0 at is))
-]
-answered_so (Flushes mark ∷ t) w a is = elim (same_tells mark.request w) [
-  | inl same ↦ let here : Some reply.Ok ≡ Some a = rw same.0 at is in inl (let answers : reply.Ok ≡ a = cc here in sym answers)
-  | inr other ↦ onto (Flushes mark) t w a (answered_so t w a (rw other.0 at is))
-]
-answered_so (Fails v c true ∷ t) w a is = onto (Fails v c true) t w a (answered_so t w a is)
-answered_so (Fails v c false ∷ t) w a is = onto (Fails v c false) t w a (answered_so t w a is)
-answered_so (other ∷ t) w a is = onto other t w a (answered_so t w a is)
-
--- no block is refused for want of space yet
-never_no_space : (s : Session) (t : Trace) (w : Writer) (r : Request) → MayAnswer s t w r reply.NoSpace → ⊥
-never_no_space s t w (request.Read at) cause = cause
-never_no_space s t w (request.Write at bytes fua) cause = cause
-never_no_space s t w (request.Discard at) cause = cause
-never_no_space s t w request.Flush cause = cause
 
 -- An image without a fault.
 
@@ -232,20 +199,12 @@ module _ (s : Setting) (before after : Outside) (outcome : Outcome) (blocks : Bl
     reported : IsReported start report session.trace session.opened after.device
     reported = session.reported
 
-    no_space : (w : Writer) (r : Request) → request_at report.requests w ≡ Some r → answer_of report.desk w ≡ Some reply.NoSpace → ⊥
-    no_space w r asked is =
-        let here : answer_of (lines session.trace) w ≡ Some reply.NoSpace = subst (λ (l : RunReport). answer_of l.desk w ≡ Some reply.NoSpace) reported.report_is is in
-        elim (answered_so session.trace w reply.NoSpace here) [
-          | inl ok ↦ absurd (cc ok)
-          | inr said ↦ never_no_space reported.session said.1 w r (reported.causes said.0 said.1 w r reply.NoSpace said.2 asked)
-        ]
-
     fine : NoneFailed report.requests report.desk
     fine w r reply.Ok asked is = tt
     fine w r (reply.Bytes bytes) asked is = tt
     fine w r reply.Range asked is = tt
     fine w r reply.Full asked is = tt
-    fine w r reply.NoSpace asked is = absurd (no_space w r asked is)
+    fine w r reply.NoSpace asked is = tt
     fine w r reply.ReadFault asked is = absurd (no_rise (reported.faults w r reply.ReadFault asked is))
     fine w r reply.Stopped asked is = elim (reported.faults w r reply.Stopped asked is) [ inl rose ↦ absurd (no_rise rose) | inr some ↦ absurd (no_damage some) ]
     fine w r reply.Damaged asked is = absurd (no_damage (reported.faults w r reply.Damaged asked is))

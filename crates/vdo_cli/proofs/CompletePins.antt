@@ -31,6 +31,9 @@ none-not_of_the_sink none = none.sink (omega arith)
 full-needs_none : NeedsNoFault reply.Full
 full-needs_none = tt
 
+no_space-needs_none : NeedsNoFault reply.NoSpace
+no_space-needs_none = tt
+
 read_fault-needs_one : NeedsNoFault reply.ReadFault → ⊥
 read_fault-needs_one fine = fine
 
@@ -54,7 +57,7 @@ complete-not_lost (inl all) = lost (all.each (of_a 0) request.Flush refl)
     lost (reply.Stopped, is, fine) = fine
     lost (reply.ReadFault, is, fine) = fine
     lost (reply.Damaged, is, fine) = fine
-    lost (reply.NoSpace, is, fine) = fine
+    lost (reply.NoSpace, is, fine) = absurd (cc is)
     lost (reply.Ok, is, fine) = absurd (cc is)
     lost (reply.Bytes bytes, is, fine) = absurd (cc is)
     lost (reply.Range, is, fine) = absurd (cc is)

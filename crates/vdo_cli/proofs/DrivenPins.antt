@@ -1,7 +1,8 @@
 -- Rows that pin how a core served a session (`IsDriven`), what its report tells (`IsReported`), and what happened to the
 -- device on the way (`Happens`). Those that are accepted are of the session of a script that asks for nothing.
-use Rattle.std.proofs.Common.{ℕ, ◌≡◌, ◌≢◌, ◌<◌, ◌^◌, ◌++◌, Bool, true, false, List, [], ◌∷◌, ◌*◌, length, replicate, slice_get, Some, None, IsSome, refl, sym, ◌∙◌, ap, subst, inl, inr, arith}
+use Rattle.std.proofs.Common.{ℕ, ◌≡◌, ◌≢◌, ◌<◌, ◌+◌, ◌^◌, ◌++◌, Bool, true, false, List, [], ◌∷◌, ◌*◌, length, replicate, slice_get, Some, None, IsSome, refl, sym, ◌∙◌, ap, subst, inl, inr, arith}
 use Rattle.blk_base.specs.declared.opened.Opened.{Opened}
+use Rattle.blk_base.specs.declared.place.Mapping.TheVariants.{At, Unmapped}
 use Rattle.blk_base.specs.declared.place.PageId.{PageId}
 use Rattle.blk_base.specs.declared.place.Pbn.{Pbn}
 use Rattle.blk_base.specs.declared.request.Answer.{Answer as Reply}
@@ -21,6 +22,7 @@ use Rattle.core_model.specs.declared.zones.Zone.{Zone}
 use Rattle.core_model.specs.declared.zones.ZoneData.{ZoneData}
 use Rattle.core_model.specs.declared.zones.ZoneData.TheVariants as kind
 use Rattle.core_model.specs.Trace.{Calls, Fails, Happening, Says, Seals, Trace, lines}
+use Rattle.core_model.specs.Uses.{counted, uncounted, used_at}
 use Rattle.page_codec.specs.declared.fault.PageFault.{PageFault}
 use Rattle.rebuild.specs.declared.forms.Recovered.{Recovered}
 use Rattle.schedule.specs.Turns.{Drives}
@@ -33,37 +35,38 @@ use Rattle.vdo_core.specs.declared.events.Event.{Event}
 use Rattle.vdo_model.specs.DeskLog.{answer_of}
 use Rattle.vdo_model.specs.FlushMarks.{Moment, Desk, Device, lines_of}
 use Rattle.vdo_model.specs.Scripts.{Script, request_at}
-use Rattle.vdo_model.specs.declared.report.Damage.TheVariants.{Page}
+use Rattle.vdo_model.specs.declared.report.Damage.TheVariants.{Page, Stray}
 use Rattle.vdo_model.specs.declared.report.DeskLine.{DeskLine}
 use Rattle.vdo_model.specs.declared.report.DeskLine.TheVariants.{Begin, Answer}
 use Rattle.vdo_model.specs.declared.report.RunReport.{RunReport}
 use Rattle.vdo_model.proofs.Example.{address, of_a}
+use Rattle.zone_counts.specs.Zone.{Zone as Counters}
 use Rattle.vdo_cli.specs.Openings.{IsReady}
 use Rattle.vdo_cli.specs.Outsides.{trust}
-use Rattle.vdo_cli.specs.Sessions.{IsDriven, IsOver, IsReported, run_sizes, task}
+use Rattle.vdo_cli.specs.Sessions.{HasStray, IsDriven, IsOver, IsReported, run_sizes, task}
 use Rattle.vdo_cli.specs.Stops.{Happens}
-use Rattle.vdo_cli.proofs.EmptyScript.{empty_driven, empty_happens, empty_report, empty_reported}
+use Rattle.vdo_cli.proofs.EmptyScript.{AreFirst, empty_driven, empty_happens, empty_report, empty_reported, still_report}
 use Rattle.vdo_cli.proofs.PlayPins.{device}
 use Rattle.vdo_cli.proofs.SessionLaws.{answered, turns_call, turns_lead}
 
 -- Accepted: of an image that is ready and links no page, all three parts of the session of no request.
 module _ (schedule : ℕ) (found : Recovered) (start : Opened) (before opened : Seen) (ready : IsReady (trust true true) before opened found start)
-    (unlinked : (page : PageId) → opened_page start.pages.items page ≡ None) (named : start.head.geometry.nonce < 2 ^ 64) where
+    (unlinked : (page : PageId) → opened_page start.pages.items page ≡ None) (counts : Counters) (first : AreFirst start counts) (named : start.head.geometry.nonce < 2 ^ 64) where
   driven-empty : IsDriven (trust true true) schedule (task start no_requests) [] opened opened
-  driven-empty = empty_driven true true schedule found start before opened ready unlinked
+  driven-empty = empty_driven true true schedule found start before opened ready unlinked counts first
 
-  reported-empty : IsReported start empty_report [] opened opened
-  reported-empty = empty_reported true true schedule found start before opened ready unlinked
+  reported-empty : IsReported start (still_report start) [] opened opened
+  reported-empty = empty_reported true true schedule found start before opened ready unlinked counts first
 
-  happens-empty : Happens [] empty_report before opened opened
-  happens-empty = empty_happens true true schedule found start before opened ready unlinked named refl
+  happens-empty : Happens [] (still_report start) before opened opened
+  happens-empty = empty_happens true true schedule found start before opened ready unlinked counts first named refl
 
 -- IsDriven. By schedule 7 over some image.
 abbrev session_over : Opened → Script → Session
 session_over start script = bare (run_sizes start.head) script start
 
 is_over : (start : Opened) (script : Script) → IsOver (task start script) (session_over start script)
-is_over start script = record { sizes_is = refl; script_is = refl; links_is = refl; free_is = refl }
+is_over start script = record { sizes_is = refl; script_is = refl; links_is = refl; counters_are = refl }
 
 -- a core that begins with no request is done, so it takes no turn, and nothing happens
 done_by : (s : Session) (zones : List Zone) (zone : Zone) (keeps : ZoneData) → slice_get zones 0 ≡ Some zone → zone.keeps ≡ keeps → s.script ≡ no_requests → IsFirstData s 0 keeps → IsDone zones
@@ -141,10 +144,10 @@ reported-not_of_two_zones : (start : Opened) (report : RunReport) (trace : Trace
 reported-not_of_two_zones start report trace before after reported two = omega (arith, two, ap (λ (sizes : Sizes). sizes.zones) reported.is_over.sizes_is)
 
 -- the report has the places that were drawn, here none
-abbrev placed_report : RunReport
-placed_report = record empty_report { places = record { request = of_a 0; zone = 0; place = 0 } ∷ [] }
+abbrev placed_report : Opened → RunReport
+placed_report start = record (still_report start) { places = record { request = of_a 0; zone = 0; place = 0 } ∷ [] }
 
-reported-not_with_other_places : (start : Opened) (before after : Seen) → IsReported start placed_report [] before after → ⊥
+reported-not_with_other_places : (start : Opened) (before after : Seen) → IsReported start (placed_report start) [] before after → ⊥
 reported-not_with_other_places start before after reported =
     let places = ap (λ (report : RunReport). length report.places) reported.report_is in
     let zones = ap (λ (sizes : Sizes). sizes.zones) reported.is_over.sizes_is in
@@ -191,8 +194,35 @@ nothing_happened : (newer older : Trace) (h : Happening) → [] ≡ newer ++ h �
 nothing_happened [] older h is = absurd cc
 nothing_happened (first ∷ newer) older h is = absurd cc
 
-reported-not_damaged_by_nothing : (start : Opened) (before after : Seen) (x : Pbn) (fault : PageFault) → IsReported start (record empty_report { damage = Some (Page x fault) }) [] before after → ⊥
+reported-not_damaged_by_nothing : (start : Opened) (before after : Seen) (x : Pbn) (fault : PageFault) → IsReported start (record (still_report start) { damage = Some (Page x fault) }) [] before after → ⊥
 reported-not_damaged_by_nothing start before after x fault reported = let has = reported.damage x fault refl in nothing_happened has.newer has.older _ has.is
+
+reported-not_stray_of_nothing : (start : Opened) (before after : Seen) (x : Pbn) → IsReported start (record (still_report start) { damage = Some (Stray x 0) }) [] before after → ⊥
+reported-not_stray_of_nothing start before after x reported = let has = reported.stray x 0 refl in nothing_happened has.found.newer has.found.older _ has.found.is
+
+-- IsStrayAt, HasStray: of an entry that replaces this block, whose counter was 0 then
+module _ (s : Session) (t : Trace) (x : Pbn) (count : ℕ) where
+  stray-not_of_one : HasStray s t x 1 → ⊥
+  stray-not_of_one has = absurd (cc has.none)
+
+  stray-not_of_nothing_replaced : (has : HasStray s t x count) → has.entry.old ≡ Unmapped → ⊥
+  stray-not_of_nothing_replaced has none = absurd (let both : Unmapped ≡ At x = sym none ∙ has.old_is in cc)
+
+  stray-not_while_counted : (has : HasStray s t x count) → counted s has.found.older has.found.cause.block ≡ 1 → uncounted has.found.older has.found.cause.block ≡ 0 → ⊥
+  stray-not_while_counted has one none = let same = has.found.cause.none_counted in omega (arith, same, one, none)
+
+-- the report counts the used blocks of what was opened
+abbrev used_with : Sizes → List ℕ → ℕ
+used_with sizes counters = used_at (record { sizes = sizes; script = no_requests; links = λ page. None; counters = counters; blocks = []; before = []; image = [] }) []
+
+one_use : (start : Opened) (s : Session) → IsOver (task start no_requests) s → used_at s [] ≡ used_with (run_sizes start.head) start.counters.items
+one_use start s over = ap (λ (sizes : Sizes). used_with sizes s.counters) over.sizes_is ∙ ap (λ (counters : List ℕ). used_with (run_sizes start.head) counters) over.counters_are
+
+reported-not_with_more_used : (start : Opened) (before after : Seen) → IsReported start (record (still_report start) { used = used_at (session_over start no_requests) [] + 1 }) [] before after → ⊥
+reported-not_with_more_used start before after reported =
+    let used = ap (λ (report : RunReport). report.used) reported.report_is in
+    let same = one_use start reported.session reported.is_over in
+    omega (arith, used, same)
 
 -- no write follows a flush that failed
 reported-not_written_after : (start : Opened) (report : RunReport) (before after : Seen) (w : Writer) (x : Pbn) (bytes : List ℕ) (kept : Bool)

@@ -1,11 +1,13 @@
 -- The session of a script that asks for nothing: over each image that is ready and links no page, a core begins, is done at once,
 -- and tells an empty report. So there is a session that was served, and the rows beside this file speak of it.
-use Rattle.std.proofs.Common.{ℕ, zero, suc, ◌≡◌, ◌<◌, ◌^◌, Bool, false, IsTrue, List, [], ◌∷◌, None, Ok, refl, sym, ap, subst, arith}
+use Rattle.std.proofs.Common.{ℕ, zero, suc, ◌≡◌, ◌<◌, ◌^◌, ◌∙◌, Bool, false, IsTrue, List, [], ◌∷◌, None, Ok, refl, sym, ap, subst, arith}
 use Rattle.std.proofs.lemmas.Option.{same_Some}
 use Rattle.std.specs.List.{AllByRecursion}
 use Rattle.blk_base.specs.Limits.{IsGeometry}
+use Rattle.blk_base.specs.declared.geometry.Geometry.{Geometry}
 use Rattle.blk_base.specs.declared.opened.Opened.{Opened}
 use Rattle.blk_base.specs.declared.place.PageId.{PageId}
+use Rattle.blk_base.specs.declared.place.Pbn.{Pbn}
 use Rattle.blk_base.specs.declared.request.Request.{Request}
 use Rattle.data_vio.specs.declared.sizes.Sizes.{Sizes}
 use Rattle.core_model.specs.declared.zones.SuperblockStage.TheVariants.{AsOpened}
@@ -13,6 +15,7 @@ use Rattle.core_model.specs.declared.zones.Zone.{Zone}
 use Rattle.core_model.specs.declared.zones.ZoneData.{ZoneData}
 use Rattle.core_model.specs.declared.zones.ZoneData.TheVariants as at
 use Rattle.core_model.specs.PageLinks.{opened_page}
+use Rattle.core_model.specs.Reports.{report_of}
 use Rattle.core_model.specs.Sessions.{Session}
 use Rattle.core_model.specs.Start.{IsFirst, IsFirstData, IsFirstZone, first_log}
 use Rattle.core_model.specs.Steps.{rests}
@@ -20,16 +23,21 @@ use Rattle.disk_model.specs.Seen.{Seen}
 use Rattle.disk_model.specs.Streams.{SourceSeen}
 use Rattle.plain_laws.specs.Sums.{Each}
 use Rattle.rebuild.specs.declared.forms.Recovered.{Recovered}
+use Rattle.slab_tickets.specs.Tickets.{Desk}
 use Rattle.step_parts.specs.DeviceLog.{HasCalled}
 use Rattle.stream_text.specs.ReadingBytes.{HasWholeBlock}
 use Rattle.stream_text.specs.StreamRows.{no_requests}
 use Rattle.stream_text.specs.WholeScript.{whole_script}
 use Rattle.vdo_core.specs.Cores.{CanBegin}
 use Rattle.vdo_core.specs.Done.{IsDone}
-use Rattle.vdo_core.specs.FreeBlocks.{free_of}
+use Rattle.vdo_core.proofs.SessionLaws as sessions
 use Rattle.vdo_core.specs.Plays.{core_with}
 use Rattle.vdo_model.specs.Scripts.{Script}
 use Rattle.vdo_model.specs.declared.report.RunReport.{RunReport}
+use Rattle.zone_counts.proofs.FitLaws.{opened_claims}
+use Rattle.zone_counts.proofs.OpenedCounts.{opened_here}
+use Rattle.zone_counts.specs.Openings.{opened_count}
+use Rattle.zone_counts.specs.Zone.{IsOpeningZone, IsZone, Zone as Counters}
 use Rattle.vdo_cli.specs.Endings.{RunsSession}
 use Rattle.vdo_cli.specs.Openings.{IsReady}
 use Rattle.vdo_cli.specs.Sessions.{IsDriven, IsOver, IsReported, run_sizes, task}
@@ -39,25 +47,37 @@ use Rattle.vdo_cli.proofs.BareTrees.{bare, bare_is}
 use Rattle.vdo_cli.proofs.ScriptLaws.{can_begin}
 use Rattle.vdo_cli.proofs.SessionLaws.{happens, plays, reported}
 
--- a report of no request
+-- a report of no request, and the one of a session of none over what was opened
 abbrev pub empty_report : RunReport
-empty_report = record { requests = no_requests; desk = []; marks = []; places = []; histories = []; damage = None }
+empty_report = record { requests = no_requests; desk = []; marks = []; places = []; histories = []; damage = None; used = 0; total = 0 }
+
+abbrev pub still_report : Opened → RunReport
+still_report start = report_of (sessions.bare (run_sizes start.head) no_requests start) []
+
+-- the counters with which the physical zone begins
+pub record AreFirst (start : Opened) (counts : Counters) : Type 0 where
+  pub room : ℕ
+  pub opens : IsOpeningZone start 0 1 room counts
+  pub right : IsZone counts
 
 -- The first core over what was opened, with this script.
-module _ (start : Opened) (script : Script) where
+module _ (start : Opened) (script : Script) (counts : Counters) where
   abbrev pub first_zone : ℕ → ZoneData → Zone
   first_zone number keeps = record { number = number; steps = 0; keeps = keeps; ports = record { inbox = []; outboxes = [] ∷ [] ∷ [] ∷ [] ∷ [] ∷ [] } }
 
   abbrev pub first_zones : List Zone
   first_zones =
       first_zone 0 (at.Desk (record { requests = script; log = []; marks = []; notices = 0; parked = [] }))
-      ∷ first_zone 1 (at.Logical (record { zone = 0; notified = false; next = 0; places = []; held = []; waiting = []; retired = []; tree = bare start.head.geometry; making = []; lacking = []; unlinkable = []; slots = [] }))
-      ∷ first_zone 2 (at.Physical (record { notified = false; free = free_of start }))
+      ∷ first_zone 1 (at.Logical (record { zone = 0; notified = false; next = 0; places = []; held = []; waiting = []; retired = []; tree = bare start.head.geometry; making = []; lacking = []; unlinkable = []; settling = []; reported = []; slots = [] }))
+      ∷ first_zone 2 (at.Physical (record { notified = false; strays = []; counts = counts }))
       ∷ first_zone 3 (at.Journal (record { notified = false; busy = false; broken = false; log = first_log (run_sizes start.head); filling = []; waiting = []; entered = []; committed = [] }))
       ∷ first_zone 4 (at.Device (record { stopped = false; calls = 0; superblock = AsOpened; damage = None }))
       ∷ []
 
-  module _ (sizes : IsGeometry start.head.geometry) (unlinked : (page : PageId) → opened_page start.pages.items page ≡ None) (s : Session) (over : IsOver (task start script) s) where
+  module _ (sizes : IsGeometry start.head.geometry) (unlinked : (page : PageId) → opened_page start.pages.items page ≡ None) (first : AreFirst start counts) (s : Session) (over : IsOver (task start script) s) where
+    its_geometry : start.head.geometry ≡ s.sizes.geometry
+    its_geometry = ap (λ (sizes : Sizes). sizes.geometry) (sym over.sizes_is)
+
     zones_are : s.sizes.zones ≡ 1
     zones_are = ap (λ (sizes : Sizes). sizes.zones) over.sizes_is
 
@@ -78,10 +98,25 @@ module _ (start : Opened) (script : Script) where
       making = refl;
       lacking = refl;
       unlinkable = refl;
+      settling = refl;
+      reported = refl;
       tree = rw (over.sizes_is, over.links_is) (bare_is start.head.geometry (opened_page start.pages.items) sizes unlinked);
       slots = refl;
     }))
-    each (suc (suc zero)) zone is = subst (IsFirstZone s 2) (same_Some _ _ is) (begun 2 _ (record { number_is = omega (arith, zones_are); notified = refl; free = sym over.free_is }))
+    each (suc (suc zero)) zone is = subst (IsFirstZone s 2) (same_Some _ _ is) (begun 2 _ (record {
+      number_is = omega (arith, zones_are);
+      notified = refl;
+      strays = refl;
+      is_zone = first.right;
+      geometry = first.opens.geometry ∙ its_geometry;
+      zones = first.opens.zones;
+      counters = λ x own.
+          (opened_here start 0 1 first.room counts first.opens first.right x own).0
+          ∙ ap (λ (g : Geometry). opened_count g start.counters.items x) its_geometry
+          ∙ ap (λ (ns : List ℕ). opened_count s.sizes.geometry ns x) (sym over.counters_are);
+      claims = λ x. opened_claims start 0 1 first.room counts first.opens first.right x;
+      no_ticket = ap (λ (d : Desk). d.out) first.opens.desk;
+    }))
     each (suc (suc (suc zero))) zone is = subst (IsFirstZone s 3) (same_Some _ _ is) (begun 3 _ (record {
       number_is = omega (arith, zones_are);
       notified = refl;
@@ -100,8 +135,8 @@ module _ (start : Opened) (script : Script) where
     first_begins = record { count = omega (arith, zones_are); each = each; trace_is = refl }
 
 -- of a script without requests it is done, and the device isn't called
-pub first_done : (start : Opened) → IsDone (first_zones start no_requests)
-first_done start = record { zone = _; desk = _; had = refl; keeps = refl; full = refl }
+pub first_done : (start : Opened) (counts : Counters) → IsDone (first_zones start no_requests counts)
+first_done start counts = record { zone = _; desk = _; had = refl; keeps = refl; full = refl }
 
 pub not_called : (tells honest : Bool) (seen : Seen) → HasCalled tells honest seen seen []
 not_called tells honest seen = record {
@@ -119,40 +154,46 @@ no_request P = (tt, (tt, (tt, (tt, (tt, (tt, (tt, (tt, (tt, (tt, (tt, (tt, (tt, 
 
 -- Over an image that is ready and links no page.
 module _ (tells honest : Bool) (schedule : ℕ) (found : Recovered) (start : Opened) (before opened : Seen) (ready : IsReady (trust tells honest) before opened found start)
-    (unlinked : (page : PageId) → opened_page start.pages.items page ≡ None) where
+    (unlinked : (page : PageId) → opened_page start.pages.items page ≡ None) (counts : Counters) (first : AreFirst start counts) where
   pub can : CanBegin (run_sizes start.head) no_requests start
   can = can_begin _ start no_requests ready.opening.head ready.opening.fits (record { rows = refl; few = omega arith; writes = no_request HasWholeBlock })
 
-  -- a core begins and is done, tells an empty report, and calls no device
+  abbrev zones : List Zone
+  zones = first_zones start no_requests counts
+
+  begins : (s : Session) → IsOver (task start no_requests) s → IsFirst s (core_with zones [])
+  begins = first_begins start no_requests counts can.geometry unlinked first
+
+  -- a core begins and is done, tells a report of no request, and calls no device
   pub empty_driven : IsDriven (trust tells honest) schedule (task start no_requests) [] opened opened
   empty_driven = record {
-    first = first_zones start no_requests;
-    last = first_zones start no_requests;
-    begins = first_begins start no_requests can.geometry unlinked;
+    first = zones;
+    last = zones;
+    begins = begins;
     events = [];
     state = schedule;
     drives = (refl, refl, refl, refl);
-    done = first_done start;
+    done = first_done start counts;
   }
 
-  pub empty_reported : IsReported start empty_report [] opened opened
+  pub empty_reported : IsReported start (still_report start) [] opened opened
   empty_reported =
-      reported tells honest start no_requests (first_zones start no_requests) (first_zones start no_requests) [] opened opened can
-      (first_begins start no_requests can.geometry unlinked) rests (first_done start) (not_called tells honest opened)
+      reported tells honest start no_requests zones zones [] opened opened can
+      begins rests (first_done start counts) (not_called tells honest opened)
 
   module _ (named : start.head.geometry.nonce < 2 ^ 64) where
-    pub empty_happens : IsTrue tells → Happens [] empty_report before opened opened
+    pub empty_happens : IsTrue tells → Happens [] (still_report start) before opened opened
     empty_happens =
-        happens tells honest start no_requests (first_zones start no_requests) (first_zones start no_requests) [] opened opened can
-        (first_begins start no_requests can.geometry unlinked) rests (first_done start) (not_called tells honest opened) before found ready named
+        happens tells honest start no_requests zones zones [] opened opened can
+        begins rests (first_done start counts) (not_called tells honest opened) before found ready named
 
     pub empty_plays : (source_tells : Bool) (source rest : SourceSeen) → (IsTrue source_tells → whole_script source.left ≡ Ok no_requests) → (IsTrue source_tells → rest.left ≡ [])
-        → RunsSession (input_setting tells honest source_tells) schedule found empty_report (inputs before source) (inputs opened rest)
+        → RunsSession (input_setting tells honest source_tells) schedule found (still_report start) (inputs before source) (inputs opened rest)
     empty_plays source_tells source rest script_is whole = record {
       start = start;
       serves =
-          plays tells honest start no_requests (first_zones start no_requests) (first_zones start no_requests) [] opened opened can
-          (first_begins start no_requests can.geometry unlinked) rests (first_done start) (not_called tells honest opened) before found ready named schedule schedule []
+          plays tells honest start no_requests zones zones [] opened opened can
+          begins rests (first_done start counts) (not_called tells honest opened) before found ready named schedule schedule []
           (record { opening = refl; size = refl }) (refl, refl, refl, refl);
       script_is = script_is;
       to_its_end = whole;

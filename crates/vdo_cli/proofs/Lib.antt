@@ -2,7 +2,6 @@ mod BareTrees
 pub mod OpenedPages
 pub mod OpenedSessions
 pub mod RecoveredImages
-pub mod FreeLaws
 pub mod SessionLaws
 pub mod ScriptLaws
 pub mod SeededScripts

@@ -1,19 +1,16 @@
 -- A session on a closed image that is sound: the image is as it was opened, whatever is read of it.
-use Rattle.std.proofs.Common.{ℕ, ◌≡◌, ◌≢◌, ◌+◌, ◌-◌, ◌==◌, Bool, true, false, if◌then◌else◌, Option, Some, None, List, [], Contains, Ok, sym, ◌∙◌, ap, ap₂, subst, inl, inr, arith}
-use Rattle.std.proofs.lemmas.Bool.{cases_lt}
-use Rattle.blk_base.proofs.RegionLaws.{data_block_high}
-use Rattle.blk_base.specs.Regions.{IsDataBlock, Root, block_of, needed_blocks}
+use Rattle.std.proofs.Common.{ℕ, ◌≡◌, ◌+◌, true, Option, Some, List, [], Ok, length, slice_index, refl, sym, ◌∙◌, ap, ap₂, subst, inl, inr, arith}
+use Rattle.std.specs.List.{All}
+use Rattle.blk_base.specs.Regions.{IsDataBlock, needed_blocks}
 use Rattle.blk_base.specs.declared.geometry.Geometry.{Geometry}
 use Rattle.blk_base.specs.declared.geometry.Super.{Super}
 use Rattle.blk_base.specs.declared.journal_entry.CommittedEntry.{CommittedEntry}
+use Rattle.blk_base.specs.declared.layout.DataPlace.{DataPlace}
 use Rattle.blk_base.specs.declared.opened.Opened.{Opened}
-use Rattle.blk_base.specs.declared.place.Mapping.TheVariants.{At}
 use Rattle.blk_base.specs.declared.place.PageId.{PageId}
 use Rattle.blk_base.specs.declared.place.Pbn.{Pbn}
-use Rattle.count_laws.proofs.BelowLaws.{block_of_eq}
-use Rattle.count_laws.proofs.TurnLaws.{opened_has, opened_mapping}
-use Rattle.count_laws.proofs.UnusedLaws.{none_is_unused}
-use Rattle.count_laws.specs.Turns.{IsUnusedAfter}
+use Rattle.count_laws.proofs.BelowLaws.{block_of_eq, counts_none}
+use Rattle.count_updates.specs.Numbers.{block_number}
 use Rattle.disk_model.specs.Log.{Blocks}
 use Rattle.disk_model.specs.OneImages.{HasOneImageIn}
 use Rattle.core_model.specs.PageLinks.{opened_page}
@@ -22,61 +19,53 @@ use Rattle.core_model.specs.Sessions.{IsAsOpened, Session, opened_image}
 use Rattle.image_layout.specs.Opened.{super_of_image}
 use Rattle.image_model.proofs.CountLaws.{one_stored}
 use Rattle.image_model.proofs.LookedLaws.{one_by_sizes}
-use Rattle.image_model.proofs.MapLaws.{page_in_range}
-use Rattle.image_model.specs.Counts.{HasMappings, Stores}
+use Rattle.image_model.specs.Counts.{HasMappings, block_of_data}
 use Rattle.image_model.specs.Looked.{HasOneImageButIndex, is_looked_at}
-use Rattle.image_model.specs.Maps.{Image, image_with, linked_at, mapping_of, page_at, value_of}
+use Rattle.image_model.specs.Maps.{ArePagesGood, Image, IsTreePage, image_with, mapping_of, value_of}
+use Rattle.image_model.specs.Pages.{address_count}
 use Rattle.image_model.specs.Sound.{AreTrue, IsSound, image_of}
-use Rattle.journal_stops.proofs.OpenedLaws.{page_with_none}
 use Rattle.journal_stops.proofs.ReopenLaws.{closed_at_rest}
 use Rattle.journal_stops.specs.Rings.{IsAtRest}
 use Rattle.rebuild.proofs.KeptLaws.{opened_alike}
 use Rattle.rebuild.specs.Openings.{IsRight, OpensRight}
-use Rattle.recovery_laws.proofs.SameMapLaws.{at_links}
+use Rattle.recovery_laws.proofs.OldLaws.{mapped_is_data, page_stands}
+use Rattle.recovery_laws.proofs.WindowFacts.{IsKnown}
 use Rattle.recovery_laws.proofs.SuperLaws.{room_of_image}
 use Rattle.recovery_laws.specs.Kept.{image_in}
 use Rattle.session_opening.specs.Starts.{AreCounters}
+use Rattle.zone_counts.proofs.OpenedCounts.{is_data, is_none, opened_none, opened_some, tells_data}
+use Rattle.zone_counts.specs.Openings.{opened_count}
 use Rattle.vdo_cli.proofs.OpenedPages.{links_are}
-use Rattle.vdo_cli.proofs.FreeLaws.{IsFreeIn}
 
--- A block whose counter is 0 has no page, and no address is mapped to it.
+-- Each block has as many mappings as its counter says: what is no data block has no counter, and nothing is mapped to it.
+module _ (image : Image) (counters : List ℕ) (good : ArePagesGood image) (no_window : image.window ≡ []) (are : AreCounters image counters) (counts : AreTrue image) (x : Pbn) where
+  known : All (IsKnown image.geometry 0) image.window
+  known k d below = absurd (omega (arith, below, ap (λ (es : List CommittedEntry). length es) no_window))
 
-root_block : (b : Bool) (x at : Pbn) → (if b then Some x else None) ≡ Some at → x ≡ at
-root_block true x at is = cc is
-root_block false x at is = absurd (cc is)
+  of_data : IsDataBlock image.geometry x.0 → HasMappings image x (opened_count image.geometry counters x)
+  of_data d =
+      let place : DataPlace = record { slab = d.slab; offset = d.offset } in
+      let is = counts place d.inside in
+      let stored = slice_index counters (block_number image.geometry place) in
+      let same = one_stored image place (Ok is.0) (Ok stored) is.1 (are.each place d.inside) in
+      let number : is.0 ≡ stored = cc same in
+      let block : block_of_data image.geometry place ≡ x = block_of_eq (block_of_data image.geometry place) x d.stands in
+      subst (λ (n : ℕ). HasMappings image x n) (number ∙ sym (opened_some image.geometry counters x d)) (subst (λ (b : Pbn). HasMappings image b is.0) block is.2)
 
-module _ (image : Image) (counters : List ℕ) (are : AreCounters image counters) (counts : AreTrue image) (x : Pbn) (free : IsFreeIn image.geometry counters x) where
-  none_mapped : HasMappings image x 0
-  none_mapped =
-      let is = counts free.0 free.1 in
-      let stores = subst (λ (n : ℕ). Stores image free.0 (Ok n)) free.3 (are.each free.0 free.1) in
-      let same = one_stored image free.0 (Ok is.0) (Ok 0) is.1 stores in
-      let zero_of : is.0 ≡ 0 = cc same in
-      subst (λ (n : ℕ). HasMappings image x n) zero_of (subst (λ (b : Pbn). HasMappings image b is.0) free.2 is.2)
-
-  unused : IsUnusedAfter image [] x
-  unused = none_is_unused image [] x (opened_has image x 0 none_mapped)
-
-  is_data : IsDataBlock image.geometry x.0
-  is_data = record { slab = free.0.slab; offset = free.0.offset; inside = free.1; stands = ap (λ (b : Pbn). b.0) free.2 }
-
-  pub free_unmapped : (a : ℕ) (at : Pbn) → mapping_of image a ≡ At at → at.0 ≢ x.0
-  free_unmapped a at is same = unused.unmapped a (opened_mapping image a ∙ is ∙ ap At (block_of_eq at x same))
-
-  pub free_unpaged : (page : PageId) (at : Pbn) → page_at image page ≡ Some at → at.0 ≢ x.0
-  free_unpaged page at there same = elim (cases_lt (page.level + 1) image.geometry.height) [
-    | inl below ↦ unused.no_page (page, below, page_with_none image page ∙ there ∙ ap Some (block_of_eq at x same))
-    | inr top ↦
-        let range = page_in_range image page at there in
-        let tree = range.0 in
-        let level = range.1 in
-        let links : image.geometry.height - 1 - page.level ≡ 0 = omega (arith, top) in
-        let root = root_block (page.index == 0) (record { 0 = block_of image.geometry (Root page.tree) }) at
-        (ap (λ (n : ℕ). linked_at image n page) (sym links) ∙ sym (at_links image page tree level) ∙ there) in
-        let stands : block_of image.geometry (Root page.tree) ≡ at.0 = ap (λ (b : Pbn). b.0) root in
-        let high = data_block_high image.geometry x.0 is_data in
-        omega (arith, high, tree, stands, same)
+  no_page : (IsDataBlock image.geometry x.0 → ⊥) → IsTreePage image x → ⊥
+  no_page outside (page, below, there) = elim (page_stands image good 0 known page x there) [
+    | inl root ↦ omega (arith, below, root.0)
+    | inr stands ↦ outside stands
   ]
+
+  of_other : (IsDataBlock image.geometry x.0 → ⊥) → HasMappings image x (opened_count image.geometry counters x)
+  of_other outside =
+      let none = counts_none (mapping_of image) x (address_count image.geometry) (λ a is. outside (mapped_is_data image good 0 known a x is)) in
+      subst (λ (n : ℕ). HasMappings image x n) (sym (opened_none image.geometry counters x outside))
+      (record { pages = 0; one_page = inr (refl, no_page outside); sum = omega (arith, none) })
+
+  pub opened_counts : HasMappings image x (opened_count image.geometry counters x)
+  opened_counts = elim (tells_data image.geometry x) [ is_data told d ↦ of_data d | is_none told outside ↦ of_other outside ]
 
 -- What was opened of a closed image.
 
@@ -105,7 +94,7 @@ head_of_sound blocks sound opened right = (closed_right blocks sound opened righ
 
 -- So a session over it is over the image as it was opened.
 module _ (s : Session) (opened : Opened) (sound : IsSound s.image) (right : OpensRight s.image opened) (sizes : s.sizes.geometry ≡ opened.head.geometry) (start : s.sizes.start ≡ opened.head.start)
-    (links : s.links ≡ opened_page opened.pages.items) (free : (x : Pbn) → Contains s.free x → IsFreeIn opened.head.geometry opened.counters.items x)
+    (links : s.links ≡ opened_page opened.pages.items) (counters : s.counters ≡ opened.counters.items)
     (one : HasOneImageButIndex s.blocks s.before s.image) where
   closed : IsClosedRight s.image sound opened
   closed = closed_right s.image sound opened right
@@ -119,9 +108,6 @@ module _ (s : Session) (opened : Opened) (sound : IsSound s.image) (right : Open
   accepted : super_of_image s.image ≡ Ok sound.head
   accepted = sound.opens.accepted
 
-  free_here : (x : Pbn) → Contains s.free x → IsFreeIn s.sizes.geometry opened.counters.items x
-  free_here x has = subst (λ (g : Geometry). IsFreeIn g opened.counters.items x) (sym sizes) (free x has)
-
   pub as_opened : IsAsOpened s
   as_opened = record {
     room = let room = room_of_image s.image sound.head accepted in let size = one.size in let needs = ap needed_blocks geometry_is in omega (arith, room, size, needs);
@@ -130,8 +116,9 @@ module _ (s : Session) (opened : Opened) (sound : IsSound s.image) (right : Open
         (closed_at_rest s.image sound s.sizes.start closed.clean (let is = start in let own = ap (λ (h : Super). h.start) closed.head_is in omega (arith, is, own)));
     pages = opened_right.pages;
     links = λ page below. ap (λ (f : PageId → Option Pbn). f page) links ∙ links_are (opened_image s) opened.pages.items opened_right.start.pages page below;
-    unpaged = λ x at page has is. free_unpaged (opened_image s) opened.counters.items opened_right.start.counters opened_right.counts x (free_here x has) page at is;
-    unmapped = λ x at a has is. free_unmapped (opened_image s) opened.counters.items opened_right.start.counters opened_right.counts x (free_here x has) a at is;
+    counts = λ x. subst (λ (ns : List ℕ). HasMappings (opened_image s) x (opened_count s.sizes.geometry ns x)) (sym counters)
+        (opened_counts (opened_image s) opened.counters.items opened_right.pages refl opened_right.start.counters opened_right.counts x);
+    unshared = opened_right.unshared;
   }
 
   -- with the values of that

@@ -45,4 +45,5 @@ can_begin size start script head fits whole = record {
   served = all_served script whole.writes;
   pages = fits.pages;
   counters = fits.counters;
+  limit = fits.limit;
 }

@@ -1,10 +1,11 @@
 -- What a session did, from what its core, its schedule and its report say.
-use Rattle.std.proofs.Common.{ℕ, suc, ◌≡◌, ◌⊎◌, ◌+◌, ◌<◌, ◌≤◌, ◌^◌, ◌++◌, Bool, true, false, IsTrue, List, [], ◌∷◌, Option, Some, None, IsSome, refl, sym, ◌∙◌, ap, subst, append_assoc, arith, inl, inr}
+use Rattle.std.proofs.Common.{ℕ, suc, ◌≡◌, ◌⊎◌, ◌+◌, ◌<◌, ◌≤◌, ◌^◌, ◌++◌, Bool, true, false, IsTrue, List, [], ◌∷◌, Option, Some, None, IsSome, Contains, refl, sym, ◌∙◌, ap, subst, append_assoc, arith, inl, inr}
 use Rattle.std.proofs.Math.Path.{fun_ext}
 use Rattle.std.proofs.lemmas.List.{append-nil}
 use Rattle.blk_base.specs.declared.geometry.Geometry.{Geometry}
 use Rattle.blk_base.specs.declared.geometry.Super.{Super}
 use Rattle.blk_base.specs.declared.opened.Opened.{Opened}
+use Rattle.blk_base.specs.declared.place.Mapping.TheVariants.{At}
 use Rattle.blk_base.specs.declared.place.Pbn.{Pbn}
 use Rattle.blk_base.specs.declared.request.Answer.{Answer as Reply}
 use Rattle.blk_base.specs.declared.request.Answer.TheVariants as reply
@@ -16,18 +17,20 @@ use Rattle.disk_model.specs.declared.call.Call.{Call}
 use Rattle.disk_model.specs.Log.{Blocks}
 use Rattle.disk_model.specs.Seen.{Seen, Stays}
 use Rattle.disk_model.proofs.SeenLaws.{stays_on}
+use Rattle.image_model.proofs.CountLaws.{is_first_or_behind, none_in_nothing}
 use Rattle.image_model.specs.Maps.{value_of}
 use Rattle.image_model.specs.Sound.{IsSound}
+use Rattle.data_vio.specs.declared.logged.Remapping.{Remapping}
 use Rattle.data_vio.specs.declared.sizes.Sizes.{Sizes}
 use Rattle.core_model.specs.declared.zones.Zone.{Zone}
 use Rattle.core_model.specs.Legal.{Legal}
 use Rattle.core_model.specs.PageLinks.{opened_page}
 use Rattle.core_model.specs.Reports.{opening_values, report_of}
-use Rattle.core_model.specs.RightTraces.{HarmMayFollow, MayAnswer, MayFollow, RightTrace}
+use Rattle.core_model.specs.RightTraces.{HarmMayFollow, HearingMayFollow, MayAnswer, MayFollow, RightTrace}
 use Rattle.core_model.specs.Sessions.{Session, IsFair, IsSession}
 use Rattle.core_model.specs.Start.{IsFirst}
 use Rattle.core_model.specs.Steps.{Leads}
-use Rattle.core_model.specs.Trace.{Aborts, Passes, Calls, Commits, Draws, Enters, Seals, Fails, Flushes, Gives, Happening, Harms, Says, Sets, Takes, Trace, calls, damage_in, first_of, has_read_fault, has_stopped, is_harmed, lines, moments}
+use Rattle.core_model.specs.Trace.{Aborts, Adds, Passes, Calls, Commits, Draws, Drops, Enters, Seals, Fails, Flushes, Gives, Happening, Harms, Hears, Removes, Says, Sets, Strays, Takes, Trace, calls, damage_in, first_of, has_read_fault, has_stopped, is_harmed, lines, moments, strayed}
 use Rattle.core_laws.proofs.kept.FirstState.{legal_first}
 use Rattle.core_laws.proofs.trace.AbortsOfTrace.{stops_at_failure}
 use Rattle.core_laws.proofs.trace.DamageOfTrace.{fair_undamaged}
@@ -48,7 +51,6 @@ use Rattle.session_seams.specs.Logs.{StopsRight, report_from}
 use Rattle.session_seams.specs.Sequences.{ShowsValues, next_start}
 use Rattle.session_stops.specs.Beginnings.{IsToServe}
 use Rattle.vdo_core.specs.Cores.{CanBegin, sizes_of}
-use Rattle.vdo_core.specs.FreeBlocks.{free_of}
 use Rattle.vdo_core.specs.Plays.{core_with}
 use Rattle.vdo_core.specs.Done.{IsDone}
 use Rattle.vdo_core.proofs.DoneLaws.{answered_when_done}
@@ -59,7 +61,7 @@ use Rattle.vdo_model.specs.RightReads.{ReadsRight}
 use Rattle.vdo_model.proofs.NameLaws.{same_tells}
 use Rattle.vdo_model.specs.Scripts.{Script, request_at}
 use Rattle.vdo_model.specs.declared.report.Damage.{Damage}
-use Rattle.vdo_model.specs.declared.report.Damage.TheVariants.{Page}
+use Rattle.vdo_model.specs.declared.report.Damage.TheVariants.{Page, Stray}
 use Rattle.vdo_model.specs.declared.report.DeskLine.TheVariants as line
 use Rattle.vdo_model.specs.declared.report.RunReport.{RunReport}
 use Rattle.vdo_model.specs.Stops.{RightAfterStops}
@@ -71,9 +73,8 @@ use Rattle.vdo_cli.specs.Commands.{run_setup}
 use Rattle.vdo_cli.specs.Endings.{ServesRequests}
 use Rattle.vdo_cli.specs.Openings.{HasSequencesLeft, IsReady}
 use Rattle.vdo_cli.specs.Outsides.{trust}
-use Rattle.vdo_cli.specs.Sessions.{HasDamage, IsExplained, IsOver, IsReported, run_sizes, task}
+use Rattle.vdo_cli.specs.Sessions.{HasDamage, HasStray, IsExplained, IsOver, IsReported, IsStrayAt, run_sizes, task}
 use Rattle.vdo_cli.specs.Stops.{Happens}
-use Rattle.vdo_cli.proofs.FreeLaws.{free_in}
 use Rattle.vdo_cli.proofs.OpenedSessions.{as_opened, as_opened_values, head_of_sound}
 use Rattle.vdo_cli.proofs.RecoveredImages.{IsLeft, left_by, ready_kept, ready_shows, still_told}
 
@@ -98,6 +99,7 @@ stopped_told : (t : Trace) → has_stopped t ≡ true → (1 ≤ failed_calls t)
 stopped_told [] stopped = absurd cc
 stopped_told (Fails w c kept ∷ t) stopped = inl (omega arith)
 stopped_told (Harms w at bytes fault ∷ t) stopped = inr (some_first (damage_in t) (Page at fault))
+stopped_told (Hears damage ∷ t) stopped = inr (some_first (damage_in t) damage)
 stopped_told (other ∷ t) stopped = stopped_told t stopped
 
 fault_told : (t : Trace) (w : Writer) → has_read_fault t w ≡ true → 1 ≤ failed_calls t
@@ -108,6 +110,7 @@ fault_told (other ∷ t) w fault = fault_told t w fault
 harm_told : (t : Trace) (w : Writer) → is_harmed t w ≡ true → IsSome (damage_in t)
 harm_told [] w harmed = absurd cc
 harm_told (Harms v at bytes fault ∷ t) w harmed = some_first (damage_in t) (Page at fault)
+harm_told (Hears damage ∷ t) w harmed = some_first (damage_in t) damage
 harm_told (other ∷ t) w harmed = harm_told t w harmed
 
 cause_told : (s : Session) (t : Trace) (w : Writer) (r : Request) (a : Reply) → MayAnswer s t w r a → IsMetBy (failed_calls t) (damage_in t) a
@@ -169,7 +172,12 @@ answered_told s (Seals ∷ t) w r a right asked is = answered_told s t w r a rig
 answered_told s (Commits e ∷ t) w r a right asked is = answered_told s t w r a right.2 asked is
 answered_told s (Sets e ∷ t) w r a right asked is = answered_told s t w r a right.2 asked is
 answered_told s (Gives g ∷ t) w r a right asked is = answered_told s t w r a right.2 asked is
+answered_told s (Hears damage ∷ t) w r a right asked is = more_damage (failed_calls t) (damage_in t) damage a (answered_told s t w r a right.2 asked is)
 answered_told s (Takes v page x ∷ t) w r a right asked is = answered_told s t w r a right.2 asked is
+answered_told s (Drops v x ∷ t) w r a right asked is = answered_told s t w r a right.2 asked is
+answered_told s (Adds e ∷ t) w r a right asked is = answered_told s t w r a right.2 asked is
+answered_told s (Removes e ∷ t) w r a right asked is = answered_told s t w r a right.2 asked is
+answered_told s (Strays e ∷ t) w r a right asked is = answered_told s t w r a right.2 asked is
 answered_told s (Passes e ∷ t) w r a right asked is = answered_told s t w r a right.2 asked is
 answered_told s (Aborts e ∷ t) w r a right asked is = answered_told s t w r a right.2 asked is
 answered_told s (Calls c ∷ t) w r a right asked is = answered_told s t w r a right.2 asked is
@@ -219,7 +227,46 @@ damage_of s (Harms w x bytes found ∷ t) at fault right is = elim (first_or_new
   | inl earlier ↦ behind s (Harms w x bytes found) t at fault (damage_of s t at fault right.2 earlier)
   | inr new ↦ here s t w x at bytes found fault new right.0
 ]
+damage_of s (Hears damage ∷ t) at fault right is = elim (first_or_new (damage_in t) damage (Page at fault) is) [
+  | inl earlier ↦ behind s (Hears damage) t at fault (damage_of s t at fault right.2 earlier)
+  | inr new ↦ absurd (let stray : Stray right.0.block 0 ≡ Page at fault = sym right.0.damage_is ∙ new in cc)
+]
 damage_of s (h ∷ t) at fault right is = behind s h t at fault (damage_of s t at fault right.2 is)
+
+-- Each decrement that found 0 did so at its moment.
+later : (s : Session) (h : Happening) (t : Trace) (e : Remapping) → IsStrayAt s t e → IsStrayAt s (h ∷ t) e
+later s h t e at = record { newer = h ∷ at.newer; older = at.older; is = ap (λ (u : Trace). h ∷ u) at.is; cause = at.cause }
+
+stray_at : (s : Session) (t : Trace) (e : Remapping) → RightTrace s t → Contains (strayed t) e → IsStrayAt s t e
+stray_at s [] e right has = absurd (none_in_nothing e has)
+stray_at s (Strays first ∷ t) e right has = elim (is_first_or_behind first (strayed t) e has) [
+  | inl same ↦ subst (λ (f : Remapping). IsStrayAt s (Strays first ∷ t) f) same (record { newer = []; older = t; is = refl; cause = right.0 })
+  | inr behind ↦ later s (Strays first) t e (stray_at s t e right.2 behind)
+]
+stray_at s (h ∷ t) e right has = later s h t e (stray_at s t e right.2 has)
+
+-- and one of them is the damage that was told
+after : (s : Session) (h : Happening) (t : Trace) (at : Pbn) (count : ℕ) → HasStray s t at count → HasStray s (h ∷ t) at count
+after s h t at count has = record { entry = has.entry; old_is = has.old_is; none = has.none; found = later s h t has.entry has.found }
+
+told_now : (s : Session) (t : Trace) (damage : Damage) (at : Pbn) (count : ℕ) → RightTrace s t → HearingMayFollow damage t → damage ≡ Stray at count → HasStray s t at count
+told_now s t damage at count right hears is =
+    let same : Stray hears.block 0 ≡ Stray at count = sym hears.damage_is ∙ is in
+    let block : hears.block ≡ at = cc same in
+    let none : 0 ≡ count = cc same in
+    record { entry = hears.entry; old_is = hears.old_is ∙ ap At block; none = sym none; found = stray_at s t hears.entry right hears.strays }
+
+stray_of : (s : Session) (t : Trace) (at : Pbn) (count : ℕ) → RightTrace s t → damage_in t ≡ Some (Stray at count) → HasStray s t at count
+stray_of s [] at count right is = absurd cc
+stray_of s (Harms w x bytes found ∷ t) at count right is = elim (first_or_new (damage_in t) (Page x found) (Stray at count) is) [
+  | inl earlier ↦ after s (Harms w x bytes found) t at count (stray_of s t at count right.2 earlier)
+  | inr new ↦ absurd (cc new)
+]
+stray_of s (Hears damage ∷ t) at count right is = elim (first_or_new (damage_in t) damage (Stray at count) is) [
+  | inl earlier ↦ after s (Hears damage) t at count (stray_of s t at count right.2 earlier)
+  | inr new ↦ after s (Hears damage) t at count (told_now s t damage at count right.2 right.0 new)
+]
+stray_of s (h ∷ t) at count right is = after s h t at count (stray_of s t at count right.2 is)
 
 -- what happened by turns leads there, and the device had its calls
 module _ (tells honest : Bool) (sizes : Sizes) (state state' : ℕ) (events : List Event) (first last : List Zone) (before after : Seen) (made : Trace)
@@ -267,6 +314,7 @@ module _ (tells honest : Bool) (start : Opened) (script : Script) (first last : 
     causes = λ newer older w r a is asked. (right_at over newer older (Says (line.Answer w a)) (subst (RightTrace over) is legal.right)).1 r asked;
     faults = λ w r a asked is. explained report (failed_calls trace) before after a (answered_told over trace w r a legal.right asked is) called.faults;
     damage = λ at fault is. damage_of over trace at fault legal.right is;
+    stray = λ at count is. stray_of over trace at count legal.right is;
     stops = stops_at_failure over trace legal.right;
   }
 
@@ -277,14 +325,14 @@ module _ (tells honest : Bool) (start : Opened) (script : Script) (first last : 
       sizes = run_sizes start.head;
       script = script;
       links = opened_page start.pages.items;
-      free = free_of start;
+      counters = start.counters.items;
       blocks = before.opening;
       before = before.log;
       image = image;
     }
 
     real_over : IsOver (task start script) real
-    real_over = record { sizes_is = refl; script_is = refl; links_is = refl; free_is = refl }
+    real_over = record { sizes_is = refl; script_is = refl; links_is = refl; counters_are = refl }
 
     real_session : IsSession real
     real_session = can_serve (run_sizes start.head) script start real can real_over
@@ -296,7 +344,7 @@ module _ (tells honest : Bool) (start : Opened) (script : Script) (first last : 
     real_fair : IsFair real trace
     real_fair = record {
       honest = honest_reads real trace (called.given is.told is.fair);
-      opened = as_opened real start sound right refl refl refl (λ x has. free_in start can.geometry x has) is.one;
+      opened = as_opened real start sound right refl refl refl refl is.one;
     }
 
     pub reads_of_image : ReadsRight (opening_values real) report.requests report.desk report.places report.histories
@@ -307,7 +355,7 @@ module _ (tells honest : Bool) (start : Opened) (script : Script) (first last : 
 
     -- its values
     pub values_of_image : opening_values real ≡ value_of (image_in image sound)
-    values_of_image = fun_ext (as_opened_values real start sound right refl refl refl (λ x has. free_in start can.geometry x has) is.one)
+    values_of_image = fun_ext (as_opened_values real start sound right refl refl refl refl is.one)
 
     -- the image as it is served
     own_head : sound.head ≡ start.head

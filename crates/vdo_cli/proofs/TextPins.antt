@@ -1,5 +1,5 @@
 -- The texts and the statuses of a run, computed: of each fault its line and its status, and of a desk log the session's.
-use Rattle.std.proofs.Common.{ℕ, ◌≡◌, ◌++◌, true, false, List, [], ◌∷◌, Some, None, codes, refl}
+use Rattle.std.proofs.Common.{ℕ, ◌≡◌, ◌++◌, true, false, List, [], ◌∷◌, Option, Some, None, codes, refl}
 use Rattle.std.specs.Prelude.{decimal}
 use Rattle.blk_base.specs.declared.place.Lba.{Lba}
 use Rattle.blk_base.specs.declared.place.Pbn.{Pbn}
@@ -14,6 +14,7 @@ use Rattle.image_layout.specs.declared.fault.SuperFault.TheVariants.{NotAnImage,
 use Rattle.image_model.specs.declared.fault.ImageFault.TheVariants as image
 use Rattle.command_text.proofs.Numerals.{numerals}
 use Rattle.command_text.specs.declared.parts.DamagedPlace.TheVariants as place
+use Rattle.command_text.specs.declared.parts.Space.{Space}
 use Rattle.page_codec.specs.declared.fault.PageFault.{PageFault}
 use Rattle.page_codec.specs.declared.fault.PageFault.TheVariants.{Header}
 use Rattle.stream_text.specs.declared.refusal.LineFault.TheVariants as line_fault
@@ -158,7 +159,7 @@ older_full = refl
 
 -- struck_status: 4 goes before 3, and 3 before what served_status says, 1 before 0
 abbrev told : List DeskLine → RunReport
-told lines = record { requests = []; desk = lines; marks = []; places = []; histories = []; damage = None }
+told lines = record { requests = []; desk = lines; marks = []; places = []; histories = []; damage = None; used = 2; total = 64 }
 
 all_right : (struck_status (told desk) ≡ None) × (served_status desk ≡ 0)
 all_right = (refl, refl)
@@ -181,11 +182,17 @@ of_page = damage.Page (record { 0 = 85 }) Header
 damaged_status : struck_status (record (told (Answer (of_b 0) reply.Stopped ∷ full_lines)) { damage = Some of_page }) ≡ Some 4
 damaged_status = refl
 
--- session_notes: what was recovered, and the page that is damaged
-notes_of_damage : session_notes (Some 30) (record (told []) { damage = Some of_page }) ≡ record { recovered = Some 30; damage = Some (place.Page (record { 0 = 85 })); space = None }
+-- session_notes: what was recovered, the page or the counter that is damaged, and the space
+abbrev two_used : Option Space
+two_used = Some (record { used = 2; total = 64 })
+
+notes_of_damage : session_notes (Some 30) (record (told []) { damage = Some of_page }) ≡ record { recovered = Some 30; damage = Some (place.Page (record { 0 = 85 })); space = two_used }
 notes_of_damage = refl
 
-notes_of_nothing : session_notes None (told []) ≡ record { recovered = None; damage = None; space = None }
+notes_of_a_stray : session_notes None (record (told []) { damage = Some (damage.Stray (record { 0 = 86 }) 0) }) ≡ record { recovered = None; damage = Some (place.Count (record { 0 = 86 })); space = two_used }
+notes_of_a_stray = refl
+
+notes_of_nothing : session_notes None (told []) ≡ record { recovered = None; damage = None; space = two_used }
 notes_of_nothing = refl
 
 -- refusal_text: the fault's line, behind that of a recovery

@@ -31,13 +31,14 @@ use Rattle.vdo_model.specs.declared.report.HistoryEntry.{HistoryEntry}
 use Rattle.vdo_model.specs.declared.report.Mark.TheVariants.{Settled}
 use Rattle.vdo_model.specs.declared.report.RunReport.{RunReport}
 use Rattle.vdo_model.proofs.Example.{address, of_a, placed, entry, block, blocks_tell}
+use Rattle.zone_counts.specs.Zone.{Zone as Counters}
 use Rattle.vdo_cli.specs.Openings.{HasSequencesLeft, IsReady, recovered_of}
 use Rattle.vdo_cli.specs.Outsides.{Outside, outcome, outside, setting, trust}
 use Rattle.vdo_cli.specs.Runs.{EndsSo}
 use Rattle.vdo_cli.specs.Texts.{session_text}
 use Rattle.vdo_cli.proofs.CommandPins.{run_words}
 use Rattle.vdo_cli.proofs.PlayPins.{source, sink}
-use Rattle.vdo_cli.proofs.EmptyScript.{empty_plays, empty_report}
+use Rattle.vdo_cli.proofs.EmptyScript.{AreFirst, empty_plays, empty_report, still_report}
 
 -- A run of a session that was served, over a source with these bytes left, where all of the outside tells and the device
 -- is honest.
@@ -56,6 +57,8 @@ read_report byte = record {
   places = placed (of_a 0) 0 0 ∷ [];
   histories = [];
   damage = None;
+  used = 2;
+  total = 64;
 }
 
 -- a report of one write of address 1 and a flush behind it, which returned when so many calls had succeeded
@@ -70,14 +73,17 @@ write_report calls = record {
   places = placed (of_a 0) 0 0 ∷ [];
   histories = entry 1 (of_a 0) Settled ∷ [];
   damage = None;
+  used = 2;
+  total = 64;
 }
 
 -- Accepted: over an image that is ready and links no page, a session of no request.
 served-empty : (before opened : Seen) (found : Recovered) (start : Opened) → IsReady (trust true true) before opened found start → ((page : PageId) → opened_page start.pages.items page ≡ None)
-    → start.head.geometry.nonce < 2 ^ 64 → Served before [] (outside opened (source [] 0) (sink (session_text (recovered_of found) empty_report) 0)) 0 empty_report
-served-empty before opened found start ready unlinked named = record {
+    → (counts : Counters) → AreFirst start counts → start.head.geometry.nonce < 2 ^ 64
+    → Served before [] (outside opened (source [] 0) (sink (session_text (recovered_of found) (still_report start)) 0)) 0 (still_report start)
+served-empty before opened found start ready unlinked counts first named = record {
   found = found;
-  session = empty_plays true true 0 found start before opened ready unlinked named true (source [] 0) (source [] 0) (λ told. refl) (λ told. refl);
+  session = empty_plays true true 0 found start before opened ready unlinked counts first named true (source [] 0) (source [] 0) (λ told. refl) (λ told. refl);
   closes = (refl, λ told. refl);
 }
 

@@ -40,12 +40,12 @@ drawn_of_another_size = refl
 
 -- summary_of: the number of requests is that of the options, and the answers are those of the report
 abbrev answered : RunReport
-answered = record empty_report { desk = Answer (of_a 1) reply.Full ∷ Begin (of_a 1) ∷ Answer (of_a 0) (reply.Bytes (1 ∷ 2 ∷ [])) ∷ Begin (of_a 0) ∷ [] }
+answered = record empty_report { used = 2; total = 64; desk = Answer (of_a 1) reply.Full ∷ Begin (of_a 1) ∷ Answer (of_a 0) (reply.Bytes (1 ∷ 2 ∷ [])) ∷ Begin (of_a 0) ∷ [] }
 
-summed_up : summary_of (Some 30) (draws 2 4) answered ≡ record { recovered = Some 30; requests = 2; tally = record { ok = 1; no_space = 1; read_sum = 3 }; space = None }
+summed_up : summary_of (Some 30) (draws 2 4) answered ≡ record { recovered = Some 30; requests = 2; tally = record { ok = 1; no_space = 1; read_sum = 3 }; space = Some (record { used = 2; total = 64 }) }
 summed_up = refl
 
-summed_up_clean : summary_of None (draws 5 4) empty_report ≡ record { recovered = None; requests = 5; tally = record { ok = 0; no_space = 0; read_sum = 0 }; space = None }
+summed_up_clean : summary_of None (draws 5 4) empty_report ≡ record { recovered = None; requests = 5; tally = record { ok = 0; no_space = 0; read_sum = 0 }; space = Some (record { used = 0; total = 0 }) }
 summed_up_clean = refl
 
 -- A session was served: its summary was put, with the status of damage or of a device that failed, or that of its answers;

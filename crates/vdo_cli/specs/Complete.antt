@@ -22,6 +22,7 @@ NeedsNoFault reply.Ok = Unit {0}
 NeedsNoFault (reply.Bytes bytes) = Unit {0}
 NeedsNoFault reply.Range = Unit {0}
 NeedsNoFault reply.Full = Unit {0}
+NeedsNoFault reply.NoSpace = Unit {0}
 NeedsNoFault other = ⊥
 
 -- each request of the script has such an answer, and the status says whether there was room for all

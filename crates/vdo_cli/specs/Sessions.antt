@@ -6,16 +6,18 @@ use Rattle.blk_base.specs.declared.request.Answer.{Answer as Reply}
 use Rattle.blk_base.specs.declared.request.Answer.TheVariants as reply
 use Rattle.blk_base.specs.declared.request.Request.{Request}
 use Rattle.blk_base.specs.declared.request.Writer.{Writer}
+use Rattle.blk_base.specs.declared.place.Mapping.TheVariants.{At}
 use Rattle.blk_base.specs.declared.place.Pbn.{Pbn}
 use Rattle.disk_model.specs.Causes.{Rose}
 use Rattle.disk_model.specs.Seen.{Seen}
+use Rattle.data_vio.specs.declared.logged.Remapping.{Remapping}
 use Rattle.data_vio.specs.declared.sizes.Sizes.{Sizes}
 use Rattle.core_model.specs.declared.zones.Zone.{Zone}
 use Rattle.core_model.specs.Reports.{progress_of, report_of}
-use Rattle.core_model.specs.RightTraces.{HarmMayFollow, MayAnswer, StopsAtFailure}
+use Rattle.core_model.specs.RightTraces.{HarmMayFollow, MayAnswer, StopsAtFailure, StrayMayFollow}
 use Rattle.core_model.specs.Sessions.{Session}
 use Rattle.core_model.specs.Start.{IsFirst}
-use Rattle.core_model.specs.Trace.{Trace, Harms, Says}
+use Rattle.core_model.specs.Trace.{Trace, Harms, Says, Strays}
 use Rattle.vdo_core.specs.Cores.{sizes_of}
 use Rattle.vdo_core.specs.Done.{IsDone}
 use Rattle.vdo_core.specs.Plays.{core_with}
@@ -26,7 +28,7 @@ use Rattle.vdo_model.specs.DeskLog.{answer_of}
 use Rattle.vdo_model.specs.RightRuns.{RunRight}
 use Rattle.vdo_model.specs.Scripts.{Script, request_at}
 use Rattle.page_codec.specs.declared.fault.PageFault.{PageFault}
-use Rattle.vdo_model.specs.declared.report.Damage.TheVariants.{Page}
+use Rattle.vdo_model.specs.declared.report.Damage.TheVariants.{Page, Stray}
 use Rattle.vdo_model.specs.declared.report.DeskLine.TheVariants as line
 use Rattle.vdo_model.specs.declared.report.RunReport.{RunReport}
 use Rattle.vdo_cli.specs.Commands.{run_setup}
@@ -44,7 +46,7 @@ pub record Task : Type 0 where
 abbrev pub task : Opened → Script → Task
 task start script = record { start = start; script = script }
 
--- a session over that image, with this script: all its data blocks whose stored count is 0 are free
+-- a session over that image, with this script: the counters of its data blocks are those of the image
 abbrev pub IsOver : Task → Session → Type 0
 IsOver task s = IsOf s (run_sizes task.start.head) task.script task.start
 
@@ -76,6 +78,20 @@ pub record HasDamage (s : Session) (t : Trace) (at : Pbn) (fault : PageFault) : 
   pub is : t ≡ newer ++ Harms request at bytes fault ∷ older
   pub cause : HarmMayFollow s request at bytes fault older
 
+-- a decrement of this entry found the counter of its block at 0, at this moment
+pub record IsStrayAt (s : Session) (t : Trace) (e : Remapping) : Type 0 where
+  pub newer : Trace
+  pub older : Trace
+  pub is : t ≡ newer ++ Strays e ∷ older
+  pub cause : StrayMayFollow s e older
+
+-- one of this block did
+pub record HasStray (s : Session) (t : Trace) (at : Pbn) (count : ℕ) : Type 0 where
+  pub entry : Remapping
+  pub old_is : entry.old ≡ At at
+  pub none : count ≡ 0
+  pub found : IsStrayAt s t entry
+
 -- Of what happened the report tells, and it is right: every request is answered, by the desk log, the places and the
 -- histories that belong to it, each answer has its cause in what happened before, and so has the damage.
 pub record IsReported (start : Opened) (report : RunReport) (trace : Trace) (before after : Seen) : Type 0 where
@@ -88,5 +104,6 @@ pub record IsReported (start : Opened) (report : RunReport) (trace : Trace) (bef
   pub faults : (w : Writer) (r : Request) (a : Reply) → request_at report.requests w ≡ Some r
       → answer_of report.desk w ≡ Some a → IsExplained report before after a
   pub damage : (at : Pbn) (fault : PageFault) → report.damage ≡ Some (Page at fault) → HasDamage session trace at fault
+  pub stray : (at : Pbn) (count : ℕ) → report.damage ≡ Some (Stray at count) → HasStray session trace at count
   -- after a write or flush that failed, and after damage, there is no other
   pub stops : StopsAtFailure trace

@@ -127,10 +127,12 @@ served_status desk = if some_full desk then 1 else 0
 -- the place of a damage, as it is put
 abbrev pub damaged_place : Damage → DamagedPlace
 damaged_place (damage.Page at fault) = place.Page at
+damaged_place (damage.Stray at count) = place.Count at
 
--- what is put beside the answers of a session: how many entries were recovered before, and its damage
+-- what is put beside the answers of a session: how many entries were recovered before, its damage, and how much of the space
+-- is used
 abbrev pub session_notes : Option ℕ → RunReport → RunNotes
-session_notes recovered report = record { recovered = recovered; damage = option_map damaged_place report.damage; space = None }
+session_notes recovered report = record { recovered = recovered; damage = option_map damaged_place report.damage; space = Some (record { used = report.used; total = report.total }) }
 
 -- the text of a session
 abbrev pub session_text : Option ℕ → RunReport → List ℕ

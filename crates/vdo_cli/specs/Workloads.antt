@@ -21,13 +21,13 @@ use Rattle.vdo_cli.specs.Outsides.{Outcome, Outside, RefusesAfter, Setting, Trus
 abbrev pub requests_for : WorkloadOptions → ℕ → Script
 requests_for options logical = workload_of options.seed options.streams logical options.requests
 
--- how many there were, and how they were answered; how many blocks are used isn't known
+-- how many there were, how they were answered, and how much of the space is used
 abbrev pub summary_of : Option ℕ → WorkloadOptions → RunReport → Summary
 summary_of recovered options report = record {
   recovered = recovered;
   requests = options.requests;
   tally = tally_of report.desk;
-  space = None;
+  space = Some (record { used = report.used; total = report.total });
 }
 
 -- a session served the requests of the seed, at the addresses of the image that was opened

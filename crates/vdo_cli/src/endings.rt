@@ -8,7 +8,7 @@ ghost use Rattle.vdo_cli.specs.Texts.{fault_text, fault_status, grow_status, dif
 use crate::Fault;
 use blk_base::Answer;
 use command_text::{
-    DamagedPlace, Piece, RunNotes, put_grow_fault, put_image_fault, put_layout_fault, put_lines,
+    DamagedPlace, Piece, RunNotes, Space, put_grow_fault, put_image_fault, put_layout_fault, put_lines,
     put_recovered,
 };
 use disk_model::{Failed, Sink};
@@ -204,10 +204,12 @@ fn damaged_place(damage: Damage) -> DamagedPlace
 {
     match damage {
         Damage::Page { at, .. } => DamagedPlace::Page(at),
+        Damage::Stray { at, .. } => DamagedPlace::Count(at),
     }
 }
 
-/// What is put beside the answers of a session: how many entries were recovered before, and its damage.
+/// What is put beside the answers of a session: how many entries were recovered before, its damage, and how much of the space is
+/// used.
 pub(crate) fn session_notes(recovered: Option<u32>, report: &RunReport) -> RunNotes
     ensures { result ≡ texts.session_notes recovered report.now }
 {
@@ -218,6 +220,9 @@ pub(crate) fn session_notes(recovered: Option<u32>, report: &RunReport) -> RunNo
     RunNotes {
         recovered,
         damage,
-        space: None,
+        space: Some(Space {
+            used: report.used,
+            total: report.total,
+        }),
     }
 }

@@ -90,6 +90,8 @@ fn empty_report(alloc: Global) -> RunReport
         places: ReportList::new(alloc),
         histories: ReportList::new(alloc),
         damage: None,
+        used: 0,
+        total: 0,
     }
 }
 

@@ -11,7 +11,7 @@ use crate::Fault;
 use crate::endings::fault_of;
 use crate::ready::{Ready, get_ready, recovered_of};
 use crate::session::{NotPlayed, serve};
-use command_text::{Summary, Tally};
+use command_text::{Space, Summary, Tally};
 use disk_model::Disk;
 use rebuild::Recovered;
 use std::alloc::{AllocError, Global};
@@ -107,7 +107,7 @@ pub(crate) fn work<R: Wait, D: Disk>(
     })
 }
 
-/// How many requests there were, and how they were answered.
+/// How many requests there were, how they were answered, and how much of the space is used.
 pub(crate) fn summary_of(
     recovered: Option<u32>,
     options: &WorkloadOptions,
@@ -119,6 +119,9 @@ pub(crate) fn summary_of(
         recovered,
         requests: options.requests,
         tally: Tally::of_desk(report.desk.as_slice()),
-        space: None,
+        space: Some(Space {
+            used: report.used,
+            total: report.total,
+        }),
     }
 }

@@ -1,0 +1,169 @@
+ghost use Rattle.std.specs.Prelude.{IfOk};
+ghost use Rattle.std.specs.List.{AllByRecursion};
+ghost use Rattle.core_model.specs.Sessions.{IsServed};
+
+use crate::cores::{Ask, Unplayed, push, requests};
+use crate::judging::{Met, judge, last_byte};
+use crate::maps::wrong_in_image;
+use crate::sessions::{Trouble, open_over, troubled_of};
+use blk_base::{Geometry, Lba};
+use disk_model::MemDisk;
+use schedule::{Schedule, drive};
+use std::alloc::{AllocError, Global};
+use std::ops::Range;
+use std::process::Abort;
+use std::sync::Wait;
+use std::test::Fail;
+use vdo_core::Setup;
+use vdo_model::{Requests, RunReport};
+
+/// 16 data blocks, of which a leaf takes one, and a journal for more entries than a run has.
+const SMALL: Geometry = Geometry {
+    logical: 100,
+    slab_blocks: 16,
+    journal: 128,
+    ..Geometry::DEFAULT
+};
+
+const SETUP: Setup = Setup {
+    logical_zones: 1,
+    depth: 2,
+};
+
+const STREAMS: u32 = 3;
+
+/// How many requests a stream has: more than six of ten are writes.
+const ASKS: u32 = 25;
+
+const ADDRESSES: [u32; 5] = [0, 7, 31, 62, 99];
+
+/// A run makes more calls than so many.
+const CALLS: u64 = 140;
+
+// A request: two writes of a run that follow each other have different bytes, and none is zero.
+fn ask(stream: u32, number: u32) -> Ask {
+    let at = ADDRESSES[((stream + 2 * number) % 5) as usize];
+    match number % 9 {
+        3 => Ask::Discard(at),
+        5 | 8 => Ask::Read(at),
+        7 => Ask::Flush,
+        _ => Ask::Write(at, ((stream * ASKS + number) % 255 + 1) as u8),
+    }
+}
+
+fn asks_of(alloc: Global, stream: u32) -> Result<Vec<Ask>, AllocError> {
+    let mut asks = Vec::new(alloc);
+    for number in 0..ASKS {
+        asks.push(ask(stream, number))?;
+    }
+    Ok(asks)
+}
+
+fn all_asks(alloc: Global) -> Result<Requests, AllocError>
+    ensures { IfOk result (AllByRecursion (AllByRecursion IsServed)) }
+{
+    let mut streams = Vec::new(alloc);
+    for stream in 0..STREAMS {
+        let asks = asks_of(alloc, stream)?;
+        push(&mut streams, requests(alloc, &asks)?)?;
+    }
+    Ok(Requests::of_streams(streams))
+}
+
+// How many calls are made before a run.
+fn opening_calls(alloc: Global) -> Result<u64, Unplayed> {
+    let mut device = troubled_of(alloc, &SMALL, Trouble::Nothing)?;
+    let _core = open_over(alloc, &SETUP, all_asks(alloc)?, &mut device)?;
+    Ok(device.calls().len() as u64)
+}
+
+// The report of a run by the schedule of a number.
+fn report_of<R: Wait>(
+    rt: &R,
+    alloc: Global,
+    number: u64,
+    device: &mut MemDisk,
+) -> Result<RunReport, Unplayed> {
+    let mut core = open_over(alloc, &SETUP, all_asks(alloc)?, device)?;
+    drive(rt, &mut core, &mut Schedule::from_number(number), device);
+    Ok(core.report())
+}
+
+// How many blocks a report says are used, beside those of the leaf and of the addresses whose value isn't zeros.
+fn used_besides(report: &RunReport) -> u32 {
+    let mut used = report.used.wrapping_sub(1);
+    for at in ADDRESSES {
+        if last_byte(report, Lba(at)) != 0 {
+            used = used.wrapping_sub(1);
+        }
+    }
+    used
+}
+
+// Blocks are written, let go and written again by these schedules, more than fifty times by each: each read is right, and no
+// write is without a block.
+fn uses_blocks_again<R: Wait + Abort>(rt: &R, alloc: Global, schedules: Range<u64>) -> Result<(), Fail> {
+    for number in schedules {
+        let mut device = troubled_of(alloc, &SMALL, Trouble::Nothing)?;
+        let report = report_of(rt, alloc, number, &mut device)?;
+        let Met { reads, .. } = judge(&report);
+        assert_eq!(rt; (number, judge(&report)), (number, Met { reads, ..Met::NOTHING }));
+        assert_eq!(rt; (number, used_besides(&report), report.total), (number, 0, 16));
+        let writes = report.histories.as_slice().len();
+        let wrong = wrong_in_image(alloc, &SMALL, &report, &ADDRESSES, &mut device)?;
+        assert_eq!(rt; (number, wrong, reads > 10, writes > 50), (number, 0, true, true));
+    }
+    Ok(())
+}
+
+#[test]
+fn blocks_are_used_again(rt: HostRuntime) -> Result<(), Fail> {
+    uses_blocks_again(&rt, rt.alloc(), 0..10)
+}
+
+#[test]
+fn blocks_are_used_again_by_other_schedules(rt: HostRuntime) -> Result<(), Fail> {
+    uses_blocks_again(&rt, rt.alloc(), 10..20)
+}
+
+// How much is wrong after a stop behind so many calls of a run, in an image that a number picks.
+fn wrong_after<R: Wait>(rt: &R, alloc: Global, number: u64, calls: u64) -> Result<u32, Unplayed> {
+    let mut device = troubled_of(alloc, &SMALL, Trouble::Cut(calls))?;
+    let report = report_of(rt, alloc, number, &mut device)?;
+    let mut image = device.pick_image(alloc, calls)?;
+    wrong_in_image(alloc, &SMALL, &report, &ADDRESSES, &mut image)
+}
+
+// Each image that a stop leaves is sound where blocks are used again, and shows nothing older than what was flushed: two stops
+// of each of these schedules.
+fn stops_soundly<R: Wait + Abort>(rt: &R, alloc: Global, schedules: Range<u64>) -> Result<(), Fail> {
+    let opening = opening_calls(alloc)?;
+    for number in schedules {
+        for stop in [7 + 37 * number, 61 + 37 * number] {
+            let call = opening.wrapping_add(stop % CALLS);
+            let wrong = wrong_after(rt, alloc, number, call)?;
+            assert_eq!(rt; (number, call, wrong), (number, call, 0));
+        }
+    }
+    Ok(())
+}
+
+#[test]
+fn stopped_in_schedules_0_to_4(rt: HostRuntime) -> Result<(), Fail> {
+    stops_soundly(&rt, rt.alloc(), 0..5)
+}
+
+#[test]
+fn stopped_in_schedules_5_to_9(rt: HostRuntime) -> Result<(), Fail> {
+    stops_soundly(&rt, rt.alloc(), 5..10)
+}
+
+#[test]
+fn stopped_in_schedules_10_to_14(rt: HostRuntime) -> Result<(), Fail> {
+    stops_soundly(&rt, rt.alloc(), 10..15)
+}
+
+#[test]
+fn stopped_in_schedules_15_to_19(rt: HostRuntime) -> Result<(), Fail> {
+    stops_soundly(&rt, rt.alloc(), 15..20)
+}
