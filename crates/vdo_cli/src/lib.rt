@@ -12,11 +12,12 @@
 //! `crash`, a stop before the first call and a run to its end, words, a script and devices that are refused, and a short
 //! script stopped at each call of its session, with four images each.
 //!
-//! Not there: that a session closes its image; of `crash`, the values of an image of which blocks differ. Of an image that isn't sound, or on which writes are pending when it is
-//! opened, those of the index aside, a session says nothing of values, nor of stops.
+//! Not there: that a session closes its image; of `crash`, the values of an image of which blocks differ. Of an image that
+//! isn't sound, or on which writes are pending when it is opened, those of the index aside, a session says nothing of values,
+//! nor of stops.
 //!
-//! No rows yet: but through the definitions that use them: `IsReady`, `PlayedOut`, `EndsAs`, `IsCrashTold` and `ShowsSound`; that a script's answers
-//! are put behind `recovered 30 entries`.
+//! No rows yet: but through the definitions that use them: `IsReady`, `PlayedOut`, `EndsAs`, `IsCrashTold` and `ShowsSound`;
+//! that a script's answers are put behind `recovered 30 entries`.
 #![tactic(auto)]
 
 mod adapters;
