@@ -140,4 +140,4 @@ module _ (s : Session) (t : Trace) (z : Zone) (is : IsZone z) (geometry : z.geom
       same_sum (used_of_slab s t) (λ slab. used_of (slab_at z.slabs slab)) g.slabs used_slab
       ∙ ap (λ (n : ℕ). sum_below (λ k. used_of (slab_at z.slabs k)) n) (sym slabs)
       ∙ sum_of_list used_of z.slabs
-  )
+      )

@@ -102,16 +102,35 @@ fn used_besides(report: &RunReport) -> u32 {
 
 // Blocks are written, let go and written again by these schedules, more than fifty times by each: each read is right, and no
 // write is without a block.
-fn uses_blocks_again<R: Wait + Abort>(rt: &R, alloc: Global, schedules: Range<u64>) -> Result<(), Fail> {
+fn uses_blocks_again<R: Wait + Abort>(
+    rt: &R,
+    alloc: Global,
+    schedules: Range<u64>,
+) -> Result<(), Fail> {
     for number in schedules {
         let mut device = troubled_of(alloc, &SMALL, Trouble::Nothing)?;
         let report = report_of(rt, alloc, number, &mut device)?;
         let Met { reads, .. } = judge(&report);
-        assert_eq!(rt; (number, judge(&report)), (number, Met { reads, ..Met::NOTHING }));
-        assert_eq!(rt; (number, used_besides(&report), report.total), (number, 0, 16));
+        assert_eq!(rt;
+            (number, judge(&report)),
+            (
+                number,
+                Met {
+                    reads,
+                    ..Met::NOTHING
+                }
+            )
+        );
+        assert_eq!(rt;
+            (number, used_besides(&report), report.total),
+            (number, 0, 16)
+        );
         let writes = report.histories.as_slice().len();
         let wrong = wrong_in_image(alloc, &SMALL, &report, &ADDRESSES, &mut device)?;
-        assert_eq!(rt; (number, wrong, reads > 10, writes > 50), (number, 0, true, true));
+        assert_eq!(rt;
+            (number, wrong, reads > 10, writes > 50),
+            (number, 0, true, true)
+        );
     }
     Ok(())
 }
@@ -136,7 +155,11 @@ fn wrong_after<R: Wait>(rt: &R, alloc: Global, number: u64, calls: u64) -> Resul
 
 // Each image that a stop leaves is sound where blocks are used again, and shows nothing older than what was flushed: two stops
 // of each of these schedules.
-fn stops_soundly<R: Wait + Abort>(rt: &R, alloc: Global, schedules: Range<u64>) -> Result<(), Fail> {
+fn stops_soundly<R: Wait + Abort>(
+    rt: &R,
+    alloc: Global,
+    schedules: Range<u64>,
+) -> Result<(), Fail> {
     let opening = opening_calls(alloc)?;
     for number in schedules {
         for stop in [7 + 37 * number, 61 + 37 * number] {

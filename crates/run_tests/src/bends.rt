@@ -36,7 +36,14 @@ fn with_a_leaf<R: Threads + Wait + Sync + Abort>(rt: &R, alloc: Global) -> Resul
         b"0 0 write 5 ok z0:0\nused 2 of 64\n",
         0,
     )?;
-    puts(rt, alloc, first, b"", b"recovered 2 entries\nused 2 of 64\n", 0)
+    puts(
+        rt,
+        alloc,
+        first,
+        b"",
+        b"recovered 2 entries\nused 2 of 64\n",
+        0,
+    )
 }
 
 // How many of these calls are writes.

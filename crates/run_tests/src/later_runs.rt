@@ -59,7 +59,11 @@ fn a_later_run_writes_the_same_block(rt: HostRuntime) -> Result<(), Fail> {
         &rt,
         rt.alloc(),
         &[
-            (b"0 write 1 4096*61\n", b"0 0 write 1 ok z0:0\nused 2 of 64\n", 0),
+            (
+                b"0 write 1 4096*61\n",
+                b"0 0 write 1 ok z0:0\nused 2 of 64\n",
+                0,
+            ),
             (
                 b"0 write 2 4096*61\n",
                 b"recovered 2 entries\n0 0 write 2 ok z0:0\nused 3 of 64\n",
@@ -108,7 +112,11 @@ fn runs_that_read(rt: HostRuntime) -> Result<(), Fail> {
         &rt,
         rt.alloc(),
         &[
-            (b"0 write 5 4096*61\n", b"0 0 write 5 ok z0:0\nused 2 of 64\n", 0),
+            (
+                b"0 write 5 4096*61\n",
+                b"0 0 write 5 ok z0:0\nused 2 of 64\n",
+                0,
+            ),
             (
                 b"0 read 5\n0 flush\n",
                 b"recovered 2 entries\n0 0 read 5 4096*61 z0:0\n0 1 flush ok\nused 2 of 64\n",
@@ -131,7 +139,11 @@ fn a_refused_script_behind_a_recovery(rt: HostRuntime) -> Result<(), Fail> {
         &rt,
         rt.alloc(),
         &[
-            (b"0 write 5 4096*61\n", b"0 0 write 5 ok z0:0\nused 2 of 64\n", 0),
+            (
+                b"0 write 5 4096*61\n",
+                b"0 0 write 5 ok z0:0\nused 2 of 64\n",
+                0,
+            ),
             (
                 b"0 read\n",
                 b"recovered 2 entries\nscript line 1: word\n",
@@ -155,7 +167,14 @@ fn a_leaf_that_cannot_be_read(rt: HostRuntime) -> Result<(), Fail> {
         b"0 0 write 5 ok z0:0\nused 2 of 64\n",
         0,
     )?;
-    let mut closed = puts(&rt, alloc, first, b"", b"recovered 2 entries\nused 2 of 64\n", 0)?;
+    let mut closed = puts(
+        &rt,
+        alloc,
+        first,
+        b"",
+        b"recovered 2 entries\nused 2 of 64\n",
+        0,
+    )?;
     let plan = vec![in alloc;
         FaultAt {
             kind: CallKind::Read,
@@ -199,7 +218,12 @@ fn with_byte_in_leaf(
 // is 61, so that isn't looked at.
 const LEAF_BYTES: [(usize, u8, &[u8], u8); 3] = [
     (51, 2, b"bad image: page 85 slot 3 compressed\n", 4),
-    (61, 2, b"recovered 2 entries\n0 0 read 5 4096*61 z0:0\nused 2 of 64\n", 0),
+    (
+        61,
+        2,
+        b"recovered 2 entries\n0 0 read 5 4096*61 z0:0\nused 2 of 64\n",
+        0,
+    ),
     (0, 255, b"bad image: page 85 header\n", 4),
 ];
 

@@ -308,11 +308,7 @@ const SCRIPTS: [Case; 4] = [
         ),
     ),
     // Where nothing is asked, nothing is written.
-    (
-        Device::Fresh,
-        b"",
-        (b"used 0 of 64\n", 0, Calls::OnlyReads),
-    ),
+    (Device::Fresh, b"", (b"used 0 of 64\n", 0, Calls::OnlyReads)),
     // The last value wins, and another address has its own.
     (
         Device::Fresh,
@@ -568,7 +564,11 @@ const BY_EVERY_SCHEDULE: [Case; 2] = [
     (
         Device::Fresh,
         b"0 write 5 4096*61\n1 read 1000\n",
-        (b"0 0 write 5 ok z0:0\n1 0 read 1000 range\nused 2 of 64\n", 0, Calls::Any),
+        (
+            b"0 0 write 5 ok z0:0\n1 0 read 1000 range\nused 2 of 64\n",
+            0,
+            Calls::Any,
+        ),
     ),
 ];
 

@@ -8,8 +8,8 @@ ghost use Rattle.vdo_cli.specs.Texts.{fault_text, fault_status, grow_status, dif
 use crate::Fault;
 use blk_base::Answer;
 use command_text::{
-    DamagedPlace, Piece, RunNotes, Space, put_grow_fault, put_image_fault, put_layout_fault, put_lines,
-    put_recovered,
+    DamagedPlace, Piece, RunNotes, Space, put_grow_fault, put_image_fault, put_layout_fault,
+    put_lines, put_recovered,
 };
 use disk_model::{Failed, Sink};
 use grow_image::GrowFault;
