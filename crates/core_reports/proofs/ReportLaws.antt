@@ -15,7 +15,6 @@ use Rattle.core_model.specs.Trace.{damage_in}
 use Rattle.core_model.specs.Uses.{data_blocks, used_at}
 use Rattle.core_model.specs.declared.zones.PhysicalZone.{PhysicalZone}
 use Rattle.data_vio.specs.Zones.{device_number, physical_number}
-use Rattle.blk_base.specs.declared.geometry.Geometry.{Geometry}
 use Rattle.zone_counts.specs.Zone.{Zone as Counters, used_in}
 use Rattle.vdo_model.specs.declared.report.Damage.{Damage}
 use Rattle.core_model.specs.declared.desk.DeskReport.{DeskReport}

@@ -1,9 +1,9 @@
 -- How many blocks the counters of a physical zone say are used: as many as what happened says.
-use Rattle.std.proofs.Common.{ℕ, zero, suc, ◌≡◌, ◌+◌, ◌-◌, ◌*◌, ◌/◌, ◌%◌, ◌<◌, Bool, true, false, List, [], ◌∷◌, filter, get_or, length, cond, nat_lt, slice_index, refl, sym, ◌∙◌, ap, subst, arith, inl, inr}
+use Rattle.std.proofs.Common.{ℕ, zero, suc, ◌≡◌, ◌+◌, ◌-◌, ◌*◌, ◌/◌, ◌%◌, ◌<◌, Bool, true, false, List, [], ◌∷◌, filter, length, cond, nat_lt, slice_index, refl, sym, ◌∙◌, ap, arith, inl, inr}
 use Rattle.std.specs.Prelude.{sum_by}
 use Rattle.std.proofs.lemmas.Bool.{cases_lt, le-ltb, lt-ltb}
 use Rattle.std.proofs.lemmas.List.Sums.{sum_by-cons}
-use Rattle.blk_base.specs.Regions.{DataBlock, IsDataBlock, block_of, slab_start_of}
+use Rattle.blk_base.specs.Regions.{DataBlock, block_of, slab_start_of}
 use Rattle.blk_base.specs.declared.geometry.Geometry.{Geometry}
 use Rattle.blk_base.specs.declared.place.Pbn.{Pbn}
 use Rattle.plain_laws.specs.Sums.{bit}
@@ -12,7 +12,7 @@ use Rattle.core_model.specs.Trace.{Trace}
 use Rattle.core_model.specs.Uses.{counted, is_used, sum_below, uncounted, used_at, used_of_slab}
 use Rattle.slab_counts.specs.Counts.{Counts, counter_of, offset_of, used_of}
 use Rattle.zone_counts.specs.ByBlock.{counter_in}
-use Rattle.zone_counts.specs.Zone.{IsOfZone, IsZone, Zone, nowhere, place_of, slab_at, slab_number, slab_of, used_in}
+use Rattle.zone_counts.specs.Zone.{IsOfZone, IsZone, Zone, slab_at, slab_number, slab_of, used_in}
 use Rattle.zone_counts.proofs.BlockLaws.{home_is}
 use Rattle.zone_counts.proofs.PlaceLaws.{number_is}
 

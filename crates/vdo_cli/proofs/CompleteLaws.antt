@@ -1,5 +1,5 @@
 -- Where nothing failed, each request is served, or memory ran out before.
-use Rattle.std.proofs.Common.{ℕ, true, ◌≡◌, ◌⊎◌, ◌+◌, ◌<◌, ◌≤◌, ◌++◌, false, IsTrue, List, [], ◌∷◌, slice_get, Option, Some, None, IsSome, Ok, Err, refl, sym, ◌∙◌, ap, subst, append_assoc, inl, inr, arith}
+use Rattle.std.proofs.Common.{ℕ, ◌≡◌, ◌+◌, ◌<◌, ◌≤◌, ◌++◌, false, IsTrue, List, [], ◌∷◌, slice_get, Option, Some, None, IsSome, Ok, Err, refl, sym, ◌∙◌, ap, subst, append_assoc, inl, inr, arith}
 use Rattle.std.proofs.lemmas.Bool.{cases_Bool, cases_lt}
 use Rattle.std.proofs.lemmas.Bool.Decides.{eqb_tells}
 use Rattle.blk_base.specs.declared.geometry.Geometry.{Geometry}
@@ -11,9 +11,6 @@ use Rattle.blk_base.specs.declared.request.Request.{Request}
 use Rattle.blk_base.specs.declared.request.Request.TheVariants as request
 use Rattle.blk_base.specs.declared.request.Writer.{Writer}
 use Rattle.core_laws.proofs.lists.CoreLists.{answer_later}
-use Rattle.core_model.specs.RightTraces.{MayAnswer}
-use Rattle.core_model.specs.Sessions.{Session}
-use Rattle.core_model.specs.Trace.{Fails, Flushes, Happening, Says, Trace, lines}
 use Rattle.disk_model.specs.Causes.{Rose}
 use Rattle.command_text.specs.Workloads.{summary_text}
 use Rattle.disk_model.specs.Log.{Blocks}
@@ -27,7 +24,7 @@ use Rattle.rebuild.specs.Openings.{IsOpeningRefusal}
 use Rattle.rebuild.specs.Recoveries.{IsRecovery, IsTold}
 use Rattle.rebuild.specs.declared.forms.Recovered.{Recovered}
 use Rattle.stream_text.specs.WholeScript.{whole_script}
-use Rattle.vdo_model.proofs.NameLaws.{same_self, same_tells}
+use Rattle.vdo_model.proofs.NameLaws.{same_self}
 use Rattle.vdo_model.specs.DeskLog.{IsDeskLog, answer_of, begun}
 use Rattle.vdo_model.specs.Scripts.{Script, request_at, stream_of}
 use Rattle.vdo_model.specs.declared.report.DeskLine.{DeskLine}

@@ -1,5 +1,5 @@
 -- A session on a closed image that is sound: the image is as it was opened, whatever is read of it.
-use Rattle.std.proofs.Common.{ℕ, ◌≡◌, ◌+◌, true, Option, Some, List, [], Ok, length, slice_index, refl, sym, ◌∙◌, ap, ap₂, subst, inl, inr, arith}
+use Rattle.std.proofs.Common.{ℕ, ◌≡◌, true, Option, List, [], Ok, length, slice_index, refl, sym, ◌∙◌, ap, ap₂, subst, inl, inr, arith}
 use Rattle.std.specs.List.{All}
 use Rattle.blk_base.specs.Regions.{IsDataBlock, needed_blocks}
 use Rattle.blk_base.specs.declared.geometry.Geometry.{Geometry}
