@@ -67,6 +67,8 @@ fn unserved(alloc: Global, requests: Requests) -> RunReport
         places: ReportList::new(alloc),
         histories: ReportList::new(alloc),
         damage: None,
+        used: 0,
+        total: 0,
     }
 }
 
