@@ -40,14 +40,19 @@ const ADDRESSES: [u32; 5] = [0, 7, 31, 62, 99];
 /// A run makes more calls than so many.
 const CALLS: u64 = 140;
 
-// A request: two writes of a run that follow each other have different bytes, and none is zero.
+// The byte of a write: two writes of a stream have different ones, and none is zero.
+fn byte(stream: u32, number: u32) -> u8 {
+    let nth = stream.wrapping_mul(ASKS).wrapping_add(number);
+    (nth % 255 + 1) as u8
+}
+
 fn ask(stream: u32, number: u32) -> Ask {
-    let at = ADDRESSES[((stream + 2 * number) % 5) as usize];
+    let at = ADDRESSES[(stream.wrapping_add(number.wrapping_mul(2)) % 5) as usize];
     match number % 9 {
         3 => Ask::Discard(at),
         5 | 8 => Ask::Read(at),
         7 => Ask::Flush,
-        _ => Ask::Write(at, ((stream * ASKS + number) % 255 + 1) as u8),
+        _ => Ask::Write(at, byte(stream, number)),
     }
 }
 
@@ -162,7 +167,8 @@ fn stops_soundly<R: Wait + Abort>(
 ) -> Result<(), Fail> {
     let opening = opening_calls(alloc)?;
     for number in schedules {
-        for stop in [7 + 37 * number, 61 + 37 * number] {
+        let first = number.wrapping_mul(37);
+        for stop in [first.wrapping_add(7), first.wrapping_add(61)] {
             let call = opening.wrapping_add(stop % CALLS);
             let wrong = wrong_after(rt, alloc, number, call)?;
             assert_eq!(rt; (number, call, wrong), (number, call, 0));

@@ -12,4 +12,5 @@ begin-requires c = record {
   served = c.requires.served;
   pages = c.requires.fits.pages;
   counters = c.requires.fits.counters;
+  limit = c.requires.fits.limit;
 }
