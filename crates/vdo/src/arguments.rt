@@ -58,10 +58,10 @@ fn number_of(text: &str) -> Option<u32> {
     text.parse().ok()
 }
 
-/// What a command does to the blocks of its device: an audit and a status look at them alone.
+/// What a command does to the blocks of its device: an audit, a crash and a status look at them alone.
 fn access_of(command: &[String]) -> Access {
-    match command.first() {
-        Some(name) if name.as_str() == "audit" || name.as_str() == "status" => Access::Look,
+    match command.first().map(String::as_str) {
+        Some("audit" | "crash" | "status") => Access::Look,
         _ => Access::Change,
     }
 }
