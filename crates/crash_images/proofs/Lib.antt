@@ -10,3 +10,4 @@ pub mod SoundAudits
 pub mod ShownLaws
 pub mod CutRows
 pub mod ShowRows
+pub mod PartRows

@@ -7,8 +7,6 @@
 //!
 //! Only tested: the addresses of one script, and their values on a copy of one image.
 //!
-//! No rows yet: of `AreValues`, `HasNoValue`, `IsShown`, `IsNotAudited` and `HasNoValues`, which name what the crates below
-//! promise of the calls.
 #![tactic(auto)]
 
 mod addresses;
