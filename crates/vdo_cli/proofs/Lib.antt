@@ -31,3 +31,4 @@ pub mod ValuePins
 pub mod NextPins
 pub mod CompletePins
 pub mod CrashPins
+pub mod SoundPins

@@ -16,8 +16,8 @@
 //! isn't sound, or on which writes are pending when it is opened, those of the index aside, a session says nothing of values,
 //! nor of stops.
 //!
-//! No rows yet: but through the definitions that use them: `IsReady`, `PlayedOut`, `EndsAs`, `IsCrashTold` and `ShowsSound`;
-//! that a script's answers are put behind `recovered 30 entries`.
+//! No rows yet: but through the definitions that use them: `IsReady`, `PlayedOut`, `EndsAs` and `IsCrashTold`; that a
+//! script's answers are put behind `recovered 30 entries`.
 #![tactic(auto)]
 
 mod adapters;
