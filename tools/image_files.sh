@@ -481,6 +481,10 @@ else
     try 3 'device fault' closed 154 recover
     try 3 'device fault' closed 154 status
     try 0 'audit clean, used 0 of 64' readable 154 audit
+    script 0 'ended
+recovered 2 entries
+5 4096*61
+audit clean, used 2 of 64' '0 write 5 4096*61\n0 flush\n' readable 154 crash --after 100 --image 0
     try 3 'device fault' readable 154 format
     try 3 'device fault' readable 154 run
     try 3 'device fault' readable 154 recover
@@ -508,7 +512,7 @@ fi
 if command -v flock >errors; then
     cp image held
     cp held kept
-    for command in format run recover force-rebuild 'grow --logical 2000 --slabs 1' audit status; do
+    for command in format run recover force-rebuild 'grow --logical 2000 --slabs 1' audit 'crash --after 0 --image 0' status; do
         # shellcheck disable=SC2086
         printed=$(flock -x held "$vdo" held 154 $command 2>errors)
         same "$? $printed" '3 device fault' "$command of a file that another changes"
@@ -520,6 +524,10 @@ if command -v flock >errors; then
     done
     printed=$(flock -s held "$vdo" held 154 audit 2>errors)
     same "$? $printed" '0 audit clean, used 0 of 64' 'audit of a file that another looks at'
+    printed=$(flock -s held "$vdo" held 154 crash --after 0 --image 0 </dev/null 2>errors)
+    same "$? $printed" '0 stopped
+clean
+audit clean, used 0 of 64' 'crash of a file that another looks at'
     alike held kept 'a file that another holds was written'
 else
     leave_out 'flock is missing, so no file is held by another program'
@@ -622,6 +630,16 @@ if [ -n "$python" ] && command -v cc >errors; then
     same "$? $printed" '0 killed runs: 400 kills, 0 went wrong' 'runs that were killed'
 else
     leave_out 'python3 or cc is missing, so no run is killed'
+fi
+
+# Images and scripts of which none is served, and the stops of two scripts.
+if [ -n "$python" ]; then
+    printed=$($python "$top/tools/refused_runs.py" "$vdo" 2>errors)
+    same "$? $printed" '0 refused runs: 230 tries, 0 went wrong' 'runs that were refused'
+    printed=$($python "$top/tools/crash_stops.py" "$vdo" 2>errors)
+    same "$? $printed" '0 one stream: 2532 images of 633 stops
+four streams: 3732 images of 933 stops
+stopped scripts: 0 images went wrong' 'scripts that were stopped'
 fi
 
 # The examples of README and of the manual.
