@@ -6,6 +6,7 @@ ghost use Rattle.blk_base.specs.Regions.{needed_blocks};
 ghost use Rattle.disk_model.specs.Log.{Blocks};
 ghost use Rattle.disk_model.specs.Since.{IsUntouched};
 ghost use Rattle.journal_window.specs.Windows.{IsWindowOf};
+ghost use Rattle.replay_map.specs.Changes.{AreNewest};
 ghost use Rattle.replay_map.specs.Forms.{HasForm};
 
 use crate::Contents;
@@ -14,7 +15,7 @@ use disk_model::Disk;
 use image_model::ImageFault;
 use journal_window::JournalWindow;
 use replay_counts::counts_with;
-use replay_map::replay_with;
+use replay_map::{Changes, replay_changes};
 use std::alloc::Global;
 
 // A shared page is kept until the counts are found, since a count that leaves its range stands before it, over the
@@ -44,7 +45,37 @@ pub fn read_contents<D: Disk>(
         (D.seen device.new)) }
     ensures untouched { IsUntouched D.tells (D.seen device.old) (D.seen device.new) }
 {
-    let map = match replay_with(alloc, head, window, device) {
+    let Ok(changes) = Changes::of(alloc, window.entries()) else {
+        return Err(ImageFault::Memory);
+    };
+    match contents_with(alloc, head, window, &changes, device) {
+        Ok(contents) => Ok(contents),
+        Err(fault) => Err(fault),
+    }
+}
+
+/// The same where the changes of the window were found before, so that they are found once.
+pub fn contents_with<D: Disk>(
+    alloc: Global,
+    head: &Super,
+    window: &JournalWindow,
+    changes: &Changes,
+    device: &mut D,
+) -> Result<Contents, ImageFault>
+    requires sizes { IsGeometry head.now.geometry }
+    requires room { needed_blocks head.now.geometry ≤ (D.seen device.old).size }
+    requires window { (journal : Blocks) × IsWindowOf head.now journal window.now }
+    requires newest { AreNewest window.now.entries changes.now }
+    ensures form { IfOk result (λ contents.
+        HasForm head.now.geometry contents.map.links.items contents.map.slots.items) }
+    ensures contents { IfOk result
+        (AreContents D.tells D.honest head.now window.now (D.seen device.old) (D.seen device.new)) }
+    ensures fault { IfErr result
+        (AuditWithFails D.tells D.honest head.now window.now (D.seen device.old)
+        (D.seen device.new)) }
+    ensures untouched { IsUntouched D.tells (D.seen device.old) (D.seen device.new) }
+{
+    let map = match replay_changes(alloc, head, window, changes, device) {
         Ok(map) => map,
         Err(fault) => return Err(first_fault(alloc, head, window, fault, device)),
     };

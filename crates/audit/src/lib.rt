@@ -20,6 +20,6 @@ mod tallies;
 
 pub use auditor::{audit, audit_with, report_of};
 pub use comparison::count_used;
-pub use contents::read_contents;
+pub use contents::{contents_with, read_contents};
 pub use forms::{Contents, Difference, Report};
 pub use tallies::tally;

@@ -12,6 +12,9 @@ use crate::{CountFault, Found};
 use blk_base::{DataPlace, Half, Layout, Pbn, Point, Update};
 use std::alloc::Global;
 
+/// How many counters are taken over at once.
+const PART: usize = 2048;
+
 // In the order of points, since only so it is said where a count leaves its range; that it is the sum is a law.
 /// The count of each data block, slab after slab: its counter, and then its updates above the commit point of its
 /// counter's sector, each once, in the order of their points. It goes through the updates once.
@@ -94,13 +97,11 @@ fn are_within(counters: &[u8], limit: u16) -> bool
     ensures { OnTrue result ((k : ℕ) →
         k < length counters.now → slice_index counters.now k ≤ limit) }
 {
-    let mut others = 0_usize;
+    let mut greatest = 0;
     for counter in counters {
-        if u16::from(*counter) > limit {
-            others += 1;
-        }
+        greatest = greatest.max(*counter);
     }
-    others == 0
+    u16::from(greatest) <= limit
 }
 
 // Adds the counters as counts.
@@ -108,12 +109,36 @@ fn push_all(counters: &[u8], counts: &mut Vec<u16>) -> Result<(), CountFault>
     ensures added { OnOk result (counts.new.items ≡ counts.old.items ++ counters.now) }
     ensures memory { IfErr result (λ fault. fault ≡ CountFault.Memory) }
 {
-    for counter in counters {
-        let Ok(()) = counts.push(u16::from(*counter)) else {
-            return Err(CountFault::Memory);
-        };
+    let parts = counters.len() / PART;
+    for part in 0..parts {
+        push_part(&counters[part * PART..part * PART + PART], counts)?;
     }
+    push_part(&counters[parts * PART..], counts)
+}
+
+// Adds a part of them.
+fn push_part(counters: &[u8], counts: &mut Vec<u16>) -> Result<(), CountFault>
+    requires { length counters.now ≤ PART }
+    ensures added { OnOk result (counts.new.items ≡ counts.old.items ++ counters.now) }
+    ensures memory { IfErr result (λ fault. fault ≡ CountFault.Memory) }
+{
+    let mut wide = [0; PART];
+    let part = &mut wide[..counters.len()];
+    widen(counters, part);
+    let Ok(()) = counts.extend_from_slice(part) else {
+        return Err(CountFault::Memory);
+    };
     Ok(())
+}
+
+// Puts bytes into as many numbers of 16 bits. Many are put at once, since nothing ends it early.
+fn widen(bytes: &[u8], wide: &mut [u16])
+    requires { length wide.old ≡ length bytes.now }
+    ensures { wide.new ≡ bytes.now }
+{
+    for (k, byte) in bytes.iter().enumerate() {
+        wide[k] = u16::from(*byte);
+    }
 }
 
 // The end of the updates of blocks up to this one, from a place on.

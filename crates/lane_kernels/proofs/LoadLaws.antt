@@ -1,15 +1,17 @@
 -- From the mask of one load to the bytes under it.
 use Rattle.std.proofs.Common.{◌≡◌, ℕ, zero, suc, ◌+◌, ◌-◌, ◌%◌, ◌^◌, ◌<◌, ◌≤◌, eqb, Bool, true, false, not, ◌&&◌, List, [], ◌∷◌, map, length, get_or, replicate, cond, refl, sym, ap, ap₂, ◌∙◌, subst, arith, inl, inr, w8}
-use Rattle.std.specs.Prelude.{slice_index, bit_or}
+use Rattle.std.specs.Int.Bits.{xor_add_and, xor_self}
+use Rattle.std.specs.Prelude.{slice_index, bit_or, bit_xor, min}
 use Rattle.std.specs.List.{prefix_len}
-use Rattle.std.proofs.lemmas.Bool.{cases_lt, eqb-true, eq-eqb, ne_eqb, not-true, not-false}
+use Rattle.std.proofs.lemmas.Bool.{cases_lt, eqb-true, eq-eqb, ltb-true, lt-ltb, ne_eqb, not-true, not-false}
 use Rattle.std.proofs.lemmas.Bool.Decides.{eqb_tells}
 use Rattle.std.proofs.lemmas.List.Sums.{prefix_len_passes, prefix_len_stops}
-use Rattle.std.proofs.lemmas.Nat.{le_or_l, le_or_r}
+use Rattle.std.proofs.lemmas.Nat.{and_le_l, and_le_r, le_or_l, le_or_r}
 use Rattle.std.proofs.lemmas.Simd.{length-chunk, length-zip2, length-replicate, get_or-chunk, get_or-replicate, get_or-zip2, mask_l-mod, tops_compared, trailing_mask_l}
-use Rattle.lane_kernels.specs.Kernels.{IsFreeAt, IsLeastFreeWithin, free_lanes}
+use Rattle.lane_kernels.specs.Kernels.{AreZeros, HasNoZero, IsFreeAt, IsLeastFreeWithin, free_lanes}
 use lib.Count.{count_trailing_zeros}
-use lib.Lanes.{chunk, zip2, mask_l, top}
+use lib.Lanes.{chunk, sel_l, zip2, mask_l, top}
+use lib.Dec.{ltb}
 
 -- no bit of an empty mask is set, and a mask without a bit is empty
 no_bit : (ms : List Bool) → mask_l ms ≡ 0 → (k : ℕ) → get_or ms k false ≡ false
@@ -91,26 +93,28 @@ module _ (t : ℕ → ℕ → Bool) (xs ys : List ℕ) (long : length xs ≡ 64)
 pub load_at : (xs : List ℕ) (at k : ℕ) → at ≤ k → k < at + 64 → get_or (chunk at 64 xs) (k - at) 0 ≡ slice_index xs k
 load_at xs at k from to = get_or-chunk at 64 xs (k - at) 0 (omega (arith, from, to)) ∙ ap (λ j. slice_index xs j) (omega (arith, from))
 
-module _ (xs ys : List ℕ) (at : ℕ) (room : at + 64 ≤ length xs) (room' : at + 64 ≤ length ys) where
-  long : length (chunk at 64 xs) ≡ 64
-  long = length-chunk at 64 xs room
+-- the lesser of two lanes
+bool_false : (b : Bool) → ¬ (b ≡ true) → b ≡ false
+bool_false true not = absurd (not refl)
+bool_false false not = refl
 
-  long' : length (chunk at 64 ys) ≡ 64
-  long' = length-chunk at 64 ys room'
+ltb_not : (x y : ℕ) → y ≤ x → ltb x y ≡ false
+ltb_not x y other = bool_false (ltb x y) (λ is. let less = ltb-true x y is in absurd (omega (arith, less, other)))
 
-  pub differences : mask_l (map (top 7) (zip2 (λ x y. cond (differ x y) 255 0) (chunk at 64 xs) (chunk at 64 ys))) % 2 ^ 64 ≡ mask_l (zip2 differ (chunk at 64 xs) (chunk at 64 ys))
-  differences = mask_is differ (chunk at 64 xs) (chunk at 64 ys) long long'
+lesser_lane : (x y : ℕ) → cond (ltb x y) x y ≡ min x y
+lesser_lane x y =
+    elim (cases_lt x y) [
+      | inl less ↦ rw (lt-ltb x y less) (omega (arith, less))
+      | inr other ↦ rw (ltb_not x y other) (omega (arith, other))
+    ]
 
-  pub same_under : mask_l (zip2 differ (chunk at 64 xs) (chunk at 64 ys)) ≡ 0 → (k : ℕ) → at ≤ k → k < at + 64 → slice_index xs k ≡ slice_index ys k
-  same_under none k from to =
-      sym (load_at xs at k from to)
-      ∙ differ_not _ _ (no_lane differ (chunk at 64 xs) (chunk at 64 ys) long long' none (k - at) (omega (arith, from, to)))
-      ∙ load_at ys at k from to
+lesser_lanes : (xs ys : List ℕ) → sel_l (zip2 ltb xs ys) xs ys ≡ zip2 min xs ys
+lesser_lanes [] ys = refl
+lesser_lanes (x ∷ xs) [] = refl
+lesser_lanes (x ∷ xs) (y ∷ ys) = ap₂ (λ (n : ℕ) (ns : List ℕ). n ∷ ns) (lesser_lane x y) (lesser_lanes xs ys)
 
-  pub empty_of_same : ((k : ℕ) → at ≤ k → k < at + 64 → slice_index xs k ≡ slice_index ys k) → mask_l (zip2 differ (chunk at 64 xs) (chunk at 64 ys)) ≡ 0
-  empty_of_same same =
-      all_off differ (chunk at 64 xs) (chunk at 64 ys) long long' (λ k below.
-      same_not _ _ (get_or-chunk at 64 xs k 0 below ∙ same (at + k) (omega arith) (omega (arith, below)) ∙ sym (get_or-chunk at 64 ys k 0 below)))
+pub lesser_is : (xs ys : List ℕ) → sel_l (map (top 7) (zip2 (λ x y. cond (ltb x y) 255 0) xs ys)) xs ys ≡ zip2 min xs ys
+lesser_is xs ys = ap (λ ms. sel_l ms xs ys) (tops_compared w8 ltb xs ys) ∙ lesser_lanes xs ys
 
 -- lanes that are compared with zeros
 module _ (xs : List ℕ) (long : length xs ≡ 64) where
@@ -126,79 +130,166 @@ module _ (xs : List ℕ) (long : length xs ≡ 64) where
       all_off differ xs (replicate 64 0) long (length-replicate {A = ℕ} 64 0) (λ k below.
       same_not _ _ (zeros k below ∙ sym (get_or-replicate 64 k 0 0 below)))
 
--- lanes of which either is 0
-abbrev pub AreZeros : List ℕ → Type 0
-AreZeros xs = (k : ℕ) → k < 64 → slice_index xs k ≡ 0
+  -- the same of the lanes that are 0
+  pub zero_lanes : mask_l (map (top 7) (zip2 (λ x y. cond (eqb x y) 255 0) xs (replicate 64 0))) % 2 ^ 64 ≡ mask_l (zip2 eqb xs (replicate 64 0))
+  zero_lanes = mask_is eqb xs (replicate 64 0) long (length-replicate {A = ℕ} 64 0)
 
+  pub no_zero : mask_l (zip2 eqb xs (replicate 64 0)) ≡ 0 → HasNoZero xs
+  no_zero none k below zero_there =
+      let off = no_lane eqb xs (replicate 64 0) long (length-replicate {A = ℕ} 64 0) none k below in
+      let on = eq-eqb _ _ (zero_there ∙ sym (get_or-replicate 64 k 0 0 below)) in
+      absurd (let both = sym off ∙ on in cc)
+
+-- lane by lane, of two vectors: both, one of them, and whether they differ
 or_zero : (a b : ℕ) → bit_or a b ≡ 0 → (a ≡ 0) × (b ≡ 0)
 or_zero a b none = (omega (arith, none, le_or_l a b), omega (arith, none, le_or_r a b))
 
+xor_zero : (a b : ℕ) → bit_xor a b ≡ 0 → a ≡ b
+xor_zero a b none = omega (arith, none, xor_add_and a b, and_le_l a b, and_le_r a b)
+
+xor_same : (a b : ℕ) → a ≡ b → bit_xor a b ≡ 0
+xor_same a b same = ap (λ n. bit_xor n b) same ∙ xor_self b
+
+module _ (op : ℕ → ℕ → ℕ) (xs ys : List ℕ) (long : length xs ≡ 64) (long' : length ys ≡ 64) where
+  pub op_long : length (zip2 op xs ys) ≡ 64
+  op_long = length-zip2 op xs ys (long ∙ sym long') ∙ long
+
+  pub op_lane : (k : ℕ) → k < 64 → slice_index (zip2 op xs ys) k ≡ op (slice_index xs k) (slice_index ys k)
+  op_lane k below = get_or-zip2 op xs ys k 0 0 0 (omega (arith, long, below)) (omega (arith, long', below))
+
 module _ (xs ys : List ℕ) (long : length xs ≡ 64) (long' : length ys ≡ 64) where
-  or_lane : (k : ℕ) → k < 64 → slice_index (zip2 bit_or xs ys) k ≡ bit_or (slice_index xs k) (slice_index ys k)
-  or_lane k below = get_or-zip2 bit_or xs ys k 0 0 0 (omega (arith, long, below)) (omega (arith, long', below))
-
-  pub or_long : length (zip2 bit_or xs ys) ≡ 64
-  or_long = length-zip2 bit_or xs ys (long ∙ sym long') ∙ long
-
-  pub or_zeros : AreZeros (zip2 bit_or xs ys) → AreZeros xs × AreZeros ys
+  or_zeros : AreZeros (zip2 bit_or xs ys) → AreZeros xs × AreZeros ys
   or_zeros zeros = (
-    (λ k below. (or_zero _ _ (sym (or_lane k below) ∙ zeros k below)).0),
-    (λ k below. (or_zero _ _ (sym (or_lane k below) ∙ zeros k below)).1),
+    (λ k below. (or_zero _ _ (sym (op_lane bit_or xs ys long long' k below) ∙ zeros k below)).0),
+    (λ k below. (or_zero _ _ (sym (op_lane bit_or xs ys long long' k below) ∙ zeros k below)).1),
   )
 
-  pub zeros_or : AreZeros xs → AreZeros ys → AreZeros (zip2 bit_or xs ys)
-  zeros_or left right k below = or_lane k below ∙ rw (left k below, right k below) refl
+  zeros_or : AreZeros xs → AreZeros ys → AreZeros (zip2 bit_or xs ys)
+  zeros_or left right k below = op_lane bit_or xs ys long long' k below ∙ rw (left k below, right k below) refl
 
--- four loads
-module _ (bytes : List ℕ) (at : ℕ) (room : at + 256 ≤ length bytes) where
-  abbrev pub front : List ℕ
-  front = zip2 bit_or (chunk at 64 bytes) (chunk (at + 64) 64 bytes)
+  lesser_no_zero : HasNoZero (zip2 min xs ys) → HasNoZero xs × HasNoZero ys
+  lesser_no_zero none = (
+    (λ k below zero_there. none k below (op_lane min xs ys long long' k below ∙ omega (arith, zero_there))),
+    (λ k below zero_there. none k below (op_lane min xs ys long long' k below ∙ omega (arith, zero_there))),
+  )
 
-  abbrev pub back : List ℕ
-  back = zip2 bit_or (chunk (at + 128) 64 bytes) (chunk (at + 192) 64 bytes)
+-- four vectors
+module _ (first second third fourth : List ℕ) (long₁ : length first ≡ 64) (long₂ : length second ≡ 64) (long₃ : length third ≡ 64) (long₄ : length fourth ≡ 64) where
+  abbrev pub four_by : (ℕ → ℕ → ℕ) → List ℕ
+  four_by op = zip2 op (zip2 op first second) (zip2 op third fourth)
 
-  first_long : length (chunk at 64 bytes) ≡ 64
-  first_long = length-chunk at 64 bytes (omega (arith, room))
+  front_long : (op : ℕ → ℕ → ℕ) → length (zip2 op first second) ≡ 64
+  front_long op = op_long op first second long₁ long₂
 
-  second_long : length (chunk (at + 64) 64 bytes) ≡ 64
-  second_long = length-chunk (at + 64) 64 bytes (omega (arith, room))
+  back_long : (op : ℕ → ℕ → ℕ) → length (zip2 op third fourth) ≡ 64
+  back_long op = op_long op third fourth long₃ long₄
 
-  third_long : length (chunk (at + 128) 64 bytes) ≡ 64
-  third_long = length-chunk (at + 128) 64 bytes (omega (arith, room))
+  pub four_long : (op : ℕ → ℕ → ℕ) → length (four_by op) ≡ 64
+  four_long op = op_long op (zip2 op first second) (zip2 op third fourth) (front_long op) (back_long op)
 
-  fourth_long : length (chunk (at + 192) 64 bytes) ≡ 64
-  fourth_long = length-chunk (at + 192) 64 bytes (omega (arith, room))
+  pub four_zeros : AreZeros (four_by bit_or) → AreZeros first × AreZeros second × AreZeros third × AreZeros fourth
+  four_zeros zeros =
+      let halves = or_zeros (zip2 bit_or first second) (zip2 bit_or third fourth) (front_long bit_or) (back_long bit_or) zeros in
+      let fronts = or_zeros first second long₁ long₂ halves.0 in
+      let backs = or_zeros third fourth long₃ long₄ halves.1 in
+      (fronts.0, fronts.1, backs.0, backs.1)
 
-  front_long : length front ≡ 64
-  front_long = or_long (chunk at 64 bytes) (chunk (at + 64) 64 bytes) first_long second_long
+  pub zeros_four : AreZeros first → AreZeros second → AreZeros third → AreZeros fourth → AreZeros (four_by bit_or)
+  zeros_four one two three four =
+      zeros_or (zip2 bit_or first second) (zip2 bit_or third fourth) (front_long bit_or) (back_long bit_or)
+      (zeros_or first second long₁ long₂ one two) (zeros_or third fourth long₃ long₄ three four)
 
-  back_long : length back ≡ 64
-  back_long = or_long (chunk (at + 128) 64 bytes) (chunk (at + 192) 64 bytes) third_long fourth_long
+  pub four_no_zeros : HasNoZero (four_by min) → HasNoZero first × HasNoZero second × HasNoZero third × HasNoZero fourth
+  four_no_zeros none =
+      let halves = lesser_no_zero (zip2 min first second) (zip2 min third fourth) (front_long min) (back_long min) none in
+      let fronts = lesser_no_zero first second long₁ long₂ halves.0 in
+      let backs = lesser_no_zero third fourth long₃ long₄ halves.1 in
+      (fronts.0, fronts.1, backs.0, backs.1)
 
-  pub all_long : length (zip2 bit_or front back) ≡ 64
-  all_long = or_long front back front_long back_long
+-- what holds under each of four loads holds of their places
+abbrev pub IsUnder : (ℕ → Type 0) → ℕ → Type 0
+IsUnder P from = (k : ℕ) → from ≤ k → k < from + 64 → P k
 
-  there : (from k : ℕ) → from ≤ k → k < from + 64 → AreZeros (chunk from 64 bytes) → slice_index bytes k ≡ 0
-  there from k least most zeros = sym (load_at bytes from k least most) ∙ zeros (k - from) (omega (arith, least, most))
+pub under_four : (P : ℕ → Type 0) (at : ℕ) → IsUnder P at → IsUnder P (at + 64) → IsUnder P (at + 128) → IsUnder P (at + 192) → (k : ℕ) → at ≤ k → k < at + 256 → P k
+under_four P at one two three four k from to =
+    elim (cases_lt k (at + 128)) [
+      | inl early ↦ elim (cases_lt k (at + 64)) [ inl first ↦ one k from first | inr second ↦ two k second (omega (arith, early)) ]
+      | inr late ↦ elim (cases_lt k (at + 192)) [ inl third ↦ three k late (omega (arith, third)) | inr fourth ↦ four k fourth (omega (arith, to)) ]
+    ]
 
-  pub four_zeros : AreZeros (zip2 bit_or front back) → (k : ℕ) → at ≤ k → k < at + 256 → slice_index bytes k ≡ 0
-  four_zeros zeros k from to =
-      let halves = or_zeros front back front_long back_long zeros in
-      let fronts = or_zeros (chunk at 64 bytes) (chunk (at + 64) 64 bytes) first_long second_long halves.0 in
-      let backs = or_zeros (chunk (at + 128) 64 bytes) (chunk (at + 192) 64 bytes) third_long fourth_long halves.1 in
-      elim (cases_lt k (at + 128)) [
-        | inl early ↦ elim (cases_lt k (at + 64)) [ inl first ↦ there at k from first fronts.0 | inr second ↦ there (at + 64) k second (omega (arith, early)) fronts.1 ]
-        | inr late ↦ elim (cases_lt k (at + 192)) [ inl third ↦ there (at + 128) k late (omega (arith, third)) backs.0 | inr fourth ↦ there (at + 192) k fourth (omega (arith, to)) backs.1 ]
-      ]
+-- and what holds of their places holds under each
+pub four_under : (P : ℕ → Type 0) (at : ℕ) → ((k : ℕ) → at ≤ k → k < at + 256 → P k) → IsUnder P at × IsUnder P (at + 64) × IsUnder P (at + 128) × IsUnder P (at + 192)
+four_under P at all = (
+  (λ k from to. all k from (omega (arith, to))),
+  (λ k from to. all k (omega (arith, from)) (omega (arith, to))),
+  (λ k from to. all k (omega (arith, from)) (omega (arith, to))),
+  (λ k from to. all k (omega (arith, from)) (omega (arith, to))),
+)
 
-  here : (from : ℕ) → at ≤ from → from + 64 ≤ at + 256 → ((k : ℕ) → at ≤ k → k < at + 256 → slice_index bytes k ≡ 0) → AreZeros (chunk from 64 bytes)
-  here from least most zeros k below = get_or-chunk from 64 bytes k 0 below ∙ zeros (from + k) (omega (arith, least)) (omega (arith, most, below))
+-- the bytes under one load, by its lanes
+pub zeros_under : (bytes : List ℕ) (from : ℕ) → AreZeros (chunk from 64 bytes) → IsUnder (λ k. slice_index bytes k ≡ 0) from
+zeros_under bytes from zeros k least most = sym (load_at bytes from k least most) ∙ zeros (k - from) (omega (arith, least, most))
 
-  pub zeros_four : ((k : ℕ) → at ≤ k → k < at + 256 → slice_index bytes k ≡ 0) → AreZeros (zip2 bit_or front back)
-  zeros_four zeros =
-      zeros_or front back front_long back_long
-      (zeros_or (chunk at 64 bytes) (chunk (at + 64) 64 bytes) first_long second_long (here at (omega arith) (omega arith) zeros) (here (at + 64) (omega arith) (omega arith) zeros))
-      (zeros_or (chunk (at + 128) 64 bytes) (chunk (at + 192) 64 bytes) third_long fourth_long (here (at + 128) (omega arith) (omega arith) zeros) (here (at + 192) (omega arith) (omega arith) zeros))
+pub chunk_long : (bytes : List ℕ) (from : ℕ) → from + 64 ≤ length bytes → length (chunk from 64 bytes) ≡ 64
+chunk_long bytes from room = length-chunk from 64 bytes room
+
+pub zeros_here : (bytes : List ℕ) (from : ℕ) → IsUnder (λ k. slice_index bytes k ≡ 0) from → AreZeros (chunk from 64 bytes)
+zeros_here bytes from zeros k below = get_or-chunk from 64 bytes k 0 below ∙ zeros (from + k) (omega arith) (omega (arith, below))
+
+-- two loads
+module _ (xs ys : List ℕ) (at : ℕ) (room : at + 64 ≤ length xs) (room' : at + 64 ≤ length ys) where
+  left_long : length (chunk at 64 xs) ≡ 64
+  left_long = length-chunk at 64 xs room
+
+  right_long : length (chunk at 64 ys) ≡ 64
+  right_long = length-chunk at 64 ys room'
+
+  pub both_long : (op : ℕ → ℕ → ℕ) → length (zip2 op (chunk at 64 xs) (chunk at 64 ys)) ≡ 64
+  both_long op = op_long op (chunk at 64 xs) (chunk at 64 ys) left_long right_long
+
+  both_lane : (op : ℕ → ℕ → ℕ) (k : ℕ) → at ≤ k → k < at + 64 → slice_index (zip2 op (chunk at 64 xs) (chunk at 64 ys)) (k - at) ≡ op (slice_index xs k) (slice_index ys k)
+  both_lane op k from to =
+      op_lane op (chunk at 64 xs) (chunk at 64 ys) left_long right_long (k - at) (omega (arith, from, to)) ∙ ap₂ op (load_at xs at k from to) (load_at ys at k from to)
+
+  pub same_under : AreZeros (zip2 bit_xor (chunk at 64 xs) (chunk at 64 ys)) → IsUnder (λ k. slice_index xs k ≡ slice_index ys k) at
+  same_under zeros k from to = xor_zero _ _ (sym (both_lane bit_xor k from to) ∙ zeros (k - at) (omega (arith, from, to)))
+
+  pub same_here : IsUnder (λ k. slice_index xs k ≡ slice_index ys k) at → AreZeros (zip2 bit_xor (chunk at 64 xs) (chunk at 64 ys))
+  same_here same k below =
+      let back : at + k - at ≡ k = omega arith in
+      ap (λ j. slice_index (zip2 bit_xor (chunk at 64 xs) (chunk at 64 ys)) j) (sym back)
+      ∙ both_lane bit_xor (at + k) (omega arith) (omega (arith, below)) ∙ xor_same _ _ (same (at + k) (omega arith) (omega (arith, below)))
+
+  pub held_under : HasNoZero (zip2 bit_or (chunk at 64 xs) (chunk at 64 ys)) → IsUnder (λ k. ¬ IsFreeAt xs ys k) at
+  held_under none k from to free =
+      none (k - at) (omega (arith, from, to)) (both_lane bit_or k from to ∙ rw (free.0, free.1) refl)
+
+-- four of them, of which the least lanes are taken
+module _ (counters claims : List ℕ) (at : ℕ) (room : at + 256 ≤ length counters) (room' : at + 256 ≤ length claims) where
+  abbrev held : ℕ → List ℕ
+  held from = zip2 bit_or (chunk from 64 counters) (chunk from 64 claims)
+
+  abbrev pub least : List ℕ
+  least = zip2 min (zip2 min (held at) (held (at + 64))) (zip2 min (held (at + 128)) (held (at + 192)))
+
+  held_long : (from : ℕ) → from + 64 ≤ at + 256 → length (held from) ≡ 64
+  held_long from most = both_long counters claims from (omega (arith, room, most)) (omega (arith, room', most)) bit_or
+
+  pub least_long : length least ≡ 64
+  least_long =
+      four_long (held at) (held (at + 64)) (held (at + 128)) (held (at + 192)) (held_long at (omega arith)) (held_long (at + 64) (omega arith))
+      (held_long (at + 128) (omega arith)) (held_long (at + 192) (omega arith)) min
+
+  held_here : (from : ℕ) → from + 64 ≤ at + 256 → HasNoZero (held from) → IsUnder (λ k. ¬ IsFreeAt counters claims k) from
+  held_here from most = held_under counters claims from (omega (arith, room, most)) (omega (arith, room', most))
+
+  pub none_under_four : HasNoZero least → (k : ℕ) → at ≤ k → k < at + 256 → ¬ IsFreeAt counters claims k
+  none_under_four none =
+      let all =
+      four_no_zeros (held at) (held (at + 64)) (held (at + 128)) (held (at + 192)) (held_long at (omega arith)) (held_long (at + 64) (omega arith))
+      (held_long (at + 128) (omega arith)) (held_long (at + 192) (omega arith)) none in
+      under_four (λ k. ¬ IsFreeAt counters claims k) at (held_here at (omega arith) all.0) (held_here (at + 64) (omega arith) all.1)
+      (held_here (at + 128) (omega arith) all.2) (held_here (at + 192) (omega arith) all.3)
 
 -- which lanes are free: by the vector that has either
 or_is_zero : (a b : ℕ) → eqb (bit_or a b) 0 ≡ (eqb a 0 && eqb b 0)

@@ -6,6 +6,14 @@ use Rattle.std.specs.Simd.Lanes.{chunk, zip2}
 abbrev pub IsFreeAt : List ℕ → List ℕ → ℕ → Type 0
 IsFreeAt counters claims k = (slice_index counters k ≡ 0) × (slice_index claims k ≡ 0)
 
+-- each of 64 lanes is 0
+abbrev pub AreZeros : List ℕ → Type 0
+AreZeros lanes = (k : ℕ) → k < 64 → slice_index lanes k ≡ 0
+
+-- none of 64 lanes is 0
+abbrev pub HasNoZero : List ℕ → Type 0
+HasNoZero lanes = (k : ℕ) → k < 64 → ¬ (slice_index lanes k ≡ 0)
+
 -- the least free place
 pub record IsLeastFree (counters claims : List ℕ) (at : ℕ) : Type 0 where
   pub inside : at < length counters

@@ -4,17 +4,16 @@
 //! Only tested: rows at the ends of blocks and slices.
 #![tactic(auto)]
 
-ghost use Rattle.std.specs.Prelude.{◌≡◌, ◌<◌, ◌≤◌, ◌^◌, ◌↔◌, ℕ, length, sum, All, IsTrue, IfSome, IfNone};
+ghost use Rattle.std.specs.Prelude.{◌≡◌, ◌*◌, ◌<◌, ◌≤◌, ◌^◌, ◌↔◌, ℕ, length, sum, All, IsTrue, IfSome, IfNone};
 ghost use Rattle.blk_base.specs.Sectors.{zero_block};
 ghost use Rattle.lane_kernels.specs.Kernels.{IsFreeAt, IsLeastFree};
 
 mod loads;
 
-use crate::loads::{FOUR_LOADS, LANES, SUM_LANES, are_same, are_zeros, least_free, total_of};
+use crate::loads::{
+    FOUR_LOADS, LANES, SUM_LANES, are_same, are_zeros, has_no_free, least_free, total_of,
+};
 use blk_base::Block;
-
-/// How many loads a block has.
-const BLOCK_LOADS: usize = 4096 / LANES;
 
 /// Whether each byte of the block is 0.
 pub fn is_zero(block: &Block) -> bool
@@ -45,8 +44,8 @@ pub fn equal(left: &Block, right: &Block) -> bool
 fn are_all_same(left: &[u8; 4096], right: &[u8; 4096]) -> bool
     ensures { IsTrue result ↔ (left.now ≡ right.now) }
 {
-    for load in 0..BLOCK_LOADS {
-        if !are_same(left, right, load * LANES) {
+    for four in 0..4096 / FOUR_LOADS {
+        if !are_same(left, right, four * FOUR_LOADS) {
             return false;
         }
     }
@@ -60,8 +59,9 @@ pub fn first_free(counters: &[u8], claims: &[u8]) -> Option<usize>
     ensures none { IfNone result
         ((k : ℕ) → k < length counters.now → ¬ IsFreeAt counters.now claims.now k) }
 {
+    let passed = passed_fours(counters, claims);
     let loads = counters.len() / LANES;
-    for load in 0..loads {
+    for load in 4 * passed..loads {
         if let Some(at) = least_free(counters, claims, load * LANES) {
             return Some(at);
         }
@@ -72,6 +72,21 @@ pub fn first_free(counters: &[u8], claims: &[u8]) -> Option<usize>
         }
     }
     None
+}
+
+// So many times four loads at the front have no place where the counter and the claim are both 0.
+fn passed_fours(counters: &[u8], claims: &[u8]) -> usize
+    requires { length counters.now ≡ length claims.now }
+    ensures within { result * FOUR_LOADS ≤ length counters.now }
+    ensures passed { (k : ℕ) → k < result * FOUR_LOADS → ¬ IsFreeAt counters.now claims.now k }
+{
+    let fours = counters.len() / FOUR_LOADS;
+    for four in 0..fours {
+        if !has_no_free(counters, claims, four * FOUR_LOADS) {
+            return four;
+        }
+    }
+    fours
 }
 
 /// The sum of the bytes, which are at most 2^32.

@@ -1,7 +1,8 @@
 //! What one load of bytes answers.
-ghost use Rattle.std.specs.Prelude.{◌≡◌, ◌+◌, ◌*◌, ◌<◌, ◌≤◌, ◌↔◌, ℕ, bit_or, length, slice_index, IsTrue, IfSome, IfNone};
+ghost use Rattle.std.specs.Prelude.{◌≡◌, ◌+◌, ◌*◌, ◌<◌, ◌≤◌, ◌↔◌, ℕ, bit_or, bit_xor, length, min, slice_index, IsTrue, IfSome, IfNone};
+ghost use Rattle.std.specs.Bool.{OnTrue};
 ghost use Rattle.std.specs.Simd.Lanes.{chunk, mask_l, sum_l, zip2};
-ghost use Rattle.lane_kernels.specs.Kernels.{IsFreeAt, IsLeastFreeWithin, free_lanes};
+ghost use Rattle.lane_kernels.specs.Kernels.{AreZeros, HasNoZero, IsFreeAt, IsLeastFreeWithin, free_lanes};
 
 use std::simd::prelude::*;
 
@@ -12,19 +13,7 @@ pub(crate) const LANES: usize = 64;
 pub(crate) const FOUR_LOADS: usize = 4 * LANES;
 
 /// How many bytes a load takes whose sum is wanted.
-pub(crate) const SUM_LANES: usize = 16;
-
-/// Whether the bytes of this load are the same in both slices.
-#[inline(always)]
-pub(crate) fn are_same(left: &[u8], right: &[u8], at: usize) -> bool
-    requires { (at + LANES ≤ length left.now) × (at + LANES ≤ length right.now) }
-    ensures { IsTrue result
-        ↔ ((k : ℕ) → at ≤ k → k < at + LANES → slice_index left.now k ≡ slice_index right.now k) }
-{
-    let left = u8x64::from_slice(&left[at..]);
-    let right = u8x64::from_slice(&right[at..]);
-    left.simd_ne(right).to_bitmask() == 0
-}
+pub(crate) const SUM_LANES: usize = 64;
 
 // Lane by lane: 0 exactly where both are.
 #[inline(always)]
@@ -34,6 +23,43 @@ fn either(left: u8x64, right: u8x64) -> u8x64
     left | right
 }
 
+// Lane by lane: 0 exactly where one of them is.
+#[inline(always)]
+fn lesser(left: u8x64, right: u8x64) -> u8x64
+    ensures { result ≡ zip2 min left right }
+{
+    left.simd_min(right)
+}
+
+// Whether each lane is 0.
+#[inline(always)]
+fn are_zero_lanes(lanes: u8x64) -> bool
+    requires { length lanes ≡ LANES }
+    ensures { IsTrue result ↔ AreZeros lanes }
+{
+    lanes.simd_ne(u8x64::splat(0)).to_bitmask() == 0
+}
+
+// Whether no lane is 0.
+#[inline(always)]
+fn has_no_zero(lanes: u8x64) -> bool
+    requires { length lanes ≡ LANES }
+    ensures { OnTrue result (HasNoZero lanes) }
+{
+    lanes.simd_eq(u8x64::splat(0)).to_bitmask() == 0
+}
+
+// Whether each lane of four vectors is 0.
+#[inline(always)]
+fn are_four_zeros(first: u8x64, second: u8x64, third: u8x64, fourth: u8x64) -> bool
+    requires { (length first ≡ LANES) × (length second ≡ LANES) × (length third ≡ LANES)
+        × (length fourth ≡ LANES) }
+    ensures { IsTrue result
+        ↔ (AreZeros first × AreZeros second × AreZeros third × AreZeros fourth) }
+{
+    are_zero_lanes(either(either(first, second), either(third, fourth)))
+}
+
 /// Whether the bytes of four loads from this place on are all 0.
 #[inline(always)]
 pub(crate) fn are_zeros(bytes: &[u8], at: usize) -> bool
@@ -41,24 +67,67 @@ pub(crate) fn are_zeros(bytes: &[u8], at: usize) -> bool
     ensures { IsTrue result
         ↔ ((k : ℕ) → at ≤ k → k < at + FOUR_LOADS → slice_index bytes.now k ≡ 0) }
 {
-    let front = either(
+    are_four_zeros(
         u8x64::from_slice(&bytes[at..]),
         u8x64::from_slice(&bytes[at + LANES..]),
-    );
-    let back = either(
         u8x64::from_slice(&bytes[at + 2 * LANES..]),
         u8x64::from_slice(&bytes[at + 3 * LANES..]),
-    );
-    are_zero_lanes(either(front, back))
+    )
 }
 
-// Whether each lane is 0.
+// Lane by lane: 0 exactly where the bytes of this load are the same in both slices.
 #[inline(always)]
-fn are_zero_lanes(lanes: u8x64) -> bool
-    requires { length lanes ≡ LANES }
-    ensures { IsTrue result ↔ ((k : ℕ) → k < LANES → slice_index lanes k ≡ 0) }
+fn differences(left: &[u8], right: &[u8], at: usize) -> u8x64
+    requires { (at + LANES ≤ length left.now) × (at + LANES ≤ length right.now) }
+    ensures { result ≡ zip2 bit_xor (chunk at LANES left.now) (chunk at LANES right.now) }
 {
-    lanes.simd_ne(u8x64::splat(0)).to_bitmask() == 0
+    u8x64::from_slice(&left[at..]) ^ u8x64::from_slice(&right[at..])
+}
+
+/// Whether the bytes of four loads from this place on are the same in both slices.
+#[inline(always)]
+pub(crate) fn are_same(left: &[u8], right: &[u8], at: usize) -> bool
+    requires { (at + FOUR_LOADS ≤ length left.now) × (at + FOUR_LOADS ≤ length right.now) }
+    ensures { IsTrue result
+        ↔ ((k : ℕ) → at ≤ k → k < at + FOUR_LOADS →
+        slice_index left.now k ≡ slice_index right.now k) }
+{
+    are_four_zeros(
+        differences(left, right, at),
+        differences(left, right, at + LANES),
+        differences(left, right, at + 2 * LANES),
+        differences(left, right, at + 3 * LANES),
+    )
+}
+
+// Lane by lane: 0 exactly where the counter and the claim of this load are.
+#[inline(always)]
+fn holds(counters: &[u8], claims: &[u8], at: usize) -> u8x64
+    requires { (at + LANES ≤ length counters.now) × (at + LANES ≤ length claims.now) }
+    ensures { result ≡ zip2 bit_or (chunk at LANES counters.now) (chunk at LANES claims.now) }
+{
+    either(
+        u8x64::from_slice(&counters[at..]),
+        u8x64::from_slice(&claims[at..]),
+    )
+}
+
+/// Whether no place of four loads from this one on has a counter and a claim that are both 0.
+#[inline(always)]
+pub(crate) fn has_no_free(counters: &[u8], claims: &[u8], at: usize) -> bool
+    requires { (at + FOUR_LOADS ≤ length counters.now) × (at + FOUR_LOADS ≤ length claims.now) }
+    ensures { OnTrue result
+        ((k : ℕ) → at ≤ k → k < at + FOUR_LOADS → ¬ IsFreeAt counters.now claims.now k) }
+{
+    let front = lesser(
+        holds(counters, claims, at),
+        holds(counters, claims, at + LANES),
+    );
+    let back = lesser(
+        holds(counters, claims, at + 2 * LANES),
+        holds(counters, claims, at + 3 * LANES),
+    );
+    has_no_zero(lesser(front, back))
 }
 
 // A bit for each lane of this load: whether the counter and the claim are both 0.
@@ -67,9 +136,7 @@ fn free_bits(counters: &[u8], claims: &[u8], at: usize) -> u64
     requires { (at + LANES ≤ length counters.now) × (at + LANES ≤ length claims.now) }
     ensures { result ≡ mask_l (free_lanes at LANES counters.now claims.now) }
 {
-    let counters = u8x64::from_slice(&counters[at..]);
-    let claims = u8x64::from_slice(&claims[at..]);
-    either(counters, claims)
+    holds(counters, claims, at)
         .simd_eq(u8x64::splat(0))
         .to_bitmask()
 }
@@ -96,7 +163,7 @@ pub(crate) fn total_of(bytes: &[u8], at: usize) -> u32
     ensures total { result ≡ sum_l (chunk at SUM_LANES bytes.now) }
     ensures few { result ≤ 255 * SUM_LANES }
 {
-    u8x16::from_slice(&bytes[at..])
-        .dot4(u8x16::splat(1))
+    u8x64::from_slice(&bytes[at..])
+        .dot4(u8x64::splat(1))
         .strict_reduce_sum()
 }

@@ -21,12 +21,12 @@ fn the_greatest_total(rt: HostRuntime) {
     assert_eq!(rt; [total(&[255; 4096]), total(&[])], [1_044_480, 0]);
 }
 
-// How many lengths from 1 to 200, with the only free place last, find it, and nothing once it is taken. At each other place
+// How many lengths from 1 to 600, with the only free place last, find it, and nothing once it is taken. At each other place
 // either a counter or a claim is.
 fn count_found() -> usize {
-    let mut counters = [0; 200];
-    let mut claims = [0; 200];
-    for at in 0..200_usize {
+    let mut counters = [0; 600];
+    let mut claims = [0; 600];
+    for at in 0..600_usize {
         let found = first_free(&counters[..at + 1], &claims[..at + 1]);
         if at % 2 == 0 {
             counters[at] = 1;
@@ -38,10 +38,10 @@ fn count_found() -> usize {
             return at;
         }
     }
-    200
+    600
 }
 
 #[test]
 fn the_only_free_place_is_last(rt: HostRuntime) {
-    assert_eq!(rt; (first_free(&[], &[]), count_found()), (None, 200));
+    assert_eq!(rt; (first_free(&[], &[]), count_found()), (None, 600));
 }

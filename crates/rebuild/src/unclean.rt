@@ -9,7 +9,7 @@ ghost use Rattle.rebuild.specs.Outcomes.{RecoversUnclean, WritesAll};
 
 use crate::counters::put_slabs;
 use crate::pages::put_pages;
-use audit::{Contents, read_contents};
+use audit::{Contents, contents_with};
 use blk_base::{Layout, Super};
 use disk_model::{Disk, Failed};
 use image_format::calls::close;
@@ -36,7 +36,7 @@ pub(crate) fn recover_unclean<D: Disk>(
     let Ok(changes) = Changes::of(alloc, window.entries()) else {
         return Err(ImageFault::Memory);
     };
-    let contents = read_contents(alloc, head, &window, device)?;
+    let contents = contents_with(alloc, head, &window, &changes, device)?;
     let layout = Layout::of(&head.geometry);
     let Ok(()) = write_contents(device, &layout, window.last(), &changes, &contents) else {
         return Err(ImageFault::Device);

@@ -1,11 +1,10 @@
 use crate::images::blocks_of;
 use crate::rows::{Row, SMALL};
-use blk_base::Mapping::{At, Zero};
-use blk_base::{Block, Layout, Lba, PageId, Pbn, Request};
+use blk_base::Mapping::{At, Unmapped, Zero};
+use blk_base::{Block, Entry, Layout, Lba, PageId, Pbn, Request};
 use command_text::AddressValue;
-use crash_images::{addresses_of, copy_of, value_at, values_of};
+use crash_images::{addresses_of, copy_of, read_map, value_at, values_of};
 use disk_model::{Call, Disk, MemDisk};
-use rebuild::open_clean;
 use std::alloc::{AllocError, Global};
 use std::test::Fail;
 use test_images::put_block;
@@ -35,6 +34,29 @@ const ROW: Row = Row {
     differ: 0,
 };
 
+/// The same, not closed: the window maps address 5 to the other block, and unmaps address 7, and no counter is right.
+const CHANGED: Row = Row {
+    journal: &[(
+        6,
+        6,
+        &[
+            Entry::Remap {
+                at: Lba(5),
+                old: At(Pbn(80)),
+                new: At(Pbn(81)),
+            },
+            Entry::Remap {
+                at: Lba(7),
+                old: At(Pbn(81)),
+                new: Unmapped,
+            },
+        ],
+    )],
+    counters: &[(0, 3), (7, 4), (9, 5)],
+    commits: &[60_000],
+    ..ROW
+};
+
 // A block of this byte.
 fn filled(byte: u8) -> Block {
     Block {
@@ -43,8 +65,8 @@ fn filled(byte: u8) -> Block {
 }
 
 // A device with that image, and with bytes in the two blocks of data.
-fn device_with_data(alloc: Global) -> Result<MemDisk, AllocError> {
-    let mut blocks = blocks_of(alloc, &ROW, true)?;
+fn device_with_data(alloc: Global, row: &Row, clean: bool) -> Result<MemDisk, AllocError> {
+    let mut blocks = blocks_of(alloc, row, clean)?;
     put_block(&mut blocks, 80, &filled(0x61));
     put_block(&mut blocks, 81, &filled(0x62));
     MemDisk::from_blocks(alloc, blocks)
@@ -98,16 +120,16 @@ fn found(alloc: Global, device: &mut MemDisk) -> Result<Found, AllocError> {
     let Ok(mut copy) = copy_of(alloc, device) else {
         return Ok(None);
     };
-    let Ok(opened) = open_clean(alloc, &mut copy) else {
+    let Ok(map) = read_map(alloc, &mut copy) else {
         return Ok(None);
     };
-    if copy.blocks() < Layout::of(&opened.head.geometry).needed() {
+    if copy.blocks() < Layout::of(&map.head.geometry).needed() {
         return Ok(None);
     }
-    let Ok(values) = values_of(alloc, &mut copy, &opened, &addresses) else {
+    let Ok(values) = values_of(alloc, &mut copy, &map, &addresses) else {
         return Ok(None);
     };
-    let Ok(alone) = value_at(&mut copy, &opened, Lba(7)) else {
+    let Ok(alone) = value_at(&mut copy, &map, Lba(7)) else {
         return Ok(None);
     };
     let mut shown = [None; 6];
@@ -120,7 +142,7 @@ fn found(alloc: Global, device: &mut MemDisk) -> Result<Found, AllocError> {
 
 #[test]
 fn a_copy_has_the_values_of_its_device(rt: HostRuntime) -> Result<(), Fail> {
-    let mut device = device_with_data(rt.alloc())?;
+    let mut device = device_with_data(rt.alloc(), &ROW, true)?;
     let values = [
         Some((5, 0x61, 0x61)),
         Some((6, 0, 0)),
@@ -134,5 +156,23 @@ fn a_copy_has_the_values_of_its_device(rt: HostRuntime) -> Result<(), Fail> {
         Some((values, Some(0x62), true))
     );
     assert_eq!(rt; device.calls().len(), 92);
+    Ok(())
+}
+
+#[test]
+fn a_window_has_its_values_and_no_count_is_looked_at(rt: HostRuntime) -> Result<(), Fail> {
+    let mut device = device_with_data(rt.alloc(), &CHANGED, false)?;
+    let values = [
+        Some((5, 0x62, 0x62)),
+        Some((6, 0, 0)),
+        Some((7, 0, 0)),
+        Some((900, 0, 0)),
+        None,
+        None,
+    ];
+    assert_eq!(rt;
+        found(rt.alloc(), &mut device)?,
+        Some((values, Some(0), true))
+    );
     Ok(())
 }

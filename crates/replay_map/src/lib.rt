@@ -31,4 +31,4 @@ pub use laws::reads_show_the_map;
 pub use links::{Link, links_of};
 pub use pages::read_page;
 pub use recovered::RecoveredMap;
-pub use replayed_map::{replay, replay_with};
+pub use replayed_map::{replay, replay_changes, replay_with};

@@ -4,6 +4,7 @@ ghost use Rattle.blk_base.specs.Regions.{needed_blocks};
 ghost use Rattle.disk_model.specs.Log.{Blocks};
 ghost use Rattle.disk_model.specs.Since.{IsUntouched};
 ghost use Rattle.journal_window.specs.Windows.{IsWindowOf};
+ghost use Rattle.replay_map.specs.Changes.{AreNewest};
 ghost use Rattle.replay_map.specs.Forms.{HasForm};
 ghost use Rattle.replay_map.specs.Replayed.{IsMapRead, IsReplayed, MapFails, ReplayFails};
 
@@ -72,11 +73,38 @@ pub fn replay_with<D: Disk>(
     let Ok(changes) = Changes::of(alloc, window.entries()) else {
         return Err(ImageFault::Memory);
     };
+    match replay_changes(alloc, head, window, &changes, device) {
+        Ok(map) => Ok(map),
+        Err(fault) => Err(fault),
+    }
+}
+
+/// The same where the changes of the window were found before, so that they are found once.
+pub fn replay_changes<D: Disk>(
+    alloc: Global,
+    head: &Super,
+    window: &JournalWindow,
+    changes: &Changes,
+    device: &mut D,
+) -> Result<RecoveredMap, ImageFault>
+    requires sizes { IsGeometry head.now.geometry }
+    requires room { needed_blocks head.now.geometry ≤ (D.seen device.old).size }
+    requires window { (journal : Blocks) × IsWindowOf head.now journal window.now }
+    requires newest { AreNewest window.now.entries changes.now }
+    ensures map { IfOk result
+        (IsMapRead D.tells D.honest head.now.geometry window.now (D.seen device.old)
+        (D.seen device.new)) }
+    ensures form { IfOk result (λ map. HasForm head.now.geometry map.links.items map.slots.items) }
+    ensures fault { IfErr result
+        (MapFails D.tells D.honest head.now.geometry window.now.entries (D.seen device.old)
+        (D.seen device.new)) }
+    ensures untouched { IsUntouched D.tells (D.seen device.old) (D.seen device.new) }
+{
     let Found {
         links,
         slots,
         mapped,
-    } = find_map(alloc, &Layout::of(&head.geometry), &changes, device)?;
+    } = find_map(alloc, &Layout::of(&head.geometry), changes, device)?;
     Ok(RecoveredMap {
         links,
         slots,

@@ -5,8 +5,8 @@ use Rattle.lane_kernels.proofs.total.Goals as goal
 pub loop-load-preserved : goal.loop-load-preserved
 loop-load-preserved c =
     let was = c.loop-load.invariant in
-    let next : (c.loop-load.load + 1) * 16 ≡ c.loop-load.load * 16 + 16 = omega arith in
-    let more = ap (λ (n : ℕ). sum (take n c.args.bytes.now)) next ∙ sum_more (c.loop-load.load * 16) c.args.bytes.now in (
+    let next : (c.loop-load.load + 1) * 64 ≡ c.loop-load.load * 64 + 64 = omega arith in
+    let more = ap (λ (n : ℕ). sum (take n c.args.bytes.now)) next ∙ sum_more (c.loop-load.load * 64) c.args.bytes.now in (
       omega (arith, was.0, more, c.from-sum.ensures, c.total_of.ensures.total),
       omega (arith, was.1, c.from-sum.ensures, c.total_of.ensures.few),
     )
