@@ -1,4 +1,6 @@
 pub mod LineLaws
+pub mod PartLaws
+pub mod PlainRunLaws
 pub mod PutLaws
 pub mod RunLaws
 pub mod TextLaws

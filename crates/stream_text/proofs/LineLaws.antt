@@ -1,13 +1,9 @@
 -- A line that is read byte by byte.
 use Rattle.std.specs.Prelude.{ℕ, ◌≡◌, ◌≢◌, ◌<◌, ◌+◌, ◌==◌, Bool, false, List, [], ◌∷◌, ◌++◌, length, suc, get_or, drop}
-use Rattle.std.specs.List.{AllByRecursion}
 use Rattle.std.proofs.Common.{◌∙◌, ap, arith}
 use Rattle.std.proofs.Math.Seq.{drop-cons}
 use Rattle.std.proofs.lemmas.Bool.Decides.{nat_tests}
-
--- bytes of one line
-abbrev pub OneLine : List ℕ → Type 0
-OneLine line = AllByRecursion (λ byte. byte ≢ 10) line
+pub use Rattle.stream_text.specs.ReadingState.{OneLine}
 
 pub not_empty : (line : List ℕ) (empty : Bool) → empty ≡ (length line == 0) → empty ≡ false → line ≢ []
 not_empty line empty told passed none = grind (arith, nat_tests, ap length none)

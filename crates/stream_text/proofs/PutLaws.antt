@@ -6,6 +6,7 @@ use Rattle.std.proofs.lemmas.Bool.{cases_lt}
 use Rattle.std.proofs.lemmas.List.{append_assoc, append-nil, take-append-le, take_all}
 use Rattle.std.proofs.Math.Seq.{drop-cons, take-append-add, take-append_seam}
 use Rattle.disk_model.specs.Streams.{Puts, PutsPart, SinkSeen}
+use Rattle.stream_text.specs.Collected.{PutsFront}
 
 take_first : (first second : List ℕ) (n : ℕ) → take (min n (length first)) (first ++ second) ≡ take n first
 take_first first second n =
@@ -134,6 +135,25 @@ but-failed more next is but puts =
 pub but-none : {E : Type 0} {tells : Bool} {text rest : List ℕ} {before now : SinkSeen} → rest ≡ [] → PutsBut tells text rest before now
     → Puts {T = Unit {0}} {E = E} tells text before now (Ok tt)
 but-none none but = rw (but.same, none, append-nil but.done) (put-all but.put)
+
+-- the last of it was put, or the sink failed
+pub but-last : {T E : Type 0} {tells : Bool} {text last rest : List ℕ} {before mid after : SinkSeen} {result : Result T E}
+    → rest ≡ last → PutsBut tells text rest before mid → Puts tells last mid after result → Puts tells text before after result
+but-last is but puts = rw (but.same, is) (put-last but.put puts)
+
+-- the front of what is collected was put
+pub but-front : {T E : Type 0} {tells : Bool} {text old new : List ℕ} {before mid after : SinkSeen} {x : T}
+    → (more : List ℕ) → PutsBut tells text (old ++ more) before mid → PutsFront {T = T} {E = E} tells old new mid after (Ok x)
+    → PutsBut tells text (new ++ more) before after
+but-front more but front =
+    but-next (ap (λ t. t ++ more) front.same ∙ append_assoc front.front front.rest more ∙ ap (λ t. front.front ++ (t ++ more)) (sym front.kept)) but front.puts
+
+-- or the sink failed at it
+pub front-failed : {T T' E E' : Type 0} {tells : Bool} {text old new : List ℕ} {before mid after : SinkSeen} {e : E'} {y : E}
+    {result : Result T E} (more : List ℕ) → result ≡ Err y → PutsBut tells text (old ++ more) before mid
+    → PutsFront {T = T'} tells old new mid after (Err e) → Puts tells text before after result
+front-failed more is but front =
+    but-failed (front.rest ++ more) (ap (λ t. t ++ more) front.same ∙ append_assoc front.front front.rest more) is but front.puts
 
 -- the next of some pieces
 pub pieces-next : {T : Type 0} (text : T → List ℕ) (pieces : List T) (n : ℕ) (piece : T) → n < length pieces

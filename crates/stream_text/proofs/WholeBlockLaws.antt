@@ -1,11 +1,9 @@
 -- Each write that a line adds has a whole block, and what is kept while a script is read line by line.
-use Rattle.std.specs.Prelude.{ℕ, ◌≡◌, ◌≢◌, ◌<◌, ◌≤◌, ◌+◌, ◌==◌, codes, bytes_eq, zero, suc, nat_le, Bool, true, false, List, [], ◌∷◌, ◌++◌, length, Option, Some, None, Result, Ok, Err, IfOk, if◌then◌else◌, refl}
+use Rattle.std.specs.Prelude.{ℕ, ◌≡◌, ◌≢◌, ◌<◌, ◌≤◌, ◌+◌, ◌==◌, codes, bytes_eq, zero, suc, nat_le, Bool, true, false, List, [], ◌∷◌, ◌++◌, length, Result, Ok, Err, IfOk, if◌then◌else◌, refl}
 use Rattle.std.specs.List.{AllByRecursion, slice_split}
 use Rattle.std.proofs.Common.{sym, ◌∙◌, ap, subst, arith, inl, inr}
 use Rattle.std.proofs.lemmas.Bool.Decides.{eqb_tells}
-use Rattle.std.proofs.lemmas.List.{append-nil}
 use Rattle.blk_base.specs.declared.request.Request.{Request}
-use Rattle.blk_base.specs.declared.request.Request.TheVariants.{Read, Write, Discard, Flush}
 use Rattle.vdo_model.specs.Scripts.{Script}
 use Rattle.stream_text.specs.LineFaults.{both}
 use Rattle.stream_text.specs.LineWords.{stream_number, address_number, count_number, extent_of, bytes_of_parts, block_of_bytes}
@@ -17,7 +15,6 @@ use Rattle.stream_text.specs.declared.asked.Asked.{Asked}
 use Rattle.stream_text.specs.declared.asked.Asked.TheVariants.{One, Discards}
 use Rattle.stream_text.specs.declared.refusal.LineFault.{LineFault}
 use Rattle.stream_text.specs.declared.refusal.LineFault.TheVariants.{Word, TooMany}
-use Rattle.stream_text.specs.declared.refusal.ScriptRefusal.{ScriptRefusal}
 use Rattle.stream_text.proofs.LineLaws.{OneLine}
 use Rattle.stream_text.proofs.ScriptLaws.{next-line, served-last}
 

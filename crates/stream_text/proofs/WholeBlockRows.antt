@@ -1,9 +1,9 @@
 -- Requests with whole blocks, and scripts of them: for each rule a case that it takes and one that it refuses.
-use Rattle.std.specs.Prelude.{ℕ, ◌≡◌, zero, suc, true, false, List, [], ◌∷◌, replicate, codes, Some, None, Ok, Err, refl}
+use Rattle.std.specs.Prelude.{ℕ, zero, suc, true, false, List, [], ◌∷◌, replicate, codes, refl}
 use Rattle.std.proofs.Common.{arith}
 use Rattle.std.proofs.lemmas.List.{length-replicate}
 use Rattle.blk_base.specs.declared.request.Request.{Request}
-use Rattle.blk_base.specs.declared.request.Request.TheVariants.{Read, Write, Discard, Flush}
+use Rattle.blk_base.specs.declared.request.Request.TheVariants.{Write, Discard, Flush}
 use Rattle.vdo_model.specs.Scripts.{Script}
 use Rattle.stream_text.specs.StreamRows.{no_requests, with_requests}
 use Rattle.stream_text.specs.ReadingBytes.{HasWholeBlock, EachRequest, IsReadingBytes, IsWholeScript}

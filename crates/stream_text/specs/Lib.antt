@@ -4,9 +4,11 @@ pub mod AnswerRooms
 pub mod LineFaults
 pub mod LineWords
 pub mod RunParts
+pub mod PlainRuns
 pub mod LineGrammar
 pub mod StreamRows
 pub mod WholeScript
 pub mod ReadingBytes
 pub mod ReadingState
 pub mod Workloads
+pub mod Collected

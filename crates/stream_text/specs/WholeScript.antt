@@ -1,5 +1,5 @@
 -- Which requests a script has, said over all of its bytes.
-use Rattle.std.specs.Prelude.{ℕ, ◌+◌, ◌==◌, ◌||◌, nat_lt, Bool, true, false, List, [], ◌∷◌, length, Result, Ok, Err, if◌then◌else◌}
+use Rattle.std.specs.Prelude.{ℕ, ◌+◌, ◌==◌, ◌||◌, nat_lt, Bool, true, List, [], ◌∷◌, length, Result, Ok, Err, if◌then◌else◌}
 use Rattle.std.specs.List.{onto_first}
 use Rattle.vdo_model.specs.Scripts.{Script}
 use Rattle.stream_text.specs.LineGrammar.{asked_of_line}

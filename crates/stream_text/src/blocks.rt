@@ -1,11 +1,13 @@
-ghost use Rattle.std.specs.Prelude.{ℕ, ◌≡◌, ◌<◌, ◌≤◌, ◌+◌, ◌==◌, ◌++◌, ◌∷◌, [], List, Result, IfOk, length, take, replicate, min};
+ghost use Rattle.std.specs.Prelude.{ℕ, ◌≡◌, ◌<◌, ◌≤◌, ◌+◌, ◌==◌, ◌++◌, ◌∷◌, [], List, Result, IfOk, IfSome, MatchOption, length, take, replicate, min};
+ghost use Rattle.std.specs.Bool.{OnFalse, OnTrue};
 ghost use Rattle.std.specs.List.{slice_split};
 ghost use Rattle.stream_text.specs.declared.refusal.LineFault.{LineFault as Fault};
 ghost use Rattle.hex.specs.Hex.{decode_sized};
 ghost use Rattle.stream_text.specs.LineWords.{first_byte, run_of_pieces, run_of_part, bytes_of_parts, block_of_word};
+ghost use Rattle.stream_text.specs.PlainRuns.{BeginsPlainly, BeginsWith, EndsPlainly, IsNoSign};
 ghost use Rattle.stream_text.specs.RunParts.{run_said, behind, bytes_of_run, HoldsBytes};
 
-use crate::cuts::cut;
+use crate::cuts::cut_near;
 use crate::numbers::{both, number_within};
 use crate::refusal::LineFault;
 use blk_base::Block;
@@ -43,14 +45,70 @@ fn run_around(count: &[u8], digits: &[u8]) -> Result<PlainRun, LineFault>
 fn run(part: &[u8]) -> Result<PlainRun, LineFault>
     ensures { run_said result ≡ run_of_part part.now }
 {
-    let (count, rest) = cut(b'*', part);
+    let (count, rest) = cut_near(b'*', part);
     let Some(rest) = rest else {
         return Err(LineFault::Word);
     };
-    let (digits, more) = cut(b'*', rest);
+    let (digits, more) = cut_near(b'*', rest);
     match more {
         Some(_) => Err(LineFault::Word),
         None => run_around(count, digits),
+    }
+}
+
+// Whether a byte parts runs, or the two sides of one.
+fn is_sign(byte: u8) -> bool
+    ensures no { OnFalse result (IsNoSign byte) }
+{
+    byte == b'*' || byte == b'+'
+}
+
+// Whether an asterisk stands there, behind it two bytes, and then a plus sign or nothing.
+fn is_plain_end(word: &[u8], at: usize) -> bool
+    requires { at < length word.now }
+    ensures { OnTrue result (EndsPlainly word.now at) }
+{
+    word.len() - at >= 3
+        && word[at] == b'*'
+        && !is_sign(word[at + 1])
+        && !is_sign(word[at + 2])
+        && (word.len() - at == 3 || word[at + 3] == b'+')
+}
+
+// Where the asterisk of the first run stands, if digits stand before it, and two bytes behind it.
+fn asterisk(word: &[u8]) -> Option<usize>
+    ensures { IfSome result (BeginsPlainly word.now) }
+{
+    for (at, byte) in word.iter().enumerate() {
+        if !byte.is_ascii_digit() {
+            return if is_plain_end(word, at) {
+                Some(at)
+            } else {
+                None
+            };
+        }
+    }
+    None
+}
+
+// Most runs are plain, and are cut in one pass.
+/// The first run of a word, and what stands behind it.
+fn next_run(word: &[u8]) -> (Result<PlainRun, LineFault>, Option<&[u8]>)
+    ensures parts { MatchOption result.1
+        (BeginsWith (run_said result.0) word.now [])
+        (λ more. BeginsWith (run_said result.0) word.now
+        (slice_split (λ byte. byte == 43) more.now)) }
+    ensures shorter { IfSome result.1 (λ more. length more.now < length word.now) }
+{
+    let Some(at) = asterisk(word) else {
+        let (part, more) = cut_near(b'+', word);
+        return (run(part), more);
+    };
+    let plain = run_around(&word[..at], &word[at + 1..at + 3]);
+    if word.len() - at == 3 {
+        (plain, None)
+    } else {
+        (plain, Some(&word[at + 4..]))
     }
 }
 
@@ -99,8 +157,8 @@ fn fill(word: &[u8], block: &mut [u8]) -> Result<usize, LineFault>
     let mut so_far: Result<usize, LineFault> = Ok(0);
     let mut rest = word;
     'parts: loop {
-        let (part, more) = cut(b'+', rest);
-        so_far = with_run(block, so_far, run(part));
+        let (run, more) = next_run(rest);
+        so_far = with_run(block, so_far, run);
         match more {
             Some(more) => rest = more,
             None => return so_far,

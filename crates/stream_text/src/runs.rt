@@ -1,10 +1,18 @@
-ghost use Rattle.std.specs.Prelude.{◌≡◌, ◌<◌, ◌≤◌, ◌∷◌, ◌++◌, ℕ, length, drop, slice_index};
+ghost use Rattle.std.specs.Prelude.{◌≡◌, ◌<◌, ◌≤◌, ◌+◌, ◌∷◌, ◌++◌, ℕ, OnOk, codes, length, drop, slice_index};
 ghost use Rattle.std.specs.Bool.{OnTrue};
 ghost use Rattle.disk_model.specs.Streams.{Puts};
+ghost use Rattle.stream_text.specs.Collected.{PutsFront};
 ghost use Rattle.stream_text.specs.Runs.{run_text, runs_of, runs_text, later_text};
 
 use crate::puts::put_all;
+use arrayvec::ArrayVec;
 use disk_model::{Failed, Sink};
+
+/// How many bytes of text are collected before they are put.
+const COLLECTED: usize = 1024;
+
+/// How many bytes a run has at most, with the plus sign before it.
+const LONGEST_RUN: usize = 44;
 
 /// How often the first byte stands at the front.
 fn first_run(bytes: &[u8]) -> usize
@@ -15,10 +23,11 @@ fn first_run(bytes: &[u8]) -> usize
         ≡ record { count = result; byte = slice_index bytes.now 0 }
         ∷ runs_of (drop result bytes.now) }
 {
-    if is_one_run(bytes) {
+    let first = bytes[0];
+    // Most that are no run aren't compared at all.
+    if bytes[bytes.len() - 1] == first && is_one_run(bytes) {
         return bytes.len();
     }
-    let first = bytes[0];
     for (at, byte) in bytes.iter().enumerate() {
         if *byte != first {
             return at;
@@ -51,18 +60,57 @@ fn put_run<K: Sink>(before: &[u8], count: usize, byte: u8, out: &mut K) -> Resul
     put_all(&pieces, out)
 }
 
+// Adds a run to a text, behind a plus sign.
+fn push_run(count: usize, byte: u8, text: &mut ArrayVec<u8, COLLECTED>)
+    requires { length text.old.items + LONGEST_RUN ≤ COLLECTED }
+    ensures { text.new.items ≡ text.old.items
+        ++ (codes "+" ++ run_text (record { count = count; byte = byte })) }
+{
+    let mut digits = [0; 2];
+    let Ok(()) = hex::encode_to_slice([byte], &mut digits) else {
+        unreachable!()
+    };
+    let mut times = itoa::Buffer::new();
+    let times = times.format(count).as_bytes();
+    text.push(b'+');
+    let Ok(()) = text.try_extend_from_slice(times) else {
+        unreachable!()
+    };
+    text.push(b'*');
+    let Ok(()) = text.try_extend_from_slice(&digits) else {
+        unreachable!()
+    };
+}
+
+// Puts the text, where a run may have no room in it.
+fn make_room<K: Sink>(text: &mut ArrayVec<u8, COLLECTED>, out: &mut K) -> Result<(), Failed>
+    ensures room { OnOk result (length text.new.items + LONGEST_RUN ≤ COLLECTED) }
+    ensures front { PutsFront K.tells text.old.items text.new.items
+        (K.seen out.old) (K.seen out.new) result }
+{
+    if text.len() + LONGEST_RUN <= COLLECTED {
+        return Ok(());
+    }
+    out.put(text)?;
+    text.clear();
+    Ok(())
+}
+
+// Runs are collected, so that a sink is called once for many of them.
 fn put_later_runs<K: Sink>(bytes: &[u8], out: &mut K) -> Result<(), Failed>
     ensures { Puts K.tells
         (later_text (runs_of bytes.now))
         (K.seen out.old) (K.seen out.new) result }
 {
+    let mut text = ArrayVec::new();
     let mut at = 0;
     while at < bytes.len() {
         let count = first_run(&bytes[at..]);
-        put_run(b"+", count, bytes[at], out)?;
+        make_room(&mut text, out)?;
+        push_run(count, bytes[at], &mut text);
         at += count;
     }
-    Ok(())
+    out.put(&text)
 }
 
 /// Puts bytes as their longest runs.

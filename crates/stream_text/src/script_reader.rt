@@ -1,14 +1,16 @@
 ghost use Rattle.std.specs.Prelude.{◌≡◌, ◌≢◌, ◌≤◌, ◌<◌, ◌+◌, ◌++◌, ◌∷◌, [], ℕ, List, length, Ok, IsTrue, IfOk, IfErr, OnOk, IsErrOf};
+ghost use Rattle.std.specs.Bool.{OnTrue};
 ghost use Rattle.disk_model.specs.Causes.{Rose};
 ghost use Rattle.stream_text.specs.WholeScript.{whole_script};
 ghost use Rattle.stream_text.specs.ReadingBytes.{refusal_said, IsWholeScript, RefusesScript};
-ghost use Rattle.stream_text.specs.ReadingState.{bytes_read, comes_to, IsReading};
+ghost use Rattle.stream_text.specs.ReadingState.{bytes_read, comes_to, IsReading, OneLine};
 
 use crate::added_lines::{LineError, add_line};
 use crate::refusal::{LineFault, ReadScript, ScriptRefusal};
 use crate::streams::Streams;
 use arrayvec::ArrayVec;
 use disk_model::Source;
+use memchr::memchr;
 use std::alloc::Global;
 use vdo_model::Requests;
 
@@ -93,8 +95,20 @@ impl ReadingBytes {
         Ok(())
     }
 
-    // The next bytes of the script.
-    fn feed(&mut self, bytes: &[u8]) -> Result<(), ReadScript>
+    // Whether so many bytes more make neither the line nor the script too long.
+    fn has_room(&self, count: usize) -> bool
+        requires { IsReading self.now }
+        ensures { OnTrue result
+            ((bytes_read self.now + count ≤ 134217728)
+            × (length self.now.line.items + count ≤ 32768)) }
+    {
+        let length = self.line.len();
+        count <= LONGEST_LINE - length
+            && self.before + length as u64 + count as u64 <= LONGEST_SCRIPT
+    }
+
+    // The next bytes of the script, one by one: the first that is too many is found so.
+    fn add_each(&mut self, bytes: &[u8]) -> Result<(), ReadScript>
         requires { IsReading self.old }
         ensures sound { OnOk result (IsReading self.new) }
         ensures ok { OnOk result (
@@ -108,6 +122,51 @@ impl ReadingBytes {
             self.add(*byte)?;
         }
         Ok(())
+    }
+
+    // The next bytes of the line. They are added at once where they have room.
+    fn add_part(&mut self, part: &[u8]) -> Result<(), ReadScript>
+        requires sound { IsReading self.old }
+        requires one_line { OneLine part.now }
+        ensures sound { OnOk result (IsReading self.new) }
+        ensures ok { OnOk result (
+            (rest : List ℕ) → comes_to self.old (part.now ++ rest) ≡ comes_to self.new rest) }
+        ensures taken { OnOk result (bytes_read self.new ≡ bytes_read self.old + length part.now) }
+        ensures refused { IfErr result (λ fault. (rest : List ℕ) →
+            RefusesScript fault (comes_to self.old (part.now ++ rest))) }
+        ensures no_fault { IfErr result (λ fault. fault ≢ ReadScript.Read) }
+    {
+        if !self.has_room(part.len()) {
+            return self.add_each(part);
+        }
+        let Ok(()) = self.line.try_extend_from_slice(part) else {
+            unreachable!()
+        };
+        Ok(())
+    }
+
+    // The next bytes of the script, line by line.
+    fn feed(&mut self, bytes: &[u8]) -> Result<(), ReadScript>
+        requires { IsReading self.old }
+        ensures sound { OnOk result (IsReading self.new) }
+        ensures ok { OnOk result (
+            (rest : List ℕ) → comes_to self.old (bytes.now ++ rest) ≡ comes_to self.new rest) }
+        ensures taken { OnOk result (bytes_read self.new ≡ bytes_read self.old + length bytes.now) }
+        ensures refused { IfErr result (λ fault. (rest : List ℕ) →
+            RefusesScript fault (comes_to self.old (bytes.now ++ rest))) }
+        ensures no_fault { IfErr result (λ fault. fault ≢ ReadScript.Read) }
+    {
+        let mut rest = bytes;
+        'lines: loop {
+            match memchr(b'\n', rest) {
+                None => return self.add_part(rest),
+                Some(at) => {
+                    self.add_part(&rest[..at])?;
+                    self.add(b'\n')?;
+                    rest = &rest[at + 1..];
+                }
+            }
+        }
     }
 
     // The bytes of the source until its end.

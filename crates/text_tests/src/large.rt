@@ -120,7 +120,7 @@ fn put(alloc: Global, lines: u32) -> Result<Option<(u64, u64, u64)>, AllocError>
 fn answers_of_1024_requests_are_put(rt: HostRuntime) -> Result<(), Fail> {
     assert_eq!(rt;
         put(rt.alloc(), 1024)?,
-        Some((12_544, 24_192, 18_934_264_804))
+        Some((12_800, 24_192, 18_934_264_804))
     );
     Ok(())
 }
@@ -129,7 +129,7 @@ fn answers_of_1024_requests_are_put(rt: HostRuntime) -> Result<(), Fail> {
 fn answers_of_65536_requests_are_put(rt: HostRuntime) -> Result<(), Fail> {
     assert_eq!(rt;
         put(rt.alloc(), 65536)?,
-        Some((802_816, 1_857_584, 108_056_470_021_852))
+        Some((819_200, 1_857_584, 108_056_470_021_852))
     );
     Ok(())
 }

@@ -1,6 +1,6 @@
 //! What the commands print that serve requests: `run`, `workload` and `crash`.
 use crate::reports::{Put, report_of};
-use audit::Report;
+use audit::{Difference, Report};
 use blk_base::{Answer, Block, Lba, Pbn, Request, Writer};
 use command_text::{
     AddressValue, Crash, CrashStop, DamagedPlace, RunNotes, SectorAnswer, SectorAsked, SectorLine,
@@ -209,10 +209,8 @@ fn crash<'a>(values: &'a [AddressValue], audit: &'a Report) -> Crash<'a> {
     }
 }
 
-#[test]
-fn a_crash_is_put(rt: HostRuntime) -> Result<(), Fail> {
-    let mut out = MemSink::new(rt.alloc(), 1000)?;
-    let values = [
+fn crash_values() -> [AddressValue; 2] {
+    [
         AddressValue {
             at: Lba(5),
             block: filled(97),
@@ -221,7 +219,13 @@ fn a_crash_is_put(rt: HostRuntime) -> Result<(), Fail> {
             at: Lba(4294967295),
             block: filled(0),
         },
-    ];
+    ]
+}
+
+#[test]
+fn a_crash_is_put(rt: HostRuntime) -> Result<(), Fail> {
+    let mut out = MemSink::new(rt.alloc(), 1000)?;
+    let values = crash_values();
     let audit = Report {
         differs: Vec::new(rt.alloc()),
         used: 2,
@@ -237,6 +241,38 @@ recovered 1 entries
 5 4096*61
 4294967295 4096*00
 audit clean, used 2 of 64
+"
+                .as_slice()
+        )
+    );
+    Ok(())
+}
+
+#[test]
+fn a_crash_is_put_where_a_block_differs(rt: HostRuntime) -> Result<(), Fail> {
+    let mut out = MemSink::new(rt.alloc(), 1000)?;
+    let values = crash_values();
+    let difference = Difference {
+        at: Pbn(86),
+        stored: 2,
+        mapped: 1,
+    };
+    let audit = Report {
+        differs: Vec::from_slice(rt.alloc(), &[difference])?,
+        used: 2,
+        total: 64,
+    };
+    let put = put_crash(&crash(&values, &audit), &mut out);
+    assert_eq!(rt;
+        (put, out.bytes()),
+        (
+            Ok(()),
+            b"stopped
+recovered 1 entries
+5 4096*61
+4294967295 4096*00
+block 86 stored 2 mapped 1
+audit differs 1
 "
                 .as_slice()
         )

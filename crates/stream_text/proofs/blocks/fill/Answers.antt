@@ -7,14 +7,17 @@ pub parts-init : goal.parts-init
 parts-init c = record { length = c.requires; filled = omega arith; bytes = filled-start c.args.word.now c.args.block.now }
 
 pub parts-preserved : goal.parts-preserved
-parts-preserved c = record {
-  length = c.with_run-so_far.ensures.length;
-  filled = c.with_run-so_far.ensures.filled;
-  bytes = filled-next c.args.word.now c.parts.rest.now c.cut.result.0.now c.in-Some.more.now c.parts.so_far c.with_run-so_far.result c.parts.block c.with_run-so_far.new.block
-      (run_said c.run.result) c.parts.invariant.bytes (rw c.in-Some.is at c.cut.ensures.parts) c.run.ensures c.with_run-so_far.ensures.bytes;
-}
+parts-preserved c =
+    let begins = rw c.in-Some.is at c.next_run-run.ensures.parts in
+    record {
+      length = c.with_run-so_far.ensures.length;
+      filled = c.with_run-so_far.ensures.filled;
+      bytes = filled-next c.args.word.now c.parts.rest.now begins.part c.in-Some.more.now c.parts.so_far c.with_run-so_far.result c.parts.block
+          c.with_run-so_far.new.block (run_said c.next_run-run.result.0) c.parts.invariant.bytes begins.parts begins.says c.with_run-so_far.ensures.bytes;
+    }
 
 pub returns-in-None-clause-bytes : goal.returns-in-None-clause-bytes
 returns-in-None-clause-bytes c =
-    filled-last c.args.word.now c.parts.rest.now c.cut.result.0.now c.parts.so_far c.with_run-so_far.result c.parts.block c.with_run-so_far.new.block
-    (run_said c.run.result) c.parts.invariant.bytes (rw c.in-None.is at c.cut.ensures.parts) c.run.ensures c.with_run-so_far.ensures.bytes
+    let begins = rw c.in-None.is at c.next_run-run.ensures.parts in
+    filled-last c.args.word.now c.parts.rest.now begins.part c.parts.so_far c.with_run-so_far.result c.parts.block c.with_run-so_far.new.block
+    (run_said c.next_run-run.result.0) c.parts.invariant.bytes begins.parts begins.says c.with_run-so_far.ensures.bytes

@@ -1,5 +1,5 @@
 use Rattle.std.proofs.Common.{ℕ, ◌≢◌, ◌<◌, get_or}
-use Rattle.stream_text.proofs.cuts.cut.Given as goal
+use Rattle.stream_text.proofs.cuts.cut_near.Given as goal
 
 abbrev pub invariant-loop-at : goal.invariant-loop-at
 invariant-loop-at l = (k : ℕ) → k < l.at → get_or l.bytes k 0 ≢ l.separator
