@@ -4,10 +4,10 @@
     python3 tools/refused_runs.py PROGRAM
 
 The images are those of the vectors whose recovery, audit or counts have a fault, and those whose superblock has one in a field:
-each of the three commands tells that fault, with status 4, and leaves the file as it is; `crash` tells all counts that differ, as
-an audit does. The scripts have one fault each: `run` and `crash` tell it, with status 2, and a
-workload reads none. And a script is cut behind each of its first bytes: it is served where its last line is whole, and refused
-where it isn't.
+each of the three commands tells that fault, with status 4, and leaves the file as it is; of counts that differ `crash` tells the
+value of the script's address, and then all of them, as an audit does. The scripts have one fault each: `run` and `crash` tell it,
+with status 2, and a workload reads none. And a script is cut behind each of its first bytes: it is served where its last line is
+whole, and refused where it isn't.
 
 A line tells of each try that went wrong, and the last one how many there were. The status is 1 where there is such a line.
 """
@@ -29,6 +29,8 @@ from whole_image import DEFAULT, Image, Patch, patched
 
 IMAGE_BLOCKS = DEFAULT.needed()
 WRITE = "0 write 5 4096*61\n"
+# What stands at that address on the images where it is mapped.
+DATA: Patch = (86, 0, b"abbb")
 CRASH = ("crash", "--after", "100", "--image", "1")
 LINE = re.compile(r"\d+ (?:read \d+|write \d+ 4096\*[0-9a-f]{2}|discard \d+ \d+|flush)|")
 NO_NUMBER = re.compile(r"\d+ (?:read|discard \d+) ")
@@ -75,9 +77,9 @@ def faults_of(image: Image) -> tuple[tuple[str, int], tuple[str, int]] | None:
     if status == 0:
         text, status = whole_image.audit(image)
     if status == 4:
-        return (text, 4), (f"ended\n{text}", 4)
+        return (text, 4), whole_image.crash(image, (5,))
     if status == 6:
-        return (f"bad image: {text.splitlines()[0]}\n", 4), (f"ended\nclean\n{text}", 6)
+        return (f"bad image: {text.splitlines()[0]}\n", 4), whole_image.crash(image, (5,))
     return None
 
 
@@ -98,7 +100,7 @@ def faulty_images() -> Iterator[tuple[str, tuple[Patch, ...]]]:
 def try_images(tries: Tries) -> None:
     """Each command on each image with a fault."""
     for name, patches in faulty_images():
-        image = patched(patches)
+        image = patched((DATA, *patches))
         faults = faults_of(image)
         if faults is None:
             continue

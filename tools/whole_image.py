@@ -1,6 +1,6 @@
 #!/usr/bin/env python3
-"""What `audit`, `status`, `recover`, `force-rebuild` and `grow` print of an image, found in the plainest way; and the images
-of the tests of these commands. Nothing is written.
+"""What `audit`, `status`, `recover`, `force-rebuild` and `grow` print of an image, and a `crash` of which nothing is served, found
+in the plainest way; and the images of the tests of these commands. Nothing is written.
 
     python3 tools/whole_image.py audit FILE BLOCKS
     python3 tools/whole_image.py status FILE BLOCKS
@@ -14,8 +14,9 @@ from __future__ import annotations
 import argparse
 import sys
 from collections import Counter
-from collections.abc import Iterator
+from collections.abc import Iterable, Iterator
 from dataclasses import dataclass, replace
+from itertools import groupby
 from pathlib import Path
 
 import chapters
@@ -31,6 +32,7 @@ FILE = "tool_tests/src/inspections.rt"
 RECOVERIES = "tool_tests/src/recoveries.rt"
 REBUILDS = "tool_tests/src/rebuilds.rt"
 GROWTHS = "tool_tests/src/growths.rt"
+CRASHES = "tool_tests/src/crashes.rt"
 
 GREATEST_COUNT = 254
 INCREMENT = 0
@@ -234,6 +236,11 @@ def place_of(sizes: Geometry, block: int) -> tuple[int, int] | None:
     return (slab_number, offset) if inside else None
 
 
+def address_of(page: Page, slot: int) -> int:
+    """The address of a slot of a leaf."""
+    return (page.index * TREES + page.tree) * SLOTS_PER_PAGE + slot
+
+
 class BlockMap:
     """The pages of the block map, with what the window puts into their slots."""
 
@@ -246,6 +253,7 @@ class BlockMap:
         self.pages: set[int] = set()
         self.mapped: Counter[int] = Counter()
         self.addresses: set[int] = set()
+        self.places: dict[int, int] = {}
         for tree in range(TREES):
             self.walk(Page(tree, sizes.height - 1, 0), sizes.root(tree))
 
@@ -283,9 +291,10 @@ class BlockMap:
             if block is not None:
                 found.append((slot, block))
             if page.level == 0 and five != mapping.unmapped():
-                self.addresses.add((page.index * TREES + page.tree) * SLOTS_PER_PAGE + slot)
+                self.addresses.add(address_of(page, slot))
         if page.level == 0:
             self.mapped.update(block for _, block in found)
+            self.places.update((address_of(page, slot), block) for slot, block in found)
             return
         for slot, block in found:
             self.pages.add(block)
@@ -414,6 +423,30 @@ def recover(image: Image) -> tuple[str, int]:
         return f"recovered {len(look(image).window)} entries\n", 0
     except BadImage as why:
         return f"bad image: {why}\n", 4
+
+
+def runs(data: bytes) -> str:
+    """The bytes of a block, as RUNS."""
+    return "+".join(f"{len(list(same))}*{byte:02x}" for byte, same in groupby(data))
+
+
+def values(image: Image, addresses: Iterable[int]) -> str:
+    """A line for each of these addresses below the logical size, by the window and the pages alone."""
+    head = image.head()
+    places = BlockMap(image, head.sizes, Journal(image, head).window()).places
+    blocks = ((address, places.get(address)) for address in sorted(set(addresses)) if address < head.sizes.logical)
+    return "".join(f"{address} {runs(bytes(BLOCK_BYTES) if at is None else image.block(at))}\n" for address, at in blocks)
+
+
+def crash(image: Image, addresses: Iterable[int], end: str = "ended") -> tuple[str, int]:
+    """The text of `crash` with a script of these addresses, and its status, where none of it is served and this is picked."""
+    line, found = recover(image)
+    if found == 4:
+        return f"{end}\n{line}", 4
+    text, found = audit(image)
+    if found == 4:
+        return f"{end}\n{text}", 4
+    return f"{end}\n{line}{values(image, addresses)}{text}", found
 
 
 def counted(image: Image) -> dict[int, int]:
@@ -588,6 +621,17 @@ def refused_cases() -> tuple[tuple[Patch, ...], ...]:
     )
 
 
+def crashed_cases() -> dict[str, tuple[Patch, ...]]:
+    """Images of which blocks differ, with data at address 5. One wasn't closed, and differs behind its recovery too."""
+    images = cases()
+    data: Patch = (86, 0, b"abbb")
+    return {name: (*images[name], data) for name in ("COUNTED_TWICE", "COUNTED_NEVER", "STOPPED_LATER")}
+
+
+# The addresses of the script that they are tried with: two of them have the same leaf, one has none, and one is too large.
+CRASHED = (5, 6, 900, 1000)
+
+
 def noise() -> tuple[Patch, ...]:
     """Noise in all blocks of the slab but its data."""
     return tuple((at, 0, bytes([255]) * BLOCK_BYTES) for at in range(149, 154))
@@ -701,6 +745,11 @@ def vectors() -> Iterator[Vector]:
     for item, (patches, noisy) in rebuilt_cases().items():
         told = force_rebuild(patched((*patches, *(noise() if noisy else ()))))
         yield Vector(REBUILDS, item, literals(patches, told))
+    for item, patches in crashed_cases().items():
+        yield Vector(CRASHES, item, literals(patches, crash(patched(patches), CRASHED, "stopped")))
+    # The run recovers the copy, and then no session begins.
+    text, found = crash(patched(crashed_cases()["STOPPED_LATER"]), CRASHED)
+    yield Vector(CRASHES, "RECOVERED", literals((), (text.replace("recovered 2 entries", "clean"), found)))
     for patches in unrebuilt_cases():
         line, _ = force_rebuild(patched(patches))
         yield Vector(REBUILDS, "REFUSED", (*literals(patches), line.encode()))

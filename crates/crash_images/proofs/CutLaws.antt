@@ -1,5 +1,5 @@
 -- A device that is cut off stays so.
-use Rattle.std.proofs.Common.{ℕ, ◌≡◌, ◌+◌, ◌-◌, ◌≤◌, ◌<◌, nat_le, not, ◌||◌, true, false, List, [], ◌∷◌, ◌++◌, length, take, drop, Result, Ok, Err, OnOk, OnErr, refl, sym, ◌∙◌, ap, subst, inl, inr, arith}
+use Rattle.std.proofs.Common.{ℕ, ◌≡◌, ◌+◌, ◌-◌, ◌≤◌, ◌<◌, nat_le, not, ◌||◌, true, false, List, [], ◌∷◌, ◌++◌, length, take, Result, Ok, Err, OnOk, OnErr, refl, sym, ◌∙◌, ap, subst, inl, inr, arith}
 use Rattle.std.proofs.Math.Bool.{or-false}
 use Rattle.std.proofs.lemmas.Bool.{cases_lt}
 use Rattle.std.proofs.lemmas.List.{take-append-drop}
@@ -13,7 +13,7 @@ use Rattle.disk_model.specs.Log.{Blocks}
 use Rattle.disk_model.specs.Memory.{Fails, Memory, Succeeds, is_to_fail, kind_of, one_more, place_of}
 use Rattle.disk_model.specs.Picks.{counted_log}
 use Rattle.disk_model.specs.Plans.{counted, named}
-use Rattle.crash_images.specs.Cuts.{AreCutOff, IsCutDisk, IsCutOff, is_ok, logs_of}
+use Rattle.crash_images.specs.Cuts.{IsCutDisk, IsCutOff, is_ok, logs_of}
 
 -- each call left one log
 count_logs : (log : List Call) → length (logs_of log) ≡ length log

@@ -1,11 +1,10 @@
 -- For each definition of a device that is cut off some cases that it accepts, and some that break one clause alone.
-use Rattle.std.proofs.Common.{ℕ, ◌≡◌, true, false, List, [], ◌∷◌, refl, ap, arith}
+use Rattle.std.proofs.Common.{◌≡◌, true, false, List, [], ◌∷◌, refl, arith}
 use Rattle.command_text.specs.declared.crashes.CrashStop.TheVariants.{Stopped, Ended}
 use Rattle.disk_model.specs.declared.call.Call.{Call}
 use Rattle.disk_model.specs.declared.call.Call.TheVariants.{Read, Write, Flush}
 use Rattle.disk_model.specs.declared.faults.CallKind.TheVariants.{Flush as FlushKind}
-use Rattle.disk_model.specs.declared.fuse.Fuse.TheVariants.{Passes, Spent}
-use Rattle.disk_model.specs.Fuses.{burnt_all}
+use Rattle.disk_model.specs.declared.fuse.Fuse.TheVariants.{Spent}
 use Rattle.disk_model.specs.Memory.{Memory, fresh}
 use Rattle.crash_images.specs.Cuts.{AreCutOff, IsCutDisk, IsCutOff, is_ok, logs_of, stop_of}
 

@@ -3,10 +3,12 @@ pub mod CopyLaws
 pub mod ValueLaws
 pub mod AddressRows
 pub mod CopyRows
+pub mod MapRows
 pub mod ValueRows
 pub mod SearchLaws
 pub mod CutLaws
 pub mod SoundAudits
+pub mod AuditedValues
 pub mod ShownLaws
 pub mod CutRows
 pub mod ShowRows

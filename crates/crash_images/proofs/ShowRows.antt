@@ -1,19 +1,18 @@
 -- For each definition of what an image shows some cases that it accepts, and some that break one clause alone.
-use Rattle.std.proofs.Common.{ℕ, ◌≡◌, ◌≢◌, ◌+◌, true, [], ◌∷◌, Err, inl, inr, refl, arith}
-use Rattle.audit.specs.declared.forms.Report.{Report}
-use Rattle.command_text.specs.declared.crashes.AddressValue.{AddressValue}
+use Rattle.std.proofs.Common.{◌≡◌, ◌+◌, true, [], Err, inl, refl, arith}
 use Rattle.disk_model.specs.Memory.{Memory}
 use Rattle.disk_model.specs.Seen.{Seen}
+use Rattle.image_model.proofs.CountLaws.{none_in_nothing}
+use Rattle.image_model.specs.Pages.{leaf_of}
 use Rattle.image_model.specs.declared.fault.ImageFault.{ImageFault}
 use Rattle.image_model.specs.declared.fault.ImageFault.TheVariants as image
 use Rattle.image_layout.specs.declared.fault.SuperFault.TheVariants.{NotAnImage}
 use Rattle.page_codec.specs.declared.fault.PageFault.TheVariants.{Header}
-use Rattle.blk_base.specs.declared.opened.Opened.{Opened}
 use Rattle.blk_base.specs.declared.place.Pbn.{Pbn}
-use Rattle.vdo_model.specs.Scripts.{Script}
 use Rattle.rebuild.specs.Recoveries.{IsRecovery}
-use Rattle.crash_images.specs.Shows.{IsNoPage, IsPickRefused, PickFails, ShowsNothing, ShowsValues, ValueFails, image_fault_of, pick_fault_of}
+use Rattle.crash_images.specs.Shows.{IsNoPage, IsPickRefused, PickFails, ShowsNothing, ValueFails, image_fault_of, pick_fault_of}
 use Rattle.crash_images.specs.declared.fault.ValueFault.TheVariants.{Device, Page, Memory as NoMemory}
+use Rattle.crash_images.specs.declared.maps.ImageMap.{ImageMap}
 
 -- image_fault_of: the same
 device_fault : image_fault_of Device ≡ image.Device
@@ -26,17 +25,20 @@ memory_fault : image_fault_of NoMemory ≡ image.Memory
 memory_fault = refl
 
 -- ValueFails: no fault of an image but that of a page
-module _ (start : Opened) (opened : Seen) where
-  without_memory : ValueFails start opened opened image.Memory
+module _ (found : ImageMap) (behind : Seen) where
+  without_memory : ValueFails found behind behind image.Memory
   without_memory = tt
 
-  by_a_read : ValueFails start opened (record opened { faults = opened.faults + 1 }) image.Device
+  by_a_read : ValueFails found behind (record behind { faults = behind.faults + 1 }) image.Device
   by_a_read = omega arith
 
-  not_without_a_fault : opened.faults ≡ 0 → ValueFails start opened opened image.Device → ⊥
+  not_without_a_fault : behind.faults ≡ 0 → ValueFails found behind behind image.Device → ⊥
   not_without_a_fault none rose = omega (arith, none, rose)
 
-  never_of_the_superblock : ValueFails start opened opened (image.Super NotAnImage) → ⊥
+  not_of_a_page_without_links : (at : Pbn) → found.pages.links.items ≡ [] → ValueFails found behind behind (image.Page at Header) → ⊥
+  not_of_a_page_without_links at none fails = none_in_nothing (record { page = leaf_of fails.0; at = at }) (rw none at fails.1)
+
+  never_of_the_superblock : ValueFails found behind behind (image.Super NotAnImage) → ⊥
   never_of_the_superblock fails = fails
 
 -- IsNoPage: any fault but that of a page
@@ -45,15 +47,6 @@ no_page = tt
 
 a_page : (at : Pbn) → IsNoPage (image.Page at Header) → ⊥
 a_page at none = none
-
--- ShowsValues: where blocks differ there are none
-module _ (script : Script) (before : Seen) (report : Report) (some : report.differs.items ≢ []) where
-  no_values : ShowsValues true true script before report []
-  no_values = inr (some, refl)
-
-  not_with_values : (value : AddressValue) → ShowsValues true true script before report (value ∷ []) → ⊥
-  not_with_values value (inl (none, are)) = some none
-  not_with_values value (inr (more, none)) = absurd (cc none)
 
 -- ShowsNothing: it wasn't recovered
 by_recovery : (before now : Seen) (why : ImageFault) → IsRecovery true true before now (Err why) → ShowsNothing true true before now why

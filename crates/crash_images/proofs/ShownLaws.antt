@@ -1,16 +1,16 @@
 -- What an image shows, step by step.
-use Rattle.std.proofs.Common.{ℕ, ◌≡◌, List, true, Result, Ok, Err, IfOk, IfErr, IsErrAnd, refl}
-use Rattle.blk_base.specs.declared.opened.Opened.{Opened}
+use Rattle.std.proofs.Common.{ℕ, ◌≡◌, List, true, Result, Ok, Err, IfOk, IfErr, IsErrAnd}
 use Rattle.blk_base.specs.declared.place.Lba.{Lba}
 use Rattle.disk_model.specs.Log.{Blocks}
 use Rattle.disk_model.specs.Memory.{Memory, fresh, seen_of}
 use Rattle.disk_model.specs.Seen.{Seen}
 use Rattle.image_model.specs.declared.fault.ImageFault.{ImageFault}
 use Rattle.image_model.specs.declared.fault.ImageFault.TheVariants as image
-use Rattle.crash_images.specs.Shows.{IsPickOf, PickFails, ShowsNothing, ValueFails, image_fault_of, pick_fault_of}
-use Rattle.crash_images.specs.Values.{AreRefused}
+use Rattle.crash_images.specs.Shows.{IsNoPage, IsPickOf, PickFails, ShowsNothing, ValueFails, image_fault_of, pick_fault_of}
+use Rattle.crash_images.specs.Values.{AreRefused, IsNoDamage}
 use Rattle.crash_images.specs.declared.fault.ValueFault.{ValueFault}
 use Rattle.crash_images.specs.declared.fault.ValueFault.TheVariants.{Device, Page, Memory as NoMemory}
+use Rattle.crash_images.specs.declared.maps.ImageMap.{ImageMap}
 
 -- what holds of a fault holds of it where it is passed on
 pub handed_on : {T E : Type 0} (result : Result T E) (Is : E → Type 0) (why : E) → IsErrAnd result (λ e. e ≡ why) → Is why → IfErr result Is
@@ -27,10 +27,16 @@ of_both_faults (Ok x) P Q R so p q = tt
 of_both_faults (Err e) P Q R so p q = so e p q
 
 -- why a value wasn't read, as a fault of the image
-pub value_fails : (start : Opened) (addresses : List Lba) (before now : Seen) (why : ValueFault) → AreRefused start addresses before now why → ValueFails start before now (image_fault_of why)
-value_fails start addresses before now Device refused = refused
-value_fails start addresses before now (Page at fault) (address, has, leads) = (address.0, leads)
-value_fails start addresses before now NoMemory refused = tt
+pub value_fails : (found : ImageMap) (addresses : List Lba) (before now : Seen) (why : ValueFault) → AreRefused found addresses before now why → ValueFails found before now (image_fault_of why)
+value_fails found addresses before now Device refused = refused
+value_fails found addresses before now (Page at fault) (address, has, leads) = (address.0, leads)
+value_fails found addresses before now NoMemory refused = tt
+
+-- no page is damaged then either
+pub no_page_of : (why : ValueFault) → IsNoDamage why → IsNoPage (image_fault_of why)
+no_page_of Device none = tt
+no_page_of (Page at fault) none = absurd none
+no_page_of NoMemory none = tt
 
 -- a picked image that is refused
 pub pick_refused : (disk : Memory) (number : ℕ) (picked : Blocks) (now : Seen) (why : ImageFault) → IsPickOf disk number picked → ShowsNothing true true (seen_of (fresh picked)) now why

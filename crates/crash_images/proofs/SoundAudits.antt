@@ -1,5 +1,5 @@
 -- What an audit says of an honest device whose one image is sound.
-use Rattle.std.proofs.Common.{ℕ, ◌≡◌, ◌⊎◌, Bool, List, [], ◌∷◌, Contains, length, Ok, refl, sym, ◌∙◌, subst, inl, inr}
+use Rattle.std.proofs.Common.{◌≡◌, ◌⊎◌, Bool, List, [], ◌∷◌, Contains, length, Ok, refl, sym, ◌∙◌, subst, inl, inr}
 use Rattle.audit.specs.Audits.{AuditFails, AuditWithFails, IsAudited, IsOpenedTo}
 use Rattle.audit.specs.Reports.{Differs, IsReport}
 use Rattle.audit.specs.declared.forms.Difference.{Difference}

@@ -1,8 +1,9 @@
 -- What an image shows after a stop: its recovery, its audit, and the values of a script's addresses.
-use Rattle.std.specs.Prelude.{ℕ, ◌≡◌, ◌≢◌, ◌⊎◌, Bool, true, List, [], map, Some, Ok, Err}
+use Rattle.std.specs.Prelude.{ℕ, ◌≡◌, ◌⊎◌, Bool, true, List, map, Some, Ok, Err}
 use Rattle.audit.specs.Audits.{AuditFails, IsAudited}
 use Rattle.audit.specs.declared.forms.Report.{Report}
-use Rattle.blk_base.specs.declared.opened.Opened.{Opened}
+use Rattle.blk_base.specs.declared.geometry.Super.{Super}
+use Rattle.blk_base.specs.declared.journal_entry.CommittedEntry.{CommittedEntry}
 use Rattle.command_text.specs.declared.crashes.AddressValue.{AddressValue}
 use Rattle.disk_model.specs.Causes.{Rose}
 use Rattle.disk_model.specs.Log.{Blocks}
@@ -10,28 +11,42 @@ use Rattle.disk_model.specs.Memory.{Memory, fresh, seen_of}
 use Rattle.disk_model.specs.Picks.{IsPicked, counted_log}
 use Rattle.disk_model.specs.Seen.{Seen}
 use Rattle.disk_model.specs.Since.{IsUntouched}
+use Rattle.image_model.specs.Maps.{ArePagesGood}
 use Rattle.image_model.specs.Pages.{leaf_of}
+use Rattle.image_model.specs.Sound.{Opens, image_of}
 use Rattle.image_model.specs.declared.fault.ImageFault.{ImageFault}
 use Rattle.image_model.specs.declared.fault.ImageFault.TheVariants as image
-use Rattle.rebuild.specs.Openings.{IsOpening}
-use Rattle.rebuild.specs.Recoveries.{IsRecovery}
+use Rattle.rebuild.specs.Recoveries.{IsRecovery, IsTold}
 use Rattle.rebuild.specs.declared.forms.Recovered.{Recovered}
 use Rattle.vdo_model.specs.Scripts.{Script}
 use Rattle.crash_images.specs.Addresses.{AreAddresses}
-use Rattle.crash_images.specs.Values.{LeadTo, OfOpened, address_of, value_in}
+use Rattle.crash_images.specs.Maps.{HasNoMap, ShowsMap}
+use Rattle.crash_images.specs.Values.{LinkTo, address_of, value_in}
 use Rattle.crash_images.specs.declared.fault.ValueFault.{ValueFault}
 use Rattle.crash_images.specs.declared.fault.ValueFault.TheVariants as value
+use Rattle.crash_images.specs.declared.maps.ImageMap.{ImageMap}
 use Rattle.crash_images.specs.declared.shown.Shown.{Shown}
 
 -- The values.
 
--- the image was opened, and these are the addresses that the script names, with their values
+-- The image can be opened with this superblock, each of its pages can be read, and these are values by its map, whatever its
+-- counts are.
+pub record HasValues (blocks : Blocks) (head : Super) (values : List AddressValue) : Type 0 where
+  pub last : ℕ
+  pub window : List CommittedEntry
+  pub opens : Opens blocks head last window
+  pub pages : ArePagesGood (image_of head blocks window)
+  pub right : values ≡ map (value_in (image_of head blocks window)) (map address_of values)
+
+-- the map was read, and these are the addresses that the script names, with their values
 pub record AreValues (tells honest : Bool) (script : Script) (before : Seen) (values : List AddressValue) : Type 0 where
-  pub start : Opened
-  pub opened : Seen
-  pub opening : IsOpening tells honest before opened (Ok start)
-  pub named : AreAddresses script start.head.geometry.logical (map address_of values)
-  pub right : OfOpened tells honest opened start (λ image. values ≡ map (value_in image) (map address_of values))
+  -- of any device
+  pub found : ImageMap
+  pub behind : Seen
+  pub read : ShowsMap tells honest before behind found
+  pub named : AreAddresses script found.head.geometry.logical (map address_of values)
+  -- of an honest one, by its one image
+  pub says : (blocks : Blocks) → IsTold tells honest before blocks → HasValues blocks found.head values
 
 -- the fault of a value, as one of an image
 abbrev pub image_fault_of : ValueFault → ImageFault
@@ -39,45 +54,42 @@ image_fault_of value.Device = image.Device
 image_fault_of (value.Page at fault) = image.Page at fault
 image_fault_of value.Memory = image.Memory
 
--- why a value of an image that was opened wasn't read: a read failed; a leaf says no mapping; or there was no memory
-abbrev pub ValueFails : Opened → Seen → Seen → ImageFault → Type 0
-ValueFails start opened now image.Device = Rose opened.faults now.faults
-ValueFails start opened now (image.Page at fault) = (address : ℕ) × LeadTo start.pages.items (leaf_of address) (Some at)
-ValueFails start opened now image.Memory = Unit {0}
-ValueFails start opened now other = ⊥
+-- why a value wasn't read by a map: a read failed; a leaf is damaged; or there was no memory
+abbrev pub ValueFails : ImageMap → Seen → Seen → ImageFault → Type 0
+ValueFails found behind now image.Device = Rose behind.faults now.faults
+ValueFails found behind now (image.Page at fault) = (address : ℕ) × LinkTo found.pages.links.items (leaf_of address) (Some at)
+ValueFails found behind now image.Memory = Unit {0}
+ValueFails found behind now other = ⊥
 
 -- no page is damaged, so it has none of the faults of an image
 abbrev pub IsNoPage : ImageFault → Type 0
 IsNoPage (image.Page at fault) = ⊥
 IsNoPage other = Unit {0}
 
--- the image was opened, and a value wasn't read
+-- the map was read, and a value wasn't
 pub record HasNoValue (tells honest : Bool) (before now : Seen) (why : ImageFault) : Type 0 where
-  pub start : Opened
-  pub opened : Seen
-  pub opening : IsOpening tells honest before opened (Ok start)
-  pub cause : ValueFails start opened now why
-  pub undamaged : OfOpened tells honest opened start (λ image. IsNoPage why)
+  -- of any device
+  pub found : ImageMap
+  pub behind : Seen
+  pub read : ShowsMap tells honest before behind found
+  pub cause : ValueFails found behind now why
+  -- of an honest one
+  pub undamaged : (blocks : Blocks) → IsTold tells honest before blocks → IsNoPage why
 
--- why there are no values: the image wasn't opened; or it was
+-- why there are no values: there is no map; or it was read
 abbrev pub ValuesFail : Bool → Bool → Seen → Seen → ImageFault → Type 0
-ValuesFail tells honest before now why = IsOpening tells honest before now (Err why) ⊎ HasNoValue tells honest before now why
+ValuesFail tells honest before now why = HasNoMap tells honest before now why ⊎ HasNoValue tells honest before now why
 
 -- The whole.
 
--- the values stand there where no block differs
-abbrev pub ShowsValues : Bool → Bool → Script → Seen → Report → List AddressValue → Type 0
-ShowsValues tells honest script before report values =
-    ((report.differs.items ≡ []) × AreValues tells honest script before values) ⊎ ((report.differs.items ≢ []) × (values ≡ []))
-
--- a device was recovered and audited, and then the values were read
+-- a device was recovered and audited, and then the values were read, whatever blocks differ
 pub record IsShown (tells honest : Bool) (script : Script) (before : Seen) (shown : Shown) : Type 0 where
   pub middle : Seen
   pub recovery : IsRecovery tells honest before middle (Ok shown.recovery)
   pub behind : Seen
   pub audited : IsAudited tells honest middle behind shown.audit
   pub untouched : IsUntouched tells middle behind
-  pub values : ShowsValues tells honest script behind shown.audit shown.values.items
+  pub values : AreValues tells honest script behind shown.values.items
 
 -- it was recovered, and its audit was refused
 pub record IsNotAudited (tells honest : Bool) (before now : Seen) (why : ImageFault) : Type 0 where

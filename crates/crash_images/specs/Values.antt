@@ -1,48 +1,26 @@
--- The values that addresses have on an image that was opened.
-use Rattle.std.specs.Prelude.{ℕ, ◌≡◌, ◌⊎◌, Bool, Option, Some, None, List, [], Contains, slice_index_or}
-use Rattle.blk_base.specs.declared.geometry.Geometry.{Geometry}
-use Rattle.blk_base.specs.declared.opened.Opened.{Opened}
-use Rattle.blk_base.specs.declared.opened.OpenedPage.{OpenedPage}
+-- The values that addresses have on an image whose map was read.
+use Rattle.std.specs.Prelude.{ℕ, ◌≡◌, Option, Some, None, List, Contains}
 use Rattle.blk_base.specs.declared.place.Lba.{Lba}
-use Rattle.blk_base.specs.declared.place.Mapping.TheVariants.{Unmapped}
 use Rattle.blk_base.specs.declared.place.PageId.{PageId}
 use Rattle.blk_base.specs.declared.place.Pbn.{Pbn}
-use Rattle.blk_base.specs.Pages.{above, slot_of}
 use Rattle.command_text.specs.declared.crashes.AddressValue.{AddressValue}
 use Rattle.disk_model.specs.Causes.{Rose}
-use Rattle.disk_model.specs.Log.{Blocks}
 use Rattle.disk_model.specs.Seen.{Seen}
-use Rattle.image_model.specs.Maps.{Image, image_with, target_of, value_of}
+use Rattle.image_model.specs.Maps.{Image, value_of}
 use Rattle.image_model.specs.Pages.{leaf_of}
-use Rattle.image_model.specs.Sound.{IsSound}
-use Rattle.page_codec.specs.declared.forms.PageHead.{PageHead}
-use Rattle.rebuild.specs.Openings.{OpensRight}
-use Rattle.rebuild.specs.Recoveries.{IsTold}
+use Rattle.replay_map.specs.declared.links.Link.{Link}
 use Rattle.crash_images.specs.declared.fault.ValueFault.{ValueFault}
 use Rattle.crash_images.specs.declared.fault.ValueFault.TheVariants.{Device, Page, Memory}
+use Rattle.crash_images.specs.declared.maps.ImageMap.{ImageMap}
 
--- By the pages that are no leaves.
+-- By the links.
 
--- these blocks as an image of the sizes that were opened, with nothing in its window
-abbrev pub opened_in : Opened → Blocks → Image
-opened_in opened blocks = image_with opened.head.geometry blocks []
+-- a page stands at this block, by one of these links; or none of them is of it
+abbrev pub LinkTo : List Link → PageId → Option Pbn → Type 0
+LinkTo links page (Some at) = Contains links (record { page = page; at = at })
+LinkTo links page None = (other : Link) → Contains links other → other.page ≡ page → ⊥
 
--- which page the leaf of an address is, at this block
-abbrev pub leaf_head : Geometry → ℕ → Pbn → PageHead
-leaf_head g address at = record { geometry = g; page = leaf_of address; at = at }
-
--- the block to which the page above another one leads for that; none where it leads to none, or isn't among these pages
-abbrev pub LeadTo : List OpenedPage → PageId → Option Pbn → Type 0
-LeadTo pages page found =
-    ((parent : OpenedPage) × Contains pages parent × (parent.page ≡ above page) × (found ≡ target_of (slice_index_or parent.mappings (slot_of page) Unmapped)))
-    ⊎ ((found ≡ None) × ((other : OpenedPage) → Contains pages other → other.page ≡ above page → ⊥))
-
--- Of an honest device.
-
--- something is said of an honest device whose one image, the index aside, is sound, and was opened with this
-abbrev pub OfOpened : Bool → Bool → Seen → Opened → (Image → Type 0) → Type 0
-OfOpened tells honest before opened Says =
-    (blocks : Blocks) → IsTold tells honest before blocks → IsSound blocks → OpensRight blocks opened → Says (opened_in opened blocks)
+-- Of an image.
 
 -- an address with its value
 abbrev pub value_in : Image → Lba → AddressValue
@@ -61,13 +39,13 @@ IsNoDamage (Page at fault) = ⊥
 IsNoDamage Memory = Unit {0}
 
 -- of one address: the device's count of faults rose; or its leaf is the page at this block
-abbrev pub IsRefused : Opened → ℕ → Seen → Seen → ValueFault → Type 0
-IsRefused opened address before now Device = Rose before.faults now.faults
-IsRefused opened address before now (Page at fault) = LeadTo opened.pages.items (leaf_of address) (Some at)
-IsRefused opened address before now Memory = ⊥
+abbrev pub IsRefused : ImageMap → ℕ → Seen → Seen → ValueFault → Type 0
+IsRefused map address before now Device = Rose before.faults now.faults
+IsRefused map address before now (Page at fault) = LinkTo map.pages.links.items (leaf_of address) (Some at)
+IsRefused map address before now Memory = ⊥
 
 -- of these addresses: one of them is refused so, or there was no memory
-abbrev pub AreRefused : Opened → List Lba → Seen → Seen → ValueFault → Type 0
-AreRefused opened addresses before now Device = Rose before.faults now.faults
-AreRefused opened addresses before now (Page at fault) = (address : Lba) × Contains addresses address × LeadTo opened.pages.items (leaf_of address.0) (Some at)
-AreRefused opened addresses before now Memory = Unit {0}
+abbrev pub AreRefused : ImageMap → List Lba → Seen → Seen → ValueFault → Type 0
+AreRefused map addresses before now Device = Rose before.faults now.faults
+AreRefused map addresses before now (Page at fault) = (address : Lba) × Contains addresses address × LinkTo map.pages.links.items (leaf_of address.0) (Some at)
+AreRefused map addresses before now Memory = Unit {0}

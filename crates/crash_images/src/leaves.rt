@@ -1,10 +1,10 @@
 ghost use Rattle.std.specs.Prelude.{◌≡◌, ◌<◌};
 ghost use Rattle.blk_base.specs.declared.sizes.TheConstants.{PAGE_SLOTS as SLOTS};
-ghost use Rattle.image_model.specs.Maps.{target_of};
 ghost use Rattle.image_model.specs.Pages.{leaf_of, slot_of_address};
-ghost use Rattle.crash_images.specs.Values.{LeadTo};
+ghost use Rattle.crash_images.specs.Values.{LinkTo};
 
-use blk_base::{Lba, Mapping, OpenedPage, PAGE_SLOTS, PageId, Pbn, TREES};
+use blk_base::{Lba, PAGE_SLOTS, PageId, Pbn, TREES};
+use replay_map::Link;
 
 // The leaf of an address.
 pub(crate) fn leaf_of(at: Lba) -> PageId
@@ -26,26 +26,14 @@ pub(crate) fn slot_of_address(at: Lba) -> u16
     (at.0 % u32::from(PAGE_SLOTS)) as u16
 }
 
-// The block to which the page above another one leads for that, where it is among these.
-pub(crate) fn find_block(pages: &[OpenedPage], page: PageId) -> Option<Pbn>
-    requires { page.level < 255 }
-    ensures { LeadTo pages.now page result }
+// The block at which a page stands, by these links.
+pub(crate) fn find_block(links: &[Link], page: PageId) -> Option<Pbn>
+    ensures { LinkTo links.now page result }
 {
-    let above = page.parent();
-    for opened in pages {
-        if opened.page == above {
-            return target_of(opened.mappings.get(page.parent_slot()));
+    for link in links {
+        if link.page == page {
+            return Some(link.at);
         }
     }
     None
-}
-
-// The block that a mapping leads to.
-fn target_of(mapping: Mapping) -> Option<Pbn>
-    ensures { result ≡ target_of mapping }
-{
-    match mapping {
-        Mapping::At(block) => Some(block),
-        Mapping::Zero | Mapping::Unmapped => None,
-    }
 }

@@ -1,11 +1,12 @@
 //! What a crash is tried on, and what it shows: a copy of a device in memory, which is cut off behind its first calls, the
 //! addresses that a script names, and the recovery, the audit and the values of an image that is picked there.
 //!
-//! The values are those of an honest device's image where that is sound and was opened so (`specs/Values`, `OfOpened`):
-//! then nothing is left in its window, and each of its leaves says its mappings. Of any other only the reasons are told
-//! for which no value was read.
+//! The values are those of an honest device's one image, by its map with what its window leaves (`specs/Shows`, `HasValues`),
+//! whatever its counts are: so where blocks differ too. Where it has neither a damaged page nor a count that leaves its range,
+//! nothing but a read that failed, or want of memory, stands in their way (`an_audited_image_has_its_values`).
 //!
-//! Only tested: the addresses of one script, and their values on a copy of one image.
+//! Only tested: the addresses of one script, and their values on copies of two images, one of them with a window and with
+//! counts that are wrong.
 //!
 #![tactic(auto)]
 
@@ -15,6 +16,7 @@ mod cut;
 mod fault;
 mod laws;
 mod leaves;
+mod maps;
 mod shown;
 mod values;
 
@@ -24,7 +26,8 @@ pub use cut::CutDisk;
 pub use fault::ValueFault;
 pub use laws::{
     a_cut_off_device_keeps_its_calls, a_sound_image_passes_its_audit,
-    an_opened_image_has_its_values,
+    an_audited_image_has_its_values,
 };
+pub use maps::{ImageMap, read_map};
 pub use shown::{Shown, show, show_pick};
 pub use values::{value_at, values_of};

@@ -1,17 +1,16 @@
 ghost use Rattle.std.specs.Prelude.{◌≡◌, ◌≤◌, ◌<◌, ◌^◌, IfOk, IfErr, length, map};
 ghost use Rattle.blk_base.specs.Regions.{needed_blocks};
-ghost use Rattle.rebuild.specs.Openings.{Fits};
 ghost use Rattle.crash_images.specs.Addresses.{AreAddresses};
+ghost use Rattle.crash_images.specs.Maps.{Fits, OfMap};
 ghost use Rattle.crash_images.specs.Shows.{AreValues, IsNoPage, IsPickShown, IsShown, PickFails, ShowsNothing, ValueFails, ValuesFail, image_fault_of, pick_fault_of};
-ghost use Rattle.crash_images.specs.Values.{OfOpened, address_of, value_in};
+ghost use Rattle.crash_images.specs.Values.{address_of, value_in};
 
-use crate::{ValueFault, addresses_of, values_of};
+use crate::{ImageMap, ValueFault, addresses_of, read_map, values_of};
 use audit::{Report, audit};
-use blk_base::Opened;
 use command_text::AddressValue;
 use disk_model::{Disk, MemDisk};
 use image_model::ImageFault;
-use rebuild::{Recovered, open_clean, recover};
+use rebuild::{Recovered, recover};
 use std::alloc::Global;
 use vdo_model::Requests;
 
@@ -20,7 +19,7 @@ use vdo_model::Requests;
 pub struct Shown {
     pub recovery: Recovered,
     pub audit: Report,
-    /// The values of the addresses that a script names below the logical size, rising; none where blocks differ.
+    /// The values of the addresses that a script names below the logical size, rising.
     pub values: Vec<AddressValue>,
 }
 
@@ -35,37 +34,37 @@ fn image_fault_of(why: ValueFault) -> ImageFault
     }
 }
 
-// The values of the addresses that a script names, on an image that was opened.
+// The values of the addresses that a script names, by a map that was read.
 fn values_in<D: Disk>(
     alloc: Global,
     device: &mut D,
-    start: &Opened,
+    found: &ImageMap,
     requests: &Requests,
 ) -> Result<Vec<AddressValue>, ImageFault>
     requires few { length requests.now ≤ 256 }
-    requires fits { Fits start.now }
-    requires room { needed_blocks start.now.head.geometry ≤ (D.seen device.old).size }
+    requires fits { Fits found.now }
+    requires room { needed_blocks found.now.head.geometry ≤ (D.seen device.old).size }
     ensures named { IfOk result (λ values.
-        AreAddresses requests.now start.now.head.geometry.logical
+        AreAddresses requests.now found.now.head.geometry.logical
         (map address_of values.items)) }
     ensures right { IfOk result (λ values.
-        OfOpened D.tells D.honest (D.seen device.old) start.now
+        OfMap D.tells D.honest (D.seen device.old) found.now
         (λ image. values.items ≡ map (value_in image) (map address_of values.items))) }
     ensures fault { IfErr result
-        (ValueFails start.now (D.seen device.old) (D.seen device.new)) }
+        (ValueFails found.now (D.seen device.old) (D.seen device.new)) }
     ensures undamaged { IfErr result (λ why.
-        OfOpened D.tells D.honest (D.seen device.old) start.now (λ image. IsNoPage why)) }
+        OfMap D.tells D.honest (D.seen device.old) found.now (λ image. IsNoPage why)) }
 {
-    let Ok(addresses) = addresses_of(alloc, requests, start.head.geometry.logical) else {
+    let Ok(addresses) = addresses_of(alloc, requests, found.head.geometry.logical) else {
         return Err(ImageFault::Memory);
     };
-    match values_of(alloc, device, start, &addresses) {
+    match values_of(alloc, device, found, &addresses) {
         Ok(values) => Ok(values),
         Err(why) => Err(image_fault_of(why)),
     }
 }
 
-// Opens a closed image, and reads the values of the addresses that a script names.
+// Reads the map of an image, and by it the values of the addresses that a script names.
 fn read_values<D: Disk>(
     alloc: Global,
     device: &mut D,
@@ -77,12 +76,12 @@ fn read_values<D: Disk>(
     ensures fault { IfErr result
         (ValuesFail D.tells D.honest (D.seen device.old) (D.seen device.new)) }
 {
-    let start = open_clean(alloc, device)?;
-    values_in(alloc, device, &start, requests)
+    let found = read_map(alloc, device)?;
+    values_in(alloc, device, &found, requests)
 }
 
-/// Recovers the image on a device where its last session wasn't closed, audits it, and, where no block differs, opens it and
-/// reads the values of the addresses that a script names. The script has at most 256 streams.
+/// Recovers the image on a device where its last session wasn't closed, audits it, and reads the values of the addresses that a
+/// script names, by its map, also where blocks differ. The script has at most 256 streams.
 ///
 /// It fails with the first fault that one of these finds.
 pub fn show<D: Disk>(
@@ -99,11 +98,7 @@ pub fn show<D: Disk>(
 {
     let recovery = recover(alloc, device)?;
     let audit = audit(alloc, device)?;
-    let values = if audit.differs.is_empty() {
-        read_values(alloc, device, requests)?
-    } else {
-        Vec::new(alloc)
-    };
+    let values = read_values(alloc, device, requests)?;
     Ok(Shown {
         recovery,
         audit,

@@ -4,16 +4,17 @@ ghost use Rattle.disk_model.specs.Causes.{HasCause};
 ghost use Rattle.disk_model.specs.Since.{IsUntouched};
 ghost use Rattle.image_model.specs.Maps.{mapping_of, value_of, value_with};
 ghost use Rattle.image_model.specs.Pages.{leaf_of};
-ghost use Rattle.page_codec.specs.Grammar.{HoldsMapping};
-ghost use Rattle.rebuild.specs.Openings.{Fits};
-ghost use Rattle.crash_images.specs.Values.{AreRefused, IsNoDamage, IsRefused, LeadTo, OfOpened, address_of, value_in};
+ghost use Rattle.image_model.specs.Windows.{LeadsToData};
+ghost use Rattle.crash_images.specs.Maps.{Fits, OfMap};
+ghost use Rattle.crash_images.specs.Values.{AreRefused, IsNoDamage, IsRefused, LinkTo, address_of, value_in};
 
-use crate::ValueFault;
 use crate::leaves::{find_block, leaf_of, slot_of_address};
-use blk_base::{Block, Lba, Mapping, Opened, Pbn};
+use crate::{ImageMap, ValueFault};
+use blk_base::{Block, Lba, Mapping, Mappings, Pbn};
 use command_text::AddressValue;
 use disk_model::{Disk, Failed, read_block};
-use page_codec::{PageHead, slot};
+use page_codec::PageHead;
+use replay_map::read_page;
 use std::alloc::Global;
 
 /// The bytes at each of these addresses, as [`value_at`] reads them, in their order. Nothing is written.
@@ -22,72 +23,72 @@ use std::alloc::Global;
 pub fn values_of<D: Disk>(
     alloc: Global,
     device: &mut D,
-    opened: &Opened,
+    found: &ImageMap,
     addresses: &[Lba],
 ) -> Result<Vec<AddressValue>, ValueFault>
-    requires fits { Fits opened.now }
-    requires room { needed_blocks opened.now.head.geometry ≤ (D.seen device.old).size }
+    requires fits { Fits found.now }
+    requires room { needed_blocks found.now.head.geometry ≤ (D.seen device.old).size }
     ensures addresses { IfOk result (λ values. map address_of values.items ≡ addresses.now) }
     ensures values { IfOk result (λ values.
-        OfOpened D.tells D.honest (D.seen device.old) opened.now
+        OfMap D.tells D.honest (D.seen device.old) found.now
         (λ image. values.items ≡ map (value_in image) addresses.now)) }
     ensures refused { IfErr result
-        (AreRefused opened.now addresses.now (D.seen device.old) (D.seen device.new)) }
+        (AreRefused found.now addresses.now (D.seen device.old) (D.seen device.new)) }
     ensures undamaged { IfErr result (λ why.
-        OfOpened D.tells D.honest (D.seen device.old) opened.now (λ image. IsNoDamage why)) }
+        OfMap D.tells D.honest (D.seen device.old) found.now (λ image. IsNoDamage why)) }
     ensures untouched { IsUntouched D.tells (D.seen device.old) (D.seen device.new) }
 {
     let Ok(mut values) = Vec::with_capacity(alloc, addresses.len()) else {
         return Err(ValueFault::Memory);
     };
     for at in addresses {
-        let block = value_at(device, opened, *at)?;
+        let block = value_at(device, found, *at)?;
         values.push_reserved(AddressValue { at: *at, block });
     }
     Ok(values)
 }
 
-/// The bytes at an address of an image that was opened on this device; zeros where nothing is mapped. It reads the leaf of the
-/// address, where that is linked, and the block that this maps it to, and writes nothing. The address need not be below the
-/// logical size.
+/// The bytes at an address of an image with this map, which was read from this device; zeros where nothing is mapped. It reads
+/// the leaf of the address, where that is linked, and the block that this maps it to, and writes nothing. The address need not
+/// be below the logical size. It takes a time that grows with the linked pages.
 ///
-/// `Device` where a read failed, which the device's count of faults shows, and `Page` where the leaf says no mapping: not on
-/// an image that is sound, and was opened so. `Memory` never comes.
-pub fn value_at<D: Disk>(device: &mut D, opened: &Opened, at: Lba) -> Result<Block, ValueFault>
-    requires fits { Fits opened.now }
-    requires room { needed_blocks opened.now.head.geometry ≤ (D.seen device.old).size }
+/// `Device` where a read failed, which the device's count of faults shows, and `Page` where the leaf can't be read: not on
+/// an image that has this map. `Memory` never comes.
+pub fn value_at<D: Disk>(device: &mut D, found: &ImageMap, at: Lba) -> Result<Block, ValueFault>
+    requires fits { Fits found.now }
+    requires room { needed_blocks found.now.head.geometry ≤ (D.seen device.old).size }
     ensures value { IfOk result (λ block.
-        OfOpened D.tells D.honest (D.seen device.old) opened.now
+        OfMap D.tells D.honest (D.seen device.old) found.now
         (λ image. block ≡ value_of image at.0)) }
     ensures refused { IfErr result
-        (IsRefused opened.now at.0 (D.seen device.old) (D.seen device.new)) }
+        (IsRefused found.now at.0 (D.seen device.old) (D.seen device.new)) }
     ensures undamaged { IfErr result (λ why.
-        OfOpened D.tells D.honest (D.seen device.old) opened.now (λ image. IsNoDamage why)) }
+        OfMap D.tells D.honest (D.seen device.old) found.now (λ image. IsNoDamage why)) }
     ensures untouched { IsUntouched D.tells (D.seen device.old) (D.seen device.new) }
 {
-    let mapping = read_mapping(device, opened, at)?;
-    match read_mapped(device, opened, mapping) {
+    let mapping = read_mapping(device, found, at)?;
+    match read_mapped(device, found, mapping) {
         Ok(block) => Ok(block),
         Err(Failed) => Err(ValueFault::Device),
     }
 }
 
 // What an address is mapped to: its leaf is read, where it is linked.
-fn read_mapping<D: Disk>(device: &mut D, opened: &Opened, at: Lba) -> Result<Mapping, ValueFault>
-    requires fits { Fits opened.now }
-    requires room { needed_blocks opened.now.head.geometry ≤ (D.seen device.old).size }
+fn read_mapping<D: Disk>(device: &mut D, found: &ImageMap, at: Lba) -> Result<Mapping, ValueFault>
+    requires fits { Fits found.now }
+    requires room { needed_blocks found.now.head.geometry ≤ (D.seen device.old).size }
     ensures mapping { IfOk result (λ mapping.
-        OfOpened D.tells D.honest (D.seen device.old) opened.now
+        OfMap D.tells D.honest (D.seen device.old) found.now
         (λ image. mapping ≡ mapping_of image at.0)) }
-    ensures held { IfOk result (HoldsMapping opened.now.head.geometry 0) }
+    ensures data { IfOk result (LeadsToData found.now.head.geometry) }
     ensures refused { IfErr result
-        (IsRefused opened.now at.0 (D.seen device.old) (D.seen device.new)) }
+        (IsRefused found.now at.0 (D.seen device.old) (D.seen device.new)) }
     ensures undamaged { IfErr result (λ why.
-        OfOpened D.tells D.honest (D.seen device.old) opened.now (λ image. IsNoDamage why)) }
+        OfMap D.tells D.honest (D.seen device.old) found.now (λ image. IsNoDamage why)) }
     ensures untouched { IsUntouched D.tells (D.seen device.old) (D.seen device.new) }
 {
-    match find_block(&opened.pages, leaf_of(at)) {
-        Some(leaf) => read_slot(device, opened, at, leaf),
+    match find_block(&found.pages.links, leaf_of(at)) {
+        Some(leaf) => read_slot(device, found, at, leaf),
         None => Ok(Mapping::Unmapped),
     }
 }
@@ -95,43 +96,44 @@ fn read_mapping<D: Disk>(device: &mut D, opened: &Opened, at: Lba) -> Result<Map
 // What the leaf of an address, which stands at this block, maps it to.
 fn read_slot<D: Disk>(
     device: &mut D,
-    opened: &Opened,
+    found: &ImageMap,
     at: Lba,
     leaf: Pbn,
 ) -> Result<Mapping, ValueFault>
-    requires fits { Fits opened.now }
-    requires room { needed_blocks opened.now.head.geometry ≤ (D.seen device.old).size }
-    requires leaf { LeadTo opened.now.pages.items (leaf_of at.0) (Some leaf) }
+    requires fits { Fits found.now }
+    requires room { needed_blocks found.now.head.geometry ≤ (D.seen device.old).size }
+    requires leaf { LinkTo found.now.pages.links.items (leaf_of at.0) (Some leaf) }
     ensures mapping { IfOk result (λ mapping.
-        OfOpened D.tells D.honest (D.seen device.old) opened.now
+        OfMap D.tells D.honest (D.seen device.old) found.now
         (λ image. mapping ≡ mapping_of image at.0)) }
-    ensures held { IfOk result (HoldsMapping opened.now.head.geometry 0) }
+    ensures data { IfOk result (LeadsToData found.now.head.geometry) }
     ensures refused { IfErr result
-        (IsRefused opened.now at.0 (D.seen device.old) (D.seen device.new)) }
+        (IsRefused found.now at.0 (D.seen device.old) (D.seen device.new)) }
     ensures undamaged { IfErr result (λ why.
-        OfOpened D.tells D.honest (D.seen device.old) opened.now (λ image. IsNoDamage why)) }
+        OfMap D.tells D.honest (D.seen device.old) found.now (λ image. IsNoDamage why)) }
     ensures untouched { IsUntouched D.tells (D.seen device.old) (D.seen device.new) }
 {
     let Ok(bytes) = read_block(device, leaf) else {
         return Err(ValueFault::Device);
     };
     let head = PageHead {
-        geometry: opened.head.geometry,
+        geometry: found.head.geometry,
         page: leaf_of(at),
         at: leaf,
     };
-    match slot(&bytes, &head, slot_of_address(at)) {
-        Ok(mapping) => Ok(mapping),
+    let mut mappings = Mappings::new();
+    match read_page(&bytes, &head, &found.changes, &mut mappings) {
+        Ok(()) => Ok(mappings.get(slot_of_address(at))),
         Err(fault) => Err(ValueFault::Page { at: leaf, fault }),
     }
 }
 
 // The bytes that a leaf of the image maps an address to.
-fn read_mapped<D: Disk>(device: &mut D, opened: &Opened, mapping: Mapping) -> Result<Block, Failed>
-    requires held { HoldsMapping opened.now.head.geometry 0 mapping }
-    requires room { needed_blocks opened.now.head.geometry ≤ (D.seen device.old).size }
+fn read_mapped<D: Disk>(device: &mut D, found: &ImageMap, mapping: Mapping) -> Result<Block, Failed>
+    requires data { LeadsToData found.now.head.geometry mapping }
+    requires room { needed_blocks found.now.head.geometry ≤ (D.seen device.old).size }
     ensures value { IfOk result (λ block.
-        OfOpened D.tells D.honest (D.seen device.old) opened.now
+        OfMap D.tells D.honest (D.seen device.old) found.now
         (λ image. block ≡ value_with image.blocks mapping)) }
     ensures cause { HasCause (D.seen device.old).faults (D.seen device.new).faults result }
     ensures untouched { IsUntouched D.tells (D.seen device.old) (D.seen device.new) }

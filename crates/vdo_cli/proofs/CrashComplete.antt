@@ -1,17 +1,16 @@
 -- Where nothing failed, a crash tells what it shows, or memory ran out.
 use Rattle.std.proofs.Common.{ℕ, ◌≡◌, ◌⊎◌, ◌≤◌, true, IsTrue, List, length, Option, Some, None, Ok, Err, refl, sym, ◌∙◌, ap, subst, inl, inr, arith}
-use Rattle.blk_base.specs.declared.geometry.Super.{Super}
+use Rattle.crash_images.proofs.AuditedValues.{values_refused}
 use Rattle.crash_images.proofs.SoundAudits.{audit_refused}
-use Rattle.crash_images.specs.Shows.{HasNoValue, IsPickRefused, PickFails, ShowsNothing, ValuesFail}
+use Rattle.crash_images.specs.Shows.{IsPickRefused, PickFails, ShowsNothing}
 use Rattle.disk_model.specs.Log.{Blocks}
 use Rattle.disk_model.specs.Memory.{Memory, fresh, seen_of}
-use Rattle.disk_model.specs.Seen.{Seen}
+use Rattle.disk_model.specs.Seen.{Seen, Stays}
 use Rattle.image_model.proofs.FaultLaws.{no_fault}
 use Rattle.image_model.specs.Faults.{IsImageFault}
 use Rattle.image_model.specs.Sound.{IsSound}
 use Rattle.image_model.specs.declared.fault.ImageFault.{ImageFault}
 use Rattle.image_model.specs.declared.fault.ImageFault.TheVariants as image
-use Rattle.rebuild.specs.Openings.{IsOpeningRefusal}
 use Rattle.rebuild.specs.Recoveries.{IsRecovery, IsTold}
 use Rattle.stream_text.specs.WholeScript.{whole_script}
 use Rattle.vdo_model.specs.Scripts.{Script}
@@ -31,7 +30,6 @@ use Rattle.vdo_cli.specs.Outsides.{Outcome, Outside, Setting, input_setting_of, 
 use Rattle.vdo_cli.specs.Runs.{EndsAs, EndsSo}
 use Rattle.vdo_cli.specs.Texts.{fault_status}
 use Rattle.vdo_cli.proofs.CrashLaws.{left, picked_sound, picked_told, shows_sound}
-use Rattle.vdo_cli.proofs.RecoveredImages.{IsLeft, still_told}
 
 -- A sound image is refused for no fault of its own.
 
@@ -56,47 +54,17 @@ module _ (picked : Blocks) (own : IsSound picked) (told : IsTold true true (seen
   not_recovered now image.Device is = inl refl
   not_recovered now image.Memory is = inr refl
 
-  module _ (middle : Seen) (after : IsLeft picked own true true middle) where
-    not_opened : (before now : Seen) (why : ImageFault) → IsOpeningRefusal after.left before now why → OfNoImage why
-    not_opened before now (image.Super fault) refused = of_image after.left after.is_sound (image.Super fault) (λ same. absurd (cc same)) refused
-    not_opened before now (image.Window n) refused = of_image after.left after.is_sound (image.Window n) (λ same. absurd (cc same)) refused.1
-    not_opened before now (image.Page at fault) refused = of_image after.left after.is_sound (image.Page at fault) (λ same. absurd (cc same)) refused.1
-    not_opened before now (image.Counter at point) refused = of_image after.left after.is_sound (image.Counter at point) (λ same. absurd (cc same)) refused.1
-    not_opened before now (image.SharedPage at) refused = of_image after.left after.is_sound (image.SharedPage at) (λ same. absurd (cc same)) refused.1
-    not_opened before now (image.Counts at stored mapped) refused = of_image after.left after.is_sound (image.Counts at stored mapped) (λ same. absurd (cc same)) refused.1
-    not_opened before now image.Unclean refused =
-        let both : Ok after.is_sound.head ≡ Ok refused.0 = sym after.is_sound.opens.accepted ∙ refused.1 in
-        let same : after.is_sound.head ≡ refused.0 = cc both in
-        let clean = ap (λ (h : Super). h.clean) (sym same) ∙ after.clean in
-        absurd (cc (clean, refused.2))
-    not_opened before now image.Device refused = inl refl
-    not_opened before now image.Memory refused = inr refl
-
-    module _ (before now : Seen) (there : IsTold true true before after.left) where
-      no_value : (why : ImageFault) → HasNoValue true true before now why → OfNoImage why
-      no_value image.Device lacks = inl refl
-      no_value image.Memory lacks = inr refl
-      no_value (image.Page at fault) lacks =
-          absurd (lacks.undamaged after.left (still_told true true before lacks.opened after.left there lacks.opening.untouched) after.is_sound (lacks.opening.says after.left there))
-      no_value (image.Super fault) lacks = absurd lacks.cause
-      no_value (image.Window n) lacks = absurd lacks.cause
-      no_value (image.Counter at point) lacks = absurd lacks.cause
-      no_value (image.SharedPage at) lacks = absurd lacks.cause
-      no_value (image.Counts at stored mapped) lacks = absurd lacks.cause
-      no_value image.Unclean lacks = absurd lacks.cause
-
-      no_values : (why : ImageFault) → ValuesFail true true before now why → OfNoImage why
-      no_values why (inl opening) = not_opened before now why (opening.says after.left there)
-      no_values why (inr lacks) = no_value why lacks
+  same_size : (middle : Seen) → Stays made middle → length middle.opening ≡ middle.size
+  same_size middle stays = ap (λ (blocks : Blocks). length blocks) stays.opening ∙ sym stays.size
 
   shows_nothing : (now : Seen) (why : ImageFault) → ShowsNothing true true made now why → OfNoImage why
   shows_nothing now why (inl recovery) = not_recovered now why recovery
   shows_nothing now why (inr (inl lacks)) =
       let after = left picked own told lacks.middle lacks.found lacks.recovery in
-      audit_refused true true lacks.middle after.left after.is_told after.is_sound now why (ap (λ (blocks : Blocks). length blocks) lacks.recovery.stays.opening ∙ sym lacks.recovery.stays.size) lacks.cause
+      audit_refused true true lacks.middle after.left after.is_told after.is_sound now why (same_size lacks.middle lacks.recovery.stays) lacks.cause
   shows_nothing now why (inr (inr lacks)) =
       let after = left picked own told lacks.middle lacks.found lacks.recovery in
-      no_values lacks.middle after lacks.behind now (still_told true true lacks.middle lacks.behind after.left after.is_told lacks.untouched) why lacks.cause
+      values_refused true true lacks.middle lacks.behind now after.left lacks.report why after.is_told (same_size lacks.middle lacks.recovery.stays) lacks.audited lacks.untouched lacks.cause
 
 -- The whole.
 

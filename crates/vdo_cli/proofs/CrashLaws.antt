@@ -2,16 +2,14 @@
 use Rattle.std.proofs.Common.{ℕ, ◌≡◌, ◌++◌, true, List, [], ◌∷◌, map, Ok, refl, sym, ◌∙◌, ap, ap₂, subst, inl, inr, arith}
 use Rattle.std.proofs.lemmas.List.{append-nil}
 use Rattle.blk_base.specs.declared.geometry.Geometry.{Geometry}
-use Rattle.blk_base.specs.declared.geometry.Super.{Super}
-use Rattle.blk_base.specs.declared.opened.Opened.{Opened}
 use Rattle.blk_base.specs.declared.place.Lba.{Lba}
 use Rattle.command_text.specs.declared.crashes.AddressValue.{AddressValue}
+use Rattle.crash_images.proofs.AuditedValues.{sound_values}
 use Rattle.crash_images.proofs.CutLaws.{counted_behind}
 use Rattle.crash_images.proofs.SoundAudits.{no_difference}
-use Rattle.crash_images.proofs.ValueLaws.{opened_values}
 use Rattle.crash_images.specs.Addresses.{AreAddresses}
 use Rattle.crash_images.specs.Shows.{AreValues, IsPickOf, IsPickShown, IsShown}
-use Rattle.crash_images.specs.Values.{address_of, opened_in, value_in}
+use Rattle.crash_images.specs.Values.{address_of, value_in}
 use Rattle.crash_images.specs.declared.shown.Shown.{Shown}
 use Rattle.disk_model.proofs.LookedLaws.{one_in-all}
 use Rattle.disk_model.proofs.OneImageLaws.{one_image-opening}
@@ -24,7 +22,6 @@ use Rattle.disk_model.specs.Picks.{counted_log}
 use Rattle.disk_model.specs.Seen.{Seen}
 use Rattle.image_model.specs.Looked.{looked_in}
 use Rattle.image_model.specs.Sound.{IsSound}
-use Rattle.rebuild.specs.Openings.{OpensRight}
 use Rattle.rebuild.specs.Recoveries.{IsRecovery, IsTold}
 use Rattle.rebuild.specs.declared.forms.Recovered.{Recovered}
 use Rattle.recovery_laws.specs.Kept.{image_in}
@@ -35,7 +32,6 @@ use Rattle.vdo_cli.specs.Crashes.{IsCrashTold, IsNotServed, IsServed, IsServedOr
 use Rattle.vdo_cli.specs.Openings.{HasSequencesLeft}
 use Rattle.vdo_cli.specs.Outsides.{Outcome, Outside, Setting, input_setting_of, inputs_of}
 use Rattle.vdo_cli.proofs.OnwardLaws.{not_ready}
-use Rattle.vdo_cli.proofs.OpenedSessions.{head_of_sound}
 use Rattle.vdo_cli.proofs.RecoveredImages.{IsLeft, left_by, still_told, unready_kept}
 
 -- The image that was picked.
@@ -90,42 +86,29 @@ module _ (picked : Blocks) (own : IsSound picked) (told : IsTold true true (seen
   module _ (middle : Seen) (after : IsLeft picked own true true middle) where
     -- values that were read of the image are its values
     module _ (script : Script) (now : Seen) (there : IsTold true true now after.left) (values : List AddressValue) (are : AreValues true true script now values) where
-      abbrev start : Opened
-      start = are.start
+      right : AreAddresses script after.is_sound.head.geometry.logical (map address_of values) × (values ≡ map (value_in (image_in after.left after.is_sound)) (map address_of values))
+      right = sound_values true true script now after.left values there after.is_sound are
 
-      right : OpensRight after.left start
-      right = are.opening.says after.left there
-
-      same_head : own.head.geometry ≡ start.head.geometry
-      same_head = sym after.geometry ∙ ap (λ (h : Super). h.geometry) (head_of_sound after.left after.is_sound start right)
-
-      same_value : (at : Lba) → value_in (opened_in start after.left) at ≡ value_in (image_in picked own) at
-      same_value at =
-          ap (λ (block : List ℕ). record { at = at; block = block }) (opened_values start after.left after.is_sound right at.0 ∙ after.values at.0)
+      same_value : (at : Lba) → value_in (image_in after.left after.is_sound) at ≡ value_in (image_in picked own) at
+      same_value at = ap (λ (block : List ℕ). record { at = at; block = block }) (after.values at.0)
 
       pub values_named : AreAddresses script own.head.geometry.logical (map address_of values)
-      values_named = subst (λ (g : Geometry). AreAddresses script g.logical (map address_of values)) (sym same_head) are.named
+      values_named = subst (λ (g : Geometry). AreAddresses script g.logical (map address_of values)) after.geometry right.0
 
       pub values_right : values ≡ map (value_in (image_in picked own)) (map address_of values)
-      values_right =
-          are.right after.left (still_told true true now are.opened after.left there are.opening.untouched) after.is_sound right
-          ∙ same_map (value_in (opened_in start after.left)) (value_in (image_in picked own)) same_value (map address_of values)
+      values_right = right.1 ∙ same_map (value_in (image_in after.left after.is_sound)) (value_in (image_in picked own)) same_value (map address_of values)
 
   pub shown_right : (script : Script) (shown : Shown) → IsShown true true script made shown
       → (addresses : List Lba) × AreAddresses script own.head.geometry.logical addresses × (shown.values.items ≡ map (value_in (image_in picked own)) addresses) × (shown.audit.differs.items ≡ [])
   shown_right script shown is =
       let after = left is.middle shown.recovery is.recovery in
       let none = no_difference true true is.middle after.left after.is_told after.is_sound is.behind shown.audit is.audited in
-      let there = still_told true true is.middle is.behind after.left after.is_told is.untouched in
-      elim is.values [
-        | inl (same, are) ↦ (
-          map address_of shown.values.items,
-          values_named is.middle after script is.behind there shown.values.items are,
-          values_right is.middle after script is.behind there shown.values.items are,
-          none,
-        )
-        | inr (some, empty) ↦ absurd (some none)
-      ]
+      let there = still_told true true is.middle is.behind after.left after.is_told is.untouched in (
+        map address_of shown.values.items,
+        values_named is.middle after script is.behind there shown.values.items is.values,
+        values_right is.middle after script is.behind there shown.values.items is.values,
+        none,
+      )
 
 -- The whole.
 

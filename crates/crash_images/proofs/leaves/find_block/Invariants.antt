@@ -1,7 +1,6 @@
 use Rattle.std.proofs.Common.{◌≡◌, take, Contains}
-use Rattle.blk_base.specs.declared.opened.OpenedPage.{OpenedPage}
-use Rattle.blk_base.specs.Pages.{above}
+use Rattle.replay_map.specs.declared.links.Link.{Link}
 use Rattle.crash_images.proofs.leaves.find_block.Given as goal
 
-abbrev pub invariant-loop-opened : goal.invariant-loop-opened
-invariant-loop-opened l = (other : OpenedPage) → Contains (take l.opened-index l.pages) other → other.page ≡ above l.page → ⊥
+abbrev pub invariant-loop-link : goal.invariant-loop-link
+invariant-loop-link l = (other : Link) → Contains (take l.link-index l.links) other → other.page ≡ l.page → ⊥

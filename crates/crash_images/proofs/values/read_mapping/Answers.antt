@@ -5,4 +5,4 @@ pub read_slot-requires-clause-leaf : goal.read_slot-requires-clause-leaf
 read_slot-requires-clause-leaf g c = rw (c.deref.ensures.value, c.leaf_of.ensures) at c.in-Some.ensures
 
 pub returns-in-None-clause-mapping : goal.returns-in-None-clause-mapping
-returns-in-None-clause-mapping g c = nothing_right _ _ _ c.args.opened.now c.requires.fits c.args.at.0 (rw (c.deref.ensures.value, c.leaf_of.ensures) at c.in-None.ensures)
+returns-in-None-clause-mapping g c = nothing_right _ _ _ c.args.found.now c.requires.fits c.args.at.0 (rw (c.deref.ensures.value, c.leaf_of.ensures) at c.in-None.ensures)

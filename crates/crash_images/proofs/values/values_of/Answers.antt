@@ -3,7 +3,9 @@ use Rattle.std.proofs.lemmas.List.{get_or_default}
 use Rattle.blk_base.specs.declared.place.Lba.{Lba}
 use Rattle.command_text.specs.declared.crashes.AddressValue.{AddressValue}
 use Rattle.disk_model.proofs.SinceLaws.{untouched_on, untouched_yet}
-use Rattle.crash_images.specs.Values.{AreRefused, IsNoDamage, OfOpened, address_of, opened_in, value_in}
+use Rattle.image_model.specs.Sound.{image_of}
+use Rattle.crash_images.specs.Maps.{OfMap}
+use Rattle.crash_images.specs.Values.{AreRefused, IsNoDamage, address_of, value_in}
 use Rattle.crash_images.proofs.SearchLaws.{made_next, named_next}
 use Rattle.crash_images.proofs.ValueLaws.{of_later, one_refused, passed_on}
 use Rattle.crash_images.proofs.values.values_of.Goals as goal
@@ -14,7 +16,7 @@ loop-at-init g c =
     record {
       untouched = untouched_yet _ _;
       addresses = ap (λ (values : List AddressValue). map address_of values) none;
-      values = λ blocks is sound right. none;
+      values = λ blocks window is here. none;
       count = c.in-Ok.ensures.len;
       room = c.in-Ok.ensures.exact;
     }
@@ -22,20 +24,20 @@ loop-at-init g c =
 pub loop-at-preserved : goal.loop-at-preserved
 loop-at-preserved g c =
     let was = c.loop-at.invariant in
-    let opened = c.args.opened.now in
+    let found = c.args.found.now in
     let addresses = c.args.addresses.now in
     let i = c.loop-at.at-index in
     let items = c.push_reserved.ensures.items in
     let first : Lba = record { 0 = 0 } in
     let at : Lba = get_or addresses i first in
     let value : AddressValue = record { at = at; block = c.in_ok-block.block } in
-    let read = of_later opened (λ image. c.in_ok-block.block ≡ (value_in image at).block) was.untouched c.in_ok-block.ensures.value in
+    let read = of_later found (λ image. c.in_ok-block.block ≡ (value_in image at).block) was.untouched c.in_ok-block.ensures.value in
     record {
       untouched = untouched_on _ _ _ _ was.untouched c.in_ok-block.ensures.untouched;
       addresses = named_next addresses i first c.loop-at-test.true address_of c.loop-at.values.items c.push_reserved.new.self.items value was.addresses refl items;
-      values = λ blocks is sound right.
-          made_next addresses i first c.loop-at-test.true (value_in (opened_in opened blocks)) c.loop-at.values.items c.push_reserved.new.self.items value (was.values blocks is sound right)
-          (ap (λ (block : List ℕ). record { at = at; block = block }) (read blocks is sound right)) items;
+      values = λ blocks window is here.
+          made_next addresses i first c.loop-at-test.true (value_in (image_of found.head blocks window)) c.loop-at.values.items c.push_reserved.new.self.items value (was.values blocks window is here)
+          (ap (λ (block : List ℕ). record { at = at; block = block }) (read blocks window is here)) items;
       count = omega (arith, was.count, c.push_reserved.ensures.len);
       room = c.push_reserved.ensures.capacity ∙ was.room;
     }
@@ -46,16 +48,16 @@ returns-in_err-block-clause-refused g c =
     let addresses = c.args.addresses.now in
     let first : Lba = record { 0 = 0 } in
     let at : Lba = get_or addresses c.loop-at.at-index first in
-    passed_on c.from_residual.result (AreRefused c.args.opened.now addresses (seen c.args.device.now) (seen c.value_at.new.device)) c.in_err-block.field-0.0 c.from_residual.ensures.1
-    (one_refused c.args.opened.now addresses at (seen c.args.device.now) (seen c.loop-at.device) (seen c.value_at.new.device) c.in_err-block.field-0.0 (c.loop-at.at-index, c.loop-at-test.true, get_or_default addresses c.loop-at.at-index at first c.loop-at-test.true)
+    passed_on c.from_residual.result (AreRefused c.args.found.now addresses (seen c.args.device.now) (seen c.value_at.new.device)) c.in_err-block.field-0.0 c.from_residual.ensures.1
+    (one_refused c.args.found.now addresses at (seen c.args.device.now) (seen c.loop-at.device) (seen c.value_at.new.device) c.in_err-block.field-0.0 (c.loop-at.at-index, c.loop-at-test.true, get_or_default addresses c.loop-at.at-index at first c.loop-at-test.true)
     c.loop-at.invariant.untouched.later.faults c.in_err-block.ensures.refused)
 
 pub returns-in_err-block-clause-undamaged : goal.returns-in_err-block-clause-undamaged
 returns-in_err-block-clause-undamaged g c =
     let disk = g.D.Disk in
-    let opened = c.args.opened.now in
-    passed_on c.from_residual.result (λ why. OfOpened disk.tells disk.honest (disk.seen c.args.device.now) opened (λ image. IsNoDamage why)) c.in_err-block.field-0.0 c.from_residual.ensures.1
-    (of_later opened (λ image. IsNoDamage c.in_err-block.field-0.0) c.loop-at.invariant.untouched c.in_err-block.ensures.undamaged)
+    let found = c.args.found.now in
+    passed_on c.from_residual.result (λ why. OfMap disk.tells disk.honest (disk.seen c.args.device.now) found (λ image. IsNoDamage why)) c.in_err-block.field-0.0 c.from_residual.ensures.1
+    (of_later found (λ image. IsNoDamage c.in_err-block.field-0.0) c.loop-at.invariant.untouched c.in_err-block.ensures.undamaged)
 
 pub returns-in_err-block-clause-untouched : goal.returns-in_err-block-clause-untouched
 returns-in_err-block-clause-untouched g c = untouched_on _ _ _ _ c.loop-at.invariant.untouched c.in_err-block.ensures.untouched
