@@ -23,7 +23,7 @@ pub use Rattle.core_model.specs.Sessions.{AreAllThere, AtRest, ComesLast, HasBlo
 pub use Rattle.core_model.specs.Tokens.{AtMost, Balanced, Token, answers_of, as_items, begins_of, block_token, claim_token, claim_weight, damage_token, ended_at, entered_at, entry_token, given, has_entry, has_old, heard_at, held_at, holder_token, holder_weight, holds, idle_at, in_log, is_answer, is_begin, is_block, is_committed, is_entry, is_old, is_sealed, is_word, journal_token, kept_by, leads_to, lease_token, lock_weight, locks_at, notice_token, notified_by, of_vio, one_journal, owes, queued, report_token, request_token, room_token, waiter_token, waiter_weight, weight}
 pub use Rattle.core_model.specs.Trace.{Aborts, Adds, Calls, Commits, Draws, Drops, Enters, Fails, Flushes, Gift, Gives, Happening, Harms, Hears, Passes, Removes, Says, Seals, Sets, Strays, Takes, Trace, aborted, added, all_of, applied, calls, claimed, committed, done, dropped, durable, entered, entry_of, filled, gift_of, gifts, has_read_fault, has_stopped, has_taken, is_harmed, is_ok, is_read, journaled, lines, linked, logged_of, marks, moments, new_of, new_pages, newest, of_address, passed, places, remappings, removed, request_in, sealed, strayed, unclaimed}
 pub use Rattle.data_vio.specs.Vios.{Post, all_logged, asked, begun_vio, ended, gift, logged, remapping, request_of, staged, turned}
-pub use Rattle.data_vio.specs.Zones.{IsZone, desk_number, device_number, journal_number, logical_number, logical_zones, notified, notified_zones, physical_number, zone_count, zone_number}
+pub use Rattle.data_vio.specs.Zones.{IsZone, desk_number, device_number, journal_number, logical_number, logical_zones, notified, notified_zones, physical_number, physical_zones, zone_count, zone_number}
 pub use Rattle.data_vio.specs.declared.items.Asks.{Asks}
 pub use Rattle.data_vio.specs.declared.items.Item.{Item}
 pub use Rattle.data_vio.specs.declared.items.Phase.{Phase}

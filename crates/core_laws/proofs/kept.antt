@@ -11,6 +11,7 @@ pub mod KeysOnce
 pub mod LegalKept
 pub mod LegalMoves
 pub mod MapCounts
+pub mod MidRun
 pub mod NewImages
 pub mod OneResult
 pub mod Rules

@@ -110,7 +110,7 @@ module _ (s : Session) (core : Core) (legal : Legal s core) (n : ℕ) (z : Zone)
     pub strays_within : (p : PhysicalZone) → z.keeps ≡ at.Physical p → length p.strays ≤ most_requests
     strays_within p keeps =
         let same = ap (λ (es : List Remapping). length es) (own_ok (at.Physical p) keeps).lists.strays_are in
-        omega (arith, same, strays_few s core.trace legal.right, trace_few)
+        omega (arith, same, strays_few s p.counts.zone core.trace legal.right, trace_few)
 
     pub committed_within : (j : JournalZone) → z.keeps ≡ at.Journal j → length j.committed ≤ most_entries
     committed_within j keeps =

@@ -8,7 +8,7 @@ use Rattle.core_model.specs.declared.zones.ZoneData.TheVariants as at
 use Rattle.core_model.specs.Legal.{Legal, share}
 use Rattle.core_model.specs.Steps.{Core}
 use Rattle.core_limits.proofs.StreamSums.{over, over_more, over_none, stream_there}
-use Rattle.core_limits.proofs.UpdateSums.{IsKnown, all_known, damage_once, entries_few, kept_reports, known_by, reports_wait, updates_in, updates_weigh}
+use Rattle.core_limits.proofs.UpdateSums.{IsKnown, all_known, damages_few, entries_few, kept_reports, known_by, reports_wait, updates_in, updates_weigh}
 pub use Rattle.core_limits.proofs.UpdateSums.{carried, split_sum}
 use Rattle.core_laws.proofs.Common.{AllByRecursion, ItemOk, LogicalZone, Writer, every-map}
 use Rattle.core_model.specs.Facts.{ReportOk}
@@ -132,12 +132,12 @@ module _ (s : Session) (core : Core) (legal : Legal s core) where
       let balance = legal.journal in
       omega (arith, here, balance, journal_once s core.trace core.zones legal.each)
 
-  -- decrements and reports, one for each request at most; and damage is told once
-  few_damages : (n : ℕ) (z : Zone) → slice_get core.zones n ≡ Some z → total is_damage z.ports.inbox + total (total is_damage) z.ports.outboxes ≤ 1
+  -- decrements and reports, one for each request at most; and damage is told once by each physical zone
+  few_damages : (n : ℕ) (z : Zone) → slice_get core.zones n ≡ Some z → total is_damage z.ports.inbox + total (total is_damage) z.ports.outboxes ≤ s.sizes.physical
   few_damages n z had =
       let here = total-get (weight damage_token) core.zones n z had in
-      let once = damage_once s core legal in
-      omega (arith, here, once)
+      let few = damages_few s core legal in
+      omega (arith, here, few)
 
   few_updates : (n : ℕ) (z : Zone) (items : List Item) (m : ℕ) → slice_get core.zones n ≡ Some z → AllByRecursion (ItemOk s core.trace m) items
       → ((u : Writer) → total (decrement_weight u) items ≤ total (decrement_weight u) z.ports.inbox + total (total (decrement_weight u)) z.ports.outboxes) → length (updates_in items) ≤ length s.script * s.sizes.depth

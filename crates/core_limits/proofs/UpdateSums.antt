@@ -1,7 +1,7 @@
 -- No more decrements and reports are anywhere than requests are under way: each has its request.
-use Rattle.std.proofs.Common.{◌≡◌, ℕ, zero, suc, ◌+◌, ◌<◌, ◌≤◌, ◌==◌, ◌&&◌, Bool, true, false, not, is_some, if◌then◌else◌, IsSome, List, [], ◌∷◌, length, refl, ap, sym, ◌∙◌, subst, inl, inr, arith}
-use Rattle.core_laws.proofs.Common.{AllByRecursion, DataOk, Item, ItemOk, IsWrite, Remapping, Session, Token, Trace, Vio, Writer, Zone, ZoneData, as_items, bit, committed, durable, eqb_tells, every-front, given, kept_by, of_vio, physical_number, queued, remapping, remappings, request_at, room_token, same_writer, some_is, total, total-get, total_alone, weight}
-use Rattle.core_laws.proofs.kept.ZoneKinds.{physical_sits}
+use Rattle.std.proofs.Common.{◌≡◌, ℕ, zero, suc, ◌+◌, ◌<◌, ◌≤◌, ◌==◌, ◌&&◌, ◌⊎◌, Bool, true, false, not, is_some, if◌then◌else◌, IsSome, List, [], ◌∷◌, length, refl, ap, sym, ◌∙◌, subst, inl, inr, arith}
+use Rattle.core_laws.proofs.Common.{AllByRecursion, DataOk, Each, Item, ItemOk, IsWrite, Remapping, Session, Token, Trace, Vio, Writer, Zone, ZoneData, as_items, bit, committed, durable, eqb_tells, every-front, given, kept_by, of_vio, physical_number, queued, remapping, remappings, request_at, room_token, same_writer, some_is, total, total-get, weight}
+use Rattle.core_laws.proofs.kept.ZoneKinds.{physical_below}
 use Rattle.core_laws.proofs.logical.ReportFacts.{each_logged}
 use Rattle.core_laws.proofs.tokens.Known.{Replaces}
 use Rattle.core_laws.proofs.trace.DeskOfTrace.{committed_writes}
@@ -23,6 +23,22 @@ carried t z = total t.item z.ports.inbox + total (total t.item) z.ports.outboxes
 pub split_sum : (t : Token) (zones : List Zone) → total (weight t) zones ≡ total (carried t) zones + total (λ z. t.own z.keeps) zones
 split_sum t [] = refl
 split_sum t (z ∷ zones) = omega (arith, split_sum t zones)
+
+-- a sum where only so many in a row have any, each 1 at most
+few_within : {X : Type 0} (f : X → ℕ) (xs : List X) (from count : ℕ) → Each (λ i x. (f x ≤ 1) × ((i < from) ⊎ (from + count ≤ i) → f x ≡ 0)) xs → total f xs ≤ count
+few_within f [] from count each = omega arith
+few_within f (x ∷ xs) zero zero each =
+    let here = (each 0 x refl).1 (inr (omega arith)) in
+    let rest = few_within f xs zero zero (λ i y e. let k = each (suc i) y e in (k.0, λ out. k.1 (inr (omega arith)))) in
+    omega (arith, here, rest)
+few_within f (x ∷ xs) zero (suc count) each =
+    let here = (each 0 x refl).0 in
+    let rest = few_within f xs zero count (λ i y e. let k = each (suc i) y e in (k.0, λ out. k.1 (elim out [ inl before ↦ absurd (omega (arith, before)) | inr behind ↦ inr (omega (arith, behind)) ]))) in
+    omega (arith, here, rest)
+few_within f (x ∷ xs) (suc from) count each =
+    let here = (each 0 x refl).1 (inl (omega arith)) in
+    let rest = few_within f xs from count (λ i y e. let k = each (suc i) y e in (k.0, λ out. k.1 (elim out [ inl before ↦ inl (omega (arith, before)) | inr behind ↦ inr (omega (arith, behind)) ]))) in
+    omega (arith, here, rest)
 
 -- Sums over all names of a script.
 over_plus : (k : ℕ) (f g : ℕ → ℕ) → over k (λ i. f i + g i) ≡ over k f + over k g
@@ -176,19 +192,23 @@ module _ (s : Session) (core : Core) (legal : Legal s core) where
       weigh [] known u = refl
       weigh (e ∷ xs) known u = omega (arith, one (same_writer e.request u) (is_some (block_in e.old)) known.0.0, weigh xs known.1 u)
 
-  -- damage is told once
-  pub damage_once : total (weight damage_token) core.zones ≤ 1
-  damage_once =
-      let sits = physical_sits s core.trace core.zones legal.each legal.count in
-      let alone = total_alone (given damage_token) core.zones (physical_number s.sizes) sits.zone sits.had (λ n z had ne. elsewhere n z.keeps (legal.each n z had).own ne) in
-      let here = ap strayed_at sits.keeps in
-      let most = at_most sits.it.strays in
-      omega (arith, alone, here, most, legal.damage)
+  -- damage is told once by each physical zone
+  pub damages_few : total (weight damage_token) core.zones ≤ s.sizes.physical
+  damages_few =
+      let few = few_within (given damage_token) core.zones (physical_number s.sizes 0) s.sizes.physical (λ n z had. one_at n z.keeps (legal.each n z had).own) in
+      omega (arith, few, legal.damage)
     where
       at_most : (es : List Remapping) → some_stray es ≤ 1
       at_most [] = omega arith
       at_most (e ∷ es) = omega arith
 
-      elsewhere : (n : ℕ) (d : ZoneData) → DataOk s core.trace n d → (n ≡ physical_number s.sizes → ⊥) → strayed_at d ≡ 0
-      elsewhere n (kind.Physical p) ok ne = absurd (ne ok.number_is)
-      elsewhere n other ok ne = refl
+      one_at : (n : ℕ) (d : ZoneData) → DataOk s core.trace n d → (strayed_at d ≤ 1) × ((n < physical_number s.sizes 0) ⊎ (physical_number s.sizes 0 + s.sizes.physical ≤ n) → strayed_at d ≡ 0)
+      one_at n (kind.Physical p) ok = (
+        at_most p.strays,
+        λ outside. absurd (
+            let number = ok.number_is in
+            let below = physical_below s core.trace n p ok in
+            elim outside [ inl before ↦ omega (arith, number, before) | inr behind ↦ omega (arith, number, below, behind) ]
+            ),
+      )
+      one_at n other ok = (omega arith, λ outside. refl)

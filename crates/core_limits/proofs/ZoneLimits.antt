@@ -23,7 +23,7 @@ module _ (s : Session) (core : Core) (session : IsSession s) (legal : Legal s co
   pub few_items : share s ≤ most_items
   few_items =
       let product = mul-le (length s.script) s.sizes.depth most_streams most_depth session.limits.streams session.limits.depth in
-      omega (arith, product, session.limits.zones)
+      omega (arith, product, session.limits.zones, session.limits.physical)
 
   module _ (n : ℕ) (z : Zone) (had : slice_get core.zones n ≡ Some z) where
     pub inbox_within : IsShort z.ports.inbox
@@ -42,7 +42,7 @@ module _ (s : Session) (core : Core) (session : IsSession s) (legal : Legal s co
     few_heard =
         let here = total-get (weight (notice_token s.sizes)) core.zones n z had in
         let balance = legal.stop_notices in
-        omega (arith, here, balance, few_words s core legal, session.limits.zones)
+        omega (arith, here, balance, few_words s core legal, session.limits.zones, session.limits.physical)
 
     -- what it keeps, by its kind
     own : (d : ZoneData) → z.keeps ≡ d → DataOk s core.trace n d

@@ -24,7 +24,7 @@ use Rattle.data_vio.specs.Vios.{Post, begun_vio, turned}
 
 -- the stop notice of every zone has come to the desk
 abbrev pub is_notified : Sizes → Desk → Bool
-is_notified sizes desk = nat_lt (1 + sizes.zones) desk.notices
+is_notified sizes desk = nat_lt (sizes.physical + sizes.zones) desk.notices
 
 -- the request as it is under way, where it is served: writes that force their block out aren't yet
 abbrev pub vio_of : Sizes → Writer → Request → Option Vio

@@ -35,7 +35,7 @@ use Rattle.core_model.specs.Superblocks.{superblock_bytes}
 use Rattle.data_vio.specs.Phases.{AtDevice, row, stage_row}
 use Rattle.core_model.specs.PageLinks.{leaf_head}
 use Rattle.core_model.specs.Trace.{Trace, Calls, Fails, Harms, Hears, entry_of, first_of}
-use Rattle.data_vio.specs.Vios.{Post, turned, ended, has_leaf, logged, staged}
+use Rattle.data_vio.specs.Vios.{Post, counts_of, turned, ended, has_leaf, logged, staged}
 use Rattle.data_vio.specs.Zones.{notified}
 
 -- one more call succeeded
@@ -111,10 +111,10 @@ pub data DeviceServes (sizes : Sizes) (old : DeviceZone) (v : Vio) (new : Device
       → DeviceServes sizes old v new made posts
   store_fails : (x : Pbn) (kept : Bool) → v.phase ≡ phase.Store → v.new ≡ At x → old.stopped ≡ false → old.superblock ≡ Durable → IsInside sizes x
       → new ≡ halted old → made ≡ Fails v.request (Write x (stored sizes v x) false) kept ∷ []
-      → posts ≡ (id.Physical 0, item.Request (ended phase.AbortClaim reply.Stopped v)) ∷ stop_notices (notified sizes)
+      → posts ≡ (counts_of sizes v, item.Request (ended phase.AbortClaim reply.Stopped v)) ∷ stop_notices (notified sizes)
       → DeviceServes sizes old v new made posts
   store_unmade : v.phase ≡ phase.Store → old.stopped ≡ true
-      → new ≡ old → made ≡ [] → posts ≡ (id.Physical 0, item.Request (ended phase.AbortClaim reply.Stopped v)) ∷ []
+      → new ≡ old → made ≡ [] → posts ≡ (counts_of sizes v, item.Request (ended phase.AbortClaim reply.Stopped v)) ∷ []
       → DeviceServes sizes old v new made posts
   -- the block of a read
   loads : (x : Pbn) (bytes : List ℕ) → v.phase ≡ phase.Load → v.old ≡ At x → IsReady old → IsInside sizes x

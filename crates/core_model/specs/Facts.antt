@@ -46,7 +46,8 @@ use Rattle.core_model.specs.DeviceRules.{IsInside, page_at}
 use Rattle.core_model.specs.JournalRules.{is_closed}
 use Rattle.core_model.specs.LogicalRules.{is_among, is_held, is_reported}
 use Rattle.data_vio.specs.Phases.{row, number_at, stage_row}
-use Rattle.data_vio.specs.Zones.{zone_number, zone_count, notified_zones, physical_number, logical_number, device_number}
+use Rattle.core_model.specs.CountUpdates.{replaced_in}
+use Rattle.data_vio.specs.Zones.{counts_in, zone_number, zone_count, notified_zones, logical_number, device_number}
 use Rattle.core_model.specs.RightTraces.{HearingMayFollow, IsLeafy, IsLinkedAt, IsOpen, IsReported, IsPending, MapsTo, NeedsBlock, Quiet, IsCommitted, AllBelow, HasPlace, HasBelow, HasCause}
 use Rattle.core_model.specs.Sessions.{Session, IsFair, OnBlock, NewReads, NewStands, ReadsAs, AtRest, OnItsWay, ReadsBlock, mapping_by, said_by, value_at}
 use Rattle.block_map_tree.specs.Tree.{Tree, IsLinkable}
@@ -59,7 +60,7 @@ use Rattle.plain_laws.specs.Sums.{bit, total, Each}
 use Rattle.core_model.specs.Superblocks.{superblock_stage}
 use Rattle.core_model.specs.Tokens.{lock_weight}
 use Rattle.core_model.specs.Trace.{Trace, all_of, filled, sealed, moments, lines, calls, marks, places, journaled, entered, durable, applied, done, dropped, remappings, aborted, added, strayed, has_taken, has_stopped, of_address, newest, logged_of, entry_of, damage_in}
-use Rattle.data_vio.specs.Vios.{all_logged, asked, logged, request_of, remapping}
+use Rattle.data_vio.specs.Vios.{all_logged, asked, counts_of, logged, request_of, remapping}
 use Rattle.core_model.specs.Uses.{counted, gained, lost, uncounted}
 use Rattle.vdo_model.specs.declared.report.Damage.{Damage}
 use Rattle.zone_counts.specs.ByBlock.{claims_in, counter_in}
@@ -69,8 +70,8 @@ use Rattle.data_vio.specs.declared.logged.Logged.TheVariants.{Remaps}
 use Rattle.recovery_journal.specs.Log.{Log, head_of}
 
 -- the number of the zone where a phase, and a stage, is done
-abbrev pub zone_at : Sizes → ZoneId → Phase → ℕ
-zone_at sizes home p = number_at sizes home (row p).zone
+abbrev pub zone_at : Sizes → Vio → Phase → ℕ
+zone_at sizes v p = number_at sizes v.home (counts_of sizes v) (row p).zone
 
 abbrev pub zone_of_stage : Sizes → Stage → ℕ
 zone_of_stage sizes now = zone_number sizes (stage_row now).zone
@@ -329,8 +330,8 @@ IsTold t damage = HearingMayFollow damage t
 
 -- an item in a lane to the zone of this number
 abbrev pub ItemOk : Session → Trace → ℕ → Item → Type 0
-ItemOk s t to (item.Request v) = VioOk s t v × Carries s t v v.phase × (to ≡ zone_at s.sizes v.home v.phase) × ClaimOk s v
-ItemOk s t to (item.Decrement e) = IsDecrement s t e × (to ≡ physical_number s.sizes)
+ItemOk s t to (item.Request v) = VioOk s t v × Carries s t v v.phase × (to ≡ zone_at s.sizes v v.phase) × ClaimOk s v
+ItemOk s t to (item.Decrement e) = (is : IsDecrement s t e) × (to ≡ zone_number s.sizes (counts_in s.sizes is.block))
 ItemOk s t to (item.Report e) = IsReport s t e × (to ≡ logical_number (zone_of s.sizes.zones e.at.0))
 ItemOk s t to (item.Damage damage) = IsTold t damage × (to ≡ device_number s.sizes)
 ItemOk s t to (item.Block b) = BlockOk s t b × (to ≡ zone_of_stage s.sizes b.stage)
@@ -352,7 +353,7 @@ KeptEach P other = Unit {0}
 abbrev pub name_of : ZoneData → ZoneId
 name_of (at.Desk desk) = id.Desk
 name_of (at.Logical l) = id.Logical l.zone
-name_of (at.Physical p) = id.Physical 0
+name_of (at.Physical p) = id.Physical p.counts.zone
 name_of (at.Journal j) = id.Journal
 name_of (at.Device d) = id.Device
 
@@ -380,7 +381,7 @@ pub record LogicalLists (s : Session) (t : Trace) (zone next : ℕ) (placed : Li
 pub record PhysicalLists (s : Session) (t : Trace) (p : PhysicalZone) : Type 0 where
   pub counters : (x : Pbn) → IsOfZone p.counts x → counter_in x p.counts.slabs + uncounted t x ≡ counted s t x
   pub uses : (x : Pbn) → IsOfZone p.counts x → counter_in x p.counts.slabs + claims_in x p.counts.slabs + lost t x ≡ gained s t x
-  pub strays_are : p.strays ≡ strayed t
+  pub strays_are : p.strays ≡ replaced_in s.sizes p.counts.zone (strayed t)
 
 -- The log has the entries of the blocks that were sealed, and of the one being filled, in their order. No zone lets go of an
 -- entry, so its head is the first sequence.
@@ -491,7 +492,7 @@ AreFirstClaims z = (x : Pbn) → 0 < claims_in x z.slabs → (counter_in x z.sla
 pub record IsSoundPhysical (s : Session) (p : PhysicalZone) : Type 0 where
   pub is_zone : IsZone p.counts
   pub geometry : p.counts.geometry ≡ s.sizes.geometry
-  pub zones : p.counts.zones ≡ 1
+  pub zones : p.counts.zones ≡ s.sizes.physical
   pub no_ticket : p.counts.desk.out ≡ []
   pub first_claims : AreFirstClaims p.counts
 

@@ -17,7 +17,8 @@ use Rattle.data_vio.specs.declared.logged.Remapping.{Remapping}
 use Rattle.data_vio.specs.declared.sizes.Sizes.{Sizes}
 use Rattle.core_model.specs.JournalData.{JournalZone}
 use Rattle.core_model.specs.Trace.{Trace, Enters, Seals, Commits, entry_of}
-use Rattle.data_vio.specs.Vios.{Post, turned, ended, logged, remapping}
+use Rattle.data_vio.specs.Vios.{Post, counts_of, turned, ended, logged, remapping}
+use Rattle.data_vio.specs.Zones.{counts_in}
 use Rattle.recovery_journal.specs.Log.{Log, head_of, placed}
 
 -- no entry is handed in any more
@@ -39,19 +40,19 @@ next_block j at vios = record { stage = at; sequence = j.log.sequence; head = he
 
 -- a request is aborted, by way of the physical zone
 abbrev pub refused : Sizes → Answer → Vio → Post
-refused sizes answer v = (id.Physical 0, item.Request (ended phase.AbortClaim answer v))
+refused sizes answer v = (counts_of sizes v, item.Request (ended phase.AbortClaim answer v))
 
 abbrev pub all_refused : Sizes → Answer → List Vio → List Post
 all_refused sizes answer [] = []
 all_refused sizes answer (v ∷ vs) = refused sizes answer v ∷ all_refused sizes answer vs
 
 -- one whose entry was handed in is aborted so too
-abbrev pub dropped : Vio → Post
-dropped v = (id.Physical 0, item.Request (ended phase.AbortEnteredClaim reply.Stopped v))
+abbrev pub dropped : Sizes → Vio → Post
+dropped sizes v = (counts_of sizes v, item.Request (ended phase.AbortEnteredClaim reply.Stopped v))
 
-abbrev pub all_dropped : List Vio → List Post
-all_dropped [] = []
-all_dropped (v ∷ vs) = dropped v ∷ all_dropped vs
+abbrev pub all_dropped : Sizes → List Vio → List Post
+all_dropped sizes [] = []
+all_dropped sizes (v ∷ vs) = dropped sizes v ∷ all_dropped sizes vs
 
 -- those that waited come again
 abbrev pub all_again : List Vio → List Post
@@ -118,22 +119,22 @@ pub data JournalServes (sizes : Sizes) (old : JournalZone) (v : Vio) (new : Jour
 
 -- A committed entry that has a block goes to be counted, else to its slot. What it replaces, where that has a block, is a decrement,
 -- which goes behind it.
-abbrev pub hands_to : Vio → Mapping → Post
-hands_to v (At x) = (id.Physical 0, item.Request (turned phase.Count v))
-hands_to v other = (v.home, item.Request (turned phase.Settle v))
+abbrev pub hands_to : Sizes → Vio → Mapping → Post
+hands_to sizes v (At x) = (counts_of sizes v, item.Request (turned phase.Count v))
+hands_to sizes v other = (v.home, item.Request (turned phase.Settle v))
 
-abbrev pub decrement_for : Option PageId → Remapping → Mapping → List Post
-decrement_for None e (At x) = (id.Physical 0, item.Decrement e) ∷ []
-decrement_for page e other = []
+abbrev pub decrement_for : Sizes → Option PageId → Remapping → Mapping → List Post
+decrement_for sizes None e (At x) = (counts_in sizes x, item.Decrement e) ∷ []
+decrement_for sizes page e other = []
 
-abbrev pub hands_out : Vio → List Post
-hands_out v = hands_to v v.new ∷ decrement_for v.page (remapping v) v.old
+abbrev pub hands_out : Sizes → Vio → List Post
+hands_out sizes v = hands_to sizes v v.new ∷ decrement_for sizes v.page (remapping v) v.old
 
 pub data JournalEnds (sizes : Sizes) (old : JournalZone) (b : SealedBlock) (new : JournalZone) (made : Trace) (posts : List Post) : Type 0 where
   -- the oldest entry of the block is committed
   commits : (v : Vio) (vs : List Vio) → b.stage ≡ stage.Commit → b.vios ≡ v ∷ vs → HasNext old.log
       → new ≡ committed_by v old → made ≡ Commits (logged v) ∷ []
-      → posts ≡ hands_out v ++ (id.Journal, item.Block (record b { vios = vs })) ∷ []
+      → posts ≡ hands_out sizes v ++ (id.Journal, item.Block (record b { vios = vs })) ∷ []
       → JournalEnds sizes old b new made posts
   -- all are: the next block is sealed, or there is none
   seals : (v : Vio) (vs : List Vio) → b.stage ≡ stage.Commit → b.vios ≡ [] → old.filling ≡ v ∷ vs → IsSealable old.log
@@ -146,5 +147,5 @@ pub data JournalEnds (sizes : Sizes) (old : JournalZone) (b : SealedBlock) (new 
   -- the block failed
   fails : b.stage ≡ stage.Fail
       → new ≡ record old { busy = false; broken = true; filling = []; waiting = [] } → made ≡ []
-      → posts ≡ all_dropped b.vios ++ (all_dropped old.filling ++ all_refused sizes reply.Stopped old.waiting)
+      → posts ≡ all_dropped sizes b.vios ++ (all_dropped sizes old.filling ++ all_refused sizes reply.Stopped old.waiting)
       → JournalEnds sizes old b new made posts

@@ -21,9 +21,9 @@ abbrev pub ComesAfter : ℕ → Writer → Placed → Type 0
 ComesAfter zone w p = p.zone ≡ zone → p.request.stream ≡ w.stream → p.request.number < w.number
 
 -- how many items a lane has at most, and how many requests a zone keeps: those under way, with a decrement or its report for each,
--- the stop notices, a block of the journal, and damage
+-- the stop notices, a block of the journal, and damage from each physical zone
 abbrev pub share : Session → ℕ
-share s = 2 * (length s.script * s.sizes.depth) + notified_zones s.sizes + 2
+share s = 2 * (length s.script * s.sizes.depth) + notified_zones s.sizes + 1 + s.sizes.physical
 
 -- A legal core: balances of tokens, what each zone with its lanes keeps and carries, and a right trace.
 pub record Legal (s : Session) (core : Core) : Type 0 where
@@ -49,7 +49,7 @@ pub record Legal (s : Session) (core : Core) : Type 0 where
   -- has its request
   pub reports : (w : Writer) → Balanced (report_token w) core.zones
   pub waiters : (w : Writer) → Balanced (waiter_token w) core.zones
-  -- damage is told once
+  -- damage is told once by each physical zone
   pub damage : AtMost damage_token core.zones
   -- one block is under way, or the journal is idle
   pub journal : Balanced journal_token core.zones
@@ -58,8 +58,8 @@ pub record Legal (s : Session) (core : Core) : Type 0 where
   pub stop_notices : Balanced (notice_token s.sizes) core.zones
   -- requests come to each logical zone in the order in which they were sent
   pub in_order : (zone : ℕ) → zone < s.sizes.zones → Flows (arrivals_at s zone) core.trace core.zones
-  -- updates come to the physical zone in the order of the committed entries
-  pub updates : Flows (updates_at s) core.trace core.zones
+  -- updates come to each physical zone in the order of the committed entries
+  pub updates : (zone : ℕ) → zone < s.sizes.physical → Flows (updates_at s zone) core.trace core.zones
   pub right : RightTrace s core.trace
   -- where the session is fair
   pub gives_right : IsFair s core.trace → GivesRight s core.trace

@@ -2,7 +2,7 @@
 use Rattle.std.specs.Prelude.{ℕ, ◌+◌, ◌*◌, ◌^◌, ◌<◌, ◌≤◌, List, length}
 use Rattle.std.specs.List.{AllByRecursion}
 use Rattle.core_model.specs.DeskData.{Desk}
-pub use Rattle.core_model.specs.SessionLimits.{IsLimited, most_depth, most_entries, most_items, most_notices, most_requests, most_streams, most_under_way, most_zones, requests_in}
+pub use Rattle.core_model.specs.SessionLimits.{IsLimited, most_depth, most_entries, most_items, most_notices, most_physical, most_requests, most_streams, most_under_way, most_zones, requests_in}
 use Rattle.core_model.specs.DeskLines.{AreBegunFirst, is_answer, is_begin}
 use Rattle.core_model.specs.declared.zones.ZoneData.{ZoneData}
 use Rattle.core_model.specs.declared.zones.ZoneData.TheVariants as at

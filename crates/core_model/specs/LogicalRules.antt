@@ -25,7 +25,7 @@ use Rattle.core_model.specs.LogicalData.{Lock, LogicalZone}
 use Rattle.data_vio.specs.declared.logged.Remapping.{Remapping}
 use Rattle.core_model.specs.PageTrees.{HasPath, MayLink, but_page, is_listed, leaf_at, least_point, missing_at}
 use Rattle.core_model.specs.Trace.{Trace, Draws, Passes, Sets, Gives, Aborts, of_address, newest}
-use Rattle.data_vio.specs.Vios.{Post, turned, ended, makes, reads_leaf, remapping, logged, gift}
+use Rattle.data_vio.specs.Vios.{Post, counts_of, turned, ended, makes, reads_leaf, remapping, logged, gift}
 use Rattle.data_vio.specs.Vios as vios
 
 -- whether an address is among these
@@ -102,8 +102,8 @@ abbrev pub enters_with : Mapping → Vio → Post
 enters_with new v = (id.Journal, item.Request (record v { phase = phase.Enter; new = new }))
 
 -- a write takes a block, but for one of zeros
-abbrev pub write_next : Vio → Post
-write_next v = if are_zeros v.bytes then enters_with Zero v else (id.Physical 0, item.Request (turned phase.Claim v))
+abbrev pub write_next : Sizes → Vio → Post
+write_next sizes v = if are_zeros v.bytes then enters_with Zero v else (counts_of sizes v, item.Request (turned phase.Claim v))
 
 -- where it goes that knows: a read reads the mapped block, or is given zeros; a discard needs no block; a flush takes no lock
 abbrev pub read_next : Vio → Mapping → Post
@@ -111,14 +111,14 @@ read_next v (At x) = (id.Device, item.Request (turned phase.Load v))
 read_next v Unmapped = (v.home, item.Request (record v { phase = phase.Loaded; bytes = zero_block }))
 read_next v Zero = (v.home, item.Request (record v { phase = phase.Loaded; bytes = zero_block }))
 
-abbrev pub next_for : Vio → Asks → Option Post
-next_for v Read = Some (read_next v v.old)
-next_for v Write = Some (write_next v)
-next_for v Discard = Some (enters_with Unmapped v)
-next_for v Flush = None
+abbrev pub next_for : Sizes → Vio → Asks → Option Post
+next_for sizes v Read = Some (read_next v v.old)
+next_for sizes v Write = Some (write_next sizes v)
+next_for sizes v Discard = Some (enters_with Unmapped v)
+next_for sizes v Flush = None
 
-abbrev pub goes_on : Vio → Option Post
-goes_on v = next_for v v.asks
+abbrev pub goes_on : Sizes → Vio → Option Post
+goes_on sizes v = next_for sizes v v.asks
 
 -- whether a request passes: a discard of an address of which no slot was set, and that lacks a page of its path
 abbrev pub is_discard : Asks → Bool
@@ -237,7 +237,7 @@ pub data LogicalServes (sizes : Sizes) (old : LogicalZone) (v : Vio) (new : Logi
       → LogicalServes sizes old v new made posts
   -- it has the lock: what is mapped at its address says where it goes
   looks : (mapping : Mapping) (post : Post) → v.phase ≡ phase.Look → HasPath old.tree v.at.0 → passes_by old v ≡ false → lacks old v ≡ None → known_at old v.at.0 ≡ Some mapping
-      → goes_on (looked old mapping v) ≡ Some post
+      → goes_on sizes (looked old mapping v) ≡ Some post
       → new ≡ old → made ≡ [] → posts ≡ post ∷ []
       → LogicalServes sizes old v new made posts
   -- or its leaf is read first, and says it
@@ -245,7 +245,7 @@ pub data LogicalServes (sizes : Sizes) (old : LogicalZone) (v : Vio) (new : Logi
       → leaf_at old.tree v.at.0 ≡ Some x
       → new ≡ old → made ≡ [] → posts ≡ (id.Device, item.Request (reads_leaf x v)) ∷ []
       → LogicalServes sizes old v new made posts
-  leafed : (post : Post) → v.phase ≡ phase.LoadedLeaf → goes_on v ≡ Some post
+  leafed : (post : Post) → v.phase ≡ phase.LoadedLeaf → goes_on sizes v ≡ Some post
       → new ≡ old → made ≡ [] → posts ≡ post ∷ []
       → LogicalServes sizes old v new made posts
   -- or it passes: it is done, and enters nothing
@@ -265,7 +265,7 @@ pub data LogicalServes (sizes : Sizes) (old : LogicalZone) (v : Vio) (new : Logi
   makes_page : (page : PageId) → v.phase ≡ phase.Look → HasPath old.tree v.at.0 → lacks old v ≡ Some page → is_listed page old.unlinkable ≡ false
       → is_listed page old.making ≡ false
       → new ≡ record old { making = old.making ++ page ∷ [] } → made ≡ []
-      → posts ≡ (id.Physical 0, item.Request (makes page v)) ∷ []
+      → posts ≡ (counts_of sizes v, item.Request (makes page v)) ∷ []
       → LogicalServes sizes old v new made posts
   -- its page is linked: it looks again, and so do those that wait for a page
   links : (page : PageId) (x : Pbn) (between : LogicalZone) → v.phase ≡ phase.Settle → v.page ≡ Some page → v.new ≡ At x → MayLink old.tree page x → IsLinked page x old between

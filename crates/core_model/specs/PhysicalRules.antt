@@ -1,5 +1,6 @@
 -- What the physical zone does: claims on data blocks, and the updates of their counters.
-use Rattle.std.specs.Prelude.{◌≡◌, Option, None, Some, List, [], ◌∷◌, ◌++◌}
+use Rattle.std.specs.Prelude.{◌≡◌, ◌==◌, if◌then◌else◌, Option, None, Some, List, [], ◌∷◌, ◌++◌}
+use Rattle.blk_base.specs.declared.request.Answer.{Answer}
 use Rattle.blk_base.specs.declared.place.Mapping.TheVariants.{At}
 use Rattle.blk_base.specs.declared.place.PageId.{PageId}
 use Rattle.blk_base.specs.declared.place.Pbn.{Pbn}
@@ -28,13 +29,17 @@ abbrev pub spent_for : Option PageId → Zone → Pbn → Zone
 spent_for None z x = z
 spent_for (Some page) z x = with_slab z x (with_page (slab_of z x) x)
 
+-- what is answered where no block of the zone is free: that of one zone among several says nothing of the others
+abbrev pub no_block : Sizes → Answer
+no_block sizes = if sizes.physical == 1 then reply.NoSpace else reply.Full
+
 pub data PhysicalServes (sizes : Sizes) (old : PhysicalZone) (v : Vio) (new : PhysicalZone) (made : Trace) (posts : List Post) : Type 0 where
-  -- a write claims the lowest free block, or none is free
+  -- a write claims the lowest free block of the zone, or none is free there
   claims : (x : Pbn) (z : Zone) → v.phase ≡ phase.Claim → GivesBlock old.counts z x
       → new ≡ with_counts z old → made ≡ Takes v.request v.page x ∷ [] → posts ≡ (id.Device, item.Request (claiming x v)) ∷ []
       → PhysicalServes sizes old v new made posts
   has_no_space : v.phase ≡ phase.Claim → NoneFree old.counts.slabs
-      → new ≡ old → made ≡ [] → posts ≡ (v.home, item.Request (ended phase.Abort reply.NoSpace v)) ∷ []
+      → new ≡ old → made ≡ [] → posts ≡ (v.home, item.Request (ended phase.Abort (no_block sizes) v)) ∷ []
       → PhysicalServes sizes old v new made posts
   -- the increment of its entry is taken, and its claim spent
   counts : (x : Pbn) (slab : Counts) (z : Zone) → v.phase ≡ phase.Count → v.claim ≡ Some x → IsClaimedIn old.counts x

@@ -1,5 +1,5 @@
 -- A right trace: each happening may follow those before it, and at each moment a stop leaves what it may.
-use Rattle.std.specs.Prelude.{ℕ, ◌+◌, ◌≡◌, ◌≢◌, ◌⊎◌, ◌<◌, ◌≤◌, Bool, true, false, Option, None, Some, IsNone, IsSome, List, [], ◌∷◌, ◌++◌, length, Contains}
+use Rattle.std.specs.Prelude.{ℕ, ◌+◌, ◌%◌, ◌≡◌, ◌≢◌, ◌⊎◌, ◌<◌, ◌≤◌, Bool, true, false, Option, None, Some, IsNone, IsSome, List, [], ◌∷◌, ◌++◌, length, Contains}
 use Rattle.std.specs.List.{AllByRecursion}
 use Rattle.blk_base.specs.Regions.{IsDataBlock}
 use Rattle.blk_base.specs.declared.place.Lba.{Lba}
@@ -38,7 +38,7 @@ use Rattle.vdo_model.specs.declared.report.Damage.TheVariants.{Stray}
 use Rattle.core_model.specs.CountUpdates.{Increment, Decrement, IsNextUpdate}
 use Rattle.core_model.specs.Superblocks.{IsInOrder, superblock_stage}
 use Rattle.core_model.specs.Sessions.{IsFair, OnBlock, Session, Shown, mapping_by, value_at}
-use Rattle.core_model.specs.Uses.{IsFreeAt, NoneFree, counted, gained, lost, uncounted}
+use Rattle.core_model.specs.Uses.{IsFreeAt, NoneFree, NoneFreeIn, counted, gained, lost, uncounted}
 use Rattle.data_vio.specs.Vios.{asked}
 use Rattle.core_model.specs.Trace.{Happening, Says, Flushes, Draws, Enters, Passes, Seals, Commits, Sets, Gives, Takes, Drops, Adds, Removes, Strays, Hears, Aborts, Calls, Fails, Harms, Trace, Gift, added, removed, strayed, moments, lines, places, journaled, entered, new_of, remappings, filled, sealed, all_of, durable, committed, applied, done, dropped, aborted, gifts, has_taken, is_read, is_ok, has_stopped, has_read_fault, is_harmed, of_address, logged_of, request_in, gift_of}
 
@@ -113,6 +113,16 @@ pub record HadNoFree (s : Session) (t : Trace) (w : Writer) : Type 0 where
   pub placed : IsSome (place_of (places older) w)
   pub none_free : NoneFree s older
 
+-- at one moment since it had its place no data block of the physical zone that it asks was free, which is one of several
+pub record HadNoFreeNear (s : Session) (t : Trace) (w : Writer) : Type 0 where
+  pub several : 1 < s.sizes.physical
+  pub newer : Trace
+  pub older : Trace
+  pub moment : t ≡ newer ++ older
+  pub placed : Placed
+  pub place_is : place_of (places older) w ≡ Some placed
+  pub none_free : NoneFreeIn s older (placed.place % s.sizes.physical)
+
 -- a write or a discard has its place, and no entry of it was handed in; the read of the leaf of its address had this fault
 abbrev pub HasNoLeaf : Trace → Writer → Bool → Type 0
 HasNoLeaf t w fault = IsSome (place_of (places t) w) × IsNone (logged_of (entered t) w) × (fault ≡ true)
@@ -129,14 +139,14 @@ HasCause s t w (request.Read at) reply.Damaged = IsSome (place_of (places t) w) 
 HasCause s t w (request.Read at) other = ⊥
 -- a write: its slot was set; its address isn't below the logical size; the session is stopped, and its slot isn't set; the read of
 -- the leaf of its address failed, or that doesn't decode; no data block was free for it, or for a page of its path; no block of the
--- journal is left for it
+-- journal is left for it, or none was free where it asked
 HasCause s t w (request.Write at bytes fua) reply.Ok = IsSome (logged_of (done t) w)
 HasCause s t w (request.Write at bytes fua) reply.Range = s.sizes.geometry.logical ≤ at.0
 HasCause s t w (request.Write at bytes fua) reply.Stopped = (has_stopped t ≡ true) × IsSome (place_of (places t) w) × IsNone (logged_of (done t) w)
 HasCause s t w (request.Write at bytes fua) reply.ReadFault = HasNoLeaf t w (has_read_fault t w)
 HasCause s t w (request.Write at bytes fua) reply.Damaged = HasNoLeaf t w (is_harmed t w)
 HasCause s t w (request.Write at bytes fua) reply.NoSpace = IsSome (place_of (places t) w) × IsNone (logged_of (entered t) w) × HadNoFree s t w
-HasCause s t w (request.Write at bytes fua) reply.Full = IsSome (place_of (places t) w) × IsNone (logged_of (entered t) w) × HasFullJournal s t
+HasCause s t w (request.Write at bytes fua) reply.Full = IsSome (place_of (places t) w) × IsNone (logged_of (entered t) w) × (HasFullJournal s t ⊎ HadNoFreeNear s t w)
 HasCause s t w (request.Write at bytes fua) other = ⊥
 -- a discard: the same, but that it needs no data block
 HasCause s t w (request.Discard at) reply.Ok = IsSome (logged_of (done t) w)
@@ -314,16 +324,16 @@ pub record LossMayFollow (s : Session) (x : Pbn) (t : Trace) : Type 0 where
 -- an update is taken in its turn: a mapping more, or one less; or one less finds that none was counted
 pub record AddMayFollow (s : Session) (e : Logged) (t : Trace) : Type 0 where
   pub is_open : IsOpen t (request_in e)
-  pub next : IsNextUpdate (durable t) t (Increment e)
+  pub next : IsNextUpdate s.sizes (durable t) t (Increment e)
 
 pub record RemoveMayFollow (s : Session) (e : Remapping) (t : Trace) : Type 0 where
-  pub next : IsNextUpdate (durable t) t (Decrement e)
+  pub next : IsNextUpdate s.sizes (durable t) t (Decrement e)
   pub block : Pbn
   pub old_is : e.old ≡ At block
   pub loss : LossMayFollow s block t
 
 pub record StrayMayFollow (s : Session) (e : Remapping) (t : Trace) : Type 0 where
-  pub next : IsNextUpdate (durable t) t (Decrement e)
+  pub next : IsNextUpdate s.sizes (durable t) t (Decrement e)
   pub block : Pbn
   pub old_is : e.old ≡ At block
   pub none_counted : counted s t block ≡ uncounted t block

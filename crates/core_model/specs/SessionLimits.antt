@@ -5,7 +5,7 @@ use Rattle.data_vio.specs.declared.sizes.Sizes.{Sizes}
 use Rattle.plain_laws.specs.Sums.{total}
 
 -- how many streams a script has at most, how many requests of each are under way, how many requests there are in all, how
--- many logical zones, and how many blocks a journal has
+-- many logical and physical zones
 abbrev pub most_streams : ℕ
 most_streams = 16
 
@@ -18,21 +18,24 @@ most_requests = 65536
 abbrev pub most_zones : ℕ
 most_zones = 4
 
+abbrev pub most_physical : ℕ
+most_physical = 4
+
 -- how many entries of the journal there are in all: each request has one for its address, and one for each level of pages below
 -- the roots
 abbrev pub most_entries : ℕ
 most_entries = 3 * most_requests
 
 -- how many requests are under way at most, how many zones are notified of a stop, and how many items there are: requests, a
--- decrement or its report for each, stop notices, a block of the journal, and damage
+-- decrement or its report for each, stop notices, a block of the journal, and damage from each physical zone
 abbrev pub most_under_way : ℕ
 most_under_way = most_streams * most_depth
 
 abbrev pub most_notices : ℕ
-most_notices = 2 + most_zones
+most_notices = 1 + most_physical + most_zones
 
 abbrev pub most_items : ℕ
-most_items = 2 * most_under_way + most_notices + 2
+most_items = 2 * most_under_way + most_notices + 1 + most_physical
 
 -- how many requests a script has
 abbrev pub requests_in : Script → ℕ
@@ -44,3 +47,4 @@ pub record IsLimited (sizes : Sizes) (script : Script) : Type 0 where
   pub depth : sizes.depth ≤ most_depth
   pub requests : requests_in script ≤ most_requests
   pub zones : sizes.zones ≤ most_zones
+  pub physical : sizes.physical ≤ most_physical

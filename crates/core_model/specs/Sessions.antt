@@ -78,7 +78,7 @@ pub record IsSession (s : Session) : Type 0 where
   pub start : (1 ≤ s.sizes.start) × (s.sizes.start < 2 ^ 54)
   -- one block of the journal stays free
   pub used : 0 < s.sizes.geometry.journal
-  pub zones : 1 ≤ s.sizes.zones
+  pub zones : (1 ≤ s.sizes.zones) × (1 ≤ s.sizes.physical)
   -- it is no larger than it may be
   pub limits : IsLimited s.sizes s.script
   pub served : AllByRecursion (AllByRecursion IsServed) s.script

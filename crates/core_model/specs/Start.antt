@@ -48,21 +48,21 @@ pub record IsFirstLogical (s : Session) (number : ℕ) (l : LogicalZone) : Type 
   pub reported : l.reported ≡ []
   pub slots : l.slots ≡ []
 
--- the physical zone has all slabs, with the counters of the opened image, no claim and no ticket
+-- a physical zone has its slabs, with the counters of the opened image, no claim and no ticket
 pub record IsFirstPhysical (s : Session) (number : ℕ) (p : PhysicalZone) : Type 0 where
-  pub number_is : number ≡ physical_number s.sizes
+  pub number_is : number ≡ physical_number s.sizes p.counts.zone
   pub notified : p.notified ≡ false
   pub strays : p.strays ≡ []
   pub is_zone : IsZone p.counts
   pub geometry : p.counts.geometry ≡ s.sizes.geometry
-  pub zones : p.counts.zones ≡ 1
+  pub zones : p.counts.zones ≡ s.sizes.physical
   pub counters : (x : Pbn) → IsOfZone p.counts x → counter_in x p.counts.slabs ≡ opened_uses s x
   pub claims : (x : Pbn) → claims_in x p.counts.slabs ≡ 0
   pub no_ticket : p.counts.desk.out ≡ []
 
--- The log of a session is empty. The logical zones and the physical zone say what they need of it.
+-- The log of a session is empty. The logical and the physical zones say what they need of it.
 abbrev pub first_log : Sizes → Log
-first_log sizes = opening sizes.geometry sizes.start (sizes.zones + 1)
+first_log sizes = opening sizes.geometry sizes.start (sizes.zones + sizes.physical)
 
 pub record IsFirstJournal (s : Session) (number : ℕ) (j : JournalZone) : Type 0 where
   pub number_is : number ≡ journal_number s.sizes

@@ -6,6 +6,7 @@ use Rattle.blk_base.specs.declared.place.Pbn.{Pbn}
 use Rattle.plain_laws.specs.Sums.{bit, total}
 use Rattle.core_model.specs.Sessions.{Session, opened_uses}
 use Rattle.core_model.specs.Tokens.{is_block, is_entry, is_old}
+use Rattle.data_vio.specs.Zones.{physical_zone_of}
 use Rattle.core_model.specs.Trace.{Trace, added, claimed, removed, unclaimed}
 
 -- How often it came to be used: by the mappings of the opened image, and by claims. An increment changes nothing of that: a claim
@@ -28,7 +29,10 @@ uncounted t x = total (is_old x) (removed t)
 abbrev pub IsFreeAt : Session → Trace → Pbn → Type 0
 IsFreeAt s t x = gained s t x ≡ lost t x
 
--- no data block is free
+-- no data block of a physical zone is free, and none at all
+abbrev pub NoneFreeIn : Session → Trace → ℕ → Type 0
+NoneFreeIn s t zone = (x : Pbn) → IsDataBlock s.sizes.geometry x.0 → physical_zone_of s.sizes x ≡ zone → IsFreeAt s t x → ⊥
+
 abbrev pub NoneFree : Session → Trace → Type 0
 NoneFree s t = (x : Pbn) → IsDataBlock s.sizes.geometry x.0 → IsFreeAt s t x → ⊥
 

@@ -64,9 +64,10 @@ impl Model for JournalZone {
 fn first_log(alloc: Global, sizes: &Sizes) -> Result<Journal, AllocError>
     requires geometry { IsGeometry sizes.now.geometry }
     requires start { (1 ≤ sizes.now.start) × (sizes.now.start < 2 ^ 54) }
+    requires physical { 0 < sizes.now.physical }
     ensures { IfOk result (λ log. log ≡ first_log sizes.now) }
 {
-    let zones = u32::from(sizes.zones) + 1;
+    let zones = u32::from(sizes.zones) + u32::from(sizes.physical);
     Journal::new(alloc, &sizes.geometry, sizes.start, zones)
 }
 
@@ -85,6 +86,7 @@ impl JournalZone {
     pub fn new(alloc: Global, sizes: &Sizes) -> Result<JournalZone, AllocError>
         requires geometry { IsGeometry sizes.now.geometry }
         requires start { (1 ≤ sizes.now.start) × (sizes.now.start < 2 ^ 54) }
+        requires physical { 0 < sizes.now.physical }
         ensures { IfOk result (λ zone. zone ≡ record {
           notified = false;
           busy = false;

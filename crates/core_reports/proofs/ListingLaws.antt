@@ -1,11 +1,11 @@
--- The places of several zones, zone after zone.
-use Rattle.std.proofs.Common.{ℕ, suc, ◌≡◌, ◌<◌, ◌≤◌, ◌+◌, ◌++◌, List, [], ◌∷◌, length, get_or, take, drop, reverse, sym, ◌∙◌, ap, append_assoc, arith, length-append}
+-- The places of several zones, and the blocks that they count, zone after zone.
+use Rattle.std.proofs.Common.{ℕ, suc, ◌≡◌, ◌<◌, ◌≤◌, ◌+◌, ◌-◌, ◌^◌, ◌++◌, min, List, [], ◌∷◌, length, get_or, take, drop, reverse, sym, ◌∙◌, ap, append_assoc, arith, length-append}
 use Rattle.std.proofs.Math.Seq.{take-suc}
 use Rattle.std.proofs.lemmas.List.{append-nil, length-reverse, take-append-drop}
 use Rattle.vdo_model.specs.declared.report.Placed.{Placed}
 use Rattle.core_model.specs.SessionLimits.{most_requests}
 use Rattle.core_model.specs.declared.zones.Zone.{Zone}
-use Rattle.core_reports.specs.Listed.{places_at, places_of_all}
+use Rattle.core_reports.specs.Listed.{places_at, places_of_all, used_by, used_by_all}
 
 places_of_both : (xs ys : List Zone) → places_of_all (xs ++ ys) ≡ places_of_all ys ++ places_of_all xs
 places_of_both [] ys = sym (append-nil (places_of_all ys))
@@ -40,3 +40,26 @@ one_zone_listed zones n z drawn before now within is drawn_is adds few same =
     = ap (λ (ps : List Placed). ps ++ before) (sym drawn_is) ∙ ap (λ (ps : List Placed). places_at z.keeps ++ ps) same ∙ sym (one_zone_more zones n z within is) in
     let all : length (reverse drawn ++ before) ≡ length (places_of_all (take (n + 1) zones)) = ap (λ (ps : List Placed). length ps) more in
     adds (omega (arith, all, few, first_few zones (n + 1), length-append (reverse drawn) before, length-reverse drawn)) ∙ more
+
+-- how many blocks several zones count
+used_by_both : (xs ys : List Zone) → used_by_all (xs ++ ys) ≡ used_by_all xs + used_by_all ys
+used_by_both [] ys = omega arith
+used_by_both (z ∷ xs) ys = let rest = used_by_both xs ys in omega (arith, rest)
+
+-- one zone more, of which they are added while the sum fits
+pub one_zone_used : (zones : List Zone) (n : ℕ) (z : Zone) (more before now : ℕ) → n < length zones → z ≡ get_or zones n z → more ≡ used_by z.keeps
+    → now ≡ min (before + more) (2 ^ 32 - 1) → used_by_all zones < 2 ^ 32 → before ≡ used_by_all (take n zones) → now ≡ used_by_all (take (n + 1) zones)
+one_zone_used zones n z more before now within is more_is now_is few same =
+    let next : n + 1 ≡ suc n = omega arith in
+    let with_it : used_by_all (take (n + 1) zones) ≡ used_by_all (take n zones) + used_by z.keeps
+    = ap (λ (k : ℕ). used_by_all (take k zones)) next
+    ∙ ap used_by_all (take-suc zones n z within)
+    ∙ used_by_both (take n zones) (get_or zones n z ∷ [])
+    ∙ ap (λ (y : Zone). used_by_all (take n zones) + used_by_all (y ∷ [])) (sym is)
+    ∙ alone (used_by_all (take n zones)) (used_by z.keeps) in
+    let whole = ap used_by_all (take-append-drop (n + 1) zones) in
+    let parts = used_by_both (take (n + 1) zones) (drop (n + 1) zones) in
+    omega (arith, with_it, whole, parts, more_is, now_is, few, same)
+  where
+    alone : (first one : ℕ) → first + (one + 0) ≡ first + one
+    alone first one = omega arith

@@ -1,5 +1,5 @@
 -- The zones of a legal core have what its report says.
-use Rattle.std.proofs.Common.{ℕ, suc, ◌≡◌, ◌<◌, ◌≤◌, ◌+◌, ◌-◌, ◌++◌, Option, Some, List, [], ◌∷◌, length, slice_get, refl, sym, ◌∙◌, ap, subst, append_assoc, inl, inr, arith}
+use Rattle.std.proofs.Common.{ℕ, suc, ◌≡◌, ◌<◌, ◌≤◌, ◌+◌, ◌-◌, ◌++◌, min, Option, Some, List, [], ◌∷◌, length, slice_get, refl, sym, ◌∙◌, ap, subst, append_assoc, inl, inr, arith}
 use Rattle.std.proofs.lemmas.List.{append-nil}
 use Rattle.std.proofs.lemmas.Option.{same_Some}
 use Rattle.core_laws.proofs.Common.{AllAnswered, AllByRecursion, AreDrawn, DataOk, DeskLine, HistoryEntry, IsSession, Placed, RunReport, Script, Session, Trace, Zone, ZoneData, desk_number, journal_number, journaled, lines, marks, places, some_is, cases_lt}
@@ -12,10 +12,8 @@ use Rattle.vdo_model.specs.Histories.{histories_of}
 use Rattle.vdo_model.specs.ZoneOrder.{by_zone}
 use Rattle.core_model.specs.DeskData.{Desk}
 use Rattle.core_model.specs.Trace.{damage_in}
-use Rattle.core_model.specs.Uses.{data_blocks, used_at}
-use Rattle.core_model.specs.declared.zones.PhysicalZone.{PhysicalZone}
+use Rattle.core_model.specs.Uses.{data_blocks, sum_below, used_at, used_of_slab}
 use Rattle.data_vio.specs.Zones.{device_number, physical_number}
-use Rattle.zone_counts.specs.Zone.{Zone as Counters, used_in}
 use Rattle.vdo_model.specs.declared.report.Damage.{Damage}
 use Rattle.core_model.specs.declared.desk.DeskReport.{DeskReport}
 use Rattle.core_model.specs.Legal.{Legal}
@@ -24,9 +22,10 @@ use Rattle.core_model.specs.Reports.{listed_places, progress_of, report_of}
 use Rattle.core_model.specs.SessionLimits.{most_requests, most_streams}
 use Rattle.core_model.specs.declared.zones.ZoneData.TheVariants as at
 use Rattle.core_reports.specs.Found.{AreFound, IsFound}
-use Rattle.core_reports.specs.Listed.{HasCounters, HasDamage, HasDesk, HasEntered, places_at, places_of_all}
+use Rattle.core_reports.specs.Listed.{HasDamage, HasDesk, HasEntered, HasGeometry, places_at, places_of_all, used_by, used_by_all}
 use Rattle.core_reports.specs.Rooms.{IsRoomFor}
-use Rattle.core_reports.proofs.UsedLaws.{used_told}
+use Rattle.core_reports.proofs.SharedSums.{share_below, shared_out}
+use Rattle.core_reports.proofs.UsedLaws.{share_told}
 
 module _ (s : Session) (t : Trace) where
   -- so many logical zones stand below this number
@@ -80,6 +79,47 @@ module _ (s : Session) (t : Trace) where
       ∙ listed_from (suc i) on.next last zones (λ k y had. subst (λ (n : ℕ). DataOk s t n y.keeps) (omega arith) (own (suc k) y had)) on.reaches
       (subst (λ (n : ℕ). Reaches n last) (omega arith) end)
 
+-- what the physical zones count, zone after zone
+module _ (s : Session) (t : Trace) where
+  -- how many blocks are used of the slabs of a physical zone, and how many physical zones stand below a number
+  abbrev share : ℕ → ℕ
+  share = share_below (used_of_slab s t) s.sizes.physical s.sizes.geometry.slabs
+
+  abbrev physical_before : ℕ → ℕ
+  physical_before i = min (i - (1 + s.sizes.zones)) s.sizes.physical
+
+  -- with the zone of this number
+  counts_none : (i : ℕ) (d : ZoneData) → used_by d ≡ 0 → physical_before (suc i) ≡ physical_before i
+      → used_by d + sum_below share (physical_before i) ≡ sum_below share (physical_before (suc i))
+  counts_none i d none same = let still = ap (sum_below share) same in omega (arith, none, still)
+
+  counts_on : (i : ℕ) (d : ZoneData) → DataOk s t i d → used_by d + sum_below share (physical_before i) ≡ sum_below share (physical_before (suc i))
+  counts_on i (at.Physical p) own =
+      let number = own.number_is in
+      let below : p.counts.zone < s.sizes.physical = omega (arith, own.sound.is_zone.slabs.number, own.sound.zones) in
+      let here : physical_before i ≡ p.counts.zone = omega (arith, number, below) in
+      let next : physical_before (suc i) ≡ suc p.counts.zone = omega (arith, number, below) in
+      let told = share_told s t p.counts own.sound.is_zone own.sound.geometry own.lists.counters
+      ∙ ap (λ (n : ℕ). share_below (used_of_slab s t) n s.sizes.geometry.slabs p.counts.zone) own.sound.zones in
+      let first = ap (sum_below share) here in
+      let last = ap (sum_below share) next in
+      omega (arith, told, first, last)
+  counts_on i (at.Logical l) own = counts_none i (at.Logical l) refl (omega (arith, own.number_is, own.sound.among))
+  counts_on i other own = counts_none i other refl (omega (arith, own.number_is))
+
+  pub used_from : (i : ℕ) (zones : List Zone) → ((k : ℕ) (z : Zone) → slice_get zones k ≡ Some z → DataOk s t (i + k) z.keeps)
+      → used_by_all zones + sum_below share (physical_before i) ≡ sum_below share (physical_before (i + length zones))
+  used_from i [] own =
+      let same : i ≡ i + length {A = Zone} [] = omega arith in
+      let end = ap (λ (n : ℕ). sum_below share (physical_before n)) same in
+      omega (arith, end)
+  used_from i (z ∷ zones) own =
+      let here = counts_on i z.keeps (subst (λ (n : ℕ). DataOk s t n z.keeps) (omega arith) (own 0 z refl)) in
+      let rest = used_from (suc i) zones (λ k y had. subst (λ (n : ℕ). DataOk s t n y.keeps) (omega arith) (own (suc k) y had)) in
+      let size : suc i + length zones ≡ i + length (z ∷ zones) = omega arith in
+      let end = ap (λ (n : ℕ). sum_below share (physical_before n)) size in
+      omega (arith, here, rest, end)
+
 module _ (s : Session) (t : Trace) (zones : List Zone) (session : IsSession s) (legal : Legal s (record { zones = zones; trace = t })) where
   -- what a zone says of its own data
   own : (n : ℕ) (z : Zone) (d : ZoneData) → slice_get zones n ≡ Some z → z.keeps ≡ d → DataOk s t n d
@@ -98,7 +138,7 @@ module _ (s : Session) (t : Trace) (zones : List Zone) (session : IsSession s) (
   listed_drawn =
       let drawn = places_drawn s t legal.right in
       drawn_same s.sizes.zones s.sizes.geometry.logical s.script (lines t) (places t) (listed_places s t)
-      (listed_same s.sizes.zones s.sizes.geometry.logical s.script (lines t) (places t) session.zones drawn) drawn
+      (listed_same s.sizes.zones s.sizes.geometry.logical s.script (lines t) (places t) session.zones.0 drawn) drawn
 
   pub places_few_enough : length (places_of_all zones) ≤ most_requests
   places_few_enough =
@@ -170,37 +210,35 @@ module _ (s : Session) (t : Trace) (zones : List Zone) (session : IsSession s) (
         each = λ n z d had keeps. (own n z (at.Device d) had keeps).lists.damage_is;
       }
 
-  -- the counters of the physical zone, with what they say of the space
-  pub record ItsCounters : Type 0 where
-    pub counts : Counters
-    pub has : HasCounters counts zones
-    pub used_is : used_in counts.slabs ≡ used_at s t
-    pub total_is : data_blocks counts.geometry ≡ data_blocks s.sizes.geometry
-
-  pub its_counters : ItsCounters
-  its_counters =
-      let sits = physical_sits s t zones legal.each legal.count in
-      let is = own (physical_number s.sizes) sits.zone (at.Physical sits.it) sits.had sits.keeps in
+  -- all physical zones have the sizes of the image
+  pub its_geometry : HasGeometry s.sizes.geometry zones
+  its_geometry =
+      let sits = physical_sits s t zones legal.each legal.count 0 session.zones.1 in
       record {
-        counts = sits.it.counts;
-        has = record { number = physical_number s.sizes; zone = sits.zone; physical = sits.it; had = sits.had; keeps = sits.keeps; each = each sits.zone sits.it sits.had sits.keeps };
-        used_is = used_told s t sits.it.counts is.sound.is_zone is.sound.geometry is.sound.zones is.lists.counters;
-        total_is = ap data_blocks is.sound.geometry;
+        number = physical_number s.sizes 0;
+        zone = sits.zone;
+        physical = sits.it;
+        had = sits.had;
+        keeps = sits.keeps;
+        each = λ n z p had keeps. (own n z (at.Physical p) had keeps).sound.geometry;
       }
-    where
-      each : (first : Zone) (it : PhysicalZone) → slice_get zones (physical_number s.sizes) ≡ Some first → first.keeps ≡ at.Physical it
-          → (n : ℕ) (z : Zone) (p : PhysicalZone) → slice_get zones n ≡ Some z → z.keeps ≡ at.Physical p → p.counts ≡ it.counts
-      each first it there keeps n z p had has =
-          let number = (own n z (at.Physical p) had has).number_is in
-          let zone : z ≡ first = same_Some _ _ (sym had ∙ ap (λ (k : ℕ). slice_get zones k) number ∙ there) in
-          let same : at.Physical p ≡ at.Physical it = sym has ∙ ap (λ (y : Zone). y.keeps) zone ∙ keeps in
-          let parts : p ≡ it = cc same in
-          ap (λ (q : PhysicalZone). q.counts) parts
 
-  -- so the desk, the places, the histories, the damage and the counters make the report
+  -- all zones count all blocks that are used
+  pub all_used : used_by_all zones ≡ used_at s t
+  all_used =
+      let count = legal.count in
+      let all = used_from s t 0 zones (λ k z had. subst (λ (n : ℕ). DataOk s t n z.keeps) (omega arith) (legal.each k z had).own) in
+      let none : physical_before s t 0 ≡ 0 = omega arith in
+      let ends : physical_before s t (0 + length zones) ≡ s.sizes.physical = omega (arith, count) in
+      let first = ap (sum_below (share s t)) none in
+      let last = ap (sum_below (share s t)) ends in
+      let whole = shared_out (used_of_slab s t) s.sizes.physical session.zones.1 s.sizes.geometry.slabs in
+      omega (arith, all, first, last, whole)
+
+  -- so the desk, the places, the histories, the damage and the space make the report
   pub report_is : (rows : DeskReport) (ps : List Placed) (hs : List HistoryEntry) (damage : Option Damage) (used total : ℕ)
       → rows ≡ record { requests = its_desk.desk.requests; log = its_desk.desk.log; marks = its_desk.desk.marks } → ps ≡ places_of_all zones
-      → hs ≡ histories_of its_desk.desk.requests its_desk.desk.log (progress_of t) ps → damage ≡ damage_in t → used ≡ used_in its_counters.counts.slabs → total ≡ data_blocks its_counters.counts.geometry
+      → hs ≡ histories_of its_desk.desk.requests its_desk.desk.log (progress_of t) ps → damage ≡ damage_in t → used ≡ used_by_all zones → total ≡ data_blocks s.sizes.geometry
       → ◌≡◌ {A = RunReport} (record { requests = rows.requests; desk = rows.log; marks = rows.marks; places = ps; histories = hs; damage = damage; used = used; total = total }) (report_of s t)
   report_is rows ps hs damage used total rows_are ps_are hs_are damage_is used_is total_is =
       let placed : ps ≡ listed_places s t = ps_are ∙ places_listed in
@@ -212,6 +250,5 @@ module _ (s : Session) (t : Trace) (zones : List Zone) (session : IsSession s) (
       ∙ ap (λ (script : Script). histories_of script its_desk.desk.log (progress_of t) ps) its_desk.requests_is
       ∙ ap (λ (desk : List DeskLine). histories_of s.script desk (progress_of t) ps) its_desk.log_is
       ∙ ap (λ (qs : List Placed). histories_of s.script (lines t) (progress_of t) qs) placed in
-      let used_blocks : used ≡ used_at s t = used_is ∙ its_counters.used_is in
-      let blocks : total ≡ data_blocks s.sizes.geometry = total_is ∙ its_counters.total_is in
-      rw (requests, log, marked, placed, histories, damage_is, used_blocks, blocks) refl
+      let used_blocks : used ≡ used_at s t = used_is ∙ all_used in
+      rw (requests, log, marked, placed, histories, damage_is, used_blocks, total_is) refl

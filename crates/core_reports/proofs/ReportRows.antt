@@ -1,10 +1,11 @@
 -- What the zones of a small core have of its report, and the requests that are found: each clause is met, and is broken
 -- alone.
-use Rattle.std.proofs.Common.{ℕ, zero, suc, ◌≡◌, false, true, Option, Some, None, List, [], ◌∷◌, replicate, slice_get, sym, ap, ◌∙◌, refl, arith}
+use Rattle.std.proofs.Common.{ℕ, zero, suc, ◌≡◌, ◌+◌, false, true, Option, Some, None, List, [], ◌∷◌, replicate, slice_get, sym, ap, ◌∙◌, refl, arith}
 use Rattle.std.proofs.lemmas.List.{length-replicate}
 use Rattle.std.proofs.lemmas.Option.{same_Some}
 use Rattle.std.specs.List.{AllByRecursion}
 use Rattle.plain_laws.proofs.ListLaws.{every-get}
+use Rattle.blk_base.specs.declared.geometry.Geometry.{Geometry}
 use Rattle.blk_base.specs.declared.request.Answer.TheVariants as reply
 use Rattle.blk_base.specs.declared.request.Request.TheVariants.{Flush}
 use Rattle.blk_base.specs.declared.request.Writer.{Writer}
@@ -19,7 +20,7 @@ use Rattle.core_model.specs.Trace.{logged_of, remappings}
 use Rattle.core_model.specs.JournalData.{JournalZone}
 use Rattle.core_model.specs.declared.zones.DeviceZone.{DeviceZone}
 use Rattle.core_model.specs.declared.zones.PhysicalZone.{PhysicalZone}
-use Rattle.zone_counts.specs.Zone.{Zone as Counters, used_in}
+use Rattle.zone_counts.specs.Zone.{used_in}
 use Rattle.core_model.specs.declared.zones.SuperblockStage.TheVariants.{Durable}
 use Rattle.page_codec.specs.declared.fault.PageFault.TheVariants.{Header}
 use Rattle.vdo_model.specs.declared.report.Damage.{Damage}
@@ -32,7 +33,7 @@ use Rattle.core_model.specs.declared.zones.ZoneData.TheVariants as at
 use Rattle.core_model.proofs.rows.PhaseRows.{desk, device, empty_log, journal, logical, nothing, one, physical, slab_with, zone_with}
 use Rattle.core_model.proofs.rows.WorkedTraces.{block, first, of_first, other, place, script, second, writer}
 use Rattle.core_reports.specs.Found.{AreFound, AreNoted, IsFound}
-use Rattle.core_reports.specs.Listed.{HasCounters, HasDamage, HasDesk, HasEntered, places_at, places_of_all}
+use Rattle.core_reports.specs.Listed.{HasDamage, HasDesk, HasEntered, HasGeometry, places_at, places_of_all, used_by, used_by_all}
 use Rattle.core_reports.specs.Rooms.{IsRoomFor}
 
 -- room: for one request of stream 0 and two of stream 1, and too little for stream 1
@@ -166,32 +167,40 @@ no_device is = by is.number is.zone is.device is.had is.keeps
 two_devices : HasDamage bad_leaf (of_device bad_leaf ∷ of_device None ∷ []) → ⊥
 two_devices is = absurd (let none = is.each 1 (of_device None) _ refl refl in cc)
 
--- the physical zone, with these counters
+-- a physical zone, with these counters
 abbrev of_counters : List ℕ → Zone
 of_counters counters = zone 3 (physical counters nothing)
 
-abbrev counters_at : ZoneData → Option Counters
-counters_at (at.Physical p) = Some p.counts
-counters_at kept = None
+-- used_by, used_by_all: two physical zones, of which each block is used in the one, and none in the other; the desk counts none
+used_there : (used_by (physical one nothing) ≡ used_in (zone_with (slab_with one nothing)).slabs) × (used_by (desk [] [] 0 []) ≡ 0)
+used_there = (refl, refl)
 
-counters_there : HasCounters (zone_with (slab_with one nothing)) (front ∷ of_counters one ∷ [])
-counters_there = record { number = 1; zone = of_counters one; physical = _; had = refl; keeps = refl; each = each }
+used_in_all : used_by_all (front ∷ of_counters one ∷ of_counters nothing ∷ of_counters one ∷ [])
+    ≡ used_in (zone_with (slab_with one nothing)).slabs + used_in (zone_with (slab_with one nothing)).slabs
+used_in_all = refl
+
+geometry_there : HasGeometry (zone_with (slab_with one nothing)).geometry (front ∷ of_counters one ∷ [])
+geometry_there = record { number = 1; zone = of_counters one; physical = _; had = refl; keeps = refl; each = each }
   where
-    each : (n : ℕ) (z : Zone) (p : PhysicalZone) → slice_get (front ∷ of_counters one ∷ []) n ≡ Some z → z.keeps ≡ at.Physical p → p.counts ≡ zone_with (slab_with one nothing)
+    geometry_at : ZoneData → Option Geometry
+    geometry_at (at.Physical p) = Some p.counts.geometry
+    geometry_at kept = None
+
+    each : (n : ℕ) (z : Zone) (p : PhysicalZone) → slice_get (front ∷ of_counters one ∷ []) n ≡ Some z → z.keeps ≡ at.Physical p → p.counts.geometry ≡ (zone_with (slab_with one nothing)).geometry
     each zero z p had keeps = absurd (let same : desk [] [] 0 [] ≡ at.Physical p = ap (λ (y : Zone). y.keeps) (same_Some _ _ had) ∙ keeps in cc)
-    each (suc zero) z p had keeps = same_Some _ _ (ap counters_at (sym (ap (λ (y : Zone). y.keeps) (same_Some _ _ had) ∙ keeps)))
+    each (suc zero) z p had keeps = same_Some _ _ (ap geometry_at (sym (ap (λ (y : Zone). y.keeps) (same_Some _ _ had) ∙ keeps)))
     each (suc (suc n)) z p had keeps = absurd cc
 
--- had, keeps: there is none; each: there are two, and one of them has other counters
-no_physical : HasCounters (zone_with (slab_with one nothing)) (front ∷ []) → ⊥
-no_physical is = by is.number is.zone is.physical is.had is.keeps
+-- had, keeps: there is none; each: one is of an image of other sizes
+no_physical : (g : Geometry) → HasGeometry g (front ∷ []) → ⊥
+no_physical g is = by is.number is.zone is.physical is.had is.keeps
   where
     by : (n : ℕ) (z : Zone) (p : PhysicalZone) → slice_get (front ∷ []) n ≡ Some z → z.keeps ≡ at.Physical p → ⊥
     by zero z p had keeps = let same : desk [] [] 0 [] ≡ at.Physical p = ap (λ (y : Zone). y.keeps) (same_Some _ _ had) ∙ keeps in cc
     by (suc n) z p had keeps = cc
 
-two_physical : HasCounters (zone_with (slab_with one nothing)) (of_counters one ∷ of_counters nothing ∷ []) → ⊥
-two_physical is = absurd (let none = is.each 1 (of_counters nothing) _ refl refl in let used = ap (λ (c : Counters). used_in c.slabs) none in cc)
+other_sizes : HasGeometry (record (zone_with (slab_with one nothing)).geometry { slabs = 7 }) (front ∷ of_counters one ∷ []) → ⊥
+other_sizes is = absurd (let sizes = ap (λ (g : Geometry). g.slabs) (is.each 1 (of_counters one) _ refl refl) in omega (arith, sizes))
 
 -- notes: the first request of stream 0 is answered by line 1
 abbrev answered : Writer → List DeskLine

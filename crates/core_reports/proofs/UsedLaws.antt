@@ -1,8 +1,10 @@
--- How many blocks the counters of a physical zone say are used: as many as what happened says.
-use Rattle.std.proofs.Common.{ℕ, zero, suc, ◌≡◌, ◌+◌, ◌-◌, ◌*◌, ◌/◌, ◌%◌, ◌<◌, Bool, true, false, List, [], ◌∷◌, filter, length, cond, nat_lt, slice_index, refl, sym, ◌∙◌, ap, arith, inl, inr}
+-- How many blocks the counters of a physical zone say are used: as many as what happened says of its slabs.
+use Rattle.std.proofs.Common.{ℕ, zero, suc, ◌≡◌, ◌+◌, ◌-◌, ◌*◌, ◌/◌, ◌%◌, ◌<◌, ◌≤◌, ◌^◌, Bool, true, false, List, [], ◌∷◌, filter, length, cond, nat_lt, slice_index, refl, sym, ◌∙◌, ap, arith, inl, inr}
 use Rattle.std.specs.Prelude.{sum_by}
 use Rattle.std.proofs.lemmas.Bool.{cases_lt, le-ltb, lt-ltb}
 use Rattle.std.proofs.lemmas.List.Sums.{sum_by-cons}
+use Rattle.std.proofs.lemmas.Nat.{div-mul-add, mod-mul-add, mul-le}
+use Rattle.blk_base.specs.Limits.{IsGeometry}
 use Rattle.blk_base.specs.Regions.{DataBlock, block_of, slab_start_of}
 use Rattle.blk_base.specs.declared.geometry.Geometry.{Geometry}
 use Rattle.blk_base.specs.declared.place.Pbn.{Pbn}
@@ -15,6 +17,7 @@ use Rattle.zone_counts.specs.ByBlock.{counter_in}
 use Rattle.zone_counts.specs.Zone.{IsOfZone, IsZone, Zone, slab_at, slab_number, slab_of, used_in}
 use Rattle.zone_counts.proofs.BlockLaws.{home_is}
 use Rattle.zone_counts.proofs.PlaceLaws.{number_is}
+use Rattle.core_reports.proofs.SharedSums.{AreBelow, one_by_one, share_below}
 
 -- two sums of the same numbers
 same_sum : (f h : ℕ → ℕ) (n : ℕ) → ((k : ℕ) → k < n → f k ≡ h k) → sum_below f n ≡ sum_below h n
@@ -57,34 +60,31 @@ rest_above counter off on sum = elim (cases_lt 0 counter) [
   | inr none ↦ le-ltb off on (omega (arith, sum, none)) ∙ sym (le-ltb 0 counter none)
 ]
 
--- a physical zone of all slabs, with the counters of what happened
-module _ (s : Session) (t : Trace) (z : Zone) (is : IsZone z) (geometry : z.geometry ≡ s.sizes.geometry) (one : z.zones ≡ 1)
+-- a physical zone, with the counters of what happened
+module _ (s : Session) (t : Trace) (z : Zone) (is : IsZone z) (geometry : z.geometry ≡ s.sizes.geometry)
     (counters : (x : Pbn) → IsOfZone z x → counter_in x z.slabs + uncounted t x ≡ counted s t x) where
   abbrev g : Geometry
   g = s.sizes.geometry
 
-  -- a block of the slab of this number
-  module _ (slab : ℕ) (below : slab < g.slabs) where
+  -- the slab at this place among those of the zone, with its number in the image, and a block of it
+  module _ (k : ℕ) (among : k < length z.slabs) where
     abbrev here : Counts
-    here = slab_at z.slabs slab
+    here = slab_at z.slabs k
 
-    place : slab / z.zones ≡ slab
-    place = rw one (omega arith)
-
-    among : slab < length z.slabs
-    among =
-        let own : slab % z.zones ≡ z.zone = rw one (omega (arith, is.slabs.number, one)) in
-        let all = is.slabs.all slab (omega (arith, below, ap (λ (h : Geometry). h.slabs) geometry)) own in
-        omega (arith, all, place)
+    abbrev slab : ℕ
+    slab = k * z.zones + z.zone
 
     its_geometry : here.geometry ≡ g
-    its_geometry = (is.slabs.each slab among).1 ∙ geometry
+    its_geometry = (is.slabs.each k among).1 ∙ geometry
 
     its_number : here.slab ≡ slab
-    its_number = let numbered = (is.slabs.each slab among).0 in omega (arith, numbered, is.slabs.number, one, ap (λ (n : ℕ). slab * n) one)
+    its_number = (is.slabs.each k among).0
+
+    below : slab < g.slabs
+    below = omega (arith, (is.slabs.each k among).2.slab, ap (λ (h : Geometry). h.slabs) its_geometry, its_number)
 
     its_counters : length here.counters ≡ g.slab_blocks
-    its_counters = (is.slabs.each slab among).2.counters ∙ ap (λ (h : Geometry). h.slab_blocks) its_geometry
+    its_counters = (is.slabs.each k among).2.counters ∙ ap (λ (h : Geometry). h.slab_blocks) its_geometry
 
     module _ (offset : ℕ) (inside : offset < g.slab_blocks) where
       abbrev x : Pbn
@@ -103,11 +103,11 @@ module _ (s : Session) (t : Trace) (z : Zone) (is : IsZone z) (geometry : z.geom
           inside = (omega (arith, below, ap (λ (h : Geometry). h.slabs) geometry), omega (arith, inside, ap (λ (h : Geometry). h.slab_blocks) geometry));
           stands = ap (λ (h : Geometry). block_of h (DataBlock slab offset)) geometry;
         };
-        own = rw (number, one) (omega (arith, is.slabs.number, one));
+        own = ap (λ (n : ℕ). n % z.zones) number ∙ mod-mul-add k z.zones z.zone is.slabs.number;
       }
 
       at_home : slab_of z x ≡ here
-      at_home = ap (λ (n : ℕ). slab_at z.slabs (n / z.zones)) number ∙ ap (λ (n : ℕ). slab_at z.slabs n) place
+      at_home = ap (λ (n : ℕ). slab_at z.slabs (n / z.zones)) number ∙ ap (λ (n : ℕ). slab_at z.slabs n) (div-mul-add k z.zones z.zone is.slabs.number)
 
       stands_at : offset_of here x ≡ offset
       stands_at = omega (arith, ap (λ (h : Geometry). slab_start_of h here.slab) its_geometry, ap (λ (n : ℕ). slab_start_of g n) its_number)
@@ -125,19 +125,33 @@ module _ (s : Session) (t : Trace) (z : Zone) (is : IsZone z) (geometry : z.geom
         ∙ ap (λ (n : ℕ). sum_below (λ k. bit (nat_lt 0 (slice_index here.counters k))) n) (sym its_counters)
         ∙ number_above here.counters
 
-  slabs : length z.slabs ≡ g.slabs
-  slabs = elim (cases_lt g.slabs (length z.slabs)) [
-    | inl more ↦
-        let last = is.slabs.each g.slabs more in
-        absurd (omega (arith, last.0, last.2.slab, ap (λ (h : Geometry). h.slabs) (last.1 ∙ geometry), is.slabs.number, one, ap (λ (n : ℕ). g.slabs * n) one))
-    | inr few ↦ (let some = is.slabs.sizes.slabs.0 in
-        let sizes = ap (λ (h : Geometry). h.slabs) geometry in
-        let last = among (g.slabs - 1) (omega (arith, some, sizes)) in omega (arith, few, last, some, sizes))
-  ]
+  its_slabs : AreBelow (used_of_slab s t) z.zones z.zone is.slabs.number g.slabs (length z.slabs)
+  its_slabs = record { all = λ n inside own. is.slabs.all n (omega (arith, inside, ap (λ (h : Geometry). h.slabs) geometry)) own; each = below }
 
-  pub used_told : used_in z.slabs ≡ used_at s t
-  used_told = sym (
-      same_sum (used_of_slab s t) (λ slab. used_of (slab_at z.slabs slab)) g.slabs used_slab
-      ∙ ap (λ (n : ℕ). sum_below (λ k. used_of (slab_at z.slabs k)) n) (sym slabs)
+  -- how many blocks it says are used: as many as are of its slabs
+  pub share_told : used_in z.slabs ≡ share_below (used_of_slab s t) z.zones g.slabs z.zone
+  share_told = sym (
+      one_by_one (used_of_slab s t) z.zones z.zone is.slabs.number g.slabs (length z.slabs) its_slabs
+      ∙ same_sum (λ k. used_of_slab s t (k * z.zones + z.zone)) (λ k. used_of (slab_at z.slabs k)) (length z.slabs) used_slab
       ∙ sum_of_list used_of z.slabs
       )
+
+-- no more blocks are used than there are
+few_bits : (f : ℕ → Bool) (n : ℕ) → sum_below (λ k. bit (f k)) n ≤ n
+few_bits f zero = omega arith
+few_bits f (suc n) = let rest = few_bits f n in one_more (f n) rest
+  where
+    one_more : (b : Bool) → sum_below (λ k. bit (f k)) n ≤ n → sum_below (λ k. bit (f k)) n + bit b ≤ suc n
+    one_more true rest = omega (arith, rest)
+    one_more false rest = omega (arith, rest)
+
+few_each : (f : ℕ → ℕ) (most n : ℕ) → ((k : ℕ) → f k ≤ most) → sum_below f n ≤ n * most
+few_each f most zero each = omega arith
+few_each f most (suc n) each = let rest = few_each f most n each in let last = each n in omega (arith, rest, last)
+
+pub few_used : (s : Session) (t : Trace) → IsGeometry s.sizes.geometry → used_at s t < 2 ^ 32
+few_used s t sizes =
+    let g = s.sizes.geometry in
+    let most = few_each (used_of_slab s t) g.slab_blocks g.slabs (λ slab. few_bits (λ offset. is_used s t (record { 0 = block_of g (DataBlock slab offset) })) g.slab_blocks) in
+    let all = mul-le g.slabs g.slab_blocks 1024 32768 sizes.slabs.1 sizes.slab_blocks.1 in
+    omega (arith, most, all)

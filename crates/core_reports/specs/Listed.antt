@@ -1,5 +1,6 @@
 -- What the zones of a core have of its report.
-use Rattle.std.specs.Prelude.{ℕ, ◌≡◌, Option, List, [], ◌∷◌, ◌++◌, Some, slice_get}
+use Rattle.std.specs.Prelude.{ℕ, ◌≡◌, ◌+◌, Option, List, [], ◌∷◌, ◌++◌, Some, slice_get}
+use Rattle.blk_base.specs.declared.geometry.Geometry.{Geometry}
 use Rattle.vdo_model.specs.declared.report.Damage.{Damage}
 use Rattle.vdo_model.specs.declared.report.Placed.{Placed}
 use Rattle.core_model.specs.DeskData.{Desk}
@@ -11,7 +12,7 @@ use Rattle.core_model.specs.declared.zones.PhysicalZone.{PhysicalZone}
 use Rattle.core_model.specs.declared.zones.Zone.{Zone}
 use Rattle.core_model.specs.declared.zones.ZoneData.{ZoneData}
 use Rattle.core_model.specs.declared.zones.ZoneData.TheVariants as at
-use Rattle.zone_counts.specs.Zone.{Zone as Counters}
+use Rattle.zone_counts.specs.Zone.{used_in}
 
 -- the places that a zone drew
 abbrev pub places_at : ZoneData → List Placed
@@ -47,11 +48,20 @@ pub record HasDamage (damage : Option Damage) (zones : List Zone) : Type 0 where
   pub keeps : zone.keeps ≡ at.Device device
   pub each : (n : ℕ) (z : Zone) (d : DeviceZone) → slice_get zones n ≡ Some z → z.keeps ≡ at.Device d → d.damage ≡ damage
 
--- the physical zone is there, and each that is there has these counters
-pub record HasCounters (counts : Counters) (zones : List Zone) : Type 0 where
+-- how many data blocks of a zone have a counter above 0, and how many of all zones
+abbrev pub used_by : ZoneData → ℕ
+used_by (at.Physical p) = used_in p.counts.slabs
+used_by other = 0
+
+abbrev pub used_by_all : List Zone → ℕ
+used_by_all [] = 0
+used_by_all (z ∷ zones) = used_by z.keeps + used_by_all zones
+
+-- there is a physical zone, and each that is there is of an image of these sizes
+pub record HasGeometry (geometry : Geometry) (zones : List Zone) : Type 0 where
   pub number : ℕ
   pub zone : Zone
   pub physical : PhysicalZone
   pub had : slice_get zones number ≡ Some zone
   pub keeps : zone.keeps ≡ at.Physical physical
-  pub each : (n : ℕ) (z : Zone) (p : PhysicalZone) → slice_get zones n ≡ Some z → z.keeps ≡ at.Physical p → p.counts ≡ counts
+  pub each : (n : ℕ) (z : Zone) (p : PhysicalZone) → slice_get zones n ≡ Some z → z.keeps ≡ at.Physical p → p.counts.geometry ≡ geometry

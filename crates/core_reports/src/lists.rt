@@ -1,11 +1,11 @@
-ghost use Rattle.std.specs.Prelude.{◌≡◌, ◌+◌, ◌≤◌, ◌++◌, Option, List, [], length, reverse};
+ghost use Rattle.std.specs.Prelude.{◌≡◌, ◌+◌, ◌<◌, ◌≤◌, ◌^◌, ◌++◌, Option, List, [], length, reverse};
+ghost use Rattle.blk_base.specs.declared.geometry.Geometry.{Geometry};
 ghost use Rattle.core_model.specs.DeskData.{Desk as DeskData};
 ghost use Rattle.core_model.specs.SessionLimits.{most_requests};
 ghost use Rattle.data_vio.specs.declared.logged.Logged.{Logged as Entered};
 ghost use Rattle.core_model.specs.Uses.{data_blocks};
-ghost use Rattle.core_reports.specs.Listed.{HasCounters, HasDamage, HasDesk, HasEntered, places_at, places_of_all};
+ghost use Rattle.core_reports.specs.Listed.{HasDamage, HasDesk, HasEntered, HasGeometry, places_at, places_of_all, used_by, used_by_all};
 ghost use Rattle.vdo_model.specs.declared.report.Damage.{Damage as Found};
-ghost use Rattle.zone_counts.specs.Zone.{Zone as Counters, used_in};
 
 use core_model::{DeskReport, Zone, ZoneData};
 use data_vio::{Logged, REQUEST_ROOM, Register};
@@ -68,27 +68,38 @@ pub(crate) fn damage(zones: &[Zone]) -> Option<Damage>
     None
 }
 
-/// How many data blocks have a counter above 0, and how many there are.
-#[derive(Clone, Copy, Debug, PartialEq, Eq)]
-pub(crate) struct Space {
-    pub(crate) used: u32,
-    pub(crate) total: u32,
+// How many data blocks of a zone have a counter above 0: of one that isn't physical, none.
+fn used_blocks(zone: &Zone) -> u32
+    ensures { result ≡ used_by zone.now.keeps }
+{
+    match &zone.keeps {
+        ZoneData::Physical(physical) => physical.counts.used(),
+        _ => 0,
+    }
 }
 
-/// How much of the space is used, by the counters of the physical zone.
-pub(crate) fn used_space(zones: &[Zone]) -> Space
-    ensures { (counts : Counters) → HasCounters counts zones.now →
-        result ≡ record { used = used_in counts.slabs; total = data_blocks counts.geometry } }
+/// How many data blocks are used: each counter stands in one physical zone.
+pub(crate) fn used_space(zones: &[Zone]) -> u32
+    ensures { used_by_all zones.now < 2 ^ 32 → result ≡ used_by_all zones.now }
+{
+    let mut used = 0_u32;
+    for zone in zones {
+        used = used.saturating_add(used_blocks(zone));
+    }
+    used
+}
+
+/// How many data blocks there are.
+pub(crate) fn total_space(zones: &[Zone]) -> u32
+    ensures { (geometry : Geometry) → HasGeometry geometry zones.now →
+        result ≡ data_blocks geometry }
 {
     for zone in zones {
         if let ZoneData::Physical(physical) = &zone.keeps {
-            return Space {
-                used: physical.counts.used(),
-                total: physical.counts.total(),
-            };
+            return physical.counts.total();
         }
     }
-    Space { used: 0, total: 0 }
+    0
 }
 
 /// What a report has of the desk.

@@ -7,13 +7,14 @@ ghost use Rattle.core_model.specs.Trace.{Trace, lines};
 ghost use Rattle.core_reports.specs.Rooms.{IsRoomFor};
 
 use crate::histories::list_histories;
-use crate::lists::{damage, desk_report, list_places, used_space};
+use crate::lists::{damage, desk_report, list_places, total_space, used_space};
 use crate::room::ReportRoom;
 use core_model::Zone;
 use vdo_model::RunReport;
 
 /// The report of a core that is done: its requests, desk log and marks are moved out of the desk, its places are those
-/// of the zones, one zone's behind the other's, its histories have an entry for each write that has a place, its damage is what the device's zone found first, and its used blocks are counted by the physical zone. It asks
+/// of the zones, one zone's behind the other's, its histories have an entry for each write that has a place, its damage is what the
+/// device's zone found first, and its used blocks are those that the physical zones count. It asks
 /// for no memory; its time is linear in the requests, for each of the 16 streams. Of a core that isn't legal, or isn't
 /// done, it gives some report.
 pub fn report(zones: Vec<Zone>, room: ReportRoom) -> RunReport
@@ -29,7 +30,8 @@ pub fn report(zones: Vec<Zone>, room: ReportRoom) -> RunReport
     list_places(&zones, &mut places);
     list_histories(&zones, places.as_slice(), &mut notes, &mut histories);
     let damage = damage(&zones);
-    let space = used_space(&zones);
+    let used = used_space(&zones);
+    let total = total_space(&zones);
     let desk = desk_report(zones);
     RunReport {
         requests: desk.requests,
@@ -38,7 +40,7 @@ pub fn report(zones: Vec<Zone>, room: ReportRoom) -> RunReport
         places: places.into_list(),
         histories: histories.into_list(),
         damage,
-        used: space.used,
-        total: space.total,
+        used,
+        total,
     }
 }

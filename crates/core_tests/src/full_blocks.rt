@@ -29,6 +29,7 @@ const WIDE: Geometry = Geometry {
 
 const SETUP: Setup = Setup {
     logical_zones: 2,
+    physical_zones: 1,
     depth: 16,
 };
 

@@ -10,6 +10,7 @@ use vdo_model::Placed;
 // One request after the other, in one logical zone.
 const SETUP: Setup = Setup {
     logical_zones: 1,
+    physical_zones: 1,
     depth: 1,
 };
 

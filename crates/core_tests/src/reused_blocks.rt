@@ -1,5 +1,6 @@
 ghost use Rattle.std.specs.Prelude.{IfOk};
 ghost use Rattle.std.specs.List.{AllByRecursion};
+ghost use Rattle.blk_base.specs.Limits.{IsGeometry};
 ghost use Rattle.core_model.specs.Sessions.{IsServed};
 
 use crate::cores::{Ask, Unplayed, push, requests};
@@ -17,7 +18,7 @@ use std::test::Fail;
 use vdo_core::Setup;
 use vdo_model::{Requests, RunReport};
 
-/// 16 data blocks, of which a leaf takes one, and a journal for more entries than a run has.
+/// One slab of 16 data blocks, of which a leaf takes one, and a journal for more entries than a run has.
 const SMALL: Geometry = Geometry {
     logical: 100,
     slab_blocks: 16,
@@ -25,10 +26,48 @@ const SMALL: Geometry = Geometry {
     ..Geometry::DEFAULT
 };
 
-const SETUP: Setup = Setup {
-    logical_zones: 1,
-    depth: 2,
-};
+/// How many physical zones there are, each with a slab.
+#[derive(Clone, Copy, Debug, PartialEq, Eq)]
+enum Zones {
+    One,
+    Two,
+    Three,
+    Four,
+}
+
+impl Zones {
+    fn count(self) -> u8 {
+        match self {
+            Zones::One => 1,
+            Zones::Two => 2,
+            Zones::Three => 3,
+            Zones::Four => 4,
+        }
+    }
+
+    fn geometry(self) -> Geometry
+        ensures { IsGeometry result }
+    {
+        match self {
+            Zones::One => SMALL,
+            Zones::Two => Geometry { slabs: 2, ..SMALL },
+            Zones::Three => Geometry { slabs: 3, ..SMALL },
+            Zones::Four => Geometry { slabs: 4, ..SMALL },
+        }
+    }
+
+    fn setup(self) -> Setup {
+        Setup {
+            logical_zones: 1,
+            physical_zones: self.count(),
+            depth: 2,
+        }
+    }
+
+    fn total(self) -> u32 {
+        16 * u32::from(self.count())
+    }
+}
 
 const STREAMS: u32 = 3;
 
@@ -76,9 +115,9 @@ fn all_asks(alloc: Global) -> Result<Requests, AllocError>
 }
 
 // How many calls are made before a run.
-fn opening_calls(alloc: Global) -> Result<u64, Unplayed> {
-    let mut device = troubled_of(alloc, &SMALL, Trouble::Nothing)?;
-    let _core = open_over(alloc, &SETUP, all_asks(alloc)?, &mut device)?;
+fn opening_calls(alloc: Global, zones: Zones) -> Result<u64, Unplayed> {
+    let mut device = troubled_of(alloc, &zones.geometry(), Trouble::Nothing)?;
+    let _core = open_over(alloc, &zones.setup(), all_asks(alloc)?, &mut device)?;
     Ok(device.calls().len() as u64)
 }
 
@@ -86,10 +125,11 @@ fn opening_calls(alloc: Global) -> Result<u64, Unplayed> {
 fn report_of<R: Wait>(
     rt: &R,
     alloc: Global,
+    zones: Zones,
     number: u64,
     device: &mut MemDisk,
 ) -> Result<RunReport, Unplayed> {
-    let mut core = open_over(alloc, &SETUP, all_asks(alloc)?, device)?;
+    let mut core = open_over(alloc, &zones.setup(), all_asks(alloc)?, device)?;
     drive(rt, &mut core, &mut Schedule::from_number(number), device);
     Ok(core.report())
 }
@@ -110,11 +150,13 @@ fn used_besides(report: &RunReport) -> u32 {
 fn uses_blocks_again<R: Wait + Abort>(
     rt: &R,
     alloc: Global,
+    zones: Zones,
     schedules: Range<u64>,
 ) -> Result<(), Fail> {
+    let geometry = zones.geometry();
     for number in schedules {
-        let mut device = troubled_of(alloc, &SMALL, Trouble::Nothing)?;
-        let report = report_of(rt, alloc, number, &mut device)?;
+        let mut device = troubled_of(alloc, &geometry, Trouble::Nothing)?;
+        let report = report_of(rt, alloc, zones, number, &mut device)?;
         let Met { reads, .. } = judge(&report);
         assert_eq!(rt;
             (number, judge(&report)),
@@ -128,10 +170,10 @@ fn uses_blocks_again<R: Wait + Abort>(
         );
         assert_eq!(rt;
             (number, used_besides(&report), report.total),
-            (number, 0, 16)
+            (number, 0, zones.total())
         );
         let writes = report.histories.as_slice().len();
-        let wrong = wrong_in_image(alloc, &SMALL, &report, &ADDRESSES, &mut device)?;
+        let wrong = wrong_in_image(alloc, &geometry, &report, &ADDRESSES, &mut device)?;
         assert_eq!(rt;
             (number, wrong, reads > 10, writes > 50),
             (number, 0, true, true)
@@ -141,21 +183,58 @@ fn uses_blocks_again<R: Wait + Abort>(
 }
 
 #[test]
-fn blocks_are_used_again(rt: HostRuntime) -> Result<(), Fail> {
-    uses_blocks_again(&rt, rt.alloc(), 0..10)
+fn one_zone_in_schedules_0_to_9(rt: HostRuntime) -> Result<(), Fail> {
+    uses_blocks_again(&rt, rt.alloc(), Zones::One, 0..10)
 }
 
 #[test]
-fn blocks_are_used_again_by_other_schedules(rt: HostRuntime) -> Result<(), Fail> {
-    uses_blocks_again(&rt, rt.alloc(), 10..20)
+fn one_zone_in_schedules_10_to_19(rt: HostRuntime) -> Result<(), Fail> {
+    uses_blocks_again(&rt, rt.alloc(), Zones::One, 10..20)
+}
+
+#[test]
+fn two_zones_in_schedules_0_to_9(rt: HostRuntime) -> Result<(), Fail> {
+    uses_blocks_again(&rt, rt.alloc(), Zones::Two, 0..10)
+}
+
+#[test]
+fn two_zones_in_schedules_10_to_19(rt: HostRuntime) -> Result<(), Fail> {
+    uses_blocks_again(&rt, rt.alloc(), Zones::Two, 10..20)
+}
+
+#[test]
+fn three_zones_in_schedules_0_to_9(rt: HostRuntime) -> Result<(), Fail> {
+    uses_blocks_again(&rt, rt.alloc(), Zones::Three, 0..10)
+}
+
+#[test]
+fn three_zones_in_schedules_10_to_19(rt: HostRuntime) -> Result<(), Fail> {
+    uses_blocks_again(&rt, rt.alloc(), Zones::Three, 10..20)
+}
+
+#[test]
+fn four_zones_in_schedules_0_to_9(rt: HostRuntime) -> Result<(), Fail> {
+    uses_blocks_again(&rt, rt.alloc(), Zones::Four, 0..10)
+}
+
+#[test]
+fn four_zones_in_schedules_10_to_19(rt: HostRuntime) -> Result<(), Fail> {
+    uses_blocks_again(&rt, rt.alloc(), Zones::Four, 10..20)
 }
 
 // How much is wrong after a stop behind so many calls of a run, in an image that a number picks.
-fn wrong_after<R: Wait>(rt: &R, alloc: Global, number: u64, calls: u64) -> Result<u32, Unplayed> {
-    let mut device = troubled_of(alloc, &SMALL, Trouble::Cut(calls))?;
-    let report = report_of(rt, alloc, number, &mut device)?;
+fn wrong_after<R: Wait>(
+    rt: &R,
+    alloc: Global,
+    zones: Zones,
+    number: u64,
+    calls: u64,
+) -> Result<u32, Unplayed> {
+    let geometry = zones.geometry();
+    let mut device = troubled_of(alloc, &geometry, Trouble::Cut(calls))?;
+    let report = report_of(rt, alloc, zones, number, &mut device)?;
     let mut image = device.pick_image(alloc, calls)?;
-    wrong_in_image(alloc, &SMALL, &report, &ADDRESSES, &mut image)
+    wrong_in_image(alloc, &geometry, &report, &ADDRESSES, &mut image)
 }
 
 // Each image that a stop leaves is sound where blocks are used again, and shows nothing older than what was flushed: two stops
@@ -163,14 +242,15 @@ fn wrong_after<R: Wait>(rt: &R, alloc: Global, number: u64, calls: u64) -> Resul
 fn stops_soundly<R: Wait + Abort>(
     rt: &R,
     alloc: Global,
+    zones: Zones,
     schedules: Range<u64>,
 ) -> Result<(), Fail> {
-    let opening = opening_calls(alloc)?;
+    let opening = opening_calls(alloc, zones)?;
     for number in schedules {
         let first = number.wrapping_mul(37);
         for stop in [first.wrapping_add(7), first.wrapping_add(61)] {
             let call = opening.wrapping_add(stop % CALLS);
-            let wrong = wrong_after(rt, alloc, number, call)?;
+            let wrong = wrong_after(rt, alloc, zones, number, call)?;
             assert_eq!(rt; (number, call, wrong), (number, call, 0));
         }
     }
@@ -178,21 +258,81 @@ fn stops_soundly<R: Wait + Abort>(
 }
 
 #[test]
-fn stopped_in_schedules_0_to_4(rt: HostRuntime) -> Result<(), Fail> {
-    stops_soundly(&rt, rt.alloc(), 0..5)
+fn one_zone_stopped_in_schedules_0_to_4(rt: HostRuntime) -> Result<(), Fail> {
+    stops_soundly(&rt, rt.alloc(), Zones::One, 0..5)
 }
 
 #[test]
-fn stopped_in_schedules_5_to_9(rt: HostRuntime) -> Result<(), Fail> {
-    stops_soundly(&rt, rt.alloc(), 5..10)
+fn one_zone_stopped_in_schedules_5_to_9(rt: HostRuntime) -> Result<(), Fail> {
+    stops_soundly(&rt, rt.alloc(), Zones::One, 5..10)
 }
 
 #[test]
-fn stopped_in_schedules_10_to_14(rt: HostRuntime) -> Result<(), Fail> {
-    stops_soundly(&rt, rt.alloc(), 10..15)
+fn one_zone_stopped_in_schedules_10_to_14(rt: HostRuntime) -> Result<(), Fail> {
+    stops_soundly(&rt, rt.alloc(), Zones::One, 10..15)
 }
 
 #[test]
-fn stopped_in_schedules_15_to_19(rt: HostRuntime) -> Result<(), Fail> {
-    stops_soundly(&rt, rt.alloc(), 15..20)
+fn one_zone_stopped_in_schedules_15_to_19(rt: HostRuntime) -> Result<(), Fail> {
+    stops_soundly(&rt, rt.alloc(), Zones::One, 15..20)
+}
+
+#[test]
+fn two_zones_stopped_in_schedules_0_to_4(rt: HostRuntime) -> Result<(), Fail> {
+    stops_soundly(&rt, rt.alloc(), Zones::Two, 0..5)
+}
+
+#[test]
+fn two_zones_stopped_in_schedules_5_to_9(rt: HostRuntime) -> Result<(), Fail> {
+    stops_soundly(&rt, rt.alloc(), Zones::Two, 5..10)
+}
+
+#[test]
+fn two_zones_stopped_in_schedules_10_to_14(rt: HostRuntime) -> Result<(), Fail> {
+    stops_soundly(&rt, rt.alloc(), Zones::Two, 10..15)
+}
+
+#[test]
+fn two_zones_stopped_in_schedules_15_to_19(rt: HostRuntime) -> Result<(), Fail> {
+    stops_soundly(&rt, rt.alloc(), Zones::Two, 15..20)
+}
+
+#[test]
+fn three_zones_stopped_in_schedules_0_to_4(rt: HostRuntime) -> Result<(), Fail> {
+    stops_soundly(&rt, rt.alloc(), Zones::Three, 0..5)
+}
+
+#[test]
+fn three_zones_stopped_in_schedules_5_to_9(rt: HostRuntime) -> Result<(), Fail> {
+    stops_soundly(&rt, rt.alloc(), Zones::Three, 5..10)
+}
+
+#[test]
+fn three_zones_stopped_in_schedules_10_to_14(rt: HostRuntime) -> Result<(), Fail> {
+    stops_soundly(&rt, rt.alloc(), Zones::Three, 10..15)
+}
+
+#[test]
+fn three_zones_stopped_in_schedules_15_to_19(rt: HostRuntime) -> Result<(), Fail> {
+    stops_soundly(&rt, rt.alloc(), Zones::Three, 15..20)
+}
+
+#[test]
+fn four_zones_stopped_in_schedules_0_to_4(rt: HostRuntime) -> Result<(), Fail> {
+    stops_soundly(&rt, rt.alloc(), Zones::Four, 0..5)
+}
+
+#[test]
+fn four_zones_stopped_in_schedules_5_to_9(rt: HostRuntime) -> Result<(), Fail> {
+    stops_soundly(&rt, rt.alloc(), Zones::Four, 5..10)
+}
+
+#[test]
+fn four_zones_stopped_in_schedules_10_to_14(rt: HostRuntime) -> Result<(), Fail> {
+    stops_soundly(&rt, rt.alloc(), Zones::Four, 10..15)
+}
+
+#[test]
+fn four_zones_stopped_in_schedules_15_to_19(rt: HostRuntime) -> Result<(), Fail> {
+    stops_soundly(&rt, rt.alloc(), Zones::Four, 15..20)
 }

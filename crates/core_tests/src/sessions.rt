@@ -147,6 +147,8 @@ fn begin(
 {
     let small = 0 < setup.logical_zones
         && setup.logical_zones <= 4
+        && 0 < setup.physical_zones
+        && setup.physical_zones <= 4
         && 0 < setup.depth
         && setup.depth <= 16
         && 0 < opened.head.start

@@ -16,6 +16,7 @@ const PLANS: [Plan; 5] = [
         trees: Trees::Low,
         setup: Setup {
             logical_zones: 2,
+            physical_zones: 1,
             depth: 1,
         },
         streams: &[
@@ -34,6 +35,7 @@ const PLANS: [Plan; 5] = [
         trees: Trees::Low,
         setup: Setup {
             logical_zones: 2,
+            physical_zones: 1,
             depth: 3,
         },
         streams: &[
@@ -48,6 +50,7 @@ const PLANS: [Plan; 5] = [
         trees: Trees::Low,
         setup: Setup {
             logical_zones: 2,
+            physical_zones: 1,
             depth: 16,
         },
         streams: &[
@@ -84,6 +87,7 @@ const PLANS: [Plan; 5] = [
         trees: Trees::Low,
         setup: Setup {
             logical_zones: 2,
+            physical_zones: 1,
             depth: 16,
         },
         streams: &[
@@ -114,6 +118,7 @@ const PLANS: [Plan; 5] = [
         trees: Trees::Tall,
         setup: Setup {
             logical_zones: 2,
+            physical_zones: 1,
             depth: 2,
         },
         streams: &[
@@ -285,6 +290,7 @@ fn reads_on(plan: &Plan) -> Plan {
         trees: plan.trees,
         setup: Setup {
             logical_zones: 2,
+            physical_zones: 1,
             depth: 1,
         },
         streams: &[&[Ask::Read(5), Ask::Read(6), Ask::Read(900), Ask::Read(901)]],

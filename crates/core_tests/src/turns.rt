@@ -16,6 +16,7 @@ const TWO_ZONES: Plan = Plan {
     trees: Trees::Low,
     setup: Setup {
         logical_zones: 2,
+        physical_zones: 1,
         depth: 3,
     },
     streams: &[
@@ -28,6 +29,7 @@ const FOUR_ZONES: Plan = Plan {
     trees: Trees::Low,
     setup: Setup {
         logical_zones: 4,
+        physical_zones: 1,
         depth: 4,
     },
     // Addresses below 812 are of the first zone, and those from there on of the second.

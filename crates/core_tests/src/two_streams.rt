@@ -6,6 +6,7 @@ use vdo_core::{Core, Event, Setup};
 
 const SETUP: Setup = Setup {
     logical_zones: 2,
+    physical_zones: 1,
     depth: 3,
 };
 

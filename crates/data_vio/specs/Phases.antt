@@ -50,14 +50,15 @@ row phase.AbortEntered = record { zone = AtHome; locks = true; claims = false; o
 row phase.Flush = record { zone = AtDevice; locks = false; claims = false; owes = false; arrives = false; entered = false }
 row phase.Reply = record { zone = AtDesk; locks = false; claims = false; owes = false; arrives = false; entered = false }
 
--- the number of the zone there, for a request of this home; where it is in no lane, none to a zone's number
-abbrev pub number_at : Sizes → ZoneId → Where → ℕ
-number_at sizes home AtDesk = zone_number sizes id.Desk
-number_at sizes home AtHome = zone_number sizes home
-number_at sizes home AtPhysical = zone_number sizes (id.Physical 0)
-number_at sizes home AtJournal = zone_number sizes id.Journal
-number_at sizes home AtDevice = zone_number sizes id.Device
-number_at sizes home InNoLane = zone_count sizes
+-- the number of the zone there, for a request of this home, whose block this zone counts; where it is in no lane, none to a zone's
+-- number
+abbrev pub number_at : Sizes → (home counts : ZoneId) → Where → ℕ
+number_at sizes home counts AtDesk = zone_number sizes id.Desk
+number_at sizes home counts AtHome = zone_number sizes home
+number_at sizes home counts AtPhysical = zone_number sizes counts
+number_at sizes home counts AtJournal = zone_number sizes id.Journal
+number_at sizes home counts AtDevice = zone_number sizes id.Device
+number_at sizes home counts InNoLane = zone_count sizes
 
 -- the zone where a stage is done, and the stage behind it; at Commit and at Fail the block's way ends
 pub record StageRow : Type 0 where

@@ -1,5 +1,5 @@
 -- A request under way: what it asked, and what becomes of it.
-use Rattle.std.specs.Prelude.{ℕ, false, Option, None, Some, List, [], ◌∷◌, ◌++◌}
+use Rattle.std.specs.Prelude.{ℕ, ◌%◌, false, Option, None, Some, List, [], ◌∷◌, ◌++◌}
 use Rattle.blk_base.specs.declared.place.Lba.{Lba}
 use Rattle.blk_base.specs.declared.place.Mapping.{Mapping}
 use Rattle.blk_base.specs.declared.place.Mapping.TheVariants.{Unmapped, At}
@@ -21,6 +21,7 @@ use Rattle.data_vio.specs.declared.items.SealedBlock.{SealedBlock}
 use Rattle.data_vio.specs.declared.items.Stage.{Stage}
 use Rattle.data_vio.specs.declared.items.Vio.{Vio}
 use Rattle.data_vio.specs.declared.sizes.Sizes.{Sizes}
+use Rattle.data_vio.specs.Zones.{counts_in}
 use Rattle.data_vio.specs.declared.logged.Logged.{Logged}
 use Rattle.data_vio.specs.declared.logged.Logged.TheVariants.{Remaps}
 use Rattle.data_vio.specs.declared.logged.Remapping.{Remapping}
@@ -109,6 +110,17 @@ made v = record v { phase = phase.Look; page = None; new = Unmapped }
 -- or it makes it no more, and is answered
 abbrev pub gives_up : Vio → Vio
 gives_up v = record v { phase = phase.Reply; page = None }
+
+-- the physical zone that it asks for a block, by its place; and that counts the block on which it has a claim, or else is asked
+abbrev pub asks_in : Sizes → ℕ → ZoneId
+asks_in sizes place = id.Physical (place % sizes.physical)
+
+abbrev pub counts_for : Sizes → ℕ → Option Pbn → ZoneId
+counts_for sizes place None = asks_in sizes place
+counts_for sizes place (Some x) = counts_in sizes x
+
+abbrev pub counts_of : Sizes → Vio → ZoneId
+counts_of sizes v = counts_for sizes v.place v.claim
 
 -- the logical zone of the address of an entry
 abbrev pub home_of : Sizes → Remapping → ZoneId

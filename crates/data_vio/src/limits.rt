@@ -10,6 +10,9 @@ pub const MOST_REQUESTS: usize = 65_536;
 /// How many logical zones there may be.
 pub const MOST_ZONES: usize = 4;
 
+/// How many physical zones there may be.
+pub const MOST_PHYSICAL: usize = 4;
+
 /// How many requests may be under way.
 pub const MOST_UNDER_WAY: usize = MOST_STREAMS * MOST_DEPTH;
 
@@ -17,12 +20,12 @@ pub const MOST_UNDER_WAY: usize = MOST_STREAMS * MOST_DEPTH;
 /// the roots.
 pub const MOST_ENTRIES: usize = 3 * MOST_REQUESTS;
 
-/// How many zones may be notified of a stop: the logical zones, the physical zone and the journal.
-pub const MOST_NOTICES: u32 = 6;
+/// How many zones may be notified of a stop: the logical zones, the physical zones and the journal.
+pub const MOST_NOTICES: u32 = 9;
 
 /// How many items may be under way: requests, a decrement or its report for each, stop notices, a block of the journal, and
-/// damage.
-pub const MOST_ITEMS: usize = 2 * MOST_UNDER_WAY + MOST_NOTICES as usize + 2;
+/// damage from each physical zone.
+pub const MOST_ITEMS: usize = 2 * MOST_UNDER_WAY + MOST_NOTICES as usize + 1 + MOST_PHYSICAL;
 
 /// How many entries a block of the journal has at most.
 pub const BLOCK_ENTRIES: u32 = 192;

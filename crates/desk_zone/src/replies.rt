@@ -16,7 +16,7 @@ use step_parts::Posts;
 pub(crate) fn is_notified(sizes: &Sizes, desk: &Desk) -> bool
     ensures { result ≡ rows.is_notified sizes.now desk.now }
 {
-    u32::from(sizes.zones) + 1 < desk.notices()
+    u32::from(sizes.physical) + u32::from(sizes.zones) < desk.notices()
 }
 
 // Whether an answer is that of a flush that returned.

@@ -1,3 +1,4 @@
 mod ActLaws
 mod BlockEntries
 mod Calls
+mod NoticeLaws

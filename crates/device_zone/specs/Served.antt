@@ -1,5 +1,5 @@
 -- What the device's zone can serve.
-use Rattle.std.specs.Prelude.{⊤, ◌≡◌, ◌<◌, ◌≤◌, ◌-◌, ◌^◌, false, Option, None, Some, [], List}
+use Rattle.std.specs.Prelude.{⊤, ◌≡◌, ◌<◌, ◌-◌, ◌^◌, false, Option, None, Some, [], List}
 use Rattle.blk_base.specs.declared.place.Mapping.{Mapping}
 use Rattle.blk_base.specs.declared.place.Mapping.TheVariants.{At}
 use Rattle.blk_base.specs.declared.place.Pbn.{Pbn}
@@ -11,16 +11,17 @@ use Rattle.data_vio.specs.declared.sizes.Sizes.{Sizes}
 use Rattle.core_model.specs.declared.zones.DeviceZone.{DeviceZone}
 use Rattle.core_model.specs.DeviceRules.{IsInside, IsReady}
 use Rattle.core_model.specs.declared.zones.SuperblockStage.TheVariants.{Durable}
-use Rattle.core_model.specs.SessionLimits.{most_zones}
 use Rattle.data_vio.specs.Vios.{Post}
+use Rattle.step_parts.specs.ZoneSizes.{AreFew, HasPhysical}
 use Rattle.device_zone.specs.DeviceCalls.{Fits}
 
--- One more call can be counted, an image of these sizes fits on the device, each zone can be told of a stop, and nothing is
--- posted yet.
+-- One more call can be counted, an image of these sizes fits on the device, each zone can be told of a stop, each data block has its
+-- physical zone, and nothing is posted yet.
 pub record MayServe (sizes : Sizes) (zone : DeviceZone) (seen : Seen) (posts : List Post) : Type 0 where
   pub counts : zone.calls < 2 ^ 64 - 1
   pub fits : Fits sizes seen
-  pub few : sizes.zones ≤ most_zones
+  pub few : AreFew sizes
+  pub physical : HasPhysical sizes
   pub none : posts ≡ []
 
 -- a mapped block, and that of a leaf, inside an image of these sizes

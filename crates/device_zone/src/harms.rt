@@ -1,6 +1,6 @@
 ghost use Rattle.std.specs.Prelude.{◌≡◌, ◌≤◌, ◌++◌, length};
 ghost use Rattle.core_model.specs.DeviceRules as rows;
-ghost use Rattle.core_model.specs.SessionLimits.{most_zones};
+ghost use Rattle.step_parts.specs.ZoneSizes.{AreFew};
 
 use crate::stop_notices::notify;
 use core_model::DeviceZone;
@@ -10,7 +10,7 @@ use vdo_model::Damage;
 
 /// Something is damaged: the session is stopped, where it isn't yet. The damage is kept that was found first.
 pub(crate) fn harm(sizes: &Sizes, zone: &mut DeviceZone, damage: Damage, posts: &mut Posts)
-    requires few { sizes.now.zones ≤ most_zones }
+    requires few { AreFew sizes.now }
     requires room { length posts.old ≤ 1 }
     ensures zone { zone.new ≡ rows.harmed damage zone.old }
     ensures posts { posts.new ≡ posts.old ++ rows.notices_after zone.old.stopped sizes.now }

@@ -18,7 +18,7 @@ use core_model::DeviceZone;
 use data_vio::{BoxedVio, Item, Phase, Sizes, Vio};
 use disk_model::Disk;
 use page_codec::{MapPage, PageHead, encode};
-use step_parts::Posts;
+use step_parts::{Posts, counts_of};
 
 // An empty page of the block map, at this block.
 fn put_page(sizes: &Sizes, page: PageId, at: Pbn, into: &mut Block)
@@ -70,14 +70,9 @@ fn store<D: Disk>(
     let mut empty = Block::zero();
     let bytes = stored(sizes, vio.get(), block, &mut empty);
     let Ok(()) = write_block(disk, block, bytes) else {
+        let to = counts_of(sizes, vio.get());
         let failed = vio.end(Phase::AbortClaim, Answer::Stopped);
-        halt(
-            sizes,
-            zone,
-            ZoneId::Physical(0),
-            Item::Request(failed),
-            posts,
-        );
+        halt(sizes, zone, to, Item::Request(failed), posts);
         return;
     };
     zone.calls += 1;
@@ -159,8 +154,9 @@ fn serve_store<D: Disk>(
         × HasCalled D.tells D.honest (D.seen disk.old) (D.seen disk.new) made }
 {
     if zone.stopped {
+        let to = counts_of(sizes, vio.get());
         let unmade = vio.end(Phase::AbortClaim, Answer::Stopped);
-        posts.first(ZoneId::Physical(0), Item::Request(unmade));
+        posts.first(to, Item::Request(unmade));
         return;
     }
     let Mapping::At(block) = vio.get().new else {

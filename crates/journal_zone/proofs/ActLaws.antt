@@ -63,7 +63,7 @@ ended sizes old b (new, made, posts, ends row) = (_, _, _, row)
 module _ (sizes : Sizes) (old : JournalZone) (b : SealedBlock) (is : b.stage ≡ stage.Commit) where
   module _ (v : Vio) (vs : List Vio) (are : b.vios ≡ v ∷ vs) where
     pub commits_next : (new : JournalZone) (posts : List Post) → HasNext old.log → new ≡ committed_by v old
-        → posts ≡ hands_out v ++ (id.Journal, item.Block (record b { vios = vs })) ∷ [] → (made : Trace) × JournalEnds sizes old b new made posts
+        → posts ≡ hands_out sizes v ++ (id.Journal, item.Block (record b { vios = vs })) ∷ [] → (made : Trace) × JournalEnds sizes old b new made posts
     commits_next new posts next new_is posts_is = (Commits (logged v) ∷ [], commits v vs is are next new_is refl posts_is)
 
     pub has_next : Applies (JournalEnds sizes old b) → HasNext old.log

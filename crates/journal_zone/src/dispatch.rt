@@ -3,6 +3,7 @@ ghost use Rattle.core_model.specs.declared.zones.ZoneData.TheVariants as at;
 ghost use Rattle.core_model.specs.Limits.{IsJournalWithin};
 ghost use Rattle.core_model.specs.Steps.{HasAct};
 ghost use Rattle.step_parts.specs.Acts.{ActsAlone};
+ghost use Rattle.step_parts.specs.ZoneSizes.{HasPhysical};
 
 use crate::block_ends::{end_block, hear_stop};
 use crate::entries::enter;
@@ -12,6 +13,7 @@ use step_parts::Posts;
 
 /// What the journal does with the item in front of its inbox, to which a rule applies: it posts this.
 pub fn act(sizes: &Sizes, zone: &mut JournalZone, item: Item, posts: &mut Posts)
+    requires physical { HasPhysical sizes.now }
     requires within { IsJournalWithin zone.old }
     requires rule { HasAct sizes.now (at.Journal zone.old) (item ∷ []) }
     requires none { posts.old ≡ [] }

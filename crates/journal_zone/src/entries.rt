@@ -7,6 +7,7 @@ ghost use Rattle.core_model.specs.Trace.{Trace};
 ghost use Rattle.data_vio.specs.declared.items.Item.TheVariants.{Block};
 ghost use Rattle.data_vio.specs.declared.items.Phase.TheVariants.{Enter};
 ghost use Rattle.data_vio.specs.declared.items.Stage.TheVariants.{Commit};
+ghost use Rattle.step_parts.specs.ZoneSizes.{HasPhysical};
 
 use crate::refusals::{Refusal, refuse};
 use blk_base::ZoneId;
@@ -47,6 +48,7 @@ fn hand_in(sizes: &Sizes, zone: &mut JournalZone, vio: BoxedVio, posts: &mut Pos
 /// handed in.
 pub(crate) fn enter(sizes: &Sizes, zone: &mut JournalZone, vio: BoxedVio, posts: &mut Posts)
     requires phase { vio.phase ≡ Enter }
+    requires physical { HasPhysical sizes.now }
     requires within { IsJournalWithin zone.old }
     requires none { posts.old ≡ [] }
     ensures { (made : Trace) × JournalServes sizes.now zone.old vio zone.new made posts.new }

@@ -1,11 +1,12 @@
 ghost use Rattle.std.specs.Prelude.{◌≡◌, ◌+◌, ◌<◌, ◌≤◌, [], ◌∷◌, ◌++◌, length};
 ghost use Rattle.core_model.specs.JournalRules as rows;
+ghost use Rattle.step_parts.specs.ZoneSizes.{HasPhysical};
 ghost use Rattle.journal_zone.specs.Refusals.{answer_for};
 
 use blk_base::{Answer, ZoneId};
 use core_model::JournalZone;
 use data_vio::{BoxedVio, Item, POST_ROOM, Phase, Sizes};
-use step_parts::Posts;
+use step_parts::{Posts, counts_of};
 
 /// Why an entry isn't handed in.
 #[derive(Clone, Copy)]
@@ -26,16 +27,19 @@ fn answered(refusal: Refusal) -> Answer
 
 /// A request is aborted, by way of the physical zone.
 pub(crate) fn refuse(sizes: &Sizes, refusal: Refusal, vio: BoxedVio, posts: &mut Posts)
-    requires { length posts.old < POST_ROOM }
+    requires physical { HasPhysical sizes.now }
+    requires room { length posts.old < POST_ROOM }
     ensures { posts.new ≡ posts.old ++ rows.refused sizes.now (answer_for refusal) vio ∷ [] }
 {
+    let to = counts_of(sizes, vio.get());
     let refused = vio.end(Phase::AbortClaim, answered(refusal));
-    posts.push(ZoneId::Physical(0), Item::Request(refused));
+    posts.push(to, Item::Request(refused));
 }
 
 /// Those that wait are aborted, since the session is stopped.
 pub(crate) fn refuse_waiting(sizes: &Sizes, zone: &mut JournalZone, posts: &mut Posts)
-    requires { length posts.old + length zone.old.waiting ≤ POST_ROOM }
+    requires physical { HasPhysical sizes.now }
+    requires room { length posts.old + length zone.old.waiting ≤ POST_ROOM }
     ensures zone { zone.new ≡ record zone.old { waiting = [] } }
     ensures posts { posts.new
         ≡ posts.old ++ rows.all_refused sizes.now (answer_for Refusal.Stopped) zone.old.waiting }

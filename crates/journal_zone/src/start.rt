@@ -13,6 +13,7 @@ use std::alloc::{AllocError, Global};
 pub fn first(alloc: Global, sizes: &Sizes) -> Result<JournalZone, AllocError>
     requires geometry { IsGeometry sizes.now.geometry }
     requires start { (1 ≤ sizes.now.start) × (sizes.now.start < 2 ^ 54) }
+    requires physical { 0 < sizes.now.physical }
     ensures { IfOk result (λ first.
         (s : Session) → s.sizes ≡ sizes.now →
         IsFirstData s (journal_number s.sizes) (at.Journal first)) }

@@ -6,17 +6,18 @@ use Rattle.blk_base.specs.declared.place.PageId.{PageId}
 use Rattle.data_vio.specs.declared.items.Phase.{Phase}
 use Rattle.data_vio.specs.declared.items.Phase.TheVariants as phase
 use Rattle.data_vio.specs.declared.items.Vio.{Vio}
+use Rattle.data_vio.specs.declared.sizes.Sizes.{Sizes}
 use Rattle.core_model.specs.LogicalData.{LogicalZone}
 use Rattle.core_model.specs.LogicalRules.{goes_on, known_at, lacks, looked, passes_by}
 use Rattle.core_model.specs.PageTrees.{HasPath, MayLink}
 use Rattle.data_vio.specs.Vios.{Post}
 
 -- a request that knows what is mapped at its address goes on; and one that has the lock of its address, whatever is known of that
-abbrev pub GoesOn : Vio → Type 0
-GoesOn v = (post : Post) × (goes_on v ≡ Some post)
+abbrev pub GoesOn : Sizes → Vio → Type 0
+GoesOn sizes v = (post : Post) × (goes_on sizes v ≡ Some post)
 
-abbrev pub GoesWithAll : LogicalZone → Vio → Type 0
-GoesWithAll l v = (mapping : Mapping) → known_at l v.at.0 ≡ Some mapping → GoesOn (looked l mapping v)
+abbrev pub GoesWithAll : Sizes → LogicalZone → Vio → Type 0
+GoesWithAll sizes l v = (mapping : Mapping) → known_at l v.at.0 ≡ Some mapping → GoesOn sizes (looked l mapping v)
 
 -- a mapping to a block
 abbrev pub IsToBlock : Mapping → Type 0
@@ -31,12 +32,12 @@ CanSettle l (Some page) other = ⊥
 
 -- A request in this phase can be served: one that looks its mapping up has its path in the zone's trees, and passes, or lacks a
 -- page, or goes on with the lock of its address, where it knows its mapping.
-abbrev pub CanServe : LogicalZone → Vio → Phase → Type 0
-CanServe l v phase.Arrive = ⊤
-CanServe l v phase.Look = HasPath l.tree v.at.0 × (passes_by l v ≡ false → lacks l v ≡ None → GoesWithAll l v)
-CanServe l v phase.LoadedLeaf = GoesOn v
-CanServe l v phase.Settle = CanSettle l v.page v.new
-CanServe l v phase.Loaded = ⊤
-CanServe l v phase.Abort = ⊤
-CanServe l v phase.AbortEntered = ⊤
-CanServe l v other = ⊥
+abbrev pub CanServe : Sizes → LogicalZone → Vio → Phase → Type 0
+CanServe sizes l v phase.Arrive = ⊤
+CanServe sizes l v phase.Look = HasPath l.tree v.at.0 × (passes_by l v ≡ false → lacks l v ≡ None → GoesWithAll sizes l v)
+CanServe sizes l v phase.LoadedLeaf = GoesOn sizes v
+CanServe sizes l v phase.Settle = CanSettle l v.page v.new
+CanServe sizes l v phase.Loaded = ⊤
+CanServe sizes l v phase.Abort = ⊤
+CanServe sizes l v phase.AbortEntered = ⊤
+CanServe sizes l v other = ⊥

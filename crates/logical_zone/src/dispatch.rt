@@ -3,6 +3,7 @@ ghost use Rattle.core_model.specs.declared.zones.ZoneData.TheVariants as at;
 ghost use Rattle.core_model.specs.Limits.{IsLogicalWithin};
 ghost use Rattle.core_model.specs.Steps.{HasAct};
 ghost use Rattle.step_parts.specs.Acts.{ActsAlone};
+ghost use Rattle.step_parts.specs.ZoneSizes.{HasPhysical};
 
 use crate::reports::hear_report;
 use crate::requests::{hear_stop, serve_logical};
@@ -12,6 +13,7 @@ use step_parts::Posts;
 
 /// What a logical zone does with the item in front of its inbox, to which a rule applies: it posts this.
 pub fn act(sizes: &Sizes, zone: &mut LogicalZone, item: Item, posts: &mut Posts)
+    requires physical { HasPhysical sizes.now }
     requires within { IsLogicalWithin (2 ^ 64 - 2) zone.old }
     requires rule { HasAct sizes.now (at.Logical zone.old) (item ∷ []) }
     requires none { posts.old ≡ [] }

@@ -6,13 +6,14 @@ ghost use Rattle.core_model.specs.LogicalRules as rows;
 ghost use Rattle.core_model.specs.PageTrees.{HasPath};
 ghost use Rattle.core_model.specs.Trace.{Aborts, Sets};
 ghost use Rattle.data_vio.specs.Vios as vios;
+ghost use Rattle.step_parts.specs.ZoneSizes.{HasPhysical};
 ghost use Rattle.logical_zone.specs.Served.{CanSettle, IsToBlock};
 
 use crate::requests::release;
 use blk_base::{Answer, Mapping, PageId, Pbn, ZoneId};
 use core_model::LogicalZone;
 use data_vio::{Asks, BoxedVio, Item, POST_ROOM, Phase, Sizes};
-use step_parts::Posts;
+use step_parts::{Posts, counts_of};
 
 /// The highest page that a write lacks; nothing else needs its leaf.
 pub(crate) fn lacks(zone: &LogicalZone, vio: &BoxedVio) -> Option<PageId>
@@ -36,6 +37,7 @@ pub(crate) fn make(
     requires phase { vio.phase ≡ phase.Look }
     requires path { HasPath zone.old.tree vio.at.0 }
     requires lacks { rows.lacks zone.old vio ≡ Some page }
+    requires physical { HasPhysical sizes.now }
     requires within { IsLogicalWithin (2 ^ 64 - 2) zone.old }
     requires none { posts.old ≡ [] }
     ensures { rows.LogicalServes sizes.now zone.old vio zone.new [] posts.new }
@@ -49,7 +51,8 @@ pub(crate) fn make(
         zone.lack(vio);
     } else {
         zone.make(page);
-        posts.first(ZoneId::Physical(0), Item::Request(vio.make(page)));
+        let to = counts_of(sizes, vio.get());
+        posts.first(to, Item::Request(vio.make(page)));
     }
 }
 

@@ -8,6 +8,7 @@ ghost use Rattle.core_model.specs.LogicalRules as rows;
 ghost use Rattle.core_model.specs.PageTrees.{HasPath};
 ghost use Rattle.core_model.specs.Trace.{Trace, Aborts, Draws, Gives, Passes};
 ghost use Rattle.data_vio.specs.Vios as vios;
+ghost use Rattle.step_parts.specs.ZoneSizes.{HasPhysical};
 ghost use Rattle.logical_zone.specs.Served.{CanServe, GoesOn, GoesWithAll};
 
 use crate::pages::{drop_page, lacks, make, unmake};
@@ -17,7 +18,7 @@ use blk_base::{Answer, Block, Lba, Mapping, ZoneId};
 use core_model::LogicalZone;
 use data_vio::{Asks, BoxedVio, Item, Phase, Sizes};
 use lane_kernels::is_zero;
-use step_parts::Posts;
+use step_parts::{Posts, counts_of};
 
 // The bytes of an address that is mapped to no block.
 fn zeros(vio: BoxedVio) -> BoxedVio
@@ -59,26 +60,29 @@ fn are_zeros(bytes: &Block) -> bool
 }
 
 // Where a write goes that knows it: it takes a block, but for one of zeros.
-fn write_next(vio: BoxedVio) -> (ZoneId, Item)
-    ensures { result ≡ rows.write_next vio }
+fn write_next(sizes: &Sizes, vio: BoxedVio) -> (ZoneId, Item)
+    requires { HasPhysical sizes.now }
+    ensures { result ≡ rows.write_next sizes.now vio }
 {
     if are_zeros(&vio.get().bytes) {
         enter_with(vio, Mapping::Zero)
     } else {
+        let to = counts_of(sizes, vio.get());
         let claims = vio.turn(Phase::Claim);
-        (ZoneId::Physical(0), Item::Request(claims))
+        (to, Item::Request(claims))
     }
 }
 
 // Where a request goes that knows what is mapped at its address; a flush takes no lock.
-fn goes_on(vio: BoxedVio) -> Option<(ZoneId, Item)>
-    ensures { result ≡ rows.goes_on vio }
+fn goes_on(sizes: &Sizes, vio: BoxedVio) -> Option<(ZoneId, Item)>
+    requires { HasPhysical sizes.now }
+    ensures { result ≡ rows.goes_on sizes.now vio }
 {
     let asks = vio.get().asks;
     let mapping = vio.get().old;
     match asks {
         Asks::Read => Some(read_next(vio, mapping)),
-        Asks::Write => Some(write_next(vio)),
+        Asks::Write => Some(write_next(sizes, vio)),
         Asks::Discard => Some(enter_with(vio, Mapping::Unmapped)),
         Asks::Flush => None,
     }
@@ -160,12 +164,13 @@ fn go_on(sizes: &Sizes, zone: &LogicalZone, vio: BoxedVio, mapping: Mapping, pos
     requires stays { rows.passes_by zone.now vio ≡ false }
     requires leaf { rows.lacks zone.now vio ≡ None }
     requires knows { rows.known_at zone.now vio.at.0 ≡ Some mapping }
-    requires goes { GoesOn (rows.looked zone.now mapping vio) }
+    requires goes { GoesOn sizes.now (rows.looked zone.now mapping vio) }
+    requires physical { HasPhysical sizes.now }
     requires none { posts.old ≡ [] }
     ensures { rows.LogicalServes sizes.now zone.now vio zone.now [] posts.new }
 {
     let latest = zone.latest(vio.get().at);
-    let Some((to, item)) = goes_on(vio.look(mapping, latest)) else {
+    let Some((to, item)) = goes_on(sizes, vio.look(mapping, latest)) else {
         unreachable!();
     };
     posts.first(to, item);
@@ -193,7 +198,8 @@ fn find(sizes: &Sizes, zone: &LogicalZone, vio: BoxedVio, posts: &mut Posts)
     requires path { HasPath zone.now.tree vio.at.0 }
     requires stays { rows.passes_by zone.now vio ≡ false }
     requires leaf { rows.lacks zone.now vio ≡ None }
-    requires goes { GoesWithAll zone.now vio }
+    requires goes { GoesWithAll sizes.now zone.now vio }
+    requires physical { HasPhysical sizes.now }
     requires none { posts.old ≡ [] }
     ensures { rows.LogicalServes sizes.now zone.now vio zone.now [] posts.new }
 {
@@ -207,11 +213,12 @@ fn find(sizes: &Sizes, zone: &LogicalZone, vio: BoxedVio, posts: &mut Posts)
 // Its leaf said what is mapped at its address: that says where it goes.
 fn go_on_leafed(sizes: &Sizes, zone: &LogicalZone, vio: BoxedVio, posts: &mut Posts)
     requires phase { vio.phase ≡ phase.LoadedLeaf }
-    requires goes { GoesOn vio }
+    requires goes { GoesOn sizes.now vio }
+    requires physical { HasPhysical sizes.now }
     requires none { posts.old ≡ [] }
     ensures { rows.LogicalServes sizes.now zone.now vio zone.now [] posts.new }
 {
-    let Some((to, item)) = goes_on(vio) else {
+    let Some((to, item)) = goes_on(sizes, vio) else {
         unreachable!();
     };
     posts.first(to, item);
@@ -237,7 +244,8 @@ fn pass(sizes: &Sizes, zone: &mut LogicalZone, vio: BoxedVio, posts: &mut Posts)
 // A request that has the lock of its address goes on, or passes.
 fn look_on(sizes: &Sizes, zone: &mut LogicalZone, vio: BoxedVio, posts: &mut Posts)
     requires phase { vio.phase ≡ phase.Look }
-    requires can { CanServe zone.old vio phase.Look }
+    requires can { CanServe sizes.now zone.old vio phase.Look }
+    requires physical { HasPhysical sizes.now }
     requires within { IsLogicalWithin (2 ^ 64 - 2) zone.old }
     requires none { posts.old ≡ [] }
     ensures { (made : Trace) × rows.LogicalServes sizes.now zone.old vio zone.new made posts.new }
@@ -306,7 +314,8 @@ fn abort_entered(sizes: &Sizes, zone: &mut LogicalZone, vio: BoxedVio, posts: &m
 /// One phase of a request in a logical zone.
 pub(crate) fn serve_logical(sizes: &Sizes, zone: &mut LogicalZone, vio: BoxedVio, posts: &mut Posts)
     requires within { IsLogicalWithin (2 ^ 64 - 2) zone.old }
-    requires can { CanServe zone.old vio vio.phase }
+    requires can { CanServe sizes.now zone.old vio vio.phase }
+    requires physical { HasPhysical sizes.now }
     requires none { posts.old ≡ [] }
     ensures { (made : Trace) × rows.LogicalServes sizes.now zone.old vio zone.new made posts.new }
 {

@@ -43,7 +43,7 @@ pub(crate) fn set_slot(zone: &mut LogicalZone, vio: BoxedVio, posts: &mut Posts)
 /// The entry of a request is committed: its page is linked, or its slot is set, or it waits for the report of its decrement.
 pub(crate) fn settle(sizes: &Sizes, zone: &mut LogicalZone, vio: BoxedVio, posts: &mut Posts)
     requires phase { vio.phase ≡ phase.Settle }
-    requires can { CanServe zone.old vio phase.Settle }
+    requires can { CanServe sizes.now zone.old vio phase.Settle }
     requires within { IsLogicalWithin (2 ^ 64 - 2) zone.old }
     requires none { posts.old ≡ [] }
     ensures { (made : Trace) × rows.LogicalServes sizes.now zone.old vio zone.new made posts.new }

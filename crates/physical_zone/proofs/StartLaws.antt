@@ -1,4 +1,4 @@
--- An opened zone without claims is the physical zone at the start of a session over that image.
+-- An opened zone without claims is the physical zone of this number at the start of a session over that image.
 use Rattle.std.proofs.Common.{◌≡◌, ℕ, List, [], false, refl, sym, ◌∙◌, ap}
 use Rattle.blk_base.specs.declared.geometry.Geometry.{Geometry}
 use Rattle.blk_base.specs.declared.opened.Opened.{Opened}
@@ -6,24 +6,29 @@ use Rattle.core_model.specs.Sessions.{Session}
 use Rattle.core_model.specs.Start.{IsFirstPhysical}
 use Rattle.data_vio.specs.Zones.{physical_number}
 use Rattle.data_vio.specs.declared.logged.Remapping.{Remapping}
+use Rattle.data_vio.specs.declared.sizes.Sizes.{Sizes}
 use Rattle.zone_counts.specs.Openings.{opened_count}
 use Rattle.zone_counts.specs.Zone.{Zone, IsOpeningZone, IsZone}
 use Rattle.zone_counts.proofs.FitLaws.{opened_claims}
 use Rattle.zone_counts.proofs.OpenedCounts.{opened_here}
 
-pub starts : (s : Session) (opened : Opened) (room : ℕ) (strays : List Remapping) (counts : Zone) → s.sizes.geometry ≡ opened.head.geometry → s.counters ≡ opened.counters.items
-    → strays ≡ [] → IsOpeningZone opened 0 1 room counts → IsZone counts
-    → IsFirstPhysical s (physical_number s.sizes) (record { notified = false; strays = strays; counts = counts })
-starts s opened room strays counts geometry counters none opening is = record {
-  number_is = refl;
-  notified = refl;
-  strays = none;
-  is_zone = is;
-  geometry = opening.geometry ∙ sym geometry;
-  zones = opening.zones;
-  counters = λ x own.
-      (opened_here opened 0 1 room counts opening is x own).0 ∙ ap (λ (g : Geometry). opened_count g opened.counters.items x) (sym geometry)
-      ∙ ap (λ (ns : List ℕ). opened_count s.sizes.geometry ns x) (sym counters);
-  claims = λ x. opened_claims opened 0 1 room counts opening is x;
-  no_ticket = rw opening.desk refl;
-}
+module _ (s : Session) (sizes : Sizes) (opened : Opened) (same : s.sizes ≡ sizes) (geometry : sizes.geometry ≡ opened.head.geometry) (counters : s.counters ≡ opened.counters.items) where
+  -- by another name of its number, and of how many there are
+  pub starts : (number zone zones room : ℕ) (strays : List Remapping) (counts : Zone) → zone ≡ number → zones ≡ sizes.physical → strays ≡ []
+      → IsOpeningZone opened zone zones room counts → IsZone counts
+      → IsFirstPhysical s (physical_number s.sizes number) (record { notified = false; strays = strays; counts = counts })
+  starts number zone zones room strays counts zone_is zones_are none opening is =
+      let own : s.sizes.geometry ≡ opened.head.geometry = ap (λ (z : Sizes). z.geometry) same ∙ geometry in
+      record {
+        number_is = ap (physical_number s.sizes) (sym (opening.zone ∙ zone_is));
+        notified = refl;
+        strays = none;
+        is_zone = is;
+        geometry = opening.geometry ∙ sym own;
+        zones = opening.zones ∙ zones_are ∙ sym (ap (λ (z : Sizes). z.physical) same);
+        counters = λ x here.
+            (opened_here opened zone zones room counts opening is x here).0 ∙ ap (λ (g : Geometry). opened_count g opened.counters.items x) (sym own)
+            ∙ ap (λ (ns : List ℕ). opened_count s.sizes.geometry ns x) (sym counters);
+        claims = λ x. opened_claims opened zone zones room counts opening is x;
+        no_ticket = rw opening.desk refl;
+      }

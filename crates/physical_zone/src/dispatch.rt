@@ -10,7 +10,7 @@ use core_model::PhysicalZone;
 use data_vio::{Item, Sizes};
 use step_parts::Posts;
 
-/// What the physical zone does with the item in front of its inbox, to which a rule applies: it posts this.
+/// What a physical zone does with the item in front of its inbox, to which a rule applies: it posts this.
 pub fn act(sizes: &Sizes, zone: &mut PhysicalZone, item: Item, posts: &mut Posts)
     requires zones { 0 < sizes.now.zones }
     requires within { IsPhysicalWithin zone.old }

@@ -1,4 +1,4 @@
-//! The physical zone: what it does with the item in front of its inbox. Writes claim data blocks here, and the counters of these
+//! A physical zone: what it does with the item in front of its inbox. Writes claim its data blocks here, and the counters of these
 //! take their updates.
 //!
 //! Only tested: as part of the core.

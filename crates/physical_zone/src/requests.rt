@@ -1,6 +1,6 @@
 ghost use Rattle.std.specs.Prelude.{◌≡◌, [], ◌∷◌, true};
 ghost use Rattle.blk_base.specs.declared.place.ZoneId.TheVariants as id;
-ghost use Rattle.core_model.specs.PhysicalRules.{PhysicalServes, spent_for};
+ghost use Rattle.core_model.specs.PhysicalRules.{PhysicalServes, no_block, spent_for};
 ghost use Rattle.core_model.specs.Trace.{Trace};
 ghost use Rattle.data_vio.specs.Vios as vios;
 ghost use Rattle.data_vio.specs.declared.items.Item.TheVariants.{Request, StopNotice};
@@ -24,7 +24,18 @@ fn go_home(vio: BoxedVio, phase: Phase, posts: &mut Posts)
     posts.first(home, Item::Request(vio.turn(phase)));
 }
 
-// A write claims the lowest free data block, or none is free.
+// What a write is answered with where no block of the zone is free: that of one zone among several says nothing of the others.
+fn no_block(sizes: &Sizes) -> Answer
+    ensures { result ≡ no_block sizes.now }
+{
+    if sizes.physical == 1 {
+        Answer::NoSpace
+    } else {
+        Answer::Full
+    }
+}
+
+// A write claims the lowest free data block of the zone, or none is free there.
 fn claim(sizes: &Sizes, zone: &mut PhysicalZone, vio: BoxedVio, posts: &mut Posts)
     requires phase { vio.phase ≡ phase.Claim }
     requires none { posts.old ≡ [] }
@@ -34,7 +45,7 @@ fn claim(sizes: &Sizes, zone: &mut PhysicalZone, vio: BoxedVio, posts: &mut Post
         Some(claim) => posts.first(ZoneId::Device, Item::Request(vio.claim(claim))),
         None => {
             let home = vio.get().home;
-            let unserved = vio.end(Phase::Abort, Answer::NoSpace);
+            let unserved = vio.end(Phase::Abort, no_block(sizes));
             posts.first(home, Item::Request(unserved));
         }
     }
@@ -91,7 +102,7 @@ fn leave_claim(mut vio: BoxedVio, posts: &mut Posts)
     go_home(vio, Phase::AbortEntered, posts);
 }
 
-/// What the physical zone does with a request in front of its inbox, which a rule serves.
+/// What a physical zone does with a request in front of its inbox, which a rule serves.
 pub(crate) fn serve_physical(
     sizes: &Sizes,
     zone: &mut PhysicalZone,
@@ -112,7 +123,7 @@ pub(crate) fn serve_physical(
     }
 }
 
-/// The physical zone hears that the session is stopped, and passes it on.
+/// A physical zone hears that the session is stopped, and passes it on.
 pub(crate) fn hear_stop(zone: &mut PhysicalZone, posts: &mut Posts)
     requires { posts.old ≡ [] }
     ensures zone { zone.new ≡ record zone.old { notified = true } }

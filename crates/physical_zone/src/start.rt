@@ -1,6 +1,7 @@
-ghost use Rattle.std.specs.Prelude.{◌≡◌, IfOk};
+ghost use Rattle.std.specs.Prelude.{◌≡◌, ◌<◌, ◌≤◌, IfOk};
 ghost use Rattle.blk_base.specs.Limits.{IsGeometry};
 ghost use Rattle.core_model.specs.declared.zones.ZoneData.TheVariants as at;
+ghost use Rattle.core_model.specs.SessionLimits.{most_physical};
 ghost use Rattle.core_model.specs.Sessions.{AreCounters, Session};
 ghost use Rattle.core_model.specs.Start.{IsFirstData};
 ghost use Rattle.data_vio.specs.Zones.{physical_number};
@@ -11,26 +12,30 @@ use data_vio::{Register, Sizes};
 use std::alloc::{AllocError, Global};
 use zone_counts::ZoneCounts;
 
-// The number of the physical zone, and how many there are.
-const ZONE: u32 = 0;
-
-const ZONES: u32 = 1;
-
 // As yet it gives no ticket, and has room for none.
 const TICKET_DEPTH: u32 = 0;
 
-/// The physical zone at the start of a session over an image that was opened: it has the counter of each data block, and nobody
-/// has a claim on one. All its room is taken here.
-pub fn first(alloc: Global, sizes: &Sizes, opened: &Opened) -> Result<PhysicalZone, AllocError>
+/// A physical zone at the start of a session over an image that was opened, by its number among the physical ones, of which there
+/// are 4 at most: it has the counter of each data block of its slabs, and nobody has a claim on one. All its room is taken here.
+pub fn first(
+    alloc: Global,
+    sizes: &Sizes,
+    opened: &Opened,
+    zone: u8,
+) -> Result<PhysicalZone, AllocError>
     requires geometry { IsGeometry opened.now.head.geometry }
     requires same { sizes.now.geometry ≡ opened.now.head.geometry }
+    requires zone { zone < sizes.now.physical }
+    requires zones { sizes.now.physical ≤ most_physical }
     requires counters { AreCounters sizes.now.geometry opened.now.counters.items }
     ensures { IfOk result (λ first.
         (s : Session) → s.sizes ≡ sizes.now → s.counters ≡ opened.now.counters.items →
-        IsFirstData s (physical_number s.sizes) (at.Physical first)) }
+        IsFirstData s (physical_number s.sizes zone) (at.Physical first)) }
 {
     let strays = Register::new(alloc)?;
-    let counts = ZoneCounts::new(alloc, ZONE, ZONES, TICKET_DEPTH, opened)?;
+    let zone = u32::from(zone);
+    let zones = u32::from(sizes.physical);
+    let counts = ZoneCounts::new(alloc, zone, zones, TICKET_DEPTH, opened)?;
     Ok(PhysicalZone {
         notified: false,
         strays,

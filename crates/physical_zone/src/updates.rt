@@ -24,7 +24,7 @@ fn keep_stray(zone: &mut PhysicalZone, entry: Remapping, at: Pbn, posts: &mut Po
     zone.strays.push(entry);
 }
 
-/// What the physical zone does with a decrement in front of its inbox, to which a rule applies: it is taken, or its counter is 0.
+/// What a physical zone does with a decrement in front of its inbox, to which a rule applies: it is taken, or its counter is 0.
 pub(crate) fn take_decrement(
     sizes: &Sizes,
     zone: &mut PhysicalZone,

@@ -21,7 +21,7 @@ use Rattle.schedule.specs.Turns.{AreReady, Drives, IsTurn, PlaysUntilDone, event
 use Rattle.schedule.proofs.TurnLaws.{ready_once, turn_once}
 
 -- event_count: a step of each zone, and a move from each to each
-counts : (event_count 1 ≡ 2) × (event_count 2 ≡ 6) × (event_count 8 ≡ 72)
+counts : (event_count 1 ≡ 2) × (event_count 2 ≡ 6) × (event_count 11 ≡ 132)
 counts = (refl, refl, refl)
 
 counts-not_steps_alone : event_count 2 ≡ 2 → ⊥

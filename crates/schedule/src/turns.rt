@@ -12,8 +12,8 @@ use disk_model::Disk;
 use std::marker::Model;
 use vdo_core::{Core, Event};
 
-/// How many events a core has at most: a step of each of eight zones, and a move from each to each.
-const MOST_EVENTS: usize = 72;
+/// How many events a core has at most: a step of each of eleven zones, and a move from each to each.
+const MOST_EVENTS: usize = 132;
 
 /// An order of the events of a core, made from a number: the state of a row of numbers, each of which chooses one event of
 /// those for which there is work.
@@ -90,15 +90,15 @@ fn event_of(zones: u32, k: u32) -> Event
 
 // How many events a core of so many zones has.
 fn event_count(zones: u32) -> u32
-    requires { zones ≤ 8 }
+    requires { zones ≤ 11 }
     ensures count { result ≡ event_count zones }
-    ensures few { result ≤ 72 }
+    ensures few { result ≤ 132 }
 {
     zones + zones * zones
 }
 
 // The numbers of the events for which there is work, in their order.
-// Listed anew each turn, so that no list has to follow what steps and moves change. A core of eight zones has 72
+// Listed anew each turn, so that no list has to follow what steps and moves change. A core of eleven zones has 132
 // events.
 fn list_ready(core: &Core) -> ArrayVec<u32, MOST_EVENTS>
     ensures { AreReady core.now.sizes core.now.zones (event_count (length core.now.zones))

@@ -1,2 +1,3 @@
 pub mod DevicePins
 pub mod SilentLaws
+pub mod SlabLaws

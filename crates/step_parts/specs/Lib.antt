@@ -1,3 +1,4 @@
 pub mod Acts
 pub mod DeviceLog
 pub mod Rules
+pub mod ZoneSizes

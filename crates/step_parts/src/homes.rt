@@ -1,9 +1,13 @@
 ghost use Rattle.std.specs.Prelude.{◌≡◌, ◌<◌};
 ghost use Rattle.blk_base.specs.declared.place.ZoneId.TheVariants as id;
+ghost use Rattle.data_vio.specs.Vios.{counts_of};
+ghost use Rattle.data_vio.specs.Zones.{counts_in};
+ghost use Rattle.step_parts.specs.ZoneSizes.{HasPhysical};
 ghost use Rattle.vdo_model.specs.Places.{zone_of};
+ghost use Rattle.zone_counts.specs.Zone.{slab_number};
 
-use blk_base::{Lba, PAGE_SLOTS, TREES, ZoneId};
-use data_vio::Sizes;
+use blk_base::{Layout, Lba, PAGE_SLOTS, Pbn, TREES, ZoneId};
+use data_vio::{Sizes, Vio};
 
 /// The logical zone of an address.
 pub fn home_of(sizes: &Sizes, at: Lba) -> ZoneId
@@ -12,4 +16,33 @@ pub fn home_of(sizes: &Sizes, at: Lba) -> ZoneId
 {
     let tree = (at.0 / u32::from(PAGE_SLOTS) % u32::from(TREES)) as u8;
     ZoneId::Logical(u32::from(tree % sizes.zones))
+}
+
+// The number of a data block's slab. The slabs stand one behind the other, from the first data block to the end of the image.
+fn slab_number(layout: &Layout, at: Pbn) -> u32
+    ensures { result ≡ slab_number layout.now.geometry at }
+{
+    let first = layout.data_block(0, 0).0;
+    let stride = (layout.needed() - first) / layout.geometry.slabs;
+    at.0.saturating_sub(first) / stride
+}
+
+/// The physical zone that counts the mappings of a data block.
+pub fn physical_of(sizes: &Sizes, at: Pbn) -> ZoneId
+    requires { HasPhysical sizes.now }
+    ensures { result ≡ counts_in sizes.now at }
+{
+    let slab = slab_number(&Layout::of(&sizes.geometry), at);
+    ZoneId::Physical(slab % u32::from(sizes.physical))
+}
+
+/// The physical zone of a request: that which counts the block of its claim, or else that which it asks for one.
+pub fn counts_of(sizes: &Sizes, vio: &Vio) -> ZoneId
+    requires { HasPhysical sizes.now }
+    ensures { result ≡ counts_of sizes.now vio.now }
+{
+    match &vio.claim {
+        Some(claim) => physical_of(sizes, claim.block()),
+        None => ZoneId::Physical((vio.place % u64::from(sizes.physical)) as u32),
+    }
 }

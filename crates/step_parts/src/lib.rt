@@ -1,5 +1,5 @@
-//! What every zone's step is made of: what it posts, which zone an address is of, and what its calls leave of the device. The
-//! crates of the kinds of zone stand on it side by side.
+//! What every zone's step is made of: what it posts, which zone an address and a data block are of, and what its calls leave of the
+//! device. The crates of the kinds of zone stand on it side by side.
 //!
 //! Only tested: as part of the core.
 #![tactic(auto)]
@@ -7,5 +7,5 @@
 mod homes;
 mod posts;
 
-pub use homes::home_of;
+pub use homes::{counts_of, home_of, physical_of};
 pub use posts::Posts;

@@ -80,8 +80,11 @@ module _ (start : Opened) (script : Script) (counts : Counters) where
     zones_are : s.sizes.zones ≡ 1
     zones_are = ap (λ (sizes : Sizes). sizes.zones) over.sizes_is
 
+    physical_are : s.sizes.physical ≡ 1
+    physical_are = ap (λ (sizes : Sizes). sizes.physical) over.sizes_is
+
     begun : (number : ℕ) (keeps : ZoneData) → IsFirstData s number keeps → IsFirstZone s number (first_zone number keeps)
-    begun number keeps own = record { number_is = refl; steps = refl; lanes = omega (arith, zones_are); inbox = refl; outboxes = (refl, (refl, (refl, (refl, (refl, tt))))); own = own }
+    begun number keeps own = record { number_is = refl; steps = refl; lanes = omega (arith, zones_are, physical_are); inbox = refl; outboxes = (refl, (refl, (refl, (refl, (refl, tt))))); own = own }
 
     each : Each (IsFirstZone s) first_zones
     each zero zone is = subst (IsFirstZone s 0) (same_Some _ _ is) (begun 0 _ (record { number_is = refl; requests = sym over.script_is; log = refl; marks = refl; notices = refl; parked = refl }))
@@ -103,12 +106,12 @@ module _ (start : Opened) (script : Script) (counts : Counters) where
       slots = refl;
     }))
     each (suc (suc zero)) zone is = subst (IsFirstZone s 2) (same_Some _ _ is) (begun 2 _ (record {
-      number_is = omega (arith, zones_are);
+      number_is = omega (arith, zones_are, first.opens.zone);
       notified = refl;
       strays = refl;
       is_zone = first.right;
       geometry = first.opens.geometry ∙ its_geometry;
-      zones = first.opens.zones;
+      zones = first.opens.zones ∙ sym physical_are;
       counters = λ x own.
           (opened_here start 0 1 first.room counts first.opens first.right x own).0
           ∙ ap (λ (g : Geometry). opened_count g start.counters.items x) its_geometry
@@ -117,7 +120,7 @@ module _ (start : Opened) (script : Script) (counts : Counters) where
       no_ticket = ap (λ (d : Desk). d.out) first.opens.desk;
     }))
     each (suc (suc (suc zero))) zone is = subst (IsFirstZone s 3) (same_Some _ _ is) (begun 3 _ (record {
-      number_is = omega (arith, zones_are);
+      number_is = omega (arith, zones_are, physical_are);
       notified = refl;
       busy = refl;
       broken = refl;
@@ -127,11 +130,11 @@ module _ (start : Opened) (script : Script) (counts : Counters) where
       entered = refl;
       committed = refl;
     }))
-    each (suc (suc (suc (suc zero)))) zone is = subst (IsFirstZone s 4) (same_Some _ _ is) (begun 4 _ (record { number_is = omega (arith, zones_are); stopped = refl; calls = refl; superblock = refl; damage = refl }))
+    each (suc (suc (suc (suc zero)))) zone is = subst (IsFirstZone s 4) (same_Some _ _ is) (begun 4 _ (record { number_is = omega (arith, zones_are, physical_are); stopped = refl; calls = refl; superblock = refl; damage = refl }))
     each (suc (suc (suc (suc (suc i))))) zone is = absurd cc
 
     pub first_begins : IsFirst s (core_with first_zones [])
-    first_begins = record { count = omega (arith, zones_are); each = each; trace_is = refl }
+    first_begins = record { count = omega (arith, zones_are, physical_are); each = each; trace_is = refl }
 
 -- of a script without requests it is done, and the device isn't called
 pub first_done : (start : Opened) (counts : Counters) → IsDone (first_zones start no_requests counts)

@@ -35,12 +35,14 @@ can_begin size start script head fits whole = record {
   same = refl;
   start = head.1.start;
   zones = omega arith;
+  physical = omega arith;
   depth = omega arith;
   limits = record {
     streams = omega (arith, whole.rows);
     depth = omega arith;
     requests = omega (arith, whole.few, same_count script);
     zones = omega arith;
+    physical = omega arith;
   };
   served = all_served script whole.writes;
   pages = fits.pages;

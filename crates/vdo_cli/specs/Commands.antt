@@ -15,7 +15,7 @@ use Rattle.vdo_cli.specs.declared.words.Served.TheVariants as served
 
 -- a core is set up with one logical zone, and one request of each stream is under way at most
 abbrev pub run_setup : Setup
-run_setup = record { logical_zones = 1; depth = 1 }
+run_setup = record { logical_zones = 1; physical_zones = 1; depth = 1 }
 
 -- the options of a core are those that it has without any
 abbrev pub are_default : CoreOptions → Bool

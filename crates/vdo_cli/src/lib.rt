@@ -9,12 +9,11 @@
 //! that reads otherwise once the session has written; a script stopped at each call, with the last write old, new, and
 //! torn in some sectors, run again; one output of a script of one stream, and one of two, by the schedules 0 to 7. Of
 //! `workload`, two sessions of one stream on one device, as a plain program counts them, and words that are refused. Of
-//! `crash`, a stop before the first call and a run to its end, words, a script and devices that are refused, and a short
-//! script stopped at each call of its session, with four images each.
+//! `crash`, a stop before the first call and a run to its end, words, a script and devices that are refused, a short
+//! script stopped at each call of its session, with four images each, and three images of which blocks differ.
 //!
-//! Not there: that a session closes its image; of `crash`, the values of an image of which blocks differ. Of an image that
-//! isn't sound, or on which writes are pending when it is opened, those of the index aside, a session says nothing of values,
-//! nor of stops.
+//! Not there: that a session closes its image. Of an image that isn't sound, or on which writes are pending when it is
+//! opened, those of the index aside, a session says nothing of values, nor of stops.
 //!
 //! No rows yet: but through the definitions that use them: `IsReady`, `PlayedOut`, `EndsAs` and `IsCrashTold`; that a
 //! script's answers are put behind `recovered 30 entries`.

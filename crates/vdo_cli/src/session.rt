@@ -19,9 +19,10 @@ use stream_text::{AnswerRoom, ReadScript, read_script};
 use vdo_core::{Core, Setup};
 use vdo_model::{Requests, RunReport};
 
-/// A core of the program: one logical zone, and one request of each stream is under way at most.
+/// A core of the program: one logical zone and one physical zone, and one request of each stream is under way at most.
 const SETUP: Setup = Setup {
     logical_zones: 1,
+    physical_zones: 1,
     depth: 1,
 };
 

@@ -1,6 +1,7 @@
 -- Rows that pin what a step of a zone needs: a zone that can step, and for each clause one that breaks it alone.
 use Rattle.std.proofs.Common.{ℕ, ◌≡◌, ◌≤◌, ◌∙◌, false, List, [], ◌∷◌, length, refl, sym, ap, inl, inr, arith}
 use Rattle.std.specs.List.{AllByRecursion}
+use Rattle.blk_base.specs.Limits.{IsGeometry}
 use Rattle.blk_base.specs.declared.geometry.Geometry.{Geometry}
 use Rattle.blk_base.specs.declared.place.ZoneId.TheVariants as id
 use Rattle.vdo_model.specs.Scripts.{Script}
@@ -24,7 +25,7 @@ use Rattle.vdo_core.specs.Conditions.{AllCanStep, CanBeginAt, CanStep, HasLane}
 
 module _ (g : Geometry) where
   abbrev sizes : ℕ → Sizes
-  sizes zones = record { geometry = g; start = 1; zones = zones; depth = 1 }
+  sizes zones = record { geometry = g; start = 1; zones = zones; physical = 1; depth = 1 }
 
   -- the physical zone of a core of two logical ones, with these in its inbox, and so many outboxes
   abbrev physical : List Item → List (List Item) → Zone
@@ -39,25 +40,32 @@ module _ (g : Geometry) where
   notice_applies zones StopNotice rest is = (_, _, _, takes_notice)
   notice_applies zones other rest is = absurd cc
 
-  can_step : CanStep (sizes 2) (physical (StopNotice ∷ []) ([] ∷ []))
-  can_step = record {
+  can_step : IsGeometry g → CanStep (sizes 2) (physical (StopNotice ∷ []) ([] ∷ []))
+  can_step within = record {
     some = omega arith;
-    few = omega arith;
+    few = record { logical = omega arith; physical = omega arith };
+    physical = record { geometry = within; some = omega arith };
     begins = tt;
     within = record { inbox = omega arith; outboxes = (omega arith, tt); own = omega arith };
     rule = notice_applies 2;
     lanes = lane_there;
   }
 
-  -- some, few: not beside no logical zone, or five
+  -- some, few, physical: not beside no logical zone, or five, nor beside as many physical ones
   can_step-not_of_none : (z : Zone) → CanStep (sizes 0) z → ⊥
   can_step-not_of_none z can = omega (arith, can.some)
 
   can_step-not_of_five : (z : Zone) → CanStep (sizes 5) z → ⊥
-  can_step-not_of_five z can = omega (arith, can.few)
+  can_step-not_of_five z can = omega (arith, can.few.logical)
+
+  can_step-not_of_no_physical : (z : Zone) → CanStep (record (sizes 2) { physical = 0 }) z → ⊥
+  can_step-not_of_no_physical z can = omega (arith, can.physical.some)
+
+  can_step-not_of_five_physical : (z : Zone) → CanStep (record (sizes 2) { physical = 5 }) z → ⊥
+  can_step-not_of_five_physical z can = omega (arith, can.few.physical)
 
   -- within: not past its room
-  can_step-not_past_its_room : (z : Zone) → 521 ≤ length z.ports.inbox → CanStep (sizes 2) z → ⊥
+  can_step-not_past_its_room : (z : Zone) → 527 ≤ length z.ports.inbox → CanStep (sizes 2) z → ⊥
   can_step-not_past_its_room z many can = omega (arith, can.within.inbox, many)
 
   -- rule: not with a request in front that no rule serves
@@ -93,12 +101,12 @@ module _ (g : Geometry) where
   can_begin-not_a_larger_script : (script : Script) (d : Desk) → d.requests ≡ script → 17 ≤ length script → CanBeginAt (sizes 2) (at.Desk d) → ⊥
   can_begin-not_a_larger_script script d is many can = let streams = can.limited.streams in omega (arith, streams, many, ap (λ (s : Script). length s) is)
 
-  can_begin-not_past_its_room : (d : Desk) → 7 ≤ d.notices → CanBeginAt (sizes 2) (at.Desk d) → ⊥
+  can_begin-not_past_its_room : (d : Desk) → 10 ≤ d.notices → CanBeginAt (sizes 2) (at.Desk d) → ⊥
   can_begin-not_past_its_room d many can = omega (arith, many, can.within.notices)
 
   can_begin-not_without_room : (d : Desk) → MayBegin (sizes 2) (at.Desk d) → (HasRoomToBegin d → ⊥) → CanBeginAt (sizes 2) (at.Desk d) → ⊥
   can_begin-not_without_room d may crowded can = crowded (can.room may)
 
   -- AllCanStep: each zone of a core
-  all_can_step-not_one_past_its_room : (z : Zone) → 521 ≤ length z.ports.inbox → AllCanStep (sizes 2) (physical (StopNotice ∷ []) ([] ∷ []) ∷ z ∷ []) → ⊥
+  all_can_step-not_one_past_its_room : (z : Zone) → 527 ≤ length z.ports.inbox → AllCanStep (sizes 2) (physical (StopNotice ∷ []) ([] ∷ []) ∷ z ∷ []) → ⊥
   all_can_step-not_one_past_its_room z many all = can_step-not_past_its_room z many (all 1 z refl)

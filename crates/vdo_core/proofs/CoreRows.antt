@@ -120,26 +120,33 @@ moves-not_nothing some = none some.source some.had_source some.posted
         absurd cc
 
 -- HasRoomFor: up to the room of a lane, in the inbox and in each outbox
-room-up_to_the_last : (z : Zone) → HasRoomFor 1 (record z { ports = record z.ports { inbox = replicate 1439 StopNotice; outboxes = replicate 1439 StopNotice ∷ [] } })
-room-up_to_the_last z = let count = length-replicate 1439 StopNotice in record { inbox = omega (arith, count); outboxes = (omega (arith, count), tt) }
+room-up_to_the_last : (z : Zone) → HasRoomFor 1 (record z { ports = record z.ports { inbox = replicate 1451 StopNotice; outboxes = replicate 1451 StopNotice ∷ [] } })
+room-up_to_the_last z = let count = length-replicate 1451 StopNotice in record { inbox = omega (arith, count); outboxes = (omega (arith, count), tt) }
 
-room-not_past_it : (z : Zone) → HasRoomFor 1 (record z { ports = record z.ports { inbox = replicate 1440 StopNotice; outboxes = [] } }) → ⊥
-room-not_past_it z room = let count = length-replicate 1440 StopNotice in omega (arith, count, room.inbox)
+room-not_past_it : (z : Zone) → HasRoomFor 1 (record z { ports = record z.ports { inbox = replicate 1452 StopNotice; outboxes = [] } }) → ⊥
+room-not_past_it z room = let count = length-replicate 1452 StopNotice in omega (arith, count, room.inbox)
 
-room-not_past_it_in_an_outbox : (z : Zone) → HasRoomFor 1 (record z { ports = record z.ports { inbox = []; outboxes = [] ∷ replicate 1440 StopNotice ∷ [] } }) → ⊥
-room-not_past_it_in_an_outbox z room = let count = length-replicate 1440 StopNotice in omega (arith, count, room.outboxes.1.0)
+room-not_past_it_in_an_outbox : (z : Zone) → HasRoomFor 1 (record z { ports = record z.ports { inbox = []; outboxes = [] ∷ replicate 1452 StopNotice ∷ [] } }) → ⊥
+room-not_past_it_in_an_outbox z room = let count = length-replicate 1452 StopNotice in omega (arith, count, room.outboxes.1.0)
 
 -- CanBegin: with what was opened of an image of these sizes, and a script that is served and within the limits
 module _ (g : Geometry) where
   abbrev sizes : ℕ → ℕ → Sizes
-  sizes start zones = record { geometry = g; start = start; zones = zones; depth = 1 }
+  sizes start zones = record { geometry = g; start = start; zones = zones; physical = 1; depth = 1 }
 
   module _ (opened : Opened) (at : Lba) where
     begins-not_without_a_zone : (script : Script) → CanBegin (sizes 1 0) script opened → ⊥
     begins-not_without_a_zone script can = omega (arith, can.zones)
 
+    -- nor without a physical one, or with five
+    begins-not_without_a_physical_zone : (script : Script) → CanBegin (record (sizes 1 1) { physical = 0 }) script opened → ⊥
+    begins-not_without_a_physical_zone script can = omega (arith, can.physical)
+
+    begins-not_with_five_physical_zones : (script : Script) → CanBegin (record (sizes 1 1) { physical = 5 }) script opened → ⊥
+    begins-not_with_five_physical_zones script can = omega (arith, can.limits.physical)
+
     abbrev of_depth : ℕ → Sizes
-    of_depth depth = record { geometry = g; start = 1; zones = 1; depth = depth }
+    of_depth depth = record { geometry = g; start = 1; zones = 1; physical = 1; depth = depth }
 
     -- one request of a stream is under way at least: where a core begins with two, one begins with one too, but none with none
     begins-of_depth_1 : (script : Script) → CanBegin (of_depth 2) script opened → CanBegin (of_depth 1) script opened
@@ -148,8 +155,9 @@ module _ (g : Geometry) where
       same = can.same;
       start = can.start;
       zones = can.zones;
+      physical = can.physical;
       depth = omega arith;
-      limits = record { streams = can.limits.streams; depth = omega arith; requests = can.limits.requests; zones = can.limits.zones };
+      limits = record { streams = can.limits.streams; depth = omega arith; requests = can.limits.requests; zones = can.limits.zones; physical = can.limits.physical };
       served = can.served;
       pages = can.pages;
       counters = can.counters;

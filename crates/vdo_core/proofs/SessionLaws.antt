@@ -52,7 +52,7 @@ can_serve sizes script opened s can over =
       sizes = rw over.sizes_is can.geometry;
       start = rw over.sizes_is can.start;
       used = rw over.sizes_is (let journal = can.geometry.journal in omega (arith, journal));
-      zones = rw over.sizes_is can.zones;
+      zones = rw over.sizes_is (can.zones, can.physical);
       limits = rw (over.sizes_is, over.script_is) can.limits;
       served = rw over.script_is can.served;
       linked = λ page x is. rw same (linked_data g opened.pages.items can.pages page x (rw over.links_is at is));
@@ -97,9 +97,9 @@ module _ (sizes : Sizes) (zones : List Zone) (reached : IsReached sizes zones) w
       let start = core_with reached.first [] in
       legal_leads reached.session start (core_with zones reached.trace) reached.is_session reached.leads (legal_first reached.session start reached.is_first reached.is_session)
 
-  -- a core has eight zones at most
-  pub few_zones : length zones ≤ 8
-  few_zones = let most = reached.is_session.limits.zones in omega (arith, legal_here.count, most)
+  -- a core has eleven zones at most
+  pub few_zones : length zones ≤ 11
+  few_zones = let limits = reached.is_session.limits in omega (arith, legal_here.count, limits.zones, limits.physical)
 
   abbrev pub reached_on : (tells honest : Bool) (later : List Zone) (before after : Seen) → LeadsTo tells honest sizes zones later before after → IsReached sizes later
   reached_on tells honest later before after (made, leads, told) = record {

@@ -67,7 +67,7 @@ module _ (s : Session) (t : Trace) (n : ℕ) (desk : Desk) (session : IsSession 
 
   can_begin : IsDeskWithin desk → CanBegin s.sizes desk
   can_begin within = record {
-    zones = omega (arith, session.zones);
+    zones = omega (arith, session.zones.0);
     limited = subst (λ (script : Script). IsLimited s.sizes script) (sym own.sound.requests) session.limits;
     served = subst (λ (script : Script). AllByRecursion (AllByRecursion IsServed) script) (sym own.sound.requests) session.served;
     within = within;
@@ -83,8 +83,9 @@ pub can_step : (s : Session) (core : Core) (n : ℕ) (z : Zone) → IsSession s 
 can_step s core n z session legal had =
     let within = zone_within s core session legal n z had in
     record {
-      some = session.zones;
-      few = session.limits.zones;
+      some = session.zones.0;
+      few = record { logical = session.limits.zones; physical = session.limits.physical };
+      physical = record { geometry = session.sizes; some = session.zones.1 };
       begins = can_begin_at s core.trace n z.keeps z.steps session (legal.each n z had).own (desk_log_right s core.trace legal.right) within.own;
       within = within;
       rule = has_rule s session core legal n z had;
@@ -115,6 +116,7 @@ alone : (sizes : Sizes) (batches : List (List Item)) (z : Zone) → CanStep size
 alone sizes batches z can = record {
   some = can.some;
   few = can.few;
+  physical = can.physical;
   begins = can.begins;
   within = record { inbox = can.within.inbox; outboxes = short_behind batches z.ports.outboxes can.within.outboxes; own = can.within.own };
   rule = can.rule;

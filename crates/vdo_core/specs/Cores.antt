@@ -40,7 +40,7 @@ pub record IsWhole (sizes : Sizes) (zones : List Zone) (room : List ℕ) : Type 
 
 -- the sizes of a session over an image with this superblock
 abbrev pub sizes_of : Setup → Super → Sizes
-sizes_of setup head = record { geometry = head.geometry; start = head.start; zones = setup.logical_zones; depth = setup.depth }
+sizes_of setup head = record { geometry = head.geometry; start = head.start; zones = setup.logical_zones; physical = setup.physical_zones; depth = setup.depth }
 
 -- A core can begin with these sizes and this script, over what was opened of an image: the session is no larger than it may be, its
 -- requests are served, and the pages and the counters are those of an image of these sizes. Of what the device has nothing is asked.
@@ -49,6 +49,7 @@ pub record CanBegin (sizes : Sizes) (script : Script) (opened : Opened) : Type 0
   pub same : sizes.geometry ≡ opened.head.geometry
   pub start : (1 ≤ sizes.start) × (sizes.start < 2 ^ 54)
   pub zones : 1 ≤ sizes.zones
+  pub physical : 1 ≤ sizes.physical
   -- a request may be under way
   pub depth : 1 ≤ sizes.depth
   pub limits : IsLimited sizes script

@@ -30,6 +30,8 @@ use vdo_model::{Requests, RunReport};
 pub struct Setup {
     /// How many logical zones there are, 1 to 4.
     pub logical_zones: u8,
+    /// How many physical zones there are, 1 to 4.
+    pub physical_zones: u8,
     /// How many requests of a stream are under way at most, 1 to 16.
     pub depth: u32,
 }
@@ -82,6 +84,7 @@ impl Core {
             geometry: opened.head.geometry,
             start: opened.head.start,
             zones: setup.logical_zones,
+            physical: setup.physical_zones,
             depth: setup.depth,
         };
         let room = ReportRoom::with_room_for(alloc, &requests)?;
@@ -121,10 +124,10 @@ impl Core {
         is_done(&self.zones)
     }
 
-    /// How many zones there are, 5 to 8.
+    /// How many zones there are, 5 to 11.
     pub fn zone_count(&self) -> u32
         ensures count { result ≡ length self.now.zones }
-        ensures few { result ≤ 8 }
+        ensures few { result ≤ 11 }
     {
         self.zones.as_slice().len() as u32
     }

@@ -1,9 +1,9 @@
 ghost use Rattle.std.specs.Prelude.{◌≡◌, ◌<◌, ◌≤◌, ◌-◌, ◌^◌, IsTrue, false, [], ◌∷◌};
 ghost use Rattle.disk_model.specs.Seen.{Stays};
 ghost use Rattle.core_model.specs.Limits.{IsDataWithin};
-ghost use Rattle.core_model.specs.SessionLimits.{most_zones};
 ghost use Rattle.core_model.specs.Steps.{CallsDevice, HasAct, MayBegin};
 ghost use Rattle.step_parts.specs.Acts.{Acts, ActsAlone};
+ghost use Rattle.step_parts.specs.ZoneSizes.{AreFew, HasPhysical};
 ghost use Rattle.device_zone.specs.DeviceCalls.{Fits};
 ghost use Rattle.vdo_core.specs.Conditions.{CanBeginAt};
 
@@ -16,6 +16,7 @@ use step_parts::Posts;
 pub(crate) fn act_alone(sizes: &Sizes, keeps: &mut ZoneData, item: Item, posts: &mut Posts)
     requires other { CallsDevice keeps.old → ⊥ }
     requires zones { 0 < sizes.now.zones }
+    requires physical { HasPhysical sizes.now }
     requires within { IsDataWithin (2 ^ 64 - 2) keeps.old }
     requires rule { HasAct sizes.now keeps.old (item ∷ []) }
     requires none { posts.old ≡ [] }
@@ -39,7 +40,8 @@ pub(crate) fn act_at_device<D: Disk>(
     posts: &mut Posts,
 )
     requires own { CallsDevice keeps.old }
-    requires few { sizes.now.zones ≤ most_zones }
+    requires few { AreFew sizes.now }
+    requires physical { HasPhysical sizes.now }
     requires within { IsDataWithin (2 ^ 64 - 2) keeps.old }
     requires rule { HasAct sizes.now keeps.old (item ∷ []) }
     requires fits { Fits sizes.now (D.seen disk.old) }

@@ -5,9 +5,10 @@ ghost use Rattle.block_map_tree.specs.Opening.{IsOpened, all_trees};
 ghost use Rattle.data_vio.specs.Zones as numbers;
 ghost use Rattle.core_model.specs.PageLinks.{opened_page};
 ghost use Rattle.core_model.specs.Sessions.{AreCounters, Session, IsServed};
-ghost use Rattle.core_model.specs.SessionLimits.{most_requests, most_streams, most_zones, requests_in};
+ghost use Rattle.core_model.specs.SessionLimits.{most_requests, most_streams, requests_in};
 ghost use Rattle.core_model.specs.Start.{IsFirst, IsFirstZone, IsFirstData};
 ghost use Rattle.plain_laws.specs.Sums.{Each};
+ghost use Rattle.step_parts.specs.ZoneSizes.{AreFew};
 ghost use Rattle.vdo_core.specs.Plays.{core_with};
 ghost use Rattle.vdo_core.specs.Starts.{IsOf};
 
@@ -63,7 +64,7 @@ fn add_logical(
     requires desk { length zones.old.items ≡ 1 }
     requires geometry { IsGeometry opened.now.head.geometry }
     requires same { sizes.now.geometry ≡ opened.now.head.geometry }
-    requires zones { sizes.now.zones ≤ most_zones }
+    requires few { AreFew sizes.now }
     requires pages { IsOpened (all_trees opened.now.head.geometry) opened.now.pages.items }
     ensures count { OnOk result (length zones.new.items ≡ 1 + sizes.now.zones) }
     ensures first { OnOk result
@@ -78,31 +79,42 @@ fn add_logical(
     Ok(())
 }
 
-// The zones behind the logical ones.
-fn add_others(
+// The physical zones, behind the logical ones.
+fn add_physical(
     alloc: Global,
     sizes: &Sizes,
     opened: &Opened,
     zones: &mut Vec<Zone>,
 ) -> Result<(), AllocError>
-    requires count { length zones.old.items ≡ numbers.physical_number sizes.now }
-    requires geometry { IsGeometry sizes.now.geometry }
+    requires count { length zones.old.items ≡ 1 + sizes.now.zones }
+    requires geometry { IsGeometry opened.now.head.geometry }
     requires same { sizes.now.geometry ≡ opened.now.head.geometry }
-    requires start { (1 ≤ sizes.now.start) × (sizes.now.start < 2 ^ 54) }
+    requires few { AreFew sizes.now }
     requires counters { AreCounters sizes.now.geometry opened.now.counters.items }
-    ensures count { OnOk result (length zones.new.items ≡ numbers.zone_count sizes.now) }
+    ensures count { OnOk result (length zones.new.items ≡ numbers.journal_number sizes.now) }
     ensures first { OnOk result
         ((s : Session) → s.sizes ≡ sizes.now → s.counters ≡ opened.now.counters.items →
         Each (IsFirstZone s) zones.old.items → Each (IsFirstZone s) zones.new.items) }
 {
-    let physical = physical_zone::first(alloc, sizes, opened)?;
-    add(
-        alloc,
-        sizes,
-        physical_number(sizes),
-        ZoneData::Physical(physical),
-        zones,
-    )?;
+    for zone in 0..sizes.physical {
+        let number = physical_number(sizes, zone);
+        let physical = physical_zone::first(alloc, sizes, opened, zone)?;
+        add(alloc, sizes, number, ZoneData::Physical(physical), zones)?;
+    }
+    Ok(())
+}
+
+// The journal and the device, behind the physical zones.
+fn add_last(alloc: Global, sizes: &Sizes, zones: &mut Vec<Zone>) -> Result<(), AllocError>
+    requires count { length zones.old.items ≡ numbers.journal_number sizes.now }
+    requires geometry { IsGeometry sizes.now.geometry }
+    requires start { (1 ≤ sizes.now.start) × (sizes.now.start < 2 ^ 54) }
+    requires physical { 0 < sizes.now.physical }
+    ensures count { OnOk result (length zones.new.items ≡ numbers.zone_count sizes.now) }
+    ensures first { OnOk result
+        ((s : Session) → s.sizes ≡ sizes.now →
+        Each (IsFirstZone s) zones.old.items → Each (IsFirstZone s) zones.new.items) }
+{
     let journal = journal_zone::first(alloc, sizes)?;
     add(
         alloc,
@@ -117,7 +129,7 @@ fn add_others(
 }
 
 /// The core at the start of a session: it has the requests, no one of which is begun, the pages that the opened image links,
-/// and the counters of its data blocks. There are 4 logical zones at most. Each request must be one that is served, and there may be 16
+/// and the counters of its data blocks. There are 4 logical and 4 physical zones at most. Each request must be one that is served, and there may be 16
 /// streams and 65,536 requests in all. It takes all the room that the session will need, and fails where no memory is found
 /// for it.
 pub fn begin(
@@ -129,7 +141,8 @@ pub fn begin(
     requires geometry { IsGeometry sizes.now.geometry }
     requires same { sizes.now.geometry ≡ opened.now.head.geometry }
     requires start { (1 ≤ sizes.now.start) × (sizes.now.start < 2 ^ 54) }
-    requires zones { sizes.now.zones ≤ most_zones }
+    requires zones { AreFew sizes.now }
+    requires physical { 0 < sizes.now.physical }
     requires pages { IsOpened (all_trees opened.now.head.geometry) opened.now.pages.items }
     requires counters { AreCounters sizes.now.geometry opened.now.counters.items }
     requires served { AllByRecursion (AllByRecursion IsServed) requests }
@@ -142,6 +155,7 @@ pub fn begin(
     let desk = Desk::new(alloc, requests)?;
     add(alloc, sizes, DESK, ZoneData::Desk(desk), &mut zones)?;
     add_logical(alloc, sizes, opened, &mut zones)?;
-    add_others(alloc, sizes, opened, &mut zones)?;
+    add_physical(alloc, sizes, opened, &mut zones)?;
+    add_last(alloc, sizes, &mut zones)?;
     Zones::from_vec(alloc, zones)
 }

@@ -90,7 +90,7 @@ module _ (s : Session) (t : Trace) (w : Writer) (is : IsSession s) (right : Righ
   begins_block : (q : Asks) (at : Lba) (bytes : List ℕ) → IsForBlock q → request_at s.script w ≡ Some (asked q at bytes) → at.0 < s.sizes.geometry.logical
       → PostOk s (Says (line.Begin w) ∷ t) (id.Logical (zone_of s.sizes.zones at.0), item.Request (begun_vio s.sizes w q at bytes))
   begins_block q at bytes block asks below =
-      let zone = zone_below s.sizes.zones at.0 is.zones in (
+      let zone = zone_below s.sizes.zones at.0 is.zones.0 in (
         omega (arith, zone),
         (
           record { asked = asks; is_open = begins_open; address = address q; home = refl },
@@ -130,7 +130,7 @@ stops_answer notified limit v a older before now w is = elim (same_tells v w) [
 ]
 
 notified_enough : (sizes : Sizes) (desk : Desk) → is_notified sizes desk ≡ true → notified_zones sizes ≤ desk.notices
-notified_enough sizes desk is = let more = ltb-true (1 + sizes.zones) desk.notices is in omega (arith, more)
+notified_enough sizes desk is = let more = ltb-true (sizes.physical + sizes.zones) desk.notices is in omega (arith, more)
 
 notified_first : (notified : Bool) → ◌≡◌ {A = Option Reply} (if notified then Some reply.Stopped else None) (Some reply.Stopped) → notified ≡ true
 notified_first true is = refl
@@ -258,7 +258,7 @@ module _ {s : Session} {t : Trace} {n : ℕ} {old : Desk} {v : Vio} (known : Kno
         sound = record {
           requests = own.sound.requests;
           stops_notified = own.sound.stops_notified;
-          parked_early = λ some. let few = ltb-false (1 + s.sizes.zones) old.notices unnotified in omega (arith, few);
+          parked_early = λ some. let few = ltb-false (s.sizes.physical + s.sizes.zones) old.notices unnotified in omega (arith, few);
         };
         kept = every-append (KeptOk s t phase.Reply) old.parked (v ∷ []) own.kept (((vio_ok known), known.front_ok.0.1, is, known.front_ok.0.3), tt);
         answers = tt;
@@ -304,7 +304,7 @@ module _ {s : Session} {t : Trace} {n : ℕ} {old : Desk} {v : Vio} (known : Kno
 -- those that wait go to the desk itself
 woken_ok : (s : Session) (t : Trace) (vs : List Vio) → AllByRecursion (KeptOk s t phase.Reply) vs → AllByRecursion (PostOk s t) (woken vs)
 woken_ok s t [] all = tt
-woken_ok s t (v ∷ vs) all = ((omega arith, (all.0.0, all.0.1, subst (λ (q : Phase). desk_number ≡ zone_at s.sizes v.home q) (sym all.0.2) refl, all.0.3)), woken_ok s t vs all.1)
+woken_ok s t (v ∷ vs) all = ((omega arith, (all.0.0, all.0.1, subst (λ (q : Phase). desk_number ≡ zone_at s.sizes v q) (sym all.0.2) refl, all.0.3)), woken_ok s t vs all.1)
 
 -- The desk gets the stop notice of a zone.
 pub desk_hears : {s : Session} {t : Trace} {n : ℕ} {old : Desk} → Known s t n (at.Desk old) (item.StopNotice ∷ []) → ActKept s t n (at.Desk old) (item.StopNotice ∷ []) (at.Desk (with_notice old)) [] (woken old.parked)

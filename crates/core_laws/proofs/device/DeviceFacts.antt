@@ -55,14 +55,32 @@ use Rattle.journal_stops.proofs.StepLaws.{spelled_whole, ends}
 use Rattle.core_model.specs.Sessions.{blocks_of, sealed_with}
 use Rattle.core_laws.proofs.trace.DeskOfTrace.{HasBlock, shown_of}
 use Rattle.journal_stops.specs.Sealed.{IsSealed as IsSealedBlock}
+use Rattle.core_laws.proofs.lists.CountedIn.{counts_within}
+use Rattle.data_vio.specs.Vios.{counts_of}
+use Rattle.blk_base.specs.declared.place.ZoneId.{ZoneId}
+use Rattle.core_laws.proofs.Common.{every-append, physical_zones}
 
 -- the stop notices
-logical_ok : (s : Session) (t : Trace) (n : ℕ) → n ≤ s.sizes.zones → has_stopped t ≡ true → AllByRecursion (PostOk s t) (stop_notices (logical_zones n))
-logical_ok s t zero within stopped = tt
-logical_ok s t (suc n) within stopped = ((omega (arith, within), (stopped, omega (arith, within))), logical_ok s t n (omega (arith, within)) stopped)
+module _ (s : Session) (t : Trace) (stopped : has_stopped t ≡ true) where
+  abbrev IsNoticeOk : ZoneId → Type 0
+  IsNoticeOk to = PostOk s t (to, item.StopNotice)
 
-pub notices_ok : (s : Session) (t : Trace) → has_stopped t ≡ true → AllByRecursion (PostOk s t) (stop_notices (notified s.sizes))
-notices_ok s t stopped = ((omega arith, (stopped, omega arith)), ((omega arith, (stopped, omega arith)), logical_ok s t s.sizes.zones (omega arith) stopped))
+  logical_ok : (n : ℕ) → n ≤ s.sizes.zones → AllByRecursion IsNoticeOk (logical_zones n)
+  logical_ok zero within = tt
+  logical_ok (suc n) within = ((omega (arith, within), (stopped, omega (arith, within))), logical_ok n (omega (arith, within)))
+
+  physical_ok : (n : ℕ) → n ≤ s.sizes.physical → AllByRecursion IsNoticeOk (physical_zones n)
+  physical_ok zero within = tt
+  physical_ok (suc n) within = ((omega (arith, within), (stopped, omega (arith, within))), physical_ok n (omega (arith, within)))
+
+  each_notice : (ids : List ZoneId) → AllByRecursion IsNoticeOk ids → AllByRecursion (PostOk s t) (stop_notices ids)
+  each_notice [] all = tt
+  each_notice (to ∷ ids) all = (all.0, each_notice ids all.1)
+
+  pub notices_ok : AllByRecursion (PostOk s t) (stop_notices (notified s.sizes))
+  notices_ok =
+      let zones = every-append IsNoticeOk (physical_zones s.sizes.physical) (logical_zones s.sizes.zones) (physical_ok s.sizes.physical (omega arith)) (logical_ok s.sizes.zones (omega arith)) in
+      each_notice (notified s.sizes) ((omega arith, (stopped, omega arith)), zones)
 
 -- a read is the same with other bytes
 asks_same : (q : Asks) (at : Lba) (b c : List ℕ) → q ≡ Read → asked q at b ≡ asked q at c
@@ -290,8 +308,8 @@ module _ {s : Session} {t : Trace} {n : ℕ} {old : DeviceZone} {v : Vio} (known
   refused_carries u (Some page) right stopped k =
       let placed = k.0.turn.is_placed in (k.0, k.1, may_stop s u v (writes_change v.asks k.0.is_write) stopped placed.placed (unentered_slot s u v.request right placed.not_entered))
 
-  refused_post : (u : Trace) → RightTrace s u → has_stopped u ≡ true → VioOk s u v → HasClaim s true v.claim v.new → CarriesFor s u v phase.Store v.page → PostOk s u (id.Physical 0, item.Request (ended phase.AbortClaim reply.Stopped v))
-  refused_post u right stopped ok claim k = (omega arith, (ok, refused_carries u v.page right stopped k, refl, claim))
+  refused_post : (u : Trace) → RightTrace s u → has_stopped u ≡ true → VioOk s u v → HasClaim s true v.claim v.new → CarriesFor s u v phase.Store v.page → PostOk s u (counts_of s.sizes v, item.Request (ended phase.AbortClaim reply.Stopped v))
+  refused_post u right stopped ok claim k = (counts_within s.sizes v known.session.zones.1, (ok, refused_carries u v.page right stopped k, refl, claim))
 
   -- what it carries to the device stays over its call
   store_over : {h : Happening} {c : Call} → IsCallOf h c → CarriesFor s t v phase.Store v.page → CarriesFor s (h ∷ t) v phase.Store v.page

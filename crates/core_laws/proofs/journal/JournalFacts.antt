@@ -34,6 +34,8 @@ use Rattle.core_model.specs.PageLinks.{block_in}
 use Rattle.core_model.specs.Facts.{HasClaim, IsEntered}
 use Rattle.core_model.specs.JournalRules.{decrement_for, hands_to}
 use Rattle.recovery_journal.specs.Log.{head_of}
+use Rattle.core_laws.proofs.lists.CountedIn.{block_within, counts_within}
+use Rattle.core_model.specs.RightTraces.{HadNoFreeNear}
 
 -- once the session is stopped, a write or a discard whose slot isn't set may be answered so; where no block is left for it, one
 -- that has its place and isn't handed in is answered `Full`
@@ -46,7 +48,7 @@ cause_stopped s t w Flush at bytes is stopped placed none = absurd is
 
 cause_full : (s : Session) (t : Trace) (w : Writer) (q : Asks) (at : Lba) (bytes : List ℕ) → IsChange q → IsNone (logged_of (entered t) w) → IsSome (place_of (places t) w) → HasFullJournal s t
     → HasCause s t w (asked q at bytes) reply.Full
-cause_full s t w Write at bytes is none some full = (some, none, full)
+cause_full s t w Write at bytes is none some full = (some, none, inl full)
 cause_full s t w Discard at bytes is none some full = (some, none, full)
 cause_full s t w Read at bytes is none some full = absurd is
 cause_full s t w Flush at bytes is none some full = absurd is
@@ -56,11 +58,19 @@ cause_no_space : (s : Session) (t : Trace) (w : Writer) (q : Asks) (at : Lba) (b
     → HasCause s t w (asked q at bytes) reply.NoSpace
 cause_no_space s t w q at bytes is none some no_free = rw is (some, none, no_free)
 
+-- or none in the zone that it asks, which is one of several
+cause_near : (s : Session) (t : Trace) (w : Writer) (q : Asks) (at : Lba) (bytes : List ℕ) → q ≡ Write → IsNone (logged_of (entered t) w) → IsSome (place_of (places t) w) → HadNoFreeNear s t w
+    → HasCause s t w (asked q at bytes) reply.Full
+cause_near s t w q at bytes is none some no_free = rw is (some, none, inr no_free)
+
 pub may_stop : (s : Session) (t : Trace) (v : Vio) → IsChange v.asks → has_stopped t ≡ true → HasPlace s t v.request v.at.0 v.place → IsNone (logged_of (done t) v.request) → MayReply s t v (Some reply.Stopped)
 may_stop s t v is stopped placed none = cause_stopped s t v.request v.asks v.at v.bytes is stopped (some_is _ _ placed) none
 
 pub write_no_space : (s : Session) (t : Trace) (v : Vio) → v.asks ≡ Write → IsPlaced s t v → HadNoFree s t v.request → MayReply s t v (Some reply.NoSpace)
 write_no_space s t v is k no_free = cause_no_space s t v.request v.asks v.at v.bytes is k.not_entered (some_is _ _ k.placed) no_free
+
+pub write_no_space_near : (s : Session) (t : Trace) (v : Vio) → v.asks ≡ Write → IsPlaced s t v → HadNoFreeNear s t v.request → MayReply s t v (Some reply.Full)
+write_no_space_near s t v is k no_free = cause_near s t v.request v.asks v.at v.bytes is k.not_entered (some_is _ _ k.placed) no_free
 
 pub may_fill : (s : Session) (t : Trace) (v : Vio) → IsChange v.asks → IsPlaced s t v → HasFullJournal s t → MayReply s t v (Some reply.Full)
 may_fill s t v is k full = cause_full s t v.request v.asks v.at v.bytes is k.not_entered (some_is _ _ k.placed) full
@@ -68,14 +78,14 @@ may_fill s t v is k full = cause_full s t v.request v.asks v.at v.bytes is k.not
 -- the home of a request is a zone
 pub home_within : (s : Session) (t : Trace) (v : Vio) → IsSession s → VioOk s t v → zone_number s.sizes v.home < zone_count s.sizes
 home_within s t v session ok =
-    let below : zone_of s.sizes.zones v.at.0 < s.sizes.zones = mod-lt _ (let some = session.zones in omega (arith, some)) in
+    let below : zone_of s.sizes.zones v.at.0 < s.sizes.zones = mod-lt _ (let some = session.zones.0 in omega (arith, some)) in
     let home = ap (zone_number s.sizes) ok.home in
     omega (arith, below, home)
 
 pub writes_change : (q : Asks) → q ≡ Write → IsChange q
 writes_change q is = rw is tt
 
-module _ (s : Session) (t : Trace) where
+module _ (s : Session) (t : Trace) (session : IsSession s) where
   -- a write or a discard that holds its lock is aborted, where it may be answered so
   refused_carries : (v : Vio) (a : Answer) → Carries s t v phase.Enter → (IsPlaced s t v → IsChange v.asks → MayReply s t v (Some a)) → Carries s t (ended phase.AbortClaim a v) phase.AbortClaim
   refused_carries v a carries may = by v.page carries
@@ -86,10 +96,10 @@ module _ (s : Session) (t : Trace) where
 
   pub stopped_post : (v : Vio) → RightTrace s t → has_stopped t ≡ true → VioOk s t v → Carries s t v phase.Enter → HasClaim s true v.claim v.new → PostOk s t (refused s.sizes reply.Stopped v)
   stopped_post v right stopped ok carries claim =
-      (omega arith, (ok, refused_carries v reply.Stopped carries (λ placed is. may_stop s t v is stopped placed.placed (unentered_slot s t v.request right placed.not_entered)), refl, claim))
+      (counts_within s.sizes v session.zones.1, (ok, refused_carries v reply.Stopped carries (λ placed is. may_stop s t v is stopped placed.placed (unentered_slot s t v.request right placed.not_entered)), refl, claim))
 
   pub full_post : (v : Vio) → HasFullJournal s t → VioOk s t v → Carries s t v phase.Enter → HasClaim s true v.claim v.new → PostOk s t (refused s.sizes reply.Full v)
-  full_post v full ok carries claim = (omega arith, (ok, refused_carries v reply.Full carries (λ placed is. may_fill s t v is placed full), refl, claim))
+  full_post v full ok carries claim = (counts_within s.sizes v session.zones.1, (ok, refused_carries v reply.Full carries (λ placed is. may_fill s t v is placed full), refl, claim))
 
   -- all that wait do
   pub stopped_posts : (vs : List Vio) → RightTrace s t → has_stopped t ≡ true → AllByRecursion (KeptOk s t phase.Enter) vs → AllByRecursion (PostOk s t) (all_refused s.sizes reply.Stopped vs)
@@ -311,9 +321,9 @@ module _ {s : Session} {t : Trace} {n : ℕ} {old : JournalZone} {v : Vio} (know
 
   pub journal_serves : (new : JournalZone) (made : Trace) (posts : List Post) → JournalServes s.sizes old v new made posts → ActKept s t n (at.Journal old) (item.Request v ∷ []) (at.Journal new) made posts
   journal_serves new made posts (journal.is_stopped is closed e m p) =
-      rw (e, m, p) (act_none known known.own (stopped_post s t v known.right (known.own.told closed) (vio_ok known) (in_phase known phase.Enter is) (claim_in known phase.Enter is), tt))
+      rw (e, m, p) (act_none known known.own (stopped_post s t known.session v known.right (known.own.told closed) (vio_ok known) (in_phase known phase.Enter is) (claim_in known phase.Enter is), tt))
   journal_serves new made posts (journal.is_full is closed full e m p) =
-      rw (e, m, p) (act_none known known.own (full_post s t v (full_now s t old known.own.lists full) (vio_ok known) (in_phase known phase.Enter is) (claim_in known phase.Enter is), tt))
+      rw (e, m, p) (act_none known known.own (full_post s t known.session v (full_now s t old known.own.lists full) (vio_ok known) (in_phase known phase.Enter is) (claim_in known phase.Enter is), tt))
   journal_serves new made posts (journal.waits is closed block full e m p) =
       let k = known.own in
       rw (e, m, p) (act_none known (record {
@@ -361,7 +371,7 @@ journal_notified {s} {t} {n} {old} known =
       answers = k.answers;
       told = λ closed. stopped;
     })
-    ((omega arith, (stopped, omega arith)), stopped_posts s t old.waiting known.right stopped k.kept.1)
+    ((omega arith, (stopped, omega arith)), stopped_posts s t known.session old.waiting known.right stopped k.kept.1)
 
 -- A block comes back to the journal.
 
@@ -393,10 +403,10 @@ dropped_carries s t v right stopped carries = by v.page carries
         let placed = k.0.turn.is_placed in
         (k.0, k.1, k.2, may_stop s t v (writes_change v.asks k.0.is_write) stopped placed.placed (unentered_slot s t v.request right placed.not_entered), stopped)
 
-dropped_posts : (s : Session) (t : Trace) (vs : List Vio) → RightTrace s t → has_stopped t ≡ true → AllByRecursion (KeptOk s t phase.Pending) vs → AllByRecursion (PostOk s t) (all_dropped vs)
-dropped_posts s t [] right stopped all = tt
-dropped_posts s t (v ∷ vs) right stopped all =
-    ((omega arith, (all.0.0, dropped_carries s t v right stopped (carries_at s t v phase.Pending all.0.2 all.0.1), refl, claim_at s v phase.Pending all.0.2 all.0.3)), dropped_posts s t vs right stopped all.1)
+dropped_posts : (s : Session) (t : Trace) → IsSession s → (vs : List Vio) → RightTrace s t → has_stopped t ≡ true → AllByRecursion (KeptOk s t phase.Pending) vs → AllByRecursion (PostOk s t) (all_dropped s.sizes vs)
+dropped_posts s t session [] right stopped all = tt
+dropped_posts s t session (v ∷ vs) right stopped all =
+    ((counts_within s.sizes v session.zones.1, (all.0.0, dropped_carries s t v right stopped (carries_at s t v phase.Pending all.0.2 all.0.1), refl, claim_at s v phase.Pending all.0.2 all.0.3)), dropped_posts s t session vs right stopped all.1)
 
 -- those that waited come again
 again_posts : (s : Session) (t : Trace) (vs : List Vio) → AllByRecursion (KeptOk s t phase.Enter) vs → AllByRecursion (PostOk s t) (all_again vs)
@@ -486,9 +496,9 @@ module _ {s : Session} {t : Trace} {n : ℕ} {old : JournalZone} {b : SealedBloc
     no_claim : (m : Mapping) → v.new ≡ m → block_in m ≡ None → HasClaim s false v.claim v.new
     no_claim m to none = record { claim_is = claim.claim_is ∙ ap block_in to ∙ none; on_data = λ holds. absurd cc }
 
-    own_hands : v.page ≡ None → HasPendingEntry s t v.asks v.bytes (remapping v) → (m : Mapping) → v.new ≡ m → PostOk s (commits ∷ t) (hands_to v m)
+    own_hands : v.page ≡ None → HasPendingEntry s t v.asks v.bytes (remapping v) → (m : Mapping) → v.new ≡ m → PostOk s (commits ∷ t) (hands_to s.sizes v m)
     own_hands bare k (At x) to = let c = own_committed bare k in
-        (omega arith, (vio_over s commits t v refl mine.0.0, carries_own s (commits ∷ t) (turned phase.Count v) phase.Count bare (c.0, c.1, c.2, rw to tt, c.3), refl, claim))
+        (counts_within s.sizes v known.session.zones.1, (vio_over s commits t v refl mine.0.0, carries_own s (commits ∷ t) (turned phase.Count v) phase.Count bare (c.0, c.1, c.2, rw to tt, c.3), refl, claim))
     own_hands bare k Unmapped to = let c = own_committed bare k in
         (home_within s t v known.session mine.0.0, (vio_over s commits t v refl mine.0.0, carries_own s (commits ∷ t) (turned phase.Settle v) phase.Settle bare (c.0, c.1, c.2, rw to tt, c.3), refl, no_claim Unmapped to refl))
     own_hands bare k Zero to = let c = own_committed bare k in
@@ -516,21 +526,21 @@ module _ {s : Session} {t : Trace} {n : ℕ} {old : JournalZone} {b : SealedBloc
           (0, omega arith, refl),
         )
 
-    page_hands : (page : PageId) → v.page ≡ Some page → CarriesPage s t v page phase.Pending → PostOk s (commits ∷ t) (hands_to v v.new)
+    page_hands : (page : PageId) → v.page ≡ Some page → CarriesPage s t v page phase.Pending → PostOk s (commits ∷ t) (hands_to s.sizes v v.new)
     page_hands page some k =
         let (x, to) = block_at v.new k.1 in
-        subst (λ (m : Mapping). PostOk s (commits ∷ t) (hands_to v m)) (sym to)
-        (omega arith, (vio_over s commits t v refl mine.0.0, carries_page s (commits ∷ t) (turned phase.Count v) page phase.Count some (page_counts page x some to k), refl, claim))
+        subst (λ (m : Mapping). PostOk s (commits ∷ t) (hands_to s.sizes v m)) (sym to)
+        (counts_within s.sizes v known.session.zones.1, (vio_over s commits t v refl mine.0.0, carries_page s (commits ∷ t) (turned phase.Count v) page phase.Count some (page_counts page x some to k), refl, claim))
 
-    hands_for : (o : Option PageId) → v.page ≡ o → CarriesFor s t v phase.Pending o → PostOk s (commits ∷ t) (hands_to v v.new)
+    hands_for : (o : Option PageId) → v.page ≡ o → CarriesFor s t v phase.Pending o → PostOk s (commits ∷ t) (hands_to s.sizes v v.new)
     hands_for None bare k = own_hands bare k v.new refl
     hands_for (Some page) some k = page_hands page some k
 
     -- the decrement of what it replaces
-    decrements_for : (o : Option PageId) (m : Mapping) → v.page ≡ o → v.old ≡ m → CarriesFor s t v phase.Pending o → AllByRecursion (PostOk s (commits ∷ t)) (decrement_for o (remapping v) m)
+    decrements_for : (o : Option PageId) (m : Mapping) → v.page ≡ o → v.old ≡ m → CarriesFor s t v phase.Pending o → AllByRecursion (PostOk s (commits ∷ t)) (decrement_for s.sizes o (remapping v) m)
     decrements_for None (At x) bare from k = (
       (
-        omega arith,
+        block_within s.sizes x known.session.zones.1,
         (
           record {
             committed = subst (λ (e : Logged). Contains (e ∷ durable t) (Remaps (remapping v))) (sym (logged_own v bare)) (0, omega arith, refl);
@@ -547,7 +557,7 @@ module _ {s : Session} {t : Trace} {n : ℕ} {old : JournalZone} {b : SealedBloc
     decrements_for None Zero bare from k = tt
     decrements_for (Some page) m some from k = tt
 
-    hands_posts : AllByRecursion (PostOk s (commits ∷ t)) (hands_out v)
+    hands_posts : AllByRecursion (PostOk s (commits ∷ t)) (hands_out s.sizes v)
     hands_posts = (hands_for v.page refl has, decrements_for v.page v.old refl refl has)
 
     others : AllByRecursion (KeptOk s (commits ∷ t) phase.Pending) vs
@@ -632,7 +642,7 @@ module _ {s : Session} {t : Trace} {n : ℕ} {old : JournalZone} {b : SealedBloc
         answers = busy_on s t (h ∷ t) old.busy old.broken busy k.answers;
         told = k.told;
       })
-      (every-append (PostOk s (h ∷ t)) (hands_out v) ((id.Journal, item.Block (record b { vios = vs })) ∷ []) (hands_posts v vs is vios) ((omega arith, ((others v vs is vios, subst (StandsAt s (h ∷ t) vs b.sequence) (sym is) (next v vs is vios, rest_on v vs is vios), head_is), ap (zone_of_stage s.sizes) (sym is))), tt)))
+      (every-append (PostOk s (h ∷ t)) (hands_out s.sizes v) ((id.Journal, item.Block (record b { vios = vs })) ∷ []) (hands_posts v vs is vios) ((omega arith, ((others v vs is vios, subst (StandsAt s (h ∷ t) vs b.sequence) (sym is) (next v vs is vios, rest_on v vs is vios), head_is), ap (zone_of_stage s.sizes) (sym is))), tt)))
   journal_ends new made posts (journal.seals v vs is done_with filling due e m p) =
       let k = known.own in
       let kept = kept_sealed v vs is done_with filling in
@@ -689,5 +699,5 @@ module _ {s : Session} {t : Trace} {n : ℕ} {old : JournalZone} {b : SealedBloc
         answers = tt;
         told = λ closed. stopped;
       })
-      (every-append (PostOk s t) (all_dropped b.vios) (all_dropped old.filling ++ all_refused s.sizes reply.Stopped old.waiting) (dropped_posts s t b.vios known.right stopped vios_ok)
-      (every-append (PostOk s t) (all_dropped old.filling) (all_refused s.sizes reply.Stopped old.waiting) (dropped_posts s t old.filling known.right stopped k.kept.0) (stopped_posts s t old.waiting known.right stopped k.kept.1))))
+      (every-append (PostOk s t) (all_dropped s.sizes b.vios) (all_dropped s.sizes old.filling ++ all_refused s.sizes reply.Stopped old.waiting) (dropped_posts s t known.session b.vios known.right stopped vios_ok)
+      (every-append (PostOk s t) (all_dropped s.sizes old.filling) (all_refused s.sizes reply.Stopped old.waiting) (dropped_posts s t known.session old.filling known.right stopped k.kept.0) (stopped_posts s t known.session old.waiting known.right stopped k.kept.1))))

@@ -19,7 +19,7 @@ use Rattle.core_laws.proofs.kept.Keys.{Key, OfRequest, OfAddress, OfBlock, OfJou
 use Rattle.core_laws.proofs.kept.Spared.{about}
 use Rattle.core_laws.proofs.tokens.Known.{LeasedIn, SettlingLeased}
 use Rattle.core_laws.proofs.kept.StandsOn.{SparesBlock, SparesJournal, SparesJournaled, SparesSealed, filling_spared, journal_kept, kept_spared, left_kept, mapped_all, new_reads_kept, superblock_kept}
-use Rattle.core_model.specs.CountUpdates.{CountUpdate, updates_of, updates_taken}
+use Rattle.core_model.specs.CountUpdates.{CountUpdate, updates_in, updates_of, updates_taken}
 use Rattle.core_model.specs.RightTraces.{IsUnused}
 use Rattle.core_model.specs.Streams.{counted}
 use Rattle.core_model.specs.UpdateStream.{updating}
@@ -53,8 +53,9 @@ pub record Known (s : Session) (t : Trace) (n : ℕ) (d : ZoneData) (front : Lis
   pub leased : LeasedIn d front
   pub settling_leased : SettlingLeased d front
   pub in_turn : (l : LogicalZone) (v : Vio) → d ≡ at.Logical l → front ≡ item.Request v ∷ [] → v.phase ≡ phase.Arrive → AllByRecursion (ComesAfter l.zone v.request) (places t)
-  -- what is in front of the physical zone has the next updates of the committed entries
-  pub next_updates : (p : PhysicalZone) → d ≡ at.Physical p → (rest : List CountUpdate) × (updates_of (durable t) ≡ updates_taken t ++ (counted updating front ++ rest))
+  -- what is in front of a physical zone has the next of its updates of the committed entries
+  pub next_updates : (p : PhysicalZone) → d ≡ at.Physical p
+      → (rest : List CountUpdate) × (updates_in s.sizes p.counts.zone (updates_of (durable t)) ≡ updates_in s.sizes p.counts.zone (updates_taken t) ++ (updates_in s.sizes p.counts.zone (counted updating front) ++ rest))
   -- a block on which there is a claim, whose entry isn't handed in, is mapped by nobody
   pub unused : (x : Pbn) → 1 ≤ total (of_vio (unowed_weight x)) front + total (unowed_weight x) (kept_by d) → IsFair s t → IsUnused s t x
 

@@ -47,8 +47,8 @@ past v p = ap (λ (q : Phase). arriving q v.request ++ []) p
 
 -- the posts of each row that are lists
 
-goes_still : (v : Vio) (post : Post) → goes_on v ≡ Some post → Still post
-goes_still v post goes = goes_by Still v post goes (λ reads. read v.old) (λ writes zeros. refl) (λ writes others. refl) (λ discards. refl)
+goes_still : (sizes : Sizes) (v : Vio) (post : Post) → goes_on sizes v ≡ Some post → Still post
+goes_still sizes v post goes = goes_by Still sizes v post goes (λ reads. read v.old) (λ writes zeros. refl) (λ writes others. refl) (λ discards. refl)
   where
     read : (m : Mapping) → Still (read_next v m)
     read Unmapped = refl
@@ -75,20 +75,20 @@ after_still : (sizes : Sizes) (stopped : Bool) → AllByRecursion Still (notices
 after_still sizes true = tt
 after_still sizes false = notices_still (notified sizes)
 
-dropped_still : (vs : List Vio) → AllByRecursion Still (all_dropped vs)
-dropped_still [] = tt
-dropped_still (v ∷ vs) = (refl, dropped_still vs)
+dropped_still : (sizes : Sizes) (vs : List Vio) → AllByRecursion Still (all_dropped sizes vs)
+dropped_still sizes [] = tt
+dropped_still sizes (v ∷ vs) = (refl, dropped_still sizes vs)
 
-hands_still : (v : Vio) (m : Mapping) → Still (journal.hands_to v m)
-hands_still v (At x) = refl
-hands_still v Unmapped = refl
-hands_still v Zero = refl
+hands_still : (sizes : Sizes) (v : Vio) (m : Mapping) → Still (journal.hands_to sizes v m)
+hands_still sizes v (At x) = refl
+hands_still sizes v Unmapped = refl
+hands_still sizes v Zero = refl
 
-decrement_still : (page : Option PageId) (e : Remapping) (m : Mapping) → AllByRecursion Still (journal.decrement_for page e m)
-decrement_still None e (At x) = (refl, tt)
-decrement_still None e Unmapped = tt
-decrement_still None e Zero = tt
-decrement_still (Some page) e m = tt
+decrement_still : (sizes : Sizes) (page : Option PageId) (e : Remapping) (m : Mapping) → AllByRecursion Still (journal.decrement_for sizes page e m)
+decrement_still sizes None e (At x) = (refl, tt)
+decrement_still sizes None e Unmapped = tt
+decrement_still sizes None e Zero = tt
+decrement_still sizes (Some page) e m = tt
 
 again_still : (vs : List Vio) → AllByRecursion (IsIn phase.Enter) vs → AllByRecursion Still (all_again vs)
 again_still [] h = tt
@@ -139,9 +139,9 @@ module _ (s : Session) (t : Trace) where
   logical_course old v new made posts kept (logical.arrives_retired p d n m q) = draws old v refl refl p (rw q (refl, tt)) (rw m refl) (λ zone. rw m refl)
   logical_course old v new made posts kept (logical.arrives_free p d f n m q) = draws old v refl refl p (rw q (refl, tt)) (rw m refl) (λ zone. rw m refl)
   logical_course old v new made posts kept (logical.arrives_held p d f n m q) = draws old v refl refl p (rw q tt) (rw m refl) (λ zone. rw m refl)
-  logical_course old v new made posts kept (logical.looks mapping post p path stays leaf knows goes n m q) = still (past v p) (rw q (goes_still (looked old mapping v) post goes, tt)) (rw m refl) (λ zone. rw m refl)
+  logical_course old v new made posts kept (logical.looks mapping post p path stays leaf knows goes n m q) = still (past v p) (rw q (goes_still s.sizes (looked old mapping v) post goes, tt)) (rw m refl) (λ zone. rw m refl)
   logical_course old v new made posts kept (logical.needs_leaf x p path stays leaf unknown there n m q) = still (past v p) (rw q (refl, tt)) (rw m refl) (λ zone. rw m refl)
-  logical_course old v new made posts kept (logical.leafed post p goes n m q) = still (past v p) (rw q (goes_still v post goes, tt)) (rw m refl) (λ zone. rw m refl)
+  logical_course old v new made posts kept (logical.leafed post p goes n m q) = still (past v p) (rw q (goes_still s.sizes v post goes, tt)) (rw m refl) (λ zone. rw m refl)
   logical_course old v new made posts kept (logical.passes p path passes n m q) = still (past v p) (rw q (refl, passes_still (first_for v.at.0 old.waiting))) (rw m refl) (λ zone. rw m refl)
   logical_course old v new made posts kept (logical.settles p bare none n m q) = still (past v p) (rw q (refl, passes_still (first_for v.at.0 old.waiting))) (rw m refl) (λ zone. rw m refl)
   logical_course old v new made posts kept (logical.awaits p bare some n m q) = still (past v p) (rw q tt) (rw m refl) (λ zone. rw m refl)
@@ -188,12 +188,12 @@ module _ (s : Session) (t : Trace) where
   end_course : (old : JournalZone) (b : SealedBlock) (new : JournalZone) (made : Trace) (posts : List Post) → KeptIn (at.Journal old) → JournalEnds s.sizes old b new made posts
       → Course s t (at.Journal old) (item.Block b ∷ []) made posts
   end_course old b new made posts kept (journal.commits v vs c f d n m q) =
-      still refl (rw q (every-append Still (journal.hands_out v) ((id.Journal, item.Block (record b { vios = vs })) ∷ []) (hands_still v v.new, decrement_still v.page (remapping v) v.old) (refl, tt))) (rw m refl) (λ zone. rw m refl)
+      still refl (rw q (every-append Still (journal.hands_out s.sizes v) ((id.Journal, item.Block (record b { vios = vs })) ∷ []) (hands_still s.sizes v v.new, decrement_still s.sizes v.page (remapping v) v.old) (refl, tt))) (rw m refl) (λ zone. rw m refl)
   end_course old b new made posts kept (journal.seals v vs c f g d n m q) = still refl (rw q (refl, again_still old.waiting kept.1)) (rw m refl) (λ zone. rw m refl)
   end_course old b new made posts kept (journal.rests c f g n m q) = still refl (rw q (again_still old.waiting kept.1)) (rw m refl) (λ zone. rw m refl)
   end_course old b new made posts kept (journal.fails c n m q) =
-      still refl (rw q (every-append Still (all_dropped b.vios) (all_dropped old.filling ++ all_refused s.sizes _ old.waiting) (dropped_still b.vios)
-      (every-append Still (all_dropped old.filling) (all_refused s.sizes _ old.waiting) (dropped_still old.filling) (refused_still s.sizes _ old.waiting)))) (rw m refl) (λ zone. rw m refl)
+      still refl (rw q (every-append Still (all_dropped s.sizes b.vios) (all_dropped s.sizes old.filling ++ all_refused s.sizes _ old.waiting) (dropped_still s.sizes b.vios)
+      (every-append Still (all_dropped s.sizes old.filling) (all_refused s.sizes _ old.waiting) (dropped_still s.sizes old.filling) (refused_still s.sizes _ old.waiting)))) (rw m refl) (λ zone. rw m refl)
 
   -- what waits for the superblock is none that has yet to draw its place
   at_device : (v : Vio) (q : Phase) → (row q).zone ≡ AtDevice → arriving q v.request ≡ []

@@ -28,10 +28,10 @@ use Rattle.core_laws.proofs.logical.BareTrees.{bare, bare_is}
 
 -- two logical zones over the default sizes, and a script of one stream
 
-abbrev sizes : Sizes
-sizes = record { geometry = small; start = 1; zones = 2; depth = 2 }
+abbrev pub sizes : Sizes
+sizes = record { geometry = small; start = 1; zones = 2; physical = 1; depth = 2 }
 
-abbrev script : List (List Request)
+abbrev pub script : List (List Request)
 script = (request.Write (record { 0 = 5 }) zero_block false ∷ request.Read (record { 0 = 5 }) ∷ request.Flush ∷ []) ∷ []
 
 -- over the empty image of these sizes
@@ -46,8 +46,8 @@ small_served = record {
   sizes = small_is;
   start = (omega arith, omega arith);
   used = omega arith;
-  zones = omega arith;
-  limits = record { streams = omega arith; depth = omega arith; requests = omega arith; zones = omega arith };
+  zones = (omega arith, omega arith);
+  limits = record { streams = omega arith; depth = omega arith; requests = omega arith; zones = omega arith; physical = omega arith };
   served = (((zeros_length, refl), (tt, (tt, tt))), tt);
   linked = λ page x none. absurd cc;
   rooted = λ page none. absurd cc;
@@ -71,13 +71,13 @@ all_empty : (n : ℕ) → AllByRecursion (λ (lane : List Item). lane ≡ []) (r
 all_empty zero = tt
 all_empty (suc n) = (refl, all_empty n)
 
-abbrev empty_zone : ℕ → ZoneData → Zone
+abbrev pub empty_zone : ℕ → ZoneData → Zone
 empty_zone number keeps = record { number = number; steps = 0; keeps = keeps; ports = record { inbox = []; outboxes = no_lanes } }
 
-abbrev logical : ℕ → LogicalZone
+abbrev pub logical : ℕ → LogicalZone
 logical zone = record { zone = zone; notified = false; next = 0; places = []; held = []; waiting = []; retired = []; tree = bare small zone 2; making = []; lacking = []; settling = []; unlinkable = []; slots = []; reported = [] }
 
-abbrev small_desk : Desk
+abbrev pub small_desk : Desk
 small_desk = record { requests = script; log = []; marks = []; notices = 0; parked = [] }
 
 -- its slab, of which no block is used, and the zone of that
@@ -114,7 +114,7 @@ small_unused x = elim (own_or_not small_counts x) [
   | inr out ↦ foreign_is small_counts x small_zone out
 ]
 
-abbrev small_physical : PhysicalZone
+abbrev pub small_physical : PhysicalZone
 small_physical = record { notified = false; strays = []; counts = small_counts }
 
 abbrev small_journal : JournalZone

@@ -1,16 +1,17 @@
 -- A core at its start is legal, with an empty trace.
 use Rattle.std.proofs.Common.{◌≡◌, ℕ, suc, ◌⊎◌, ◌≤◌, Bool, false, not, List, [], ◌∷◌, ◌++◌, length, refl, sym, ◌∙◌, ap, subst, inl, inr, arith, ◌%◌}
 use Rattle.core_laws.proofs.journal.LogLaws.{log_at_start}
-use Rattle.core_laws.proofs.Common.{all_logged, AllByRecursion, answers_of, arrival, as_items, AtMost, AtRest, Balanced, begins_of, bit, DataOk, desk_number, DeskLine, Each, entry_token, every-get, given, HasBlocks, holder_token, in_log, is_answer, is_begin, is_block, is_entry, IsAsOpened, IsSession, Item, ItemOk, journal_token, KeptEach, KeptOk, Lba, lease_token, Lock, lock_weight, LocksOk, Remapping, logical_number, LogicalZone, made_by, MapOk, Mapping, newest, notice_token, notified_by, of_address, OnBlock, Pbn, queued, request_token, RestsAt, room_token, Session, Shown, Stands, Token, total, Trace, Vio, weight, Zone, zone_count, ZoneData, ZoneOk, Logged, remappings, opened_at, KeptStands, Writer, physical_number, journal_number, total_alone, Geometry}
+use Rattle.core_laws.proofs.Common.{PhysicalZone, all_logged, AllByRecursion, answers_of, arrival, as_items, AtMost, AtRest, Balanced, begins_of, bit, DataOk, desk_number, DeskLine, Each, entry_token, every-get, given, HasBlocks, holder_token, in_log, is_answer, is_begin, is_block, is_entry, IsAsOpened, IsSession, Item, ItemOk, journal_token, KeptEach, KeptOk, Lba, lease_token, Lock, lock_weight, LocksOk, Remapping, logical_number, LogicalZone, made_by, MapOk, Mapping, newest, notice_token, notified_by, of_address, OnBlock, Pbn, queued, request_token, RestsAt, room_token, Session, Shown, Stands, Token, total, Trace, Vio, weight, Zone, zone_count, ZoneData, ZoneOk, Logged, remappings, opened_at, KeptStands, Writer, physical_number, journal_number, total_alone, Geometry}
 use Rattle.blk_base.specs.Regions.{IsDataBlock}
 use Rattle.core_laws.proofs.kept.ZoneKinds.{Sits, journal_sits, physical_sits}
 use Rattle.core_model.specs.Sessions.{opened_uses}
 use Rattle.core_model.specs.Start.{IsFirstJournal, IsFirstPhysical}
-use Rattle.std.proofs.Math.Nat.{mod-one}
+use Rattle.core_laws.proofs.lists.CountedIn.{zone_inside}
+use Rattle.data_vio.specs.Zones.{physical_zone_of}
 use Rattle.zone_counts.proofs.BlockLaws.{foreign_is}
 use Rattle.zone_counts.proofs.OpenedCounts.{is_data, is_none, opened_none, tells_data}
 use Rattle.zone_counts.specs.ByBlock.{counter_in}
-use Rattle.zone_counts.specs.Zone.{IsOf, slab_number}
+use Rattle.zone_counts.specs.Zone.{IsOf, IsOfZone, slab_number}
 use Rattle.core_model.specs.Tokens.{block_token, claim_token, damage_token, has_old, is_entry, is_old, report_token, waiter_token}
 use Rattle.core_model.specs.Facts.{ReportOk}
 use Rattle.blk_base.specs.declared.place.Mapping.TheVariants.{Unmapped, Zero, At}
@@ -18,7 +19,7 @@ use Rattle.journal_stops.proofs.StepLaws.{opened}
 use Rattle.core_model.specs.declared.zones.ZoneData.TheVariants as at
 use Rattle.blk_base.specs.declared.place.PageId.{PageId}
 use Rattle.block_map_tree.specs.Tree.{Tree}
-use Rattle.core_model.specs.UpdateStream.{updates_at, updating}
+use Rattle.core_model.specs.UpdateStream.{updates_at}
 use Rattle.core_model.specs.Arrivals.{arrivals_at}
 use Rattle.core_model.specs.Facts.{PagesOk}
 use Rattle.core_model.specs.Tokens.{making_at, making_token, page_entry_token}
@@ -242,28 +243,37 @@ module _ (s : Session) (session : IsSession s) where
     alone = λ n z had ne lane hl. ap (counted arrival) (every-get (λ lane. lane ≡ []) z.ports.outboxes (logical_number zone) lane (first n z had).outboxes hl);
   }
 
-  updates_at_start : (zones : List Zone) → Each (IsFirstZone s) zones → Flows (updates_at s) [] zones
-  updates_at_start zones first = record {
+  updates_at_start : (zones : List Zone) (zone : ℕ) → Each (IsFirstZone s) zones → Flows (updates_at s zone) [] zones
+  updates_at_start zones zone first = record {
     in_order = λ receiver sender lane hr hs hl.
-        let inbox = (first (physical_number s.sizes) receiver hr).inbox in
-        let empty = every-get (λ lane. lane ≡ []) sender.ports.outboxes (physical_number s.sizes) lane (first (journal_number s.sizes) sender hs).outboxes hl in
-        sym (ap (λ (items : List Item). counted updating items ++ counted updating lane) inbox ∙ ap (counted updating) empty);
-    alone = λ n z had ne lane hl. ap (counted updating) (every-get (λ lane. lane ≡ []) z.ports.outboxes (physical_number s.sizes) lane (first n z had).outboxes hl);
+        let inbox = (first (physical_number s.sizes zone) receiver hr).inbox in
+        let empty = every-get (λ lane. lane ≡ []) sender.ports.outboxes (physical_number s.sizes zone) lane (first (journal_number s.sizes) sender hs).outboxes hl in
+        sym (ap (λ (items : List Item). counted (updates_at s zone).counts items ++ counted (updates_at s zone).counts lane) inbox ∙ ap (counted (updates_at s zone).counts) empty);
+    alone = λ n z had ne lane hl. ap (counted (updates_at s zone).counts) (every-get (λ lane. lane ≡ []) z.ports.outboxes (physical_number s.sizes zone) lane (first n z had).outboxes hl);
   }
 
-  -- The journal weighs the opened count of a block, and its counter is that: of a zone that counts them all.
+  -- The journal weighs the opened count of a block, and its counter is that: of the zone that counts it.
   module _ (zones : List Zone) (count : length zones ≡ zone_count s.sizes) (first : Each (IsFirstZone s) zones) (x : Pbn) where
     each_ok : Each (ZoneOk s []) zones
     each_ok n z e = zone_at_start n z (first n z e)
 
-    physical : Sits s [] zones each_ok at.Physical (physical_number s.sizes)
-    physical = physical_sits s [] zones each_ok count
+    abbrev home : ℕ
+    home = physical_number s.sizes (physical_zone_of s.sizes x)
+
+    physical : Sits s [] zones each_ok at.Physical home
+    physical = physical_sits s [] zones each_ok count (physical_zone_of s.sizes x) (zone_inside s.sizes x session.zones.1)
 
     journal : Sits s [] zones each_ok at.Journal (journal_number s.sizes)
     journal = journal_sits s [] zones each_ok count
 
-    first_physical : IsFirstPhysical s (physical_number s.sizes) physical.it
-    first_physical = subst (IsFirstData s (physical_number s.sizes)) physical.keeps (first (physical_number s.sizes) physical.zone physical.had).own
+    first_physical : IsFirstPhysical s home physical.it
+    first_physical = subst (IsFirstData s home) physical.keeps (first home physical.zone physical.had).own
+
+    -- any other has no counter of it
+    is_home : (n : ℕ) (p : PhysicalZone) → IsFirstPhysical s n p → IsOfZone p.counts x → n ≡ home
+    is_home n p h own =
+        let zone : physical_zone_of s.sizes x ≡ p.counts.zone = rw (← h.geometry, ← h.zones) own.own in
+        h.number_is ∙ ap (physical_number s.sizes) (sym zone)
 
     first_journal : IsFirstJournal s (journal_number s.sizes) journal.it
     first_journal = subst (IsFirstData s (journal_number s.sizes)) journal.keeps (first (journal_number s.sizes) journal.zone journal.had).own
@@ -282,10 +292,9 @@ module _ (s : Session) (session : IsSession s) where
       where
         home_of : slab_number s.sizes.geometry x % physical.it.counts.zones ≡ physical.it.counts.zone
         home_of =
-            let one = first_physical.zones in
-            let number = first_physical.is_zone.slabs.number in
-            let zone : physical.it.counts.zone ≡ 0 = omega (arith, one, number) in
-            ap (λ (n : ℕ). slab_number s.sizes.geometry x % n) one ∙ mod-one (slab_number s.sizes.geometry x) ∙ sym zone
+            let number = first_physical.number_is in
+            let zone : physical_zone_of s.sizes x ≡ physical.it.counts.zone = omega (arith, number) in
+            ap (λ (n : ℕ). slab_number s.sizes.geometry x % n) first_physical.zones ∙ zone
 
     own_total : total (weight token) zones ≡ opened_uses s x
     own_total =
@@ -303,10 +312,13 @@ module _ (s : Session) (session : IsSession s) where
 
     given_total : total (given token) zones ≡ opened_uses s x
     given_total =
-        total_alone (given token) zones (physical_number s.sizes) physical.zone physical.had (λ n z had ne. elsewhere n z.keeps (first n z had).own ne) ∙ ap token.gave physical.keeps ∙ here
+        total_alone (given token) zones home physical.zone physical.had (λ n z had ne. elsewhere n z.keeps (first n z had).own ne) ∙ ap token.gave physical.keeps ∙ here
       where
-        elsewhere : (n : ℕ) (d : ZoneData) → IsFirstData s n d → (n ≡ physical_number s.sizes → ⊥) → token.gave d ≡ 0
-        elsewhere n (at.Physical p) h ne = absurd (ne h.number_is)
+        elsewhere : (n : ℕ) (d : ZoneData) → IsFirstData s n d → (n ≡ home → ⊥) → token.gave d ≡ 0
+        elsewhere n (at.Physical p) h ne =
+            let counter = (foreign_is p.counts x h.is_zone (λ own. ne (is_home n p h own))).0 in
+            let none = h.claims x in
+            omega (arith, counter, none)
         elsewhere n (at.Journal j) h ne = ap (λ es. total (is_old x) (remappings es)) h.committed
         elsewhere n other h ne = refl
 
@@ -335,7 +347,7 @@ module _ (s : Session) (session : IsSession s) where
     room = balanced_at_start s zones first room_token (no_lines is_answer is_begin s);
     stop_notices = balanced_at_start s zones first (notice_token s.sizes) (no_words s);
     in_order = λ zone below. flows_at_start zones zone first;
-    updates = updates_at_start zones first;
+    updates = λ zone below. updates_at_start zones zone first;
     right = λ fair. shown_at_start s session fair.opened;
     gives_right = λ fair. tt;
   }

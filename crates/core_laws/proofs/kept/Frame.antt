@@ -1,8 +1,14 @@
 -- A zone that weighs nothing for what a happening is about keeps all its facts. Paid once for all kinds of zone and item.
 use Rattle.std.proofs.Common.{◌≡◌, ◌≢◌, ◌⊎◌, ℕ, ◌≤◌, ◌==◌, Bool, true, false, Some, is_some, List, [], ◌∷◌, ◌++◌, slice_get, refl, ap, sym, ◌∙◌, subst, inl, inr, arith, ◌<◌}
-use Rattle.core_model.specs.Facts.{ReportOk}
+use Rattle.core_model.specs.CountUpdates.{replaced_in}
+use Rattle.core_model.specs.Facts.{IsSound, ReportOk}
+use Rattle.core_model.specs.Tokens.{leads_to}
+use Rattle.data_vio.specs.Zones.{counts_in}
+use Rattle.blk_base.specs.declared.place.Mapping.TheVariants.{At}
+use Rattle.zone_counts.specs.Zone.{IsOfZone}
+use Rattle.core_laws.proofs.lists.CountedIn.{leads_elsewhere, not_counted, zone_is}
 use Rattle.core_model.specs.Trace.{Adds, Drops, Hears, Removes, Strays, added, claimed, damage_in, removed, strayed, unclaimed}
-use Rattle.core_laws.proofs.Common.{all_of, AllBelow, AllByRecursion, Answers, calls, Calls, Commits, durable, desk_number, device_number, drawn, Draws, Each, journaled, Enters, eq-eqb, eqb_tells, every-front, Fails, fair_before, filled, Flushes, Gives, Happening, has_stopped, HasLists, Item, ItemOk, journal_number, kept_by, KeptEach, KeptOk, lines, logical_number, marks, name_of, of_address, Phase, physical_number, places, RestsAt, Says, sealed, Seals, Session, Remaps, Sets, Sizes, Takes, Token, total, total-append, total-get, Trace, Vio, WasTold, weight, Zone, zone_number, zone_of, ZoneData, ZoneOk, Passes, applied, passed, remappings, Remapping, superblock_stage, Harms}
+use Rattle.core_laws.proofs.Common.{all_of, AllBelow, AllByRecursion, Answers, calls, Calls, Commits, durable, desk_number, device_number, drawn, Draws, Each, journaled, Enters, eq-eqb, eqb_tells, every-front, Fails, fair_before, filled, Flushes, Gives, Happening, has_stopped, HasLists, is_block, is_entry, is_old, Item, ItemOk, journal_number, kept_by, KeptEach, KeptOk, lines, logical_number, marks, name_of, new_of, of_address, Pbn, Phase, physical_number, places, RestsAt, Says, sealed, Seals, Session, Remaps, Sets, Sizes, Takes, Token, total, total-append, total-get, Trace, Vio, WasTold, weight, Zone, zone_number, zone_of, ZoneData, ZoneOk, Passes, applied, passed, remappings, Remapping, superblock_stage, Harms}
 use Rattle.core_laws.proofs.lists.Between.{every_between}
 use Rattle.vdo_model.specs.FlushMarks.{successes}
 use Rattle.vdo_model.specs.ZoneOrder.{places_in}
@@ -50,14 +56,19 @@ module _ (sizes : Sizes) where
   still_below (Gives g) t a place off b = record { writes = b.writes; reads = ((λ same. absurd (slot_apart g.at.0 a off same)), b.reads) }
   still_below other t a place off b = record { writes = b.writes; reads = b.reads }
 
-  counts_same : (h : Happening) (t : Trace) → physical_number sizes ≢ happens_in sizes h
-      → (claimed (h ∷ t) ≡ claimed t) × (unclaimed (h ∷ t) ≡ unclaimed t) × (added (h ∷ t) ≡ added t) × (removed (h ∷ t) ≡ removed t) × (strayed (h ∷ t) ≡ strayed t)
-  counts_same (Takes w page x) t off = absurd (off refl)
-  counts_same (Drops w x) t off = absurd (off refl)
-  counts_same (Adds e) t off = absurd (off refl)
-  counts_same (Removes e) t off = absurd (off refl)
-  counts_same (Strays e) t off = absurd (off refl)
-  counts_same other t off = (refl, refl, refl, refl, refl)
+  -- of a block what was claimed, let go, added and removed stays over what happens where another block is counted
+  uses_same : (h : Happening) (t : Trace) (y : Pbn) → zone_number sizes (counts_in sizes y) ≢ happens_in sizes h
+      → (total (is_block y) (claimed (h ∷ t)) ≡ total (is_block y) (claimed t)) × (total (is_block y) (unclaimed (h ∷ t)) ≡ total (is_block y) (unclaimed t))
+      × (total (is_entry y) (added (h ∷ t)) ≡ total (is_entry y) (added t)) × (total (is_old y) (removed (h ∷ t)) ≡ total (is_old y) (removed t))
+  uses_same (Takes w page x) t y off = let none : leads_to y (At x) ≡ 0 = leads_elsewhere sizes (At x) y off in (omega (arith, none), refl, refl, refl)
+  uses_same (Drops w x) t y off = let none : leads_to y (At x) ≡ 0 = leads_elsewhere sizes (At x) y off in (refl, omega (arith, none), refl, refl)
+  uses_same (Adds e) t y off = let none = leads_elsewhere sizes (new_of e) y off in (refl, refl, omega (arith, none), refl)
+  uses_same (Removes e) t y off = let none = leads_elsewhere sizes e.old y off in (refl, refl, refl, omega (arith, none))
+  uses_same other t y off = (refl, refl, refl, refl)
+
+  strays_same : (h : Happening) (t : Trace) (zone : ℕ) → physical_number sizes zone ≢ happens_in sizes h → replaced_in sizes zone (strayed (h ∷ t)) ≡ replaced_in sizes zone (strayed t)
+  strays_same (Strays e) t zone off = rw (not_counted sizes zone e.old off) refl
+  strays_same other t zone off = refl
 
   entries_same : (h : Happening) (t : Trace) → journal_number sizes ≢ happens_in sizes h
       → (journaled (h ∷ t) ≡ journaled t) × (durable (h ∷ t) ≡ durable t) × (filled (h ∷ t) ≡ filled t) × (sealed (h ∷ t) ≡ sealed t)
@@ -78,9 +89,9 @@ module _ (s : Session) (h : Happening) (t : Trace) where
   reports_on zone [] k = tt
   reports_on zone (e ∷ es) k = (report_kept s h t e zone k.0, reports_on zone es k.1)
 
-  lists_kept : (d : ZoneData) → zone_number s.sizes (name_of d) ≢ happens_in s.sizes h → HasLists s t d → HasLists s (h ∷ t) d
-  lists_kept (at.Desk desk) off k = record { log_is = k.log_is ∙ sym (lines_same s.sizes h t off); marks_is = k.marks_is ∙ sym (marks_same s.sizes h t off) }
-  lists_kept (at.Logical l) off k = record {
+  lists_kept : (d : ZoneData) → zone_number s.sizes (name_of d) ≢ happens_in s.sizes h → IsSound s d → HasLists s t d → HasLists s (h ∷ t) d
+  lists_kept (at.Desk desk) off sound k = record { log_is = k.log_is ∙ sym (lines_same s.sizes h t off); marks_is = k.marks_is ∙ sym (marks_same s.sizes h t off) }
+  lists_kept (at.Logical l) off sound k = record {
     places_is = k.places_is ∙ sym (places_same s.sizes h t l.zone off).0;
     next_is = k.next_is ∙ sym (places_same s.sizes h t l.zone off).1;
     slots_are = λ a zone. k.slots_are a zone ∙ sym (slots_same s.sizes h t a (at_home a zone));
@@ -91,19 +102,24 @@ module _ (s : Session) (h : Happening) (t : Trace) where
     where
       at_home : (a : ℕ) → zone_of s.sizes.zones a ≡ l.zone → logical_number (zone_of s.sizes.zones a) ≢ happens_in s.sizes h
       at_home a zone is = off (ap logical_number (sym zone) ∙ is)
-  lists_kept (at.Physical p) off k = let same = counts_same s.sizes h t off in record {
-    counters = λ x of_zone. rw (same.2, same.3) (k.counters x of_zone);
-    uses = λ x of_zone. rw (same.0, same.1, same.3) (k.uses x of_zone);
-    strays_are = k.strays_are ∙ sym same.4;
+  lists_kept (at.Physical p) off sound k = record {
+    counters = λ x mine. let same = stays x mine in let before = k.counters x mine in omega (arith, before, same.2, same.3);
+    uses = λ x mine. let same = stays x mine in let before = k.uses x mine in omega (arith, before, same.0, same.1, same.3);
+    strays_are = k.strays_are ∙ sym (strays_same s.sizes h t p.counts.zone off);
   }
-  lists_kept (at.Journal j) off k = let same = entries_same s.sizes h t off in record {
+    where
+      stays : (x : Pbn) → IsOfZone p.counts x
+          → (total (is_block x) (claimed (h ∷ t)) ≡ total (is_block x) (claimed t)) × (total (is_block x) (unclaimed (h ∷ t)) ≡ total (is_block x) (unclaimed t))
+          × (total (is_entry x) (added (h ∷ t)) ≡ total (is_entry x) (added t)) × (total (is_old x) (removed (h ∷ t)) ≡ total (is_old x) (removed t))
+      stays x mine = uses_same s.sizes h t x (λ is. off (ap (physical_number s.sizes) (sym (zone_is s p sound x mine)) ∙ is))
+  lists_kept (at.Journal j) off sound k = let same = entries_same s.sizes h t off in record {
     entered_is = k.entered_is ∙ sym same.0;
     committed_is = k.committed_is ∙ sym same.1;
-    filled_is = λ sound. k.filled_is sound ∙ sym same.2;
+    filled_is = λ whole. k.filled_is whole ∙ sym same.2;
     filling_few = k.filling_few;
     log_is = log_over s t (h ∷ t) j.log same.2 same.3 same.1 k.log_is;
   }
-  lists_kept (at.Device d) off k = let same = device_same s.sizes h t off in record { calls_is = k.calls_is ∙ ap successes (sym same.0); stopped_is = k.stopped_is ∙ sym same.1; superblock_is = k.superblock_is ∙ sym same.2; damage_is = k.damage_is ∙ sym same.3 }
+  lists_kept (at.Device d) off sound k = let same = device_same s.sizes h t off in record { calls_is = k.calls_is ∙ ap successes (sym same.0); stopped_is = k.stopped_is ∙ sym same.1; superblock_is = k.superblock_is ∙ sym same.2; damage_is = k.damage_is ∙ sym same.3 }
 
   -- What it was told stays over everything.
   pub told_kept : (d : ZoneData) → WasTold t d → WasTold (h ∷ t) d
@@ -184,7 +200,7 @@ module _ (s : Session) (h : Happening) (t : Trace) where
     to_itself = ok.to_itself;
     own = record {
       number_is = ok.own.number_is;
-      lists = lists_kept z.keeps (λ is. off (ok.own.number_is ∙ is)) ok.own.lists;
+      lists = lists_kept z.keeps (λ is. off (ok.own.number_is ∙ is)) ok.own.sound ok.own.lists;
       sound = ok.own.sound;
       kept = kept_each z.keeps (part (λ k. total (λ v. (token_of s.sizes k).item (Request v)) (kept_by z.keeps)) (λ k. omega (arith, items_total (token_of s.sizes k).item (kept_by z.keeps)))) ok.own.kept;
       answers = answers_kept z.keeps ok.own.lists (λ k some. elim (spares k) [ inl none ↦ absurd (omega (arith, none, some)) | inr spared ↦ spared ]) ok.own.answers;

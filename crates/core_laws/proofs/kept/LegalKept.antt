@@ -223,10 +223,10 @@ module _ (s : Session) (session : IsSession s) (old new : Core) (legal : Legal s
         (arrivals_kept s old.trace zone st.number st.zone.keeps st.step.front st.made st.step.posts zone_ok.own
         (course s old.trace legal.right st.number st.zone.keeps st.step.front st.zone'.keeps st.made st.step.posts st.step.act zone_ok.own here.front_ok kept_here))
         (legal.in_order zone below);
-    updates = flows_step CountUpdate (updates_at s) s.sizes (λ e. absurd (omega (arith, e))) old new st zone_ok.number_is
-        (updates_kept s old.trace st.number st.zone.keeps st.step.front st.made st.step.posts zone_ok.own
+    updates = λ zone below. flows_step CountUpdate (updates_at s zone) s.sizes (λ e. absurd (omega (arith, e, below))) old new st zone_ok.number_is
+        (updates_kept s zone below old.trace st.number st.zone.keeps st.step.front st.made st.step.posts zone_ok.own here.front_ok
         (updates.course s old.trace st.number st.zone.keeps st.step.front st.zone'.keeps st.made st.step.posts st.step.act here.front_ok kept_here))
-        legal.updates;
+        (legal.updates zone below);
     right = subst (RightTrace s) (sym trace_is) stepped.right;
     gives_right = subst (λ (t : Trace). IsFair s t → GivesRight s t) (sym trace_is) (stepped.gives legal.gives_right);
   }

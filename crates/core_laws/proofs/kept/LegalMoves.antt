@@ -83,7 +83,7 @@ module _ (s : Session) (old new : Core) (m : MoveOf old new) (legal : Legal s ol
     room = balance_move room_token old new m legal.room;
     stop_notices = balance_move (notice_token s.sizes) old new m legal.stop_notices;
     in_order = λ zone below. flows_move Writer (arrivals_at s zone) s.sizes (λ e. absurd (omega (arith, e))) old new m (legal.in_order zone below);
-    updates = flows_move CountUpdate (updates_at s) s.sizes (λ e. absurd (omega (arith, e))) old new m legal.updates;
+    updates = λ zone below. flows_move CountUpdate (updates_at s zone) s.sizes (λ e. absurd (omega (arith, e, below))) old new m (legal.updates zone below);
     right = subst (RightTrace s) (sym trace_is) legal.right;
     gives_right = subst (λ (t : Trace). IsFair s t → GivesRight s t) (sym trace_is) legal.gives_right;
   }

@@ -13,7 +13,7 @@ use Rattle.core_model.specs.declared.zones.ZoneData.TheVariants as at
 use Rattle.core_model.specs.DeskRules.{BeginsNext, DeskBegins, DeskServes, parks, answers, marks, at_once, first_zone, vio_of, is_notified, is_stopped, is_marked, mark_of_vio}
 use Rattle.core_model.specs.DeviceRules.{Announces, DeviceHears, DeviceServes, DeviceWorks, IsReady, counted, halted, harmed, notices_after, stop_notices, next_stage, next_superblock, next_zone, superblock_call}
 use Rattle.core_model.specs.declared.zones.SuperblockStage.TheVariants.{AsOpened, Written, Durable}
-use Rattle.core_model.specs.PhysicalRules.{PhysicalServes, PhysicalTakes, spent_for, tells, with_counts}
+use Rattle.core_model.specs.PhysicalRules.{PhysicalServes, PhysicalTakes, no_block, spent_for, tells, with_counts}
 use Rattle.blk_base.specs.declared.point.Half.TheVariants as half
 use Rattle.core_laws.proofs.Common.{Adds, Drops, Remapping, Removes, Strays, same_Some}
 use Rattle.slab_counts.specs.Counts.{Counts, IsStray, Takes as Fits, unclaimed}
@@ -29,7 +29,7 @@ use Rattle.block_map_tree.specs.Tree.{Tree}
 use Rattle.data_vio.specs.declared.items.Asks.{Asks}
 use Rattle.data_vio.specs.declared.items.Asks.TheVariants.{Write}
 use Rattle.data_vio.specs.Vios as vios
-use Rattle.data_vio.specs.Vios.{has_leaf, makes, reads_leaf}
+use Rattle.data_vio.specs.Vios.{counts_of, has_leaf, makes, reads_leaf}
 use Rattle.core_model.specs.LogicalRules as logical
 use Rattle.core_model.specs.LogicalRules.{LogicalHears, LogicalServes, awaits_report, reports_left, settled, settled_posts, settling_of, without_settling, is_among, is_discard, is_held, lacks, lacks_for, lock_of, all_for, placed, place_of_vio, drawn_by, goes_on, granted, known_at, looked, pass_of, passes_by, looks_up, released, retire, all_stopped, unmade, with_slot, woken}
 use Rattle.core_model.specs.PageTrees.{but_page, is_listed, leaf_at}
@@ -143,26 +143,26 @@ one_answer p v phase.AbortEnteredClaim (Some (x, z)) b one two = absurd one
 one_answer p v other None b one two = absurd one
 one_answer p v other (Some (x, z)) b one two = absurd one
 
-abbrev physical_at : PhysicalZone → Vio → Phase → Answered → Result PhysicalZone
-physical_at p v phase.Claim None = (p, [], (v.home, item.Request (ended phase.Abort reply.NoSpace v)) ∷ [])
-physical_at p v phase.Claim (Some (x, z)) = (with_counts z p, Takes v.request v.page x ∷ [], (id.Device, item.Request (vios.claiming x v)) ∷ [])
-physical_at p v phase.Count (Some (x, z)) = (with_counts z p, Adds (logged v) ∷ [], (v.home, item.Request (vios.unclaiming phase.Settle v)) ∷ [])
-physical_at p v phase.AbortClaim None = (p, [], (v.home, item.Request (turned phase.Abort v)) ∷ [])
-physical_at p v phase.AbortClaim (Some (x, z)) = (with_counts z p, Drops v.request x ∷ [], (v.home, item.Request (vios.unclaiming phase.Abort v)) ∷ [])
-physical_at p v phase.AbortEnteredClaim answer = (p, [], (v.home, item.Request (vios.unclaiming phase.AbortEntered v)) ∷ [])
-physical_at p v other answer = (p, [], [])
+abbrev physical_at : Sizes → PhysicalZone → Vio → Phase → Answered → Result PhysicalZone
+physical_at sizes p v phase.Claim None = (p, [], (v.home, item.Request (ended phase.Abort (no_block sizes) v)) ∷ [])
+physical_at sizes p v phase.Claim (Some (x, z)) = (with_counts z p, Takes v.request v.page x ∷ [], (id.Device, item.Request (vios.claiming x v)) ∷ [])
+physical_at sizes p v phase.Count (Some (x, z)) = (with_counts z p, Adds (logged v) ∷ [], (v.home, item.Request (vios.unclaiming phase.Settle v)) ∷ [])
+physical_at sizes p v phase.AbortClaim None = (p, [], (v.home, item.Request (turned phase.Abort v)) ∷ [])
+physical_at sizes p v phase.AbortClaim (Some (x, z)) = (with_counts z p, Drops v.request x ∷ [], (v.home, item.Request (vios.unclaiming phase.Abort v)) ∷ [])
+physical_at sizes p v phase.AbortEnteredClaim answer = (p, [], (v.home, item.Request (vios.unclaiming phase.AbortEntered v)) ∷ [])
+physical_at sizes p v other answer = (p, [], [])
 
 -- an act is what an answer makes it
-abbrev IsBy : PhysicalZone → Vio → Phase → Result PhysicalZone → Type 0
-IsBy p v q result = (answer : Answered) × IsAnswer p v q answer × (result ≡ physical_at p v q answer)
+abbrev IsBy : Sizes → PhysicalZone → Vio → Phase → Result PhysicalZone → Type 0
+IsBy sizes p v q result = (answer : Answered) × IsAnswer p v q answer × (result ≡ physical_at sizes p v q answer)
 
-physical_is : (sizes : Sizes) (p : PhysicalZone) (v : Vio) (new : PhysicalZone) (made : Trace) (posts : List Post) → PhysicalServes sizes p v new made posts → IsBy p v v.phase (new, made, posts)
-physical_is sizes p v new made posts (PhysicalServes.claims x z is gives n m q) = subst (λ (h : Phase). IsBy p v h (new, made, posts)) (sym is) (Some (x, z), gives, three new _ made _ posts _ n m q)
-physical_is sizes p v new made posts (PhysicalServes.has_no_space is none n m q) = subst (λ (h : Phase). IsBy p v h (new, made, posts)) (sym is) (None, none, three new _ made _ posts _ n m q)
-physical_is sizes p v new made posts (PhysicalServes.counts x slab z is claim own takes change n m q) = subst (λ (h : Phase). IsBy p v h (new, made, posts)) (sym is) (Some (x, z), (claim, (slab, takes, change)), three new _ made _ posts _ n m q)
-physical_is sizes p v new made posts (PhysicalServes.drops x z is claim own change n m q) = subst (λ (h : Phase). IsBy p v h (new, made, posts)) (sym is) (Some (x, z), (claim, change), three new _ made _ posts _ n m q)
-physical_is sizes p v new made posts (PhysicalServes.drops_none is none n m q) = subst (λ (h : Phase). IsBy p v h (new, made, posts)) (sym is) (None, none, three new _ made _ posts _ n m q)
-physical_is sizes p v new made posts (PhysicalServes.spends is n m q) = subst (λ (h : Phase). IsBy p v h (new, made, posts)) (sym is) (None, tt, three new _ made _ posts _ n m q)
+physical_is : (sizes : Sizes) (p : PhysicalZone) (v : Vio) (new : PhysicalZone) (made : Trace) (posts : List Post) → PhysicalServes sizes p v new made posts → IsBy sizes p v v.phase (new, made, posts)
+physical_is sizes p v new made posts (PhysicalServes.claims x z is gives n m q) = subst (λ (h : Phase). IsBy sizes p v h (new, made, posts)) (sym is) (Some (x, z), gives, three new _ made _ posts _ n m q)
+physical_is sizes p v new made posts (PhysicalServes.has_no_space is none n m q) = subst (λ (h : Phase). IsBy sizes p v h (new, made, posts)) (sym is) (None, none, three new _ made _ posts _ n m q)
+physical_is sizes p v new made posts (PhysicalServes.counts x slab z is claim own takes change n m q) = subst (λ (h : Phase). IsBy sizes p v h (new, made, posts)) (sym is) (Some (x, z), (claim, (slab, takes, change)), three new _ made _ posts _ n m q)
+physical_is sizes p v new made posts (PhysicalServes.drops x z is claim own change n m q) = subst (λ (h : Phase). IsBy sizes p v h (new, made, posts)) (sym is) (Some (x, z), (claim, change), three new _ made _ posts _ n m q)
+physical_is sizes p v new made posts (PhysicalServes.drops_none is none n m q) = subst (λ (h : Phase). IsBy sizes p v h (new, made, posts)) (sym is) (None, none, three new _ made _ posts _ n m q)
+physical_is sizes p v new made posts (PhysicalServes.spends is n m q) = subst (λ (h : Phase). IsBy sizes p v h (new, made, posts)) (sym is) (None, tt, three new _ made _ posts _ n m q)
 
 -- a decrement
 abbrev IsUpdated : PhysicalZone → Remapping → Pbn → Option Counting → Type 0
@@ -202,20 +202,20 @@ onward_at l (Some post) = (l, [], post ∷ [])
 onward_at l None = (l, [], [])
 
 -- or it lacks a page: that is never linked, or is being made, or it makes it
-abbrev lack_at : LogicalZone → Vio → PageId → (dropped made : Bool) → Result LogicalZone
-lack_at l v page true made = passes l v.at.0 [] (id.Desk, item.Request (ended phase.Reply reply.Stopped v))
-lack_at l v page false true = (record l { lacking = l.lacking ++ v ∷ [] }, [], [])
-lack_at l v page false false = (record l { making = l.making ++ page ∷ [] }, [], (id.Physical 0, item.Request (makes page v)) ∷ [])
+abbrev lack_at : Sizes → LogicalZone → Vio → PageId → (dropped made : Bool) → Result LogicalZone
+lack_at sizes l v page true made = passes l v.at.0 [] (id.Desk, item.Request (ended phase.Reply reply.Stopped v))
+lack_at sizes l v page false true = (record l { lacking = l.lacking ++ v ∷ [] }, [], [])
+lack_at sizes l v page false false = (record l { making = l.making ++ page ∷ [] }, [], (counts_of sizes v, item.Request (makes page v)) ∷ [])
 
 -- it goes on with what is known, or reads its leaf first
-abbrev known_to : LogicalZone → Vio → Option Mapping → Option Pbn → Result LogicalZone
-known_to l v (Some mapping) leaf = onward_at l (goes_on (looked l mapping v))
-known_to l v None (Some x) = (l, [], (id.Device, item.Request (reads_leaf x v)) ∷ [])
-known_to l v None None = (l, [], [])
+abbrev known_to : Sizes → LogicalZone → Vio → Option Mapping → Option Pbn → Result LogicalZone
+known_to sizes l v (Some mapping) leaf = onward_at l (goes_on sizes (looked l mapping v))
+known_to sizes l v None (Some x) = (l, [], (id.Device, item.Request (reads_leaf x v)) ∷ [])
+known_to sizes l v None None = (l, [], [])
 
 abbrev stay_at : Sizes → LogicalZone → Vio → Option PageId → Result LogicalZone
-stay_at sizes l v None = known_to l v (known_at l v.at.0) (leaf_at l.tree v.at.0)
-stay_at sizes l v (Some page) = lack_at l v page (is_listed page l.unlinkable) (is_listed page l.making)
+stay_at sizes l v None = known_to sizes l v (known_at l v.at.0) (leaf_at l.tree v.at.0)
+stay_at sizes l v (Some page) = lack_at sizes l v page (is_listed page l.unlinkable) (is_listed page l.making)
 
 abbrev look_at : Sizes → LogicalZone → Vio → Bool → Result LogicalZone
 look_at sizes l v true = passes l v.at.0 (Passes (pass_of v) ∷ []) (id.Desk, item.Request (ended phase.Reply reply.Ok v))
@@ -246,7 +246,7 @@ drop_at l v (Some page) = (woken (logical.dropped page (released v.at.0 l)), Abo
 abbrev logical_at : Sizes → LogicalZone → Vio → Phase → Result LogicalZone
 logical_at sizes l v phase.Arrive = arrival_at l v (is_among v.at.0 l.retired) (is_held v.at.0 l.held)
 logical_at sizes l v phase.Look = look_at sizes l v (passes_by l v)
-logical_at sizes l v phase.LoadedLeaf = onward_at l (goes_on v)
+logical_at sizes l v phase.LoadedLeaf = onward_at l (goes_on sizes v)
 logical_at sizes l v phase.Settle = settle_at l v v.page v.new
 logical_at sizes l v phase.Loaded = passes l v.at.0 (Gives (gift v) ∷ []) (id.Desk, item.Request (ended phase.Reply (reply.Bytes v.bytes) v))
 logical_at sizes l v phase.Abort = abort_at l v v.page
@@ -312,13 +312,13 @@ journal_is sizes j v new made posts (JournalServes.enters is open_yet block room
 journal_is sizes j v new made posts (JournalServes.enters_first is open_yet block room idle n m q) = rw (n, m, q, open_yet, block, room, idle) refl
 
 abbrev commit_at : Sizes → JournalZone → SealedBlock → (vios filling : List Vio) → Result JournalZone
-commit_at sizes j b (v ∷ vs) filling = (committed_by v j, Commits (logged v) ∷ [], hands_out v ++ (id.Journal, item.Block (record b { vios = vs })) ∷ [])
+commit_at sizes j b (v ∷ vs) filling = (committed_by v j, Commits (logged v) ∷ [], hands_out sizes v ++ (id.Journal, item.Block (record b { vios = vs })) ∷ [])
 commit_at sizes j b [] [] = (record j { busy = false; waiting = [] }, [], all_again j.waiting)
 commit_at sizes j b [] (v ∷ vs) = (sealed_by j, Seals ∷ [], (id.Device, item.Block (next_block j stage.Cover (v ∷ vs))) ∷ all_again j.waiting)
 
 abbrev end_at : Sizes → JournalZone → SealedBlock → Stage → Result JournalZone
 end_at sizes j b stage.Commit = commit_at sizes j b b.vios j.filling
-end_at sizes j b stage.Fail = (record j { busy = false; broken = true; filling = []; waiting = [] }, [], all_dropped b.vios ++ (all_dropped j.filling ++ all_refused sizes reply.Stopped j.waiting))
+end_at sizes j b stage.Fail = (record j { busy = false; broken = true; filling = []; waiting = [] }, [], all_dropped sizes b.vios ++ (all_dropped sizes j.filling ++ all_refused sizes reply.Stopped j.waiting))
 end_at sizes j b other = (j, [], [])
 
 end_is : (sizes : Sizes) (j : JournalZone) (b : SealedBlock) (new : JournalZone) (made : Trace) (posts : List Post) → JournalEnds sizes j b new made posts
@@ -373,9 +373,9 @@ ready_is sizes d front made other (inl stops) = stopped_is sizes d front d.super
 ready_is sizes d front made other (inr durable) = durable_is sizes d front made other d.stopped d.superblock durable
 
 abbrev store_at : Sizes → DeviceZone → Vio → Bool → Trace → Behind
-store_at sizes d v true made = (d, (id.Physical 0, item.Request (ended phase.AbortClaim reply.Stopped v)) ∷ [])
+store_at sizes d v true made = (d, (counts_of sizes v, item.Request (ended phase.AbortClaim reply.Stopped v)) ∷ [])
 store_at sizes d v false (Calls call ∷ []) = (counted d, (id.Journal, item.Request (turned phase.Enter v)) ∷ [])
-store_at sizes d v false other = (halted d, (id.Physical 0, item.Request (ended phase.AbortClaim reply.Stopped v)) ∷ stop_notices (notified sizes))
+store_at sizes d v false other = (halted d, (counts_of sizes v, item.Request (ended phase.AbortClaim reply.Stopped v)) ∷ stop_notices (notified sizes))
 
 abbrev load_at : DeviceZone → Vio → Trace → Behind
 load_at d v (Calls (Read x bytes ok) ∷ []) = (counted d, (v.home, item.Request (record v { phase = phase.Loaded; bytes = bytes })) ∷ [])
@@ -462,7 +462,7 @@ physical_one : (sizes : Sizes) (p : PhysicalZone) (v : Vio) (new new' : Physical
 physical_one sizes p v new new' made made' posts posts' a b =
     let one = physical_is sizes p v new made posts a in
     let two = physical_is sizes p v new' made' posts' b in
-    same at.Physical new new' made made' posts posts' (physical_at p v v.phase one.0) one.2 (two.2 ∙ ap (physical_at p v v.phase) (one_answer p v v.phase two.0 one.0 two.1 one.1))
+    same at.Physical new new' made made' posts posts' (physical_at sizes p v v.phase one.0) one.2 (two.2 ∙ ap (physical_at sizes p v v.phase) (one_answer p v v.phase two.0 one.0 two.1 one.1))
 
 update_one : (sizes : Sizes) (p : PhysicalZone) (e : Remapping) (new new' : PhysicalZone) (made made' : Trace) (posts posts' : List Post)
     → PhysicalTakes sizes p e new made posts → PhysicalTakes sizes p e new' made' posts' → Same (at.Physical new) (at.Physical new') made made' posts posts'

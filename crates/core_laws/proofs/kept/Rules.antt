@@ -50,7 +50,10 @@ use Rattle.core_laws.proofs.desk.BeginLaws.{begins_some}
 use Rattle.core_laws.proofs.device.DeviceCalls.{request_served}
 use Rattle.core_laws.proofs.kept.LegalKept.{goes}
 use Rattle.core_laws.proofs.kept.ZoneKinds.{Keeps, desk_keeps, logical_keeps, physical_keeps, journal_keeps, device_keeps}
-use Rattle.core_laws.proofs.physical.PhysicalFacts.{of_zone, zone_below}
+use Rattle.core_laws.proofs.lists.CountedIn.{of_zone, zone_inside, zone_of_vio}
+use Rattle.core_laws.proofs.physical.PhysicalFacts.{zone_below}
+use Rattle.data_vio.specs.Vios.{counts_for, counts_of}
+use Rattle.data_vio.specs.Zones.{physical_zone_of}
 use Rattle.blk_base.specs.declared.place.Mapping.TheVariants.{Unmapped, Zero, At}
 
 -- a marked answer is that of a flush that returned
@@ -97,10 +100,10 @@ module _ (s : Session) (session : IsSession s) (t : Trace) (right : RightTrace s
       ]
 
   -- a logical zone: whoever looks asks for a block
-  goes_some : (v : Vio) → IsForBlock v.asks → (post : Post) × (goes_on v ≡ Some post)
+  goes_some : (v : Vio) → IsForBlock v.asks → (post : Post) × (goes_on s.sizes v ≡ Some post)
   goes_some v block = by v.asks block
     where
-      by : (q : Asks) → IsForBlock q → (post : Post) × (next_for v q ≡ Some post)
+      by : (q : Asks) → IsForBlock q → (post : Post) × (next_for s.sizes v q ≡ Some post)
       by Read block = (_, refl)
       by Write block = (_, refl)
       by Discard block = (_, refl)
@@ -188,12 +191,12 @@ module _ (s : Session) (session : IsSession s) (t : Trace) (right : RightTrace s
   ]
 
   -- an increment fits for which there is a claim, also where the block becomes that of a page before
-  module _ (p : PhysicalZone) (own : DataOk s t (physical_number s.sizes) (at.Physical p)) (x : Pbn) (is_data : IsDataBlock s.sizes.geometry x.0) where
+  module _ (n : ℕ) (p : PhysicalZone) (own : DataOk s t n (at.Physical p)) (x : Pbn) (is_data : IsDataBlock s.sizes.geometry x.0) (here : physical_zone_of s.sizes x ≡ p.counts.zone) where
     abbrev is_zone : IsZone p.counts
     is_zone = own.sound.is_zone
 
     mine : IsOfZone p.counts x
-    mine = of_zone own x is_data
+    mine = of_zone s p own.sound x is_data here
 
     is_claimed : 0 < claims_in x p.counts.slabs → IsClaimedIn p.counts x
     is_claimed some = (claimed_is p.counts x is_zone mine).1 some
@@ -340,29 +343,43 @@ module _ (s : Session) (session : IsSession s) (t : Trace) (right : RightTrace s
 
     -- a claim that an item has is counted
     abbrev AreCounted : Item → Type 0
-    AreCounted it = (p : PhysicalZone) → d ≡ at.Physical p → (x : Pbn) → 1 ≤ (claim_token x).item it → 0 < claims_in x p.counts.slabs
+    AreCounted it = (p : PhysicalZone) → d ≡ at.Physical p → (x : Pbn) → physical_zone_of s.sizes x ≡ p.counts.zone → 1 ≤ (claim_token x).item it → 0 < claims_in x p.counts.slabs
 
-    in_physical : (it : Item) → n ≡ physical_number s.sizes → ((p : PhysicalZone) → d ≡ at.Physical p → DataOk s t (physical_number s.sizes) (at.Physical p) → HasAct s.sizes (at.Physical p) (it ∷ [])) → Has it
-    in_physical it is rule =
-        let here = subst (λ (i : ℕ). DataOk s t i d) is own in
-        let kept = physical_keeps s t d here in
-        subst (λ (k : ZoneData). HasAct s.sizes k (it ∷ [])) (sym kept.is) (rule kept.it kept.is (subst (λ (k : ZoneData). DataOk s t (physical_number s.sizes) k) kept.is here))
+    in_physical : (it : Item) (zone : ℕ) → zone < s.sizes.physical → n ≡ physical_number s.sizes zone
+        → ((p : PhysicalZone) → d ≡ at.Physical p → p.counts.zone ≡ zone → DataOk s t n (at.Physical p) → HasAct s.sizes (at.Physical p) (it ∷ [])) → Has it
+    in_physical it zone below is rule =
+        let kept = physical_keeps s t zone below d (subst (λ (i : ℕ). DataOk s t i d) is own) in
+        let ok : DataOk s t n (at.Physical kept.it) = subst (λ (k : ZoneData). DataOk s t n k) kept.is own in
+        let same : kept.it.counts.zone ≡ zone = let number = ok.number_is in omega (arith, is, number) in
+        subst (λ (k : ZoneData). HasAct s.sizes k (it ∷ [])) (sym kept.is) (rule kept.it kept.is same ok)
+
+    -- a request at the zone that it asks, or that counts the block of its claim
+    asking : (v : Vio) → n ≡ zone_number s.sizes (counts_of s.sizes v) → ((p : PhysicalZone) → d ≡ at.Physical p → DataOk s t n (at.Physical p) → HasAct s.sizes (at.Physical p) (item.Request v ∷ [])) → Has (item.Request v)
+    asking v to rule =
+        let its = zone_of_vio s.sizes v session.zones.1 in
+        in_physical (item.Request v) its.0 its.1 (to ∙ ap (zone_number s.sizes) its.2) (λ p keeps same ok. rule p keeps ok)
+
+    claiming : (v : Vio) (x : Pbn) → v.claim ≡ Some x → n ≡ zone_number s.sizes (counts_of s.sizes v)
+        → ((p : PhysicalZone) → d ≡ at.Physical p → physical_zone_of s.sizes x ≡ p.counts.zone → DataOk s t n (at.Physical p) → HasAct s.sizes (at.Physical p) (item.Request v ∷ [])) → Has (item.Request v)
+    claiming v x claim to rule =
+        in_physical (item.Request v) (physical_zone_of s.sizes x) (zone_inside s.sizes x session.zones.1) (to ∙ ap (λ (o : Option Pbn). zone_number s.sizes (counts_for s.sizes v.place o)) claim)
+        (λ p keeps same ok. rule p keeps (sym same) ok)
 
     -- what the claim of a request is, in a phase that has one
-    counts_by : (v : Vio) → v.phase ≡ phase.Count → IsToBlock v.new → HasClaim s true v.claim v.new → AreCounted (item.Request v) → n ≡ physical_number s.sizes → Has (item.Request v)
+    counts_by : (v : Vio) → v.phase ≡ phase.Count → IsToBlock v.new → HasClaim s true v.claim v.new → AreCounted (item.Request v) → n ≡ zone_number s.sizes (counts_of s.sizes v) → Has (item.Request v)
     counts_by v is block claim held to =
         let x = block_at v.new block in
         let claimed : v.claim ≡ Some x.0 = claim.claim_is ∙ ap (claim_of true) x.1 in
         let is_data : IsDataBlock s.sizes.geometry x.0.0 = subst (OnBlock (λ y. IsDataBlock s.sizes.geometry y.0)) x.1 (claim.on_data refl) in
-        in_physical (item.Request v) to (λ p keeps here. counts_it p here x.0 is_data v is claimed (held p keeps x.0 (let one = claim_one v x.0 claimed in omega (arith, one))))
+        claiming v x.0 claimed to (λ p keeps here ok. counts_it n p ok x.0 is_data here v is claimed (held p keeps x.0 here (let one = claim_one v x.0 claimed in omega (arith, one))))
 
-    drops_by : (v : Vio) → v.phase ≡ phase.AbortClaim → HasClaim s true v.claim v.new → AreCounted (item.Request v) → n ≡ physical_number s.sizes → Has (item.Request v)
+    drops_by : (v : Vio) → v.phase ≡ phase.AbortClaim → HasClaim s true v.claim v.new → AreCounted (item.Request v) → n ≡ zone_number s.sizes (counts_of s.sizes v) → Has (item.Request v)
     drops_by v is claim held to = elim (option_cases v.claim) [
-      | inl none ↦ in_physical (item.Request v) to (λ p keeps here. (_, _, _, steps.takes (PhysicalServes.drops_none is none refl refl refl)))
+      | inl none ↦ asking v to (λ p keeps ok. (_, _, _, steps.takes (PhysicalServes.drops_none is none refl refl refl)))
       | inr (x, some) ↦
           let leads : v.new ≡ At x = leads_by v.new x (sym claim.claim_is ∙ some) in
           let is_data : IsDataBlock s.sizes.geometry x.0 = subst (OnBlock (λ y. IsDataBlock s.sizes.geometry y.0)) leads (claim.on_data refl) in
-          in_physical (item.Request v) to (λ p keeps here. drops_it p here x is_data v is some (held p keeps x (let one = claim_one v x some in omega (arith, one))))
+          claiming v x some to (λ p keeps here ok. drops_it n p ok x is_data here v is some (held p keeps x here (let one = claim_one v x some in omega (arith, one))))
     ]
       where
         leads_by : (m : Mapping) (x : Pbn) → claim_of true m ≡ Some x → m ≡ At x
@@ -381,15 +398,15 @@ module _ (s : Session) (session : IsSession s) (t : Trace) (right : RightTrace s
         → ((l : LogicalZone) → DataOk s t (logical_number (zone_of s.sizes.zones v.at.0)) (at.Logical l) → HasAct s.sizes (at.Logical l) (item.Request v ∷ [])) → Has (item.Request v)
     in_home v ok is rule =
         let zone = zone_of s.sizes.zones v.at.0 in
-        in_kind at.Logical (logical_number zone) (item.Request v) (is ∙ ap (zone_number s.sizes) ok.home) (logical_keeps s t zone (zone_below s.sizes.zones v.at.0 session.zones)) rule
+        in_kind at.Logical (logical_number zone) (item.Request v) (is ∙ ap (zone_number s.sizes) ok.home) (logical_keeps s t zone (zone_below s.sizes.zones v.at.0 session.zones.0)) rule
 
     -- a request, by its phase; one that waits is in no lane
-    by_phase : (v : Vio) (q : Phase) → v.phase ≡ q → v.page ≡ None → VioOk s t v → CarriesOwn s t v q → n ≡ zone_at s.sizes v.home q → HasClaim s (row q).claims v.claim v.new → AreCounted (item.Request v) → Has (item.Request v)
+    by_phase : (v : Vio) (q : Phase) → v.phase ≡ q → v.page ≡ None → VioOk s t v → CarriesOwn s t v q → n ≡ zone_at s.sizes v q → HasClaim s (row q).claims v.claim v.new → AreCounted (item.Request v) → Has (item.Request v)
     by_phase v phase.Arrive is bare ok carries to claim held = in_home v ok to (λ l here. arrives l v is)
     by_phase v phase.Look is bare ok carries to claim held = in_home v ok to (λ l here. looks l v is carries.0.is_placed.for_block (path_of l v ok carries.0.is_placed.for_block here))
     by_phase v phase.LoadLeaf is bare ok carries to claim held = in_device _ to (λ dev. loads_leaf dev v carries.2.at is carries.2.block_is carries.2.inside)
     by_phase v phase.LoadedLeaf is bare ok carries to claim held = in_home v ok to (λ l here. let goes = goes_some v carries.0.held.turn.is_placed.for_block in (_, _, _, steps.serves (LogicalServes.leafed goes.0 is goes.1 refl refl refl)))
-    by_phase v phase.Claim is bare ok carries to claim held = in_physical _ to (λ p keeps here. claims p v is)
+    by_phase v phase.Claim is bare ok carries to claim held = asking v to (λ p keeps ok. claims p v is)
     by_phase v phase.Store is bare ok carries to claim held = in_device _ to (λ dev. stores_by dev v v.new is refl carries.2 (claim.on_data refl))
     by_phase v phase.Enter is bare ok carries to claim held = in_journal _ to (λ j lists. enters j v is)
     by_phase v phase.Count is bare ok carries to claim held = counts_by v is carries.3 claim held to
@@ -398,28 +415,28 @@ module _ (s : Session) (session : IsSession s) (t : Trace) (right : RightTrace s
     by_phase v phase.Loaded is bare ok carries to claim held = in_home v ok to (λ l here. (_, _, _, steps.serves (LogicalServes.gives is refl refl refl)))
     by_phase v phase.AbortClaim is bare ok carries to claim held = drops_by v is claim held to
     by_phase v phase.Abort is bare ok carries to claim held = in_home v ok to (λ l here. (_, _, _, steps.serves (LogicalServes.aborts is bare refl refl refl)))
-    by_phase v phase.AbortEnteredClaim is bare ok carries to claim held = in_physical _ to (λ p keeps here. (_, _, _, steps.takes (PhysicalServes.spends is refl refl refl)))
+    by_phase v phase.AbortEnteredClaim is bare ok carries to claim held = asking v to (λ p keeps ok. (_, _, _, steps.takes (PhysicalServes.spends is refl refl refl)))
     by_phase v phase.AbortEntered is bare ok carries to claim held = in_home v ok to (λ l here. (_, _, _, steps.serves (LogicalServes.aborts_entered is bare refl refl refl)))
     by_phase v phase.Flush is bare ok carries to claim held = in_device _ to (λ dev. flushes dev v is)
     by_phase v phase.Reply is bare ok carries to claim held = in_desk _ to (λ desk. replies desk v v.answer refl is carries)
     by_phase v other is bare ok carries to claim held = absurd (omega (arith, to, there))
 
     -- one that makes a page
-    by_page : (v : Vio) (page : PageId) (q : Phase) → v.phase ≡ q → v.page ≡ Some page → VioOk s t v → CarriesPage s t v page q → n ≡ zone_at s.sizes v.home q → HasClaim s (row q).claims v.claim v.new → AreCounted (item.Request v)
+    by_page : (v : Vio) (page : PageId) (q : Phase) → v.phase ≡ q → v.page ≡ Some page → VioOk s t v → CarriesPage s t v page q → n ≡ zone_at s.sizes v q → HasClaim s (row q).claims v.claim v.new → AreCounted (item.Request v)
         → Has (item.Request v)
-    by_page v page phase.Claim is some ok carries to claim held = in_physical _ to (λ p keeps here. claims p v is)
+    by_page v page phase.Claim is some ok carries to claim held = asking v to (λ p keeps ok. claims p v is)
     by_page v page phase.Store is some ok carries to claim held = in_device _ to (λ dev. stores_by dev v v.new is refl carries.2 (claim.on_data refl))
     by_page v page phase.Enter is some ok carries to claim held = in_journal _ to (λ j lists. enters j v is)
     by_page v page phase.Count is some ok carries to claim held = counts_by v is carries.1 claim held to
     by_page v page phase.Settle is some ok carries to claim held = in_home v ok to (λ l here. links l v page is some ok carries here)
     by_page v page phase.AbortClaim is some ok carries to claim held = drops_by v is claim held to
     by_page v page phase.Abort is some ok carries to claim held = in_home v ok to (λ l here. (_, _, _, steps.serves (LogicalServes.unmakes page is some refl refl refl)))
-    by_page v page phase.AbortEnteredClaim is some ok carries to claim held = in_physical _ to (λ p keeps here. (_, _, _, steps.takes (PhysicalServes.spends is refl refl refl)))
+    by_page v page phase.AbortEnteredClaim is some ok carries to claim held = asking v to (λ p keeps ok. (_, _, _, steps.takes (PhysicalServes.spends is refl refl refl)))
     by_page v page phase.AbortEntered is some ok carries to claim held = in_home v ok to (λ l here. (_, _, _, steps.serves (LogicalServes.drops page is some refl refl refl)))
     by_page v page phase.Pending is some ok carries to claim held = absurd (omega (arith, to, there))
     by_page v page other is some ok carries to claim held = absurd carries
 
-    by_both : (v : Vio) (o : Option PageId) → v.page ≡ o → VioOk s t v → CarriesFor s t v v.phase o → n ≡ zone_at s.sizes v.home v.phase → ClaimOk s v → AreCounted (item.Request v) → Has (item.Request v)
+    by_both : (v : Vio) (o : Option PageId) → v.page ≡ o → VioOk s t v → CarriesFor s t v v.phase o → n ≡ zone_at s.sizes v v.phase → ClaimOk s v → AreCounted (item.Request v) → Has (item.Request v)
     by_both v None bare ok carries to claim held = by_phase v v.phase refl bare ok carries to claim held
     by_both v (Some page) some ok carries to claim held = by_page v page v.phase refl some ok carries to claim held
 
@@ -441,10 +458,12 @@ module _ (s : Session) (session : IsSession s) (t : Trace) (right : RightTrace s
 
     item_rule : (it : Item) → ItemOk s t n it → AreCounted it → Has it
     item_rule (item.Request v) ok held = by_both v v.page refl ok.0 ok.1 ok.2 ok.3 held
-    item_rule (item.Decrement e) ok held = in_physical (item.Decrement e) ok.1 (λ p keeps here. updates_it p here ok.0.block ok.0.is_data e ok.0.old_is)
+    item_rule (item.Decrement e) ok held =
+        let x = ok.0.block in
+        in_physical (item.Decrement e) (physical_zone_of s.sizes x) (zone_inside s.sizes x session.zones.1) ok.1 (λ p keeps same here. updates_it n p here x ok.0.is_data (sym same) e ok.0.old_is)
     item_rule (item.Report e) ok held =
         let zone = zone_of s.sizes.zones e.at.0 in
-        in_kind at.Logical (logical_number zone) (item.Report e) ok.1 (logical_keeps s t zone (zone_below s.sizes.zones e.at.0 session.zones)) (λ l here. hears l e)
+        in_kind at.Logical (logical_number zone) (item.Report e) ok.1 (logical_keeps s t zone (zone_below s.sizes.zones e.at.0 session.zones.0)) (λ l here. hears l e)
     item_rule (item.Damage damage) ok held = in_device (item.Damage damage) ok.1 (λ dev. (_, _, _, steps.halts (record { new_is = refl; made_is = refl; posts_are = refl })))
     item_rule (item.Block b) ok held = by_stage b b.stage refl ok.0.1 ok.1
     item_rule item.StopNotice ok held = by_kind d own ok.1
@@ -457,11 +476,11 @@ module _ (s : Session) (session : IsSession s) (core : Core) (legal : Legal s co
       (subst (λ (items : List Item). AllByRecursion (ItemOk s core.trace n) items) taken ok.inbox).0 held
     where
       -- its claim is counted in the zone that counts
-      held : (p : PhysicalZone) → z.keeps ≡ at.Physical p → (x : Pbn) → 1 ≤ (claim_token x).item front → 0 < claims_in x p.counts.slabs
-      held p keeps x some =
+      held : (p : PhysicalZone) → z.keeps ≡ at.Physical p → (x : Pbn) → physical_zone_of s.sizes x ≡ p.counts.zone → 1 ≤ (claim_token x).item front → 0 < claims_in x p.counts.slabs
+      held p keeps x home some =
           let here = total-get (weight (claim_token x)) core.zones n z had in
           let inbox = ap (total (claim_token x).item) taken in
-          held_counted_there s core legal x n z p had keeps (omega (arith, some, here, inbox))
+          held_counted_there s core legal x n z p had keeps home (omega (arith, some, here, inbox))
 
   pub has_begin : MayBegin s.sizes z.keeps → HasAct s.sizes z.keeps []
   has_begin may = by_kind z.keeps (legal.each n z had).own may

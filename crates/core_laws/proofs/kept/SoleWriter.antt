@@ -1,7 +1,7 @@
 -- Who has the claim on a block, and hands in its entry yet, is the only one who may write it: nobody maps it. This follows from the
 -- balances of its block and its claims, and from the count law.
 use Rattle.std.proofs.Common.{◌≡◌, ◌≢◌, Contains, inl, inr, ℕ, zero, suc, ◌+◌, ◌<◌, ◌≤◌, List, [], ◌∷◌, ◌++◌, Some, slice_get, refl, ap, sym, ◌∙◌, subst, arith, if◌then◌else◌, true, false, Bool}
-use Rattle.core_laws.proofs.Common.{DataOk, Each, Item, Logged, Makes, Mapping, NewPage, OnBlock, Pbn, PhysicalZone, RightTrace, Session, Token, Trace, Vio, Zone, ZoneData, durable, eqb_tells, given, journal_number, journaled, kept_by, mapping_by, new_of, of_vio, physical_number, remappings, same_Some, total, total-append, total-get, total_alone, weight}
+use Rattle.core_laws.proofs.Common.{DataOk, Each, Item, Logged, Makes, Mapping, NewPage, OnBlock, Pbn, PhysicalZone, RightTrace, Session, Token, Trace, Vio, Zone, ZoneData, durable, eqb_tells, given, journal_number, journaled, kept_by, mapping_by, new_of, of_vio, physical_number, remappings, total, total-append, total-get, total_alone, weight}
 use Rattle.blk_base.specs.declared.place.Mapping.TheVariants.{Unmapped, Zero, At}
 use Rattle.blk_base.specs.declared.place.PageId.{PageId}
 use Rattle.data_vio.specs.declared.items.Item.TheVariants as item
@@ -12,7 +12,10 @@ use Rattle.core_model.specs.Steps.{Core}
 use Rattle.core_model.specs.Tokens.{as_items, block_item, block_token, claim_token, claim_weight, is_entry, is_old, leads_to, none, owes, uses_at, entries_at, unowed_weight}
 use Rattle.core_model.specs.declared.zones.ZoneData.TheVariants as at
 use Rattle.core_laws.proofs.trace.DeskOfTrace.{durable_part}
-use Rattle.core_laws.proofs.kept.ZoneKinds.{Sits, journal_sits, physical_sits}
+use Rattle.core_laws.proofs.kept.ZoneKinds.{Sits, journal_sits, physical_sits, total_once}
+use Rattle.core_laws.proofs.lists.CountedIn.{zone_inside, zone_is}
+use Rattle.data_vio.specs.Zones.{physical_zone_of}
+use Rattle.zone_counts.proofs.BlockLaws.{foreign_is}
 use Rattle.zone_counts.specs.ByBlock.{claims_in, counter_in}
 
 -- sums of what is more, or the same, for each
@@ -83,34 +86,48 @@ module _ (s : Session) (core : Core) (legal : Legal s core) (x : Pbn) where
       let queued = items (as_items (kept_by z.keeps)) (claim_less x) in
       omega (arith, inbox, outboxes, queued)
 
-  -- the zone that counts, and the journal
-  pub physical : Sits s core.trace core.zones legal.each at.Physical (physical_number s.sizes)
-  physical = physical_sits s core.trace core.zones legal.each legal.count
+  -- the number of the zone that counts the block; any other has no counter of it and no claim on it
+  abbrev home : ℕ
+  home = physical_number s.sizes (physical_zone_of s.sizes x)
 
+  foreign : (n : ℕ) (p : PhysicalZone) → DataOk s core.trace n (at.Physical p) → (n ≡ home → ⊥) → (counter_in x p.counts.slabs ≡ 0) × (claims_in x p.counts.slabs ≡ 0)
+  foreign n p ok ne = foreign_is p.counts x ok.sound.is_zone (λ own. ne (ok.number_is ∙ ap (physical_number s.sizes) (sym (zone_is s p ok.sound x own))))
+
+  -- so claims are given at home alone
+  claims_elsewhere : (n : ℕ) (d : ZoneData) → DataOk s core.trace n d → (n ≡ home → ⊥) → (claim_token x).gave d ≡ 0
+  claims_elsewhere n (at.Physical p) ok ne = (foreign n p ok ne).1
+  claims_elsewhere n other ok ne = refl
+
+  -- a claim that somebody holds is counted by the zone of its block
+  pub held_counted_there : (n : ℕ) (z : Zone) (p : PhysicalZone) → slice_get core.zones n ≡ Some z → z.keeps ≡ at.Physical p → physical_zone_of s.sizes x ≡ p.counts.zone → 1 ≤ total (weight (claim_token x)) core.zones
+      → 0 < claims_in x p.counts.slabs
+  held_counted_there n z p had keeps here some =
+      let number : n ≡ home = (subst (λ (d : ZoneData). DataOk s core.trace n d) keeps (legal.each n z had).own).number_is ∙ ap (physical_number s.sizes) (sym here) in
+      let alone : total (given (claim_token x)) core.zones ≡ claims_in x p.counts.slabs =
+      total_alone (given (claim_token x)) core.zones n z had (λ j y there ne. claims_elsewhere j y.keeps (legal.each j y there).own (λ is. ne (is ∙ sym number))) ∙ ap (claim_token x).gave keeps
+      in
+      omega (arith, some, alone, legal.claims x)
+
+  -- one claim on a block is held at most
+  pub claim_once : total (weight (claim_token x)) core.zones ≤ 1
+  claim_once =
+      let once = total_once (given (claim_token x)) core.zones home (λ n z had. (one_at n z.keeps (legal.each n z had).own, claims_elsewhere n z.keeps (legal.each n z had).own)) in
+      omega (arith, once, legal.claims x)
+    where
+      at_most : (n : ℕ) → (0 < n → n ≡ 1) → n ≤ 1
+      at_most zero one = omega arith
+      at_most (suc n) one = omega (arith, one (omega arith))
+
+      one_at : (n : ℕ) (d : ZoneData) → DataOk s core.trace n d → (claim_token x).gave d ≤ 1
+      one_at n (at.Physical p) ok = at_most (claims_in x p.counts.slabs) (λ some. (ok.sound.first_claims x some).1)
+      one_at n other ok = omega arith
+
+  -- The zone that counts it, and the journal.
   journal : Sits s core.trace core.zones legal.each at.Journal (journal_number s.sizes)
   journal = journal_sits s core.trace core.zones legal.each legal.count
 
-  pub physical_ok : DataOk s core.trace (physical_number s.sizes) (at.Physical physical.it)
-  physical_ok = subst (λ d. DataOk s core.trace (physical_number s.sizes) d) physical.keeps (legal.each (physical_number s.sizes) physical.zone physical.had).own
-
   journal_ok : DataOk s core.trace (journal_number s.sizes) (at.Journal journal.it)
   journal_ok = subst (λ d. DataOk s core.trace (journal_number s.sizes) d) journal.keeps (legal.each (journal_number s.sizes) journal.zone journal.had).own
-
-  abbrev counter : ℕ
-  counter = counter_in x physical.it.counts.slabs
-
-  abbrev claims : ℕ
-  claims = claims_in x physical.it.counts.slabs
-
-  -- what one zone alone has
-  counts_alone : total (λ z. counts_of x z.keeps) core.zones ≡ counter + claims
-  counts_alone =
-      total_alone (λ z. counts_of x z.keeps) core.zones (physical_number s.sizes) physical.zone physical.had (λ n z had ne. elsewhere n z.keeps (legal.each n z had).own ne)
-      ∙ ap (counts_of x) physical.keeps
-    where
-      elsewhere : (n : ℕ) (d : ZoneData) → DataOk s core.trace n d → (n ≡ physical_number s.sizes → ⊥) → counts_of x d ≡ 0
-      elsewhere n (at.Physical p) ok ne = absurd (ne ok.number_is)
-      elsewhere n other ok ne = refl
 
   olds_alone : total (λ z. olds_of x z.keeps) core.zones ≡ total (is_old x) (remappings (durable core.trace))
   olds_alone =
@@ -128,69 +145,71 @@ module _ (s : Session) (core : Core) (legal : Legal s core) (x : Pbn) where
       let entered = ap (λ es. opened x + total (is_entry x) es) journal_ok.lists.entered_is in
       omega (arith, here, is, entered)
 
-  given_is : total (given (block_token opened x)) core.zones ≤ counter + claims + total (is_old x) (remappings (durable core.trace))
-  given_is =
-      let split = parts core.zones in
-      omega (arith, split, counts_alone, olds_alone)
-    where
-      at_zone : (d : ZoneData) → uses_at x d ≡ counts_of x d + olds_of x d
-      at_zone (at.Physical p) = omega arith
-      at_zone (at.Journal j) = omega arith
-      at_zone other = refl
+  module _ (some_zone : 1 ≤ s.sizes.physical) where
+    pub physical : Sits s core.trace core.zones legal.each at.Physical home
+    physical = physical_sits s core.trace core.zones legal.each legal.count (physical_zone_of s.sizes x) (zone_inside s.sizes x some_zone)
 
-      parts : (zones : List Zone) → total (given (block_token opened x)) zones ≡ total (λ z. counts_of x z.keeps) zones + total (λ z. olds_of x z.keeps) zones
-      parts [] = refl
-      parts (z ∷ zones) = omega (arith, at_zone z.keeps, parts zones)
+    pub physical_ok : DataOk s core.trace home (at.Physical physical.it)
+    physical_ok = subst (λ d. DataOk s core.trace home d) physical.keeps (legal.each home physical.zone physical.had).own
 
-  -- So claims whose entries aren't handed in, and what the entries map over the opened image, are no more than the counter, the
-  -- claims and what the committed entries map away.
-  pub left_over : total (weight (unowed_token x)) core.zones + (opened x + total (is_entry x) (journaled core.trace)) ≤ counter + claims + total (is_old x) (remappings (durable core.trace))
-  left_over =
-      let sum = total_both (weight (unowed_token x)) (λ z. entries_of opened x z.keeps) (weight (block_token opened x)) core.zones zone_less in
-      omega (arith, sum, entries_some, given_is, legal.blocks x)
+    pub physical_here : physical_zone_of s.sizes x ≡ physical.it.counts.zone
+    physical_here = let number = physical_ok.number_is in omega (arith, number)
 
-  -- what is given of claims the zone gave
-  given_claims : total (given (claim_token x)) core.zones ≡ claims
-  given_claims =
-      total_alone (given (claim_token x)) core.zones (physical_number s.sizes) physical.zone physical.had (λ n z had ne. elsewhere n z.keeps (legal.each n z had).own ne)
-      ∙ ap (claim_token x).gave physical.keeps
-    where
-      elsewhere : (n : ℕ) (d : ZoneData) → DataOk s core.trace n d → (n ≡ physical_number s.sizes → ⊥) → (claim_token x).gave d ≡ 0
-      elsewhere n (at.Physical p) ok ne = absurd (ne ok.number_is)
-      elsewhere n other ok ne = refl
+    abbrev counter : ℕ
+    counter = counter_in x physical.it.counts.slabs
 
-  -- a claim that somebody holds is counted
-  held_counted : 1 ≤ total (weight (claim_token x)) core.zones → 0 < claims_in x physical.it.counts.slabs
-  held_counted some = omega (arith, some, given_claims, legal.claims x)
+    abbrev claims : ℕ
+    claims = claims_in x physical.it.counts.slabs
 
-  -- by whatever zone counts, which is that one
-  pub held_counted_there : (n : ℕ) (z : Zone) (p : PhysicalZone) → slice_get core.zones n ≡ Some z → z.keeps ≡ at.Physical p → 1 ≤ total (weight (claim_token x)) core.zones → 0 < claims_in x p.counts.slabs
-  held_counted_there n z p had keeps some =
-      let number = (subst (λ (d : ZoneData). DataOk s core.trace n d) keeps (legal.each n z had).own).number_is in
-      let one_zone : z ≡ physical.zone = same_Some _ _ (sym had ∙ ap (slice_get core.zones) number ∙ physical.had) in
-      let same : at.Physical p ≡ at.Physical physical.it = sym keeps ∙ ap (λ (y : Zone). y.keeps) one_zone ∙ physical.keeps in
-      subst (λ (d : ZoneData). 0 < (claim_token x).gave d) (sym same) (held_counted some)
+    -- what one zone alone has
+    counts_alone : total (λ z. counts_of x z.keeps) core.zones ≡ counter + claims
+    counts_alone =
+        total_alone (λ z. counts_of x z.keeps) core.zones home physical.zone physical.had (λ n z had ne. elsewhere n z.keeps (legal.each n z had).own ne)
+        ∙ ap (counts_of x) physical.keeps
+      where
+        elsewhere : (n : ℕ) (d : ZoneData) → DataOk s core.trace n d → (n ≡ home → ⊥) → counts_of x d ≡ 0
+        elsewhere n (at.Physical p) ok ne = let none = foreign n p ok ne in omega (arith, none.0, none.1)
+        elsewhere n other ok ne = refl
 
-  -- one claim on a block is held at most
-  pub claim_once : total (weight (claim_token x)) core.zones ≤ 1
-  claim_once = let most = at_most claims (λ some. (physical_ok.sound.first_claims x some).1) in omega (arith, most, given_claims, legal.claims x)
-    where
-      at_most : (n : ℕ) → (0 < n → n ≡ 1) → n ≤ 1
-      at_most zero one = omega arith
-      at_most (suc n) one = omega (arith, one (omega arith))
+    -- what is given of claims the zone gave
+    given_claims : total (given (claim_token x)) core.zones ≡ claims
+    given_claims =
+        total_alone (given (claim_token x)) core.zones home physical.zone physical.had (λ n z had ne. claims_elsewhere n z.keeps (legal.each n z had).own ne)
+        ∙ ap (claim_token x).gave physical.keeps
 
-  -- no more claims are held than the zone has
-  claims_held : total (weight (unowed_token x)) core.zones ≤ claims
-  claims_held =
-      let less = total_more (weight (unowed_token x)) (weight (claim_token x)) core.zones zone_claims in
-      omega (arith, less, given_claims, legal.claims x)
+    given_is : total (given (block_token opened x)) core.zones ≤ counter + claims + total (is_old x) (remappings (durable core.trace))
+    given_is =
+        let split = parts core.zones in
+        omega (arith, split, counts_alone, olds_alone)
+      where
+        at_zone : (d : ZoneData) → uses_at x d ≡ counts_of x d + olds_of x d
+        at_zone (at.Physical p) = omega arith
+        at_zone (at.Journal j) = omega arith
+        at_zone other = refl
 
-  -- Where some is held, all entries and the opened image map no more to the block than the committed entries map away.
-  sole_writer : 1 ≤ total (weight (unowed_token x)) core.zones → opened x + total (is_entry x) (journaled core.trace) ≤ total (is_old x) (remappings (durable core.trace))
-  sole_writer some =
-      let held = claims_held in
-      let first = physical_ok.sound.first_claims x (omega (arith, some, held)) in
-      omega (arith, some, left_over, first.0, first.1)
+        parts : (zones : List Zone) → total (given (block_token opened x)) zones ≡ total (λ z. counts_of x z.keeps) zones + total (λ z. olds_of x z.keeps) zones
+        parts [] = refl
+        parts (z ∷ zones) = omega (arith, at_zone z.keeps, parts zones)
+
+    -- So claims whose entries aren't handed in, and what the entries map over the opened image, are no more than the counter, the
+    -- claims and what the committed entries map away.
+    pub left_over : total (weight (unowed_token x)) core.zones + (opened x + total (is_entry x) (journaled core.trace)) ≤ counter + claims + total (is_old x) (remappings (durable core.trace))
+    left_over =
+        let sum = total_both (weight (unowed_token x)) (λ z. entries_of opened x z.keeps) (weight (block_token opened x)) core.zones zone_less in
+        omega (arith, sum, entries_some, given_is, legal.blocks x)
+
+    -- no more claims are held than the zone has
+    claims_held : total (weight (unowed_token x)) core.zones ≤ claims
+    claims_held =
+        let less = total_more (weight (unowed_token x)) (weight (claim_token x)) core.zones zone_claims in
+        omega (arith, less, given_claims, legal.claims x)
+
+    -- Where some is held, all entries and the opened image map no more to the block than the committed entries map away.
+    sole_writer : 1 ≤ total (weight (unowed_token x)) core.zones → opened x + total (is_entry x) (journaled core.trace) ≤ total (is_old x) (remappings (durable core.trace))
+    sole_writer some =
+        let held = claims_held in
+        let first = physical_ok.sound.first_claims x (omega (arith, some, held)) in
+        omega (arith, some, left_over, first.0, first.1)
 
 -- The count law, for a block and entries over the opened image: as many mappings are added as go and as are left, and where none is
 -- left nobody maps the block.
@@ -230,6 +249,6 @@ none_left_unused s t x right law most =
     }
 
 -- Such is one on which there is a claim whose entry isn't handed in.
-pub holder_unused : (s : Session) (core : Core) (legal : Legal s core) (x : Pbn) → AreMapped s x (durable core.trace)
+pub holder_unused : (s : Session) (core : Core) (legal : Legal s core) (x : Pbn) → 1 ≤ s.sizes.physical → AreMapped s x (durable core.trace)
     → 1 ≤ total (weight (unowed_token x)) core.zones → IsUnused s core.trace x
-holder_unused s core legal x law some = none_left_unused s core.trace x legal.right law (sole_writer s core legal x some)
+holder_unused s core legal x some_zone law some = none_left_unused s core.trace x legal.right law (sole_writer s core legal x some_zone some)

@@ -8,7 +8,7 @@ use Rattle.vdo_model.specs.FlushMarks.{Moment, Desk, Device, IsMark}
 use Rattle.vdo_model.specs.declared.report.DeskLine.TheVariants.{Begin, Answer}
 use Rattle.blk_base.specs.declared.place.PageId.{PageId}
 use Rattle.image_model.specs.Pages.{is_page, leaf_of}
-use Rattle.core_model.specs.RightTraces.{HadNoFree, HearingMayFollow, IsLeafy, IsLinkedAt, IsReported}
+use Rattle.core_model.specs.RightTraces.{HadNoFree, HadNoFreeNear, HearingMayFollow, IsLeafy, IsLinkedAt, IsReported}
 use Rattle.core_model.specs.Trace.{added, removed, strayed}
 use Rattle.vdo_model.specs.declared.report.Damage.{Damage}
 use Rattle.core_model.specs.PageLinks.{IsThere, page_in}
@@ -264,6 +264,9 @@ journal_full_kept s other t full = full
 -- and that no data block was free at one moment
 pub no_free_kept : (s : Session) (h : Happening) (t : Trace) (w : Writer) → HadNoFree s t w → HadNoFree s (h ∷ t) w
 no_free_kept s h t w k = record { newer = h ∷ k.newer; older = k.older; moment = ap (λ (u : Trace). h ∷ u) k.moment; placed = k.placed; none_free = k.none_free }
+
+pub no_free_near_kept : (s : Session) (h : Happening) (t : Trace) (w : Writer) → HadNoFreeNear s t w → HadNoFreeNear s (h ∷ t) w
+no_free_near_kept s h t w k = record { several = k.several; newer = h ∷ k.newer; older = k.older; moment = ap (λ (u : Trace). h ∷ u) k.moment; placed = k.placed; place_is = k.place_is; none_free = k.none_free }
 
 -- what was counted is so from then on
 pub added_has : (h : Happening) (t : Trace) (e : Logged) → Contains (added t) e → Contains (added (h ∷ t)) e

@@ -9,11 +9,11 @@ use Rattle.core_model.specs.Legal.{Legal, ComesAfter}
 use Rattle.core_model.specs.Steps as steps
 use Rattle.core_model.specs.Steps.{Act, Core}
 use Rattle.core_model.specs.Streams.{counted}
-use Rattle.core_model.specs.Streams.{counted as updates_in}
-use Rattle.core_model.specs.CountUpdates.{CountUpdate, updates_of, updates_taken}
+use Rattle.core_model.specs.CountUpdates.{CountUpdate, updates_in, updates_of, updates_taken}
 use Rattle.core_model.specs.UpdateStream.{updating}
 use Rattle.core_model.specs.declared.zones.PhysicalZone.{PhysicalZone}
 use Rattle.core_laws.proofs.kept.Streams.{counted-append}
+use Rattle.core_laws.proofs.lists.CountedIn.{counted_part}
 use Rattle.core_laws.proofs.desk.DeskFacts.{desk_begins, desk_serves, desk_hears}
 use Rattle.core_laws.proofs.device.DeviceFacts.{device_serves}
 use Rattle.core_laws.proofs.device.DeviceFacts.{device_hears, device_works}
@@ -88,18 +88,22 @@ module _ (s : Session) (session : IsSession s) (core : Core) (legal : Legal s co
       omega (arith, taken, total-append f l.waiting (l.lacking ++ l.settling), total-append f l.lacking l.settling))
 
   -- updates come in the order of the committed entries
-  next_updates : (p : PhysicalZone) → z.keeps ≡ at.Physical p → (rest : List CountUpdate) × (updates_of (durable core.trace) ≡ updates_taken core.trace ++ (updates_in updating front ++ rest))
+  next_updates : (p : PhysicalZone) → z.keeps ≡ at.Physical p
+      → (more : List CountUpdate) × (updates_in s.sizes p.counts.zone (updates_of (durable core.trace)) ≡ updates_in s.sizes p.counts.zone (updates_taken core.trace) ++ (updates_in s.sizes p.counts.zone (counted updating front) ++ more))
   next_updates p keeps =
       let (lane, order) = updates_flow s core legal n z p had keeps in
-      let inbox = ap (updates_in updating) taken ∙ counted-append updating front rest in (
-        updates_in updating rest ++ updates_in updating lane,
-        order ∙ ap (λ (us : List CountUpdate). updates_taken core.trace ++ (us ++ updates_in updating lane)) inbox
-            ∙ ap (λ (us : List CountUpdate). updates_taken core.trace ++ us) (append_assoc (updates_in updating front) (updates_in updating rest) (updates_in updating lane)),
+      let here : List Item → List CountUpdate = counted (λ it. updates_in s.sizes p.counts.zone (updating it)) in
+      let before = updates_in s.sizes p.counts.zone (updates_taken core.trace) in
+      let inbox : here z.ports.inbox ≡ here front ++ here rest = ap here taken ∙ counted-append (λ it. updates_in s.sizes p.counts.zone (updating it)) front rest in (
+        here rest ++ here lane,
+        order ∙ ap (λ (us : List CountUpdate). before ++ (us ++ here lane)) inbox
+            ∙ ap (λ (us : List CountUpdate). before ++ us) (append_assoc (here front) (here rest) (here lane))
+            ∙ ap (λ (us : List CountUpdate). before ++ (us ++ (here rest ++ here lane))) (counted_part s.sizes p.counts.zone front),
       )
 
   -- so nobody maps a block on which what is in front, or what the zone keeps, has a claim
   unused : (x : Pbn) → 1 ≤ total (of_vio (unowed_weight x)) front + total (unowed_weight x) (kept_by z.keeps) → IsFair s core.trace → IsUnused s core.trace x
-  unused x some fair = holder_unused s core legal x (durable_mapped s core.trace x session legal.right fair) (omega (arith, some, here))
+  unused x some fair = holder_unused s core legal x session.zones.1 (durable_mapped s core.trace x session legal.right fair) (omega (arith, some, here))
     where
       here : total (of_vio (unowed_weight x)) front + total (unowed_weight x) (kept_by z.keeps) ≤ total (weight (unowed_token x)) core.zones
       here =

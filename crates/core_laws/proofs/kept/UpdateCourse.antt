@@ -27,9 +27,15 @@ use Rattle.blk_base.specs.declared.place.PageId.{PageId}
 use Rattle.core_laws.proofs.kept.Streams.{Keeps, items_to}
 use Rattle.core_laws.proofs.tokens.Posts.{goes_by}
 use Rattle.core_laws.proofs.tokens.Known.{IsIn, KeptIn}
-use Rattle.core_laws.proofs.Common.{KeptOk, Logged, Makes, Remaps, durable, eq-eqb, journal_number, logged, physical_number}
-use Rattle.core_model.specs.CountUpdates.{CountUpdate, Decrement, Increment, decrement_of, increment_of, updates_by, updates_of, updates_taken}
-use Rattle.core_model.specs.Facts.{CarriesFor, IsToBlock}
+use Rattle.core_laws.proofs.Common.{KeptOk, Logged, Makes, Remaps, cases_Bool, durable, eq-eqb, journal_number, logged, new_of, physical_number, zone_at}
+use Rattle.core_laws.proofs.kept.ActKept.{carries_at, claim_at}
+use Rattle.core_laws.proofs.kept.ZoneKinds.{physical_below}
+use Rattle.core_laws.proofs.lists.CountedIn.{AreElsewhere, counted_here, counted_part, none_in, number_counted, updates_both}
+use Rattle.core_model.specs.PageLinks.{block_in}
+use Rattle.data_vio.specs.Vios.{counts_for}
+use Rattle.data_vio.specs.Zones.{counts_in, physical_zone_of}
+use Rattle.core_model.specs.CountUpdates.{CountUpdate, Decrement, Increment, decrement_of, increment_of, is_counted_in, mapping_of, updates_by, updates_in, updates_of, updates_taken}
+use Rattle.core_model.specs.Facts.{CarriesFor, IsToBlock, claim_of}
 use Rattle.core_model.specs.UpdateStream.{counting, updates_at, updating}
 use Rattle.data_vio.specs.Vios.{logged_for}
 
@@ -46,8 +52,8 @@ past v p = ap (λ (q : Phase). counting q (logged v) ++ []) p
 
 -- the posts of each row that are lists
 
-goes_still : (v : Vio) (post : Post) → goes_on v ≡ Some post → Still post
-goes_still v post goes = goes_by Still v post goes (λ reads. read v.old) (λ writes zeros. refl) (λ writes others. refl) (λ discards. refl)
+goes_still : (sizes : Sizes) (v : Vio) (post : Post) → goes_on sizes v ≡ Some post → Still post
+goes_still sizes v post goes = goes_by Still sizes v post goes (λ reads. read v.old) (λ writes zeros. refl) (λ writes others. refl) (λ discards. refl)
   where
     read : (m : Mapping) → Still (read_next v m)
     read Unmapped = refl
@@ -74,9 +80,9 @@ after_still : (sizes : Sizes) (stopped : Bool) → AllByRecursion Still (notices
 after_still sizes true = tt
 after_still sizes false = notices_still (notified sizes)
 
-dropped_still : (vs : List Vio) → AllByRecursion Still (all_dropped vs)
-dropped_still [] = tt
-dropped_still (v ∷ vs) = (refl, dropped_still vs)
+dropped_still : (sizes : Sizes) (vs : List Vio) → AllByRecursion Still (all_dropped sizes vs)
+dropped_still sizes [] = tt
+dropped_still sizes (v ∷ vs) = (refl, dropped_still sizes vs)
 
 again_still : (vs : List Vio) → AllByRecursion (IsIn phase.Enter) vs → AllByRecursion Still (all_again vs)
 again_still [] h = tt
@@ -90,20 +96,29 @@ woken_still : (vs : List Vio) → AllByRecursion (IsIn phase.Reply) vs → AllBy
 woken_still [] h = tt
 woken_still (v ∷ vs) h = (arrives v phase.Reply h.0, woken_still vs h.1)
 
--- What posts count for at the zone of a number.
-silent : (sizes : Sizes) (n : ℕ) (p : Post) (ps : List Post) → Still p → counted updating (items_to sizes n (p ∷ ps)) ≡ counted updating (items_to sizes n ps)
-silent sizes n p ps none = by (nat_eq (zone_number sizes p.0) n)
-  where
-    by : (b : Bool) → counted updating (cond b (p.1 ∷ items_to sizes n ps) (items_to sizes n ps)) ≡ counted updating (items_to sizes n ps)
-    by true = ap (λ (us : List CountUpdate). us ++ counted updating (items_to sizes n ps)) none
-    by false = refl
+-- What posts count for at the zone of a number, of the updates of a physical zone.
+module _ (sizes : Sizes) (zone n : ℕ) where
+  abbrev own : List CountUpdate → List CountUpdate
+  own us = updates_in sizes zone us
 
-comes : (sizes : Sizes) (n : ℕ) (p : Post) (ps : List Post) → zone_number sizes p.0 ≡ n → counted updating (items_to sizes n (p ∷ ps)) ≡ updating p.1 ++ counted updating (items_to sizes n ps)
-comes sizes n p ps there = ap (λ (b : Bool). counted updating (cond b (p.1 ∷ items_to sizes n ps) (items_to sizes n ps))) (eq-eqb (zone_number sizes p.0) n there)
+  abbrev come_to : List Post → List CountUpdate
+  come_to ps = counted (λ it. updates_in sizes zone (updating it)) (items_to sizes n ps)
 
-still_counted : (sizes : Sizes) (n : ℕ) (ps : List Post) → AllByRecursion Still ps → counted updating (items_to sizes n ps) ≡ []
-still_counted sizes n [] h = refl
-still_counted sizes n (p ∷ ps) h = silent sizes n p ps h.0 ∙ still_counted sizes n ps h.1
+  silent : (p : Post) (ps : List Post) → own (updating p.1) ≡ [] → come_to (p ∷ ps) ≡ come_to ps
+  silent p ps none = by (nat_eq (zone_number sizes p.0) n)
+    where
+      by : (b : Bool) → counted (λ it. updates_in sizes zone (updating it)) (cond b (p.1 ∷ items_to sizes n ps) (items_to sizes n ps)) ≡ come_to ps
+      by true = ap (λ (us : List CountUpdate). us ++ come_to ps) none
+      by false = refl
+
+  -- one that is for the zone of the number, or counts for nothing there
+  comes : (p : Post) (ps : List Post) → (zone_number sizes p.0 ≡ n) ⊎ (own (updating p.1) ≡ []) → come_to (p ∷ ps) ≡ own (updating p.1) ++ come_to ps
+  comes p ps (inl there) = ap (λ (b : Bool). counted (λ it. updates_in sizes zone (updating it)) (cond b (p.1 ∷ items_to sizes n ps) (items_to sizes n ps))) (eq-eqb (zone_number sizes p.0) n there)
+  comes p ps (inr none) = silent p ps none ∙ ap (λ (us : List CountUpdate). us ++ come_to ps) (sym none)
+
+  still_counted : (ps : List Post) → AllByRecursion Still ps → come_to ps ≡ []
+  still_counted [] h = refl
+  still_counted (p ∷ ps) h = silent p ps (ap (λ (us : List CountUpdate). own us) h.0) ∙ still_counted ps h.1
 
 -- A committed entry sends its updates to the physical zone, its increment first.
 abbrev increment : Logged → Mapping → List CountUpdate
@@ -142,38 +157,92 @@ entry_updates v (Some page) (At x) k some to from fresh =
 entry_updates v (Some page) Unmapped k some to from fresh = absurd (fresh page refl)
 entry_updates v (Some page) Zero k some to from fresh = absurd (fresh page refl)
 
-hands_counted : (sizes : Sizes) (v : Vio) (m : Mapping) (ps : List Post) → counted updating (items_to sizes (physical_number sizes) (journal.hands_to v m ∷ ps)) ≡ increment (logged v) m ++ counted updating (items_to sizes (physical_number sizes) ps)
-hands_counted sizes v (At x) ps = comes sizes (physical_number sizes) (journal.hands_to v (At x)) ps refl
-hands_counted sizes v Unmapped ps = silent sizes (physical_number sizes) (journal.hands_to v Unmapped) ps refl
-hands_counted sizes v Zero ps = silent sizes (physical_number sizes) (journal.hands_to v Zero) ps refl
+-- the entry of a request that has a block leads to it
+leads_new : (v : Vio) (o : Option PageId) (m : Mapping) → v.page ≡ o → v.new ≡ m → ((page : PageId) → o ≡ Some page → IsToBlock m) → new_of (logged v) ≡ m
+leads_new v None m bare to fresh = ap (λ (o : Option PageId). new_of (logged_for v o v.new)) bare ∙ to
+leads_new v (Some page) (At x) some to fresh = ap (λ (o : Option PageId). new_of (logged_for v o v.new)) some ∙ ap (λ (m : Mapping). new_of (logged_for v (Some page) m)) to
+leads_new v (Some page) Unmapped some to fresh = absurd (fresh page refl)
+leads_new v (Some page) Zero some to fresh = absurd (fresh page refl)
 
-decrement_counted : (sizes : Sizes) (o : Option PageId) (e : Remapping) (k : Mapping) (ps : List Post)
-    → counted updating (items_to sizes (physical_number sizes) (journal.decrement_for o e k ++ ps)) ≡ decrement o e k ++ counted updating (items_to sizes (physical_number sizes) ps)
-decrement_counted sizes None e (At x) ps = comes sizes (physical_number sizes) (id.Physical 0, item.Decrement e) ps refl
-decrement_counted sizes None e Unmapped ps = refl
-decrement_counted sizes None e Zero ps = refl
-decrement_counted sizes (Some page) e (At x) ps = refl
-decrement_counted sizes (Some page) e Unmapped ps = refl
-decrement_counted sizes (Some page) e Zero ps = refl
+-- what is sent for a block goes to the zone that counts it
+sent_home : (sizes : Sizes) (zone : ℕ) (x : Pbn) (u : CountUpdate) → mapping_of u ≡ At x → (zone_number sizes (counts_in sizes x) ≡ physical_number sizes zone) ⊎ (updates_in sizes zone (u ∷ []) ≡ [])
+sent_home sizes zone x u is = elim (eqb_tells (physical_zone_of sizes x) zone) [
+  | inl same ↦ inl (ap (physical_number sizes) same.1)
+  | inr other ↦ inr (let out : is_counted_in sizes zone (mapping_of u) ≡ false = ap (is_counted_in sizes zone) is ∙ other.0 in rw out refl)
+]
 
--- What an act does with the updates: the journal alone sends them, and the physical zone takes them.
+module _ (sizes : Sizes) (zone : ℕ) where
+  abbrev to_zone : List Post → List CountUpdate
+  to_zone ps = come_to sizes zone (physical_number sizes zone) ps
+
+  hands_counted : (v : Vio) (m : Mapping) (ps : List Post) → v.new ≡ m → v.claim ≡ block_in m → new_of (logged v) ≡ m
+      → to_zone (journal.hands_to sizes v m ∷ ps) ≡ updates_in sizes zone (increment (logged v) m) ++ to_zone ps
+  hands_counted v (At x) ps is claim leads =
+      comes sizes zone (physical_number sizes zone) (journal.hands_to sizes v (At x)) ps
+      (elim (sent_home sizes zone x (Increment (logged v)) leads) [
+        | inl there ↦ inl (ap (λ (o : Option Pbn). zone_number sizes (counts_for sizes v.place o)) claim ∙ there)
+        | inr none ↦ inr none
+      ])
+  hands_counted v Unmapped ps is claim leads = silent sizes zone (physical_number sizes zone) (journal.hands_to sizes v Unmapped) ps refl
+  hands_counted v Zero ps is claim leads = silent sizes zone (physical_number sizes zone) (journal.hands_to sizes v Zero) ps refl
+
+  decrement_counted : (o : Option PageId) (e : Remapping) (k : Mapping) (ps : List Post) → e.old ≡ k
+      → to_zone (journal.decrement_for sizes o e k ++ ps) ≡ updates_in sizes zone (decrement o e k) ++ to_zone ps
+  decrement_counted None e (At x) ps is = comes sizes zone (physical_number sizes zone) (counts_in sizes x, item.Decrement e) ps (sent_home sizes zone x (Decrement e) is)
+  decrement_counted None e Unmapped ps is = refl
+  decrement_counted None e Zero ps is = refl
+  decrement_counted (Some page) e (At x) ps is = refl
+  decrement_counted (Some page) e Unmapped ps is = refl
+  decrement_counted (Some page) e Zero ps is = refl
+
+-- updates that are all counted in a zone, and so in no other
+abbrev AreOf : Session → ℕ → List CountUpdate → Type 0
+AreOf s zone us = AllByRecursion (λ (u : CountUpdate). is_counted_in s.sizes zone (mapping_of u) ≡ true) us
+
+none_elsewhere : (s : Session) (zone other : ℕ) (us : List CountUpdate) → AreOf s zone us → (zone ≡ other → ⊥) → AreElsewhere s.sizes other us
+none_elsewhere s zone other [] all ne = tt
+none_elsewhere s zone other (u ∷ us) all ne = (one (mapping_of u) all.0, none_elsewhere s zone other us all.1 ne)
+  where
+    one : (m : Mapping) → is_counted_in s.sizes zone m ≡ true → is_counted_in s.sizes other m ≡ false
+    one m here = elim (cases_Bool (is_counted_in s.sizes other m)) [
+      | inl there ↦
+          let mine = number_counted s.sizes zone m here in
+          let hers = number_counted s.sizes other m there in
+          absurd (ne (omega (arith, mine, hers)))
+      | inr out ↦ out
+    ]
+
+-- What an act does with the updates: the journal alone sends them, and a physical zone takes its own.
 pub data Course (s : Session) (t : Trace) (old : ZoneData) (front : List Item) (made : Trace) (posts : List Post) : Type 0 where
   still : counted updating front ≡ [] → AllByRecursion Still posts → updates_taken (made ++ t) ≡ updates_taken t → updates_of (durable (made ++ t)) ≡ updates_of (durable t)
       → Course s t old front made posts
   takes : (p : PhysicalZone) → old ≡ at.Physical p → AllByRecursion Still posts → updates_taken (made ++ t) ≡ updates_taken t ++ counted updating front → updates_of (durable (made ++ t)) ≡ updates_of (durable t)
       → Course s t old front made posts
   sends : (j : JournalZone) → old ≡ at.Journal j → updates_taken (made ++ t) ≡ updates_taken t
-      → updates_of (durable (made ++ t)) ≡ updates_of (durable t) ++ counted updating (items_to s.sizes (physical_number s.sizes) posts)
+      → ((zone : ℕ) → updates_in s.sizes zone (updates_of (durable (made ++ t))) ≡ updates_in s.sizes zone (updates_of (durable t)) ++ to_zone s.sizes zone posts)
       → Course s t old front made posts
 
 module _ (s : Session) (t : Trace) where
+  -- what a committed entry sends to a zone is what of its updates is counted there
+  both_sent : (zone : ℕ) (v : Vio) (b : SealedBlock) → v.claim ≡ block_in v.new → new_of (logged v) ≡ v.new
+      → updates_in s.sizes zone (increment (logged v) v.new ++ decrement v.page (remapping v) v.old) ≡ to_zone s.sizes zone (journal.hands_out s.sizes v ++ (id.Journal, item.Block b) ∷ [])
+  both_sent zone v b claim leads =
+      let behind : List Post = (id.Journal, item.Block b) ∷ [] in
+      let first = hands_counted s.sizes zone v v.new (journal.decrement_for s.sizes v.page (remapping v) v.old ++ behind) refl claim leads in
+      let second = decrement_counted s.sizes zone v.page (remapping v) v.old behind refl in
+      let none : to_zone s.sizes zone behind ≡ [] = silent s.sizes zone (physical_number s.sizes zone) (id.Journal, item.Block b) [] refl in
+      let added = updates_in s.sizes zone (increment (logged v) v.new) in
+      let taken = updates_in s.sizes zone (decrement v.page (remapping v) v.old) in
+      updates_both s.sizes zone (increment (logged v) v.new) (decrement v.page (remapping v) v.old)
+      ∙ sym (first ∙ ap (λ (us : List CountUpdate). added ++ us) (second ∙ ap (λ (us : List CountUpdate). taken ++ us) none ∙ append-nil taken))
+
   logical_course : (old : LogicalZone) (v : Vio) (new : LogicalZone) (made : Trace) (posts : List Post) → KeptIn (at.Logical old) → LogicalServes s.sizes old v new made posts → Course s t (at.Logical old) (item.Request v ∷ []) made posts
   logical_course old v new made posts kept (logical.arrives_retired p d n m q) = still (past v p) (rw q (refl, tt)) (rw m refl) (rw m refl)
   logical_course old v new made posts kept (logical.arrives_free p d f n m q) = still (past v p) (rw q (refl, tt)) (rw m refl) (rw m refl)
   logical_course old v new made posts kept (logical.arrives_held p d f n m q) = still (past v p) (rw q tt) (rw m refl) (rw m refl)
-  logical_course old v new made posts kept (logical.looks mapping post p path stays leaf knows goes n m q) = still (past v p) (rw q (goes_still (looked old mapping v) post goes, tt)) (rw m refl) (rw m refl)
+  logical_course old v new made posts kept (logical.looks mapping post p path stays leaf knows goes n m q) = still (past v p) (rw q (goes_still s.sizes (looked old mapping v) post goes, tt)) (rw m refl) (rw m refl)
   logical_course old v new made posts kept (logical.needs_leaf x p path stays leaf unknown there n m q) = still (past v p) (rw q (refl, tt)) (rw m refl) (rw m refl)
-  logical_course old v new made posts kept (logical.leafed post p goes n m q) = still (past v p) (rw q (goes_still v post goes, tt)) (rw m refl) (rw m refl)
+  logical_course old v new made posts kept (logical.leafed post p goes n m q) = still (past v p) (rw q (goes_still s.sizes v post goes, tt)) (rw m refl) (rw m refl)
   logical_course old v new made posts kept (logical.passes p path passes n m q) = still (past v p) (rw q (refl, passes_still (first_for v.at.0 old.waiting))) (rw m refl) (rw m refl)
   logical_course old v new made posts kept (logical.settles p bare none n m q) = still (past v p) (rw q (refl, passes_still (first_for v.at.0 old.waiting))) (rw m refl) (rw m refl)
   logical_course old v new made posts kept (logical.awaits p bare some n m q) = still (past v p) (rw q tt) (rw m refl) (rw m refl)
@@ -223,16 +292,18 @@ module _ (s : Session) (t : Trace) where
   end_course old b new made posts kept vios (journal.commits v vs c f d n m q) =
       let here : KeptOk s t phase.Pending v = (subst (λ (us : List Vio). AllByRecursion (KeptOk s t phase.Pending) us) f vios).0 in
       let fresh : (page : PageId) → v.page ≡ Some page → IsToBlock v.new = λ page some. (subst (CarriesFor s t v phase.Pending) some (subst (λ (p : Phase). Carries s t v p) here.2 here.1)).1 in
-      let behind : List Post = (id.Journal, item.Block (record b { vios = vs })) ∷ [] in
-      let phys = physical_number s.sizes in
-      let posted = hands_counted s.sizes v v.new (journal.decrement_for v.page (remapping v) v.old ++ behind)
-      ∙ ap (λ (us : List CountUpdate). increment (logged v) v.new ++ us) (decrement_counted s.sizes v.page (remapping v) v.old behind ∙ ap (λ (us : List CountUpdate). decrement v.page (remapping v) v.old ++ us) (silent s.sizes phys (id.Journal, item.Block (record b { vios = vs })) [] refl) ∙ append-nil (decrement v.page (remapping v) v.old)) in
-      sends old refl (rw m refl) (rw (m, q) (ap (λ (us : List CountUpdate). updates_of (durable t) ++ us) (entry_updates v v.page v.new v.old refl refl refl fresh ∙ sym posted)))
+      let entry = entry_updates v v.page v.new v.old refl refl refl fresh in
+      let claim : v.claim ≡ block_in v.new = (claim_at s v phase.Pending here.2 here.3).claim_is in
+      sends old refl (rw m refl) (λ zone. rw (m, q) (
+      ap (λ (us : List CountUpdate). updates_in s.sizes zone (updates_of (durable t) ++ us)) entry
+      ∙ updates_both s.sizes zone (updates_of (durable t)) (increment (logged v) v.new ++ decrement v.page (remapping v) v.old)
+      ∙ ap (λ (us : List CountUpdate). updates_in s.sizes zone (updates_of (durable t)) ++ us) (both_sent zone v (record b { vios = vs }) claim (leads_new v v.page v.new refl refl fresh))
+      ))
   end_course old b new made posts kept vios (journal.seals v vs c f g d n m q) = still refl (rw q (refl, again_still old.waiting kept.1)) (rw m refl) (rw m refl)
   end_course old b new made posts kept vios (journal.rests c f g n m q) = still refl (rw q (again_still old.waiting kept.1)) (rw m refl) (rw m refl)
   end_course old b new made posts kept vios (journal.fails c n m q) =
-      still refl (rw q (every-append Still (all_dropped b.vios) (all_dropped old.filling ++ all_refused s.sizes _ old.waiting) (dropped_still b.vios)
-      (every-append Still (all_dropped old.filling) (all_refused s.sizes _ old.waiting) (dropped_still old.filling) (refused_still s.sizes _ old.waiting)))) (rw m refl) (rw m refl)
+      still refl (rw q (every-append Still (all_dropped s.sizes b.vios) (all_dropped s.sizes old.filling ++ all_refused s.sizes _ old.waiting) (dropped_still s.sizes b.vios)
+      (every-append Still (all_dropped s.sizes old.filling) (all_refused s.sizes _ old.waiting) (dropped_still s.sizes old.filling) (refused_still s.sizes _ old.waiting)))) (rw m refl) (rw m refl)
 
   -- what waits for the superblock is none that has yet to draw its place
   at_device : (v : Vio) (q : Phase) → (row q).zone ≡ AtDevice → counting q (logged v) ≡ []
@@ -302,31 +373,67 @@ module _ (s : Session) (t : Trace) where
   course n old front new made posts (steps.calls act) fronts kept = device_course s t _ _ _ _ _ act
   course n old front new made posts (steps.works act) fronts kept = work_course s t _ _ _ _ _ act
 
--- What each act owes of the updates.
-pub updates_kept : (s : Session) (t : Trace) (n : ℕ) (old : ZoneData) (front : List Item) (made : Trace) (posts : List Post) → DataOk s t n old → Course s t old front made posts
-    → Keeps (updates_at s) s.sizes n t front made posts
-updates_kept s t n old front made posts ok (still f q p sent) = record {
-  sends = λ is. sent ∙ sym (ap (λ (us : List CountUpdate). updates_of (durable t) ++ us) (still_counted s.sizes (physical_number s.sizes) posts q) ∙ append-nil (updates_of (durable t)));
-  sent_same = λ ne. sent;
-  nothing = λ ne. still_counted s.sizes (physical_number s.sizes) posts q;
-  takes = λ is. p ∙ sym (ap (λ (us : List CountUpdate). updates_taken t ++ us) f ∙ append-nil (updates_taken t));
-  taken_same = λ ne. p;
+-- what is in front of a physical zone counts for updates of its own alone
+module _ (s : Session) (t : Trace) (n zone : ℕ) (number : n ≡ physical_number s.sizes zone) where
+  of_block : (x : Pbn) → n ≡ zone_number s.sizes (counts_in s.sizes x) → (m : Mapping) → m ≡ At x → is_counted_in s.sizes zone m ≡ true
+  of_block x to m is = ap (is_counted_in s.sizes zone) is ∙ counted_here s.sizes zone x (omega (arith, number, to))
+
+  own_item : (it : Item) → ItemOk s t n it → AreOf s zone (updating it)
+  own_item (item.Request v) ok = by v.phase refl
+    where
+      to_block : (o : Option PageId) (m : Mapping) → v.new ≡ m → CarriesFor s t v phase.Count o → IsToBlock m
+      to_block None m to has = subst IsToBlock to has.3
+      to_block (Some page) m to has = subst IsToBlock to has.1
+
+      counts : (m : Mapping) → v.new ≡ m → IsToBlock m → v.phase ≡ phase.Count → is_counted_in s.sizes zone (new_of (logged v)) ≡ true
+      counts (At x) to block is =
+          let claim : v.claim ≡ Some x = (claim_at s v phase.Count is ok.3).claim_is ∙ ap (claim_of true) to in
+          let there : n ≡ zone_number s.sizes (counts_in s.sizes x) = ok.2 ∙ ap (λ (q : Phase). zone_at s.sizes v q) is ∙ ap (λ (o : Option Pbn). zone_number s.sizes (counts_for s.sizes v.place o)) claim in
+          of_block x there (new_of (logged v)) (leads_new v v.page (At x) refl to (λ page some. tt))
+      counts Unmapped to block is = absurd block
+      counts Zero to block is = absurd block
+
+      by : (q : Phase) → v.phase ≡ q → AreOf s zone (counting q (logged v))
+      by phase.Count is = (counts v.new refl (to_block v.page v.new refl (carries_at s t v phase.Count is ok.1)) is, tt)
+      by other is = tt
+  own_item (item.Decrement e) ok = (of_block ok.0.block ok.1 e.old ok.0.old_is, tt)
+  own_item other ok = tt
+
+  own_items : (items : List Item) → AllByRecursion (ItemOk s t n) items → AreOf s zone (counted updating items)
+  own_items [] all = tt
+  own_items (it ∷ items) all = every-append (λ (u : CountUpdate). is_counted_in s.sizes zone (mapping_of u) ≡ true) (updating it) (counted updating items) (own_item it all.0) (own_items items all.1)
+
+-- of updates those of a zone
+abbrev in_zone : Session → ℕ → List CountUpdate → List CountUpdate
+in_zone s zone us = updates_in s.sizes zone us
+
+-- What each act owes of the updates of a physical zone.
+pub updates_kept : (s : Session) (zone : ℕ) → zone < s.sizes.physical → (t : Trace) (n : ℕ) (old : ZoneData) (front : List Item) (made : Trace) (posts : List Post) → DataOk s t n old → AllByRecursion (ItemOk s t n) front → Course s t old front made posts
+    → Keeps (updates_at s zone) s.sizes n t front made posts
+updates_kept s zone below t n old front made posts ok fronts (still f q p sent) = record {
+  sends = λ is. ap (in_zone s zone) sent ∙ sym (ap (λ (us : List CountUpdate). in_zone s zone (updates_of (durable t)) ++ us) (still_counted s.sizes zone (physical_number s.sizes zone) posts q) ∙ append-nil (in_zone s zone (updates_of (durable t))));
+  sent_same = λ ne. ap (in_zone s zone) sent;
+  nothing = λ ne. still_counted s.sizes zone (physical_number s.sizes zone) posts q;
+  takes = λ is. ap (in_zone s zone) p ∙ sym (ap (λ (us : List CountUpdate). in_zone s zone (updates_taken t) ++ us) (counted_part s.sizes zone front ∙ ap (in_zone s zone) f) ∙ append-nil (in_zone s zone (updates_taken t)));
+  taken_same = λ ne. ap (in_zone s zone) p;
 }
-updates_kept s t n old front made posts ok (takes d is q p sent) =
-    let number : n ≡ physical_number s.sizes = (subst (λ (d : ZoneData). DataOk s t n d) is ok).number_is in
+updates_kept s zone below t n old front made posts ok fronts (takes d is q p sent) =
+    let number : n ≡ physical_number s.sizes d.counts.zone = (subst (λ (d : ZoneData). DataOk s t n d) is ok).number_is in
     record {
-      sends = λ from. absurd (omega (arith, from, number));
-      sent_same = λ ne. sent;
-      nothing = λ ne. still_counted s.sizes (physical_number s.sizes) posts q;
-      takes = λ to. p;
-      taken_same = λ ne. absurd (ne number);
+      sends = λ from. absurd (let inside = physical_below s t n d (subst (λ (d : ZoneData). DataOk s t n d) is ok) in omega (arith, from, number, inside));
+      sent_same = λ ne. ap (in_zone s zone) sent;
+      nothing = λ ne. still_counted s.sizes zone (physical_number s.sizes zone) posts q;
+      takes = λ to. ap (in_zone s zone) p ∙ updates_both s.sizes zone (updates_taken t) (counted updating front) ∙ ap (λ (us : List CountUpdate). in_zone s zone (updates_taken t) ++ us) (sym (counted_part s.sizes zone front));
+      taken_same = λ ne.
+          let out = none_in s.sizes zone (counted updating front) (none_elsewhere s d.counts.zone zone (counted updating front) (own_items s t n d.counts.zone number front fronts) (λ same. ne (number ∙ ap (physical_number s.sizes) same))) in
+          ap (in_zone s zone) p ∙ updates_both s.sizes zone (updates_taken t) (counted updating front) ∙ ap (λ (us : List CountUpdate). in_zone s zone (updates_taken t) ++ us) out ∙ append-nil (in_zone s zone (updates_taken t));
     }
-updates_kept s t n old front made posts ok (sends j is p sent) =
+updates_kept s zone below t n old front made posts ok fronts (sends j is p sent) =
     let number : n ≡ journal_number s.sizes = (subst (λ (d : ZoneData). DataOk s t n d) is ok).number_is in
     record {
-      sends = λ from. sent;
+      sends = λ from. sent zone;
       sent_same = λ ne. absurd (ne number);
       nothing = λ ne. absurd (ne number);
-      takes = λ to. absurd (omega (arith, to, number));
-      taken_same = λ ne. p;
+      takes = λ to. absurd (omega (arith, to, number, below));
+      taken_same = λ ne. ap (λ (us : List CountUpdate). updates_in s.sizes zone us) p;
     }

@@ -1,6 +1,6 @@
 -- Each number has its kind of zone, and what is given out once is given out by one zone.
 use Rattle.std.proofs.Common.{◌≡◌, ℕ, zero, suc, ◌<◌, ◌≤◌, List, [], ◌∷◌, length, Some, slice_get, refl, arith}
-use Rattle.core_laws.proofs.Common.{DataOk, Each, Session, Trace, Zone, ZoneData, ZoneOk, desk_number, device_number, given, journal_token, journal_number, logical_number, notified_by, one_journal, physical_number, total, total_zero, zone_count}
+use Rattle.core_laws.proofs.Common.{DataOk, Each, Session, Trace, Zone, ZoneData, ZoneOk, desk_number, device_number, given, journal_token, journal_number, logical_number, notified_by, one_journal, PhysicalZone, physical_number, total, total_zero, zone_count}
 use Rattle.core_model.specs.declared.zones.ZoneData.TheVariants as at
 
 -- what stands at a number below the length
@@ -39,19 +39,25 @@ module _ (s : Session) (t : Trace) where
   logical_keeps zone below (at.Logical l) ok = record { it = l; is = refl }
   logical_keeps zone below other ok = absurd (omega (arith, ok.number_is, below))
 
-  pub physical_keeps : (d : ZoneData) → DataOk s t (physical_number s.sizes) d → Keeps at.Physical d
-  physical_keeps (at.Physical p) ok = record { it = p; is = refl }
-  physical_keeps (at.Logical l) ok = absurd (omega (arith, ok.number_is, ok.sound.among))
-  physical_keeps other ok = absurd (omega (arith, ok.number_is))
+  -- a physical zone is one of them
+  pub physical_below : (n : ℕ) (p : PhysicalZone) → DataOk s t n (at.Physical p) → p.counts.zone < s.sizes.physical
+  physical_below n p ok = omega (arith, ok.sound.is_zone.slabs.number, ok.sound.zones)
+
+  pub physical_keeps : (zone : ℕ) → zone < s.sizes.physical → (d : ZoneData) → DataOk s t (physical_number s.sizes zone) d → Keeps at.Physical d
+  physical_keeps zone below (at.Physical p) ok = record { it = p; is = refl }
+  physical_keeps zone below (at.Logical l) ok = absurd (omega (arith, ok.number_is, ok.sound.among))
+  physical_keeps zone below other ok = absurd (omega (arith, ok.number_is, below))
 
   pub journal_keeps : (d : ZoneData) → DataOk s t (journal_number s.sizes) d → Keeps at.Journal d
   journal_keeps (at.Journal j) ok = record { it = j; is = refl }
   journal_keeps (at.Logical l) ok = absurd (omega (arith, ok.number_is, ok.sound.among))
+  journal_keeps (at.Physical p) ok = let below = physical_below (journal_number s.sizes) p ok in absurd (omega (arith, ok.number_is, below))
   journal_keeps other ok = absurd (omega (arith, ok.number_is))
 
   pub device_keeps : (d : ZoneData) → DataOk s t (device_number s.sizes) d → Keeps at.Device d
   device_keeps (at.Device d) ok = record { it = d; is = refl }
   device_keeps (at.Logical l) ok = absurd (omega (arith, ok.number_is, ok.sound.among))
+  device_keeps (at.Physical p) ok = let below = physical_below (device_number s.sizes) p ok in absurd (omega (arith, ok.number_is, below))
   device_keeps other ok = absurd (omega (arith, ok.number_is))
 
   -- the one zone that gives out each of these
@@ -86,8 +92,8 @@ module _ (s : Session) (t : Trace) where
       pub desk_sits : Sits at.Desk desk_number
       desk_sits = sits at.Desk desk_number (omega arith) desk_keeps
 
-      pub physical_sits : Sits at.Physical (physical_number s.sizes)
-      physical_sits = sits at.Physical (physical_number s.sizes) (omega arith) physical_keeps
+      pub physical_sits : (zone : ℕ) → zone < s.sizes.physical → Sits at.Physical (physical_number s.sizes zone)
+      physical_sits zone below = sits at.Physical (physical_number s.sizes zone) (omega (arith, below)) (physical_keeps zone below)
 
       pub journal_sits : Sits at.Journal (journal_number s.sizes)
       journal_sits = sits at.Journal (journal_number s.sizes) (omega arith) journal_keeps

@@ -1,6 +1,6 @@
 -- Zones that are there have one number each, below the count.
-use Rattle.std.proofs.Common.{◌≡◌, ℕ, zero, suc, ◌<◌, length, refl, ap, arith}
-use Rattle.core_laws.proofs.Common.{IsZone, Sizes, ZoneId, logical_zones, notified, notified_zones, zone_count, zone_number}
+use Rattle.std.proofs.Common.{◌≡◌, ℕ, zero, suc, ◌<◌, length, length-append, refl, ap, arith}
+use Rattle.core_laws.proofs.Common.{IsZone, Sizes, ZoneId, logical_zones, notified, notified_zones, physical_zones, zone_count, zone_number}
 use Rattle.blk_base.specs.declared.place.ZoneId.TheVariants as id
 
 pub number_below : (sizes : Sizes) (name : ZoneId) → IsZone sizes name → zone_number sizes name < zone_count sizes
@@ -18,5 +18,13 @@ logical_count : (n : ℕ) → length (logical_zones n) ≡ n
 logical_count zero = refl
 logical_count (suc n) = ap suc (logical_count n)
 
+physical_count : (n : ℕ) → length (physical_zones n) ≡ n
+physical_count zero = refl
+physical_count (suc n) = ap suc (physical_count n)
+
 pub notified_count : (sizes : Sizes) → length (notified sizes) ≡ notified_zones sizes
-notified_count sizes = let logical = logical_count sizes.zones in omega (arith, logical)
+notified_count sizes =
+    let logical = logical_count sizes.zones in
+    let physical = physical_count sizes.physical in
+    let both = length-append (physical_zones sizes.physical) (logical_zones sizes.zones) in
+    omega (arith, logical, physical, both)

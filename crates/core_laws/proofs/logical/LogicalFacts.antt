@@ -71,7 +71,7 @@ module _ {s : Session} {t : Trace} {n : ℕ} {l : LogicalZone} {v : Vio} (known 
   pub zone_is : zone_of s.sizes.zones v.at.0 ≡ l.zone
   zone_is =
       let number = known.own.number_is in
-      let here = at_home s.sizes n l.zone v.home (row v.phase).zone number known.own.sound.among known.front_ok.0.2 in
+      let here = at_home s.sizes n l.zone v.home v.place v.claim (row v.phase).zone number known.own.sound.among known.front_ok.0.2 in
       let name = ap (zone_number s.sizes) front_ok.home in
       omega (arith, here, name, number)
 
@@ -280,7 +280,7 @@ module _ {s : Session} {t : Trace} {n : ℕ} {l : LogicalZone} {v : Vio} (known 
   known_right None (Some x) m path is there knows fair = absurd cc
 
   -- It goes where the map says.
-  pub looks_kept : v.phase ≡ phase.Look → (mapping : Mapping) (post : Post) → HasPath l.tree v.at.0 → passes_by l v ≡ false → lacks l v ≡ None → known_at l v.at.0 ≡ Some mapping → goes_on (looked l mapping v) ≡ Some post → After l [] (post ∷ [])
+  pub looks_kept : v.phase ≡ phase.Look → (mapping : Mapping) (post : Post) → HasPath l.tree v.at.0 → passes_by l v ≡ false → lacks l v ≡ None → known_at l v.at.0 ≡ Some mapping → goes_on s.sizes (looked l mapping v) ≡ Some post → After l [] (post ∷ [])
   looks_kept is mapping post path stays leaf knows goes =
       let carries = in_bare known phase.Look is (λ page no. no) in
       let held : Holds s t (looked l mapping v) = record {
@@ -312,7 +312,7 @@ module _ {s : Session} {t : Trace} {n : ℕ} {l : LogicalZone} {v : Vio} (known 
       act_none known known.own ((omega arith, (vio_ok known, carries_own s t (reads_leaf x v) phase.LoadLeaf carries.0 (carries.1.0, carries.1.1, needs), refl, claim_in known phase.Look is)), tt)
 
   -- Its leaf said it.
-  pub leafed_kept : v.phase ≡ phase.LoadedLeaf → (post : Post) → goes_on v ≡ Some post → After l [] (post ∷ [])
+  pub leafed_kept : v.phase ≡ phase.LoadedLeaf → (post : Post) → goes_on s.sizes v ≡ Some post → After l [] (post ∷ [])
   leafed_kept is post goes =
       let carries = in_bare known phase.LoadedLeaf is (λ page no. no) in
       let has = carries.1.0 in

@@ -37,6 +37,8 @@ use Rattle.core_laws.proofs.logical.PageFacts.{lacked_path, lacking_page}
 use Rattle.core_laws.proofs.logical.PageLists.{listed_cut, listed_more, some_listed, struck_all, struck_cut, struck_times, times, times_more, times_none}
 use Rattle.core_laws.proofs.logical.Releases.{below_more, release_ok}
 use Rattle.core_laws.proofs.trace.DeskOfTrace.{shown_of}
+use Rattle.data_vio.specs.Vios.{counts_of}
+use Rattle.core_laws.proofs.lists.CountedIn.{counts_within}
 
 -- a page that a request lacks is one that its write lacks
 lacks_write : (l : LogicalZone) (a : ℕ) (q : Asks) (page : PageId) → lacks_for l a q ≡ Some page → (q ≡ Write) × (missing_at l.tree a ≡ Some page)
@@ -136,7 +138,7 @@ module _ {s : Session} {t : Trace} {n : ℕ} {l : LogicalZone} {v : Vio} (known 
         }) tt
 
     -- or it makes it
-    pub makes_kept : is_listed page l.unlinkable ≡ false → is_listed page l.making ≡ false → After known (record l { making = l.making ++ page ∷ [] }) [] ((id.Physical 0, item.Request (makes page v)) ∷ [])
+    pub makes_kept : is_listed page l.unlinkable ≡ false → is_listed page l.making ≡ false → After known (record l { making = l.making ++ page ∷ [] }) [] ((counts_of s.sizes v, item.Request (makes page v)) ∷ [])
     makes_kept may_yet unmade_yet =
         let k = known.own in
         let pages = k.sound.pages in
@@ -166,7 +168,7 @@ module _ {s : Session} {t : Trace} {n : ℕ} {l : LogicalZone} {v : Vio} (known 
           kept = k.kept;
           answers = (k.answers.0, λ p linkable unlinked unmade yet. k.answers.1 p linkable unlinked (listed_cut p page l.making unmade).0 yet);
           told = k.told;
-        }) ((omega arith, (vio_ok known, (making, k.answers.1 page lacking.linkable lacking.unlinked unmade_yet may_yet), refl, claim_in known phase.Look is)), tt)
+        }) ((counts_within s.sizes v known.session.zones.1, (vio_ok known, (making, k.answers.1 page lacking.linkable lacking.unlinked unmade_yet may_yet), refl, claim_in known phase.Look is)), tt)
       where
         one_more : (p : PageId) → times p (l.making ++ page ∷ []) ≤ 1
         one_more p =

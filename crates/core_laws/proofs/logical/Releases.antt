@@ -27,6 +27,7 @@ use Rattle.core_laws.proofs.lists.Zeros.{others_are, zeros_of}
 use Rattle.core_laws.proofs.trace.DeskOfTrace.{done_writes}
 use Rattle.blk_base.proofs.RegionLaws.{data_block_inside}
 use Rattle.image_model.specs.Maps.{value_with}
+use Rattle.core_laws.proofs.lists.CountedIn.{counts_within}
 
 -- below a greater place
 pub below_more : (t : Trace) (a m n : ℕ) → m ≤ n → AllBelow t a m → AllBelow t a n
@@ -95,10 +96,10 @@ module _ (s : Session) (t : Trace) (session : IsSession s) (right : RightTrace s
   none_claimed : (m : Mapping) → block_in m ≡ None → OnBlock (λ x. IsDataBlock s.sizes.geometry x.0) m → HasClaim s true u.claim m
   none_claimed m none all = record { claim_is = claim.claim_is ∙ sym none; on_data = λ holds. all }
 
-  pub goes_ok : (post : Post) → goes_on u ≡ Some post → PostOk s t post
-  goes_ok post goes = goes_by (PostOk s t) u post goes (λ reads. read_ok reads u.old refl)
+  pub goes_ok : (post : Post) → goes_on s.sizes u ≡ Some post → PostOk s t post
+  goes_ok post goes = goes_by (PostOk s t) s.sizes u post goes (λ reads. read_ok reads u.old refl)
       (λ writes zero. (omega arith, (ok, carries_own s t (record u { phase = phase.Enter; new = Zero }) phase.Enter bare (held, zeros_mapped u.asks writes (zero_bytes u.asks writes ok.asked zero), (λ fair. tt), leafy (rw writes tt)), refl, none_claimed Zero refl tt)))
-      (λ writes others. (omega arith, (ok, carries_own s t (turned phase.Claim u) phase.Claim bare (held, writes, record { not_zeros = others_are u.bytes others; none_taken = none_taken }, leafy (rw writes tt)), refl, claim)))
+      (λ writes others. (counts_within s.sizes u session.zones.1, (ok, carries_own s t (turned phase.Claim u) phase.Claim bare (held, writes, record { not_zeros = others_are u.bytes others; none_taken = none_taken }, leafy (rw writes tt)), refl, claim)))
       (λ discards. (omega arith, (ok, carries_own s t (record u { phase = phase.Enter; new = Unmapped }) phase.Enter bare (held, discard_mapped u.asks discards, (λ fair. tt), leafy (rw discards tt)), refl, none_claimed Unmapped refl tt)))
 
 -- A greater place has a lower one still.

@@ -1,35 +1,40 @@
 -- What the acts of the physical zone owe.
 use Rattle.std.proofs.Common.{◌≡◌, ℕ, zero, suc, ◌+◌, ◌<◌, ◌≤◌, ◌%◌, ◌/◌, true, false, Bool, Option, None, Some, List, [], ◌∷◌, ◌++◌, Contains, refl, ap, sym, ◌∙◌, subst, inl, inr, arith}
 use Rattle.std.specs.Bool.{IsTrue}
-use Rattle.std.proofs.Math.Nat.{mod-lt, mod-one}
-use Rattle.core_laws.proofs.Common.{Adds, AllByRecursion, Carries, DataOk, Drops, Happening, IsInTurn, ItemOk, Mapping, OnBlock, Pbn, PhysicalZone, Post, Remapping, Removes, Session, Strays, Takes, Trace, Vio, VioOk, asked, durable, ended, eqb_tells, fair_before, has_taken, logged, remapping, some_is, turned, zone_count, zone_number, zone_of}
+use Rattle.std.proofs.Math.Nat.{mod-lt}
+use Rattle.core_laws.proofs.Common.{Adds, AllByRecursion, Carries, DataOk, Drops, Happening, IsInTurn, ItemOk, Mapping, OnBlock, Pbn, PhysicalZone, Post, Remapping, Removes, Session, Strays, Takes, Trace, Vio, VioOk, asked, durable, ended, eqb_tells, fair_before, has_taken, logged, remapping, physical_number, some_is, turned, zone_at, zone_count, zone_number, zone_of, IsPlaced, MayReply}
 use Rattle.blk_base.specs.Regions.{IsDataBlock}
 use Rattle.blk_base.specs.declared.place.Mapping.TheVariants.{Unmapped, Zero, At}
 use Rattle.blk_base.specs.declared.place.PageId.{PageId}
 use Rattle.blk_base.specs.declared.place.ZoneId.TheVariants as id
 use Rattle.blk_base.specs.declared.point.Half.TheVariants as half
 use Rattle.blk_base.specs.declared.request.Answer.TheVariants as reply
-use Rattle.data_vio.specs.Vios.{claiming, home_of, logged_for, unclaiming}
+use Rattle.data_vio.specs.Vios.{asks_in, claiming, counts_for, home_of, logged_for, unclaiming}
+use Rattle.data_vio.specs.Zones.{counts_in}
+use Rattle.data_vio.specs.declared.items.Asks.TheVariants.{Write}
+use Rattle.core_laws.proofs.kept.ZoneKinds.{physical_below}
+use Rattle.core_laws.proofs.lists.CountedIn.{counted_here, counting_number, of_zone, zone_inside, zone_is}
 use Rattle.data_vio.specs.declared.items.Item.TheVariants as item
 use Rattle.data_vio.specs.declared.items.Phase.TheVariants as phase
 use Rattle.data_vio.specs.declared.items.Phase.{Phase}
 use Rattle.data_vio.specs.declared.logged.Logged.{Logged}
 use Rattle.data_vio.specs.declared.logged.Logged.TheVariants.{Makes, Remaps}
 use Rattle.core_model.specs.declared.zones.ZoneData.TheVariants as at
-use Rattle.core_model.specs.CountUpdates.{CountUpdate, Increment, IsNextUpdate, updates_of, updates_taken}
+use Rattle.core_model.specs.CountUpdates.{CountUpdate, Increment, IsNextUpdate, is_counted_in, replaced_in, updates_in, updates_of, updates_taken}
 use Rattle.core_model.specs.CountUpdates as update
 use Rattle.core_model.specs.Facts.{AreFirstClaims, CarriesFor, ClaimOk, HasClaim, IsDecrement, IsSoundPhysical, PhysicalLists, claim_of}
+use Rattle.core_model.specs.PhysicalRules as rules
 use Rattle.core_model.specs.PhysicalRules.{PhysicalServes, PhysicalTakes, spent_for, tells, with_counts}
-use Rattle.core_model.specs.RightTraces.{HadNoFree, IsOpen, IsReported, LossMayFollow, NeedsFor}
+use Rattle.core_model.specs.RightTraces.{IsOpen, IsReported, LossMayFollow, NeedsFor}
 use Rattle.core_model.specs.Tokens.{is_entry, is_old, leads_to}
 use Rattle.core_model.specs.Trace.{added, new_of, removed, strayed}
 use Rattle.core_model.specs.UpdateStream.{counting}
-use Rattle.core_model.specs.Uses.{NoneFree as NoneFreeAt, counted, gained, lost, uncounted}
+use Rattle.core_model.specs.Uses.{NoneFree as NoneFreeAt, NoneFreeIn, counted, gained, lost, uncounted}
 use Rattle.core_laws.proofs.kept.ActKept.{Known, ActKept, PostOk, act_none, act_one, claim_in, plain_clears, carries_own, carries_page, own_request, shown_plain, vio_over, vio_ok, in_phase}
 use Rattle.core_laws.proofs.kept.Carried.{SaysSame, by_all, logged_request, reply_said}
 use Rattle.core_laws.proofs.kept.Spared.{below_kept, contains_more, quiet_kept}
 use Rattle.core_laws.proofs.trace.DeskOfTrace.{shown_of}
-use Rattle.core_laws.proofs.journal.JournalFacts.{home_within, write_no_space}
+use Rattle.core_laws.proofs.journal.JournalFacts.{home_within, write_no_space, write_no_space_near}
 use Rattle.core_laws.proofs.tokens.Moves.{Moves, counted_moves, dropped_moves, given_moves, no_block, removed_moves}
 use Rattle.slab_counts.specs.Calls.{one_of}
 use Rattle.slab_counts.specs.Counts.{Counts, Takes as Fits, IsStray, unclaimed}
@@ -100,15 +105,12 @@ zone_counted (Some page) old z x slab is claim fits change =
 
 -- What the zone has after a call.
 module _ {s : Session} {t : Trace} {n : ℕ} {old : PhysicalZone} (own : DataOk s t n (at.Physical old)) where
-  -- each data block is one of the zone
-  pub of_zone : (x : Pbn) → IsDataBlock s.sizes.geometry x.0 → IsOfZone old.counts x
-  of_zone x is_data = record {
-    data_block = subst (λ g. IsDataBlock g x.0) (sym own.sound.geometry) is_data;
-    own = alone old.counts.zones own.sound.zones own.sound.is_zone.slabs.number;
-  }
-    where
-      alone : (zones : ℕ) → zones ≡ 1 → old.counts.zone < zones → slab_number old.counts.geometry x % zones ≡ old.counts.zone
-      alone zones one below = rw one (mod-one (slab_number old.counts.geometry x) ∙ omega (arith, one, below))
+  -- where a block of the zone is counted
+  number_of : (x : Pbn) → IsOfZone old.counts x → n ≡ zone_number s.sizes (counts_in s.sizes x)
+  number_of x mine = own.number_is ∙ ap (physical_number s.sizes) (sym (zone_is s old own.sound x mine))
+
+  number_led : (x : Pbn) (m : Mapping) → IsOfZone old.counts x → m ≡ At x → n ≡ counting_number s.sizes m
+  number_led x m mine leads = number_of x mine ∙ ap (counting_number s.sizes) (sym leads)
 
   data_of : (x : Pbn) → IsOfZone old.counts x → IsDataBlock s.sizes.geometry x.0
   data_of x is = subst (λ g. IsDataBlock g x.0) own.sound.geometry is.data_block
@@ -120,11 +122,11 @@ module _ {s : Session} {t : Trace} {n : ℕ} {old : PhysicalZone} (own : DataOk 
       → strayed (h ∷ t) ≡ strayed t
       → DataOk s (h ∷ t) n (at.Physical (with_counts z old))
   after_ok h z more less spent is same moves first uses counters strays = record {
-    number_is = own.number_is;
+    number_is = own.number_is ∙ ap (λ (w : Zone). physical_number s.sizes w.zone) (sym same);
     lists = record {
       counters = λ y mine. let before = own.lists.counters y (was y mine) in omega (arith, before, moves.uses y, moves.claims y, counters y);
       uses = λ y mine. let before = own.lists.uses y (was y mine) in omega (arith, before, moves.uses y, uses y);
-      strays_are = own.lists.strays_are ∙ sym strays;
+      strays_are = own.lists.strays_are ∙ sym (ap (replaced_in s.sizes old.counts.zone) strays) ∙ ap (λ (w : Zone). replaced_in s.sizes w.zone (strayed (h ∷ t))) (sym same);
     };
     sound = record {
       is_zone = is;
@@ -170,7 +172,7 @@ module _ {s : Session} {t : Trace} {n : ℕ} {old : PhysicalZone} {v : Vio} (kno
         let h : Happening = Takes v.request v.page x in
         let own = known.own in
         let moves = given_moves old.counts z x own.sound.is_zone gives in
-        act_one known h (plain_clears known h t tt own.number_is (own_request known) tt tt) (λ g fair. g (fair_before s h t fair))
+        act_one known h (plain_clears known h t tt (number_of own x free.0) (own_request known) tt tt) (λ g fair. g (fair_before s h t fair))
         (record { is_open = (vio_ok known).is_open; asked = needs; is_data = is_data; is_free = let uses = own.lists.uses x free.0 in omega (arith, uses, free.1, free.2) }, shown_plain s t h tt (shown_of s t known.right), known.right)
         (after_ok own h z (one_of x) no_block no_block (subst IsZone (sym gives.same) (zone_claimed old.counts z.slabs x own.sound.is_zone gives.claims)) gives.same moves (first moves) (λ y. omega arith) (λ y. omega arith) refl)
         ((omega arith, (vio_over s h t v refl (vio_ok known), carries, refl, record { claim_is = refl; on_data = λ yes. is_data })), tt)
@@ -203,20 +205,45 @@ module _ {s : Session} {t : Trace} {n : ℕ} {old : PhysicalZone} {v : Vio} (kno
 
   -- No block is free.
   module _ (is : v.phase ≡ phase.Claim) (none : NoneFree old.counts.slabs) where
-    none_free : NoneFreeAt s t
-    none_free x is_data free =
-        let mine = of_zone known.own x is_data in
+    none_free : NoneFreeIn s t old.counts.zone
+    none_free x is_data here free =
+        let mine = of_zone s old known.own.sound x is_data here in
         let some = none_is_free old.counts x known.own.sound.is_zone none mine in
         let uses = known.own.lists.uses x mine in
         omega (arith, some, uses, free)
 
-    space_for : (o : Option PageId) → CarriesFor s t v phase.Claim o → CarriesFor s t (ended phase.Abort reply.NoSpace v) phase.Abort o
-    space_for None k = (k.0.turn, write_no_space s t v k.1 k.0.turn.is_placed (record { newer = []; older = t; moment = refl; placed = some_is _ _ k.0.turn.is_placed.placed; none_free = none_free }))
-    space_for (Some page) k = (
-      k.0,
-      k.1,
-      write_no_space s t v k.0.is_write k.0.turn.is_placed (record { newer = []; older = t; moment = refl; placed = some_is _ _ k.0.turn.is_placed.placed; none_free = none_free }),
-    )
+    -- one zone has all data blocks
+    alone : s.sizes.physical ≡ 1 → NoneFreeAt s t
+    alone one x is_data free =
+        let inside = zone_inside s.sizes x known.session.zones.1 in
+        let below = physical_below s t n old known.own in
+        none_free x is_data (omega (arith, one, inside, below)) free
+
+    -- several have what their numbers say, and it asks this one
+    asks_here : v.place % s.sizes.physical ≡ old.counts.zone
+    asks_here =
+        let claim : v.claim ≡ None = (claim_in known phase.Claim is).claim_is in
+        let to : n ≡ zone_number s.sizes (asks_in s.sizes v.place) = known.front_ok.0.2 ∙ ap (λ (q : Phase). zone_at s.sizes v q) is ∙ ap (λ (o : Option Pbn). zone_number s.sizes (counts_for s.sizes v.place o)) claim in
+        let number = known.own.number_is in
+        omega (arith, to, number)
+
+    answers : v.asks ≡ Write → IsPlaced s t v → MayReply s t v (Some (rules.no_block s.sizes))
+    answers write placed = elim (eqb_tells s.sizes.physical 1) [
+      | inl one ↦ rw one.0 (write_no_space s t v write placed (record { newer = []; older = t; moment = refl; placed = some_is _ _ placed.placed; none_free = alone one.1 }))
+      | inr more ↦ rw more.0 (write_no_space_near s t v write placed (record {
+        several = omega (arith, known.session.zones.1, more.1);
+        newer = [];
+        older = t;
+        moment = refl;
+        placed = record { request = v.request; zone = zone_of s.sizes.zones v.at.0; place = v.place };
+        place_is = placed.placed;
+        none_free = subst (NoneFreeIn s t) (sym asks_here) none_free;
+      }))
+    ]
+
+    space_for : (o : Option PageId) → CarriesFor s t v phase.Claim o → CarriesFor s t (ended phase.Abort (rules.no_block s.sizes) v) phase.Abort o
+    space_for None k = (k.0.turn, answers k.1 k.0.turn.is_placed)
+    space_for (Some page) k = (k.0, k.1, answers k.0.is_write k.0.turn.is_placed)
 
   -- The increment of its entry is taken.
   module _ (is : v.phase ≡ phase.Count) (x : Pbn) (slab : Counts) (z : Zone) (claim : v.claim ≡ Some x) (claimed : IsClaimedIn old.counts x)
@@ -241,10 +268,18 @@ module _ {s : Session} {t : Trace} {n : ℕ} {old : PhysicalZone} {v : Vio} (kno
     abbrev adds : Happening
     adds = Adds (logged v)
 
-    next : IsNextUpdate (durable t) t (Increment (logged v))
+    next : IsNextUpdate s.sizes (durable t) t (Increment (logged v))
     next =
         let (rest, is_next) = known.next_updates old refl in
-        (rest, subst (λ (q : Phase). updates_of (durable t) ≡ updates_taken t ++ ((counting q (logged v) ++ []) ++ rest)) is is_next)
+        let own : is_counted_in s.sizes old.counts.zone (new_of (logged v)) ≡ true = ap (is_counted_in s.sizes old.counts.zone) leads ∙ counted_here s.sizes old.counts.zone x (zone_is s old known.own.sound x claimed.own) in
+        let one : updates_in s.sizes old.counts.zone (counting phase.Count (logged v) ++ []) ≡ Increment (logged v) ∷ [] = rw own refl in
+        record {
+          zone = old.counts.zone;
+          own = own;
+          rest = rest;
+          next = subst (λ (q : Phase). updates_in s.sizes old.counts.zone (updates_of (durable t)) ≡ updates_in s.sizes old.counts.zone (updates_taken t) ++ (updates_in s.sizes old.counts.zone (counting q (logged v) ++ []) ++ rest)) is is_next
+              ∙ ap (λ (us : List CountUpdate). updates_in s.sizes old.counts.zone (updates_taken t) ++ (us ++ rest)) one;
+        }
 
     settles_for : (o : Option PageId) → v.page ≡ o → CarriesFor s (adds ∷ t) v phase.Count o → CarriesFor s (adds ∷ t) (unclaiming phase.Settle v) phase.Settle o
     settles_for None bare k =
@@ -257,7 +292,7 @@ module _ {s : Session} {t : Trace} {n : ℕ} {old : PhysicalZone} {v : Vio} (kno
         let own = known.own in
         let moves = counted_moves v.page old.counts z x slab own.sound.is_zone claimed fits change in
         let carries = by_all s adds t v phase.Count v.page tt (λ locks. tt) (λ page some. tt) (λ enters. absurd cc) (in_phase known phase.Count is) in
-        act_one known adds (plain_clears known adds t tt own.number_is tt tt tt) (λ g fair. g (fair_before s adds t fair))
+        act_one known adds (plain_clears known adds t tt (number_led own x (new_of (logged v)) claimed.own leads) tt tt tt) (λ g fair. g (fair_before s adds t fair))
         (record { is_open = subst (IsOpen t) (sym (logged_request v)) (vio_ok known).is_open; next = next }, shown_plain s t adds tt (shown_of s t known.right), known.right)
         (after_ok own adds z no_block no_block (one_of x) (zone_counted v.page old.counts z x slab own.sound.is_zone claimed fits change) (same_counted v.page old.counts z x slab own.sound.no_ticket change) moves (first moves)
         (λ y. omega arith) (λ y. let one : is_entry y (logged v) ≡ one_of x y = ap (leads_to y) leads in omega (arith, one)) refl)
@@ -297,7 +332,7 @@ module _ {s : Session} {t : Trace} {n : ℕ} {old : PhysicalZone} {v : Vio} (kno
         let moves = dropped_moves old.counts z x own.sound.is_zone own.sound.no_ticket claimed change in
         let some = (claimed_is old.counts x own.sound.is_zone claimed.own).0 claimed in
         let uses = own.lists.uses x claimed.own in
-        act_one known drops (plain_clears known drops t tt own.number_is (own_request known) tt tt) (λ g fair. g (fair_before s drops t fair))
+        act_one known drops (plain_clears known drops t tt (number_of own x claimed.own) (own_request known) tt tt) (λ g fair. g (fair_before s drops t fair))
         (((vio_ok known).is_open, record { is_data = data_of own x claimed.own; some = omega (arith, some, uses) }), shown_plain s t drops tt (shown_of s t known.right), known.right)
         (after_ok own drops z no_block (one_of x) (one_of x) (calls_keep old.counts z (DropsClaim x ∷ []) own.sound.is_zone (old.counts, refl, (claimed, change)))
         (same_changed old.counts z x (unclaimed (slab_of old.counts x) x) own.sound.no_ticket change) moves (first moves) (λ y. omega arith) (λ y. omega arith) refl)
@@ -341,13 +376,23 @@ module _ {s : Session} {t : Trace} {n : ℕ} {old : PhysicalZone} {e : Remapping
   AfterUpdate new made posts = ActKept s t n (at.Physical old) (item.Decrement e ∷ []) (at.Physical new) made posts
 
   its_zone : zone_number s.sizes (home_of s.sizes e) < zone_count s.sizes
-  its_zone = let below = zone_below s.sizes.zones e.at.0 known.session.zones in omega (arith, below)
+  its_zone = let below = zone_below s.sizes.zones e.at.0 known.session.zones.0 in omega (arith, below)
 
   decrement : IsDecrement s t e
   decrement = known.front_ok.0.0
 
-  turn : IsNextUpdate (durable t) t (update.Decrement e)
-  turn = known.next_updates old refl
+  -- it is of the zone, and the next
+  turn : (x : Pbn) → e.old ≡ At x → IsOfZone old.counts x → IsNextUpdate s.sizes (durable t) t (update.Decrement e)
+  turn x from mine =
+      let (rest, is_next) = known.next_updates old refl in
+      let own : is_counted_in s.sizes old.counts.zone e.old ≡ true = ap (is_counted_in s.sizes old.counts.zone) from ∙ counted_here s.sizes old.counts.zone x (zone_is s old known.own.sound x mine) in
+      let one : updates_in s.sizes old.counts.zone (update.Decrement e ∷ []) ≡ update.Decrement e ∷ [] = rw own refl in
+      record {
+        zone = old.counts.zone;
+        own = own;
+        rest = rest;
+        next = is_next ∙ ap (λ (us : List CountUpdate). updates_in s.sizes old.counts.zone (updates_taken t) ++ (us ++ rest)) one;
+      }
 
   reports : (h : Happening) → durable (h ∷ t) ≡ durable t → IsReported (h ∷ t) e → ItemOk s (h ∷ t) (zone_number s.sizes (home_of s.sizes e)) (item.Report e)
   reports h same reported = (
@@ -368,8 +413,8 @@ module _ {s : Session} {t : Trace} {n : ℕ} {old : PhysicalZone} {e : Remapping
         let some = fits.0 in
         let here = home_is old.counts x own.sound.is_zone mine in
         let uses = own.lists.uses x mine in
-        act_one known h (plain_clears known h t tt own.number_is tt tt tt) (λ g fair. g (fair_before s h t fair))
-        (record { next = turn; block = x; old_is = from; loss = record { is_data = data_of own x mine; some = omega (arith, some, here.0, uses) } }, shown_plain s t h tt (shown_of s t known.right), known.right)
+        act_one known h (plain_clears known h t tt (number_led own x e.old mine from) tt tt tt) (λ g fair. g (fair_before s h t fair))
+        (record { next = turn x from mine; block = x; old_is = from; loss = record { is_data = data_of own x mine; some = omega (arith, some, here.0, uses) } }, shown_plain s t h tt (shown_of s t known.right), known.right)
         (after_ok own h z no_block (one_of x) no_block (calls_keep old.counts z (Applies half.Decrement x slab ∷ []) own.sound.is_zone (old.counts, refl, (mine, fits, change)))
         (same_changed old.counts z x slab own.sound.no_ticket change) moves (first moves)
         (λ y. let one : is_old y e ≡ one_of x y = ap (leads_to y) from in omega (arith, one)) (λ y. let one : is_old y e ≡ one_of x y = ap (leads_to y) from in omega (arith, one)) refl)
@@ -394,11 +439,11 @@ module _ {s : Session} {t : Trace} {n : ℕ} {old : PhysicalZone} {e : Remapping
         let own = known.own in
         let here = home_is old.counts x own.sound.is_zone mine in
         let counters = own.lists.counters x mine in
-        act_one known strays (plain_clears known strays t tt own.number_is tt tt tt) (λ g fair. g (fair_before s strays t fair))
-        (record { next = turn; block = x; old_is = from; none_counted = omega (arith, stray, here.0, counters) }, shown_plain s t strays tt (shown_of s t known.right), known.right)
+        act_one known strays (plain_clears known strays t tt (number_led own x e.old mine from) tt tt tt) (λ g fair. g (fair_before s strays t fair))
+        (record { next = turn x from mine; block = x; old_is = from; none_counted = omega (arith, stray, here.0, counters) }, shown_plain s t strays tt (shown_of s t known.right), known.right)
         (record {
           number_is = own.number_is;
-          lists = record { counters = own.lists.counters; uses = own.lists.uses; strays_are = ap (λ (es : List Remapping). e ∷ es) own.lists.strays_are };
+          lists = record { counters = own.lists.counters; uses = own.lists.uses; strays_are = ap (λ (es : List Remapping). e ∷ es) own.lists.strays_are ∙ sym (let mine_is : is_counted_in s.sizes old.counts.zone e.old ≡ true = ap (is_counted_in s.sizes old.counts.zone) from ∙ counted_here s.sizes old.counts.zone x (zone_is s old own.sound x mine) in rw mine_is refl) };
           sound = record { is_zone = own.sound.is_zone; geometry = own.sound.geometry; zones = own.sound.zones; no_ticket = own.sound.no_ticket; first_claims = own.sound.first_claims };
           kept = tt;
           answers = tt;

@@ -148,7 +148,7 @@ pub data Row (sizes : Sizes) : ZoneData → ZoneData → Sum → Sum → Type 0 
   -- the physical zone
   claims_block : (p : PhysicalZone) (z : Zone) (v : Vio) (x : Pbn) → v.claim ≡ None → Moves p.counts z (one_of x) no_block no_block
       → Row sizes (at.Physical p) (at.Physical (with_counts z p)) (λ f. f (Request (turned phase.Claim v))) (λ f. f (Request (claiming x v)))
-  finds_none : (p : PhysicalZone) (v : Vio) → Row sizes (at.Physical p) (at.Physical p) (λ f. f (Request (turned phase.Claim v))) (λ f. f (Request (ended phase.Abort reply.NoSpace v)))
+  finds_none : (p : PhysicalZone) (v : Vio) (a : Answer) → Row sizes (at.Physical p) (at.Physical p) (λ f. f (Request (turned phase.Claim v))) (λ f. f (Request (ended phase.Abort a v)))
   counts_block : (p : PhysicalZone) (z : Zone) (v : Vio) (x : Pbn) → v.claim ≡ Some x → Moves p.counts z no_block no_block (one_of x)
       → Row sizes (at.Physical p) (at.Physical (with_counts z p)) (λ f. f (Request (turned phase.Count v))) (λ f. f (Request (unclaiming phase.Settle v)))
   drops_claim : (p : PhysicalZone) (z : Zone) (v : Vio) (x : Pbn) → v.claim ≡ Some x → Moves p.counts z no_block (one_of x) (one_of x)

@@ -150,8 +150,8 @@ module _ (sizes : Sizes) where
   goes_to v q new bytes locks unowed unentered uncommitted =
       record { phase = q; leaf = v.leaf; old = v.old; latest = v.latest; new = new; bytes = bytes; locks = locks; unowed = unowed; unentered = unentered; uncommitted = uncommitted }
 
-  went_on : (v : Vio) (post : Post) → goes_on v ≡ Some post → (on : Onward) × (post.1 ≡ Request (onward on v))
-  went_on v post goes = goes_by (λ p. (on : Onward) × (p.1 ≡ Request (onward on v))) v post goes (λ reads. read v.old)
+  went_on : (v : Vio) (post : Post) → goes_on sizes v ≡ Some post → (on : Onward) × (post.1 ≡ Request (onward on v))
+  went_on v post goes = goes_by (λ p. (on : Onward) × (p.1 ≡ Request (onward on v))) sizes v post goes (λ reads. read v.old)
       (λ writes zeros. (goes_to v phase.Enter Zero v.bytes refl refl refl refl, refl)) (λ writes others. (goes_to v phase.Claim v.new v.bytes refl refl refl refl, refl))
       (λ discards. (goes_to v phase.Enter Unmapped v.bytes refl refl refl refl, refl))
     where
@@ -428,7 +428,7 @@ module _ (sizes : Sizes) where
       → IsRow sizes (at.Physical old) (Request v ∷ []) (at.Physical new) posts
   physical_row old v new made posts claims zone (physical.PhysicalServes.claims x z p gives n m q) =
       rw (n, q) (is_row (row.claims_block old z v x (claim_in v phase.Claim p claims) (given_moves old.counts z x zone.0 gives)) (λ f. omega (arith, in_phase f v phase.Claim p)) (λ f. omega arith))
-  physical_row old v new made posts claims zone (physical.PhysicalServes.has_no_space p none n m q) = rw (n, q) (is_row (row.finds_none old v) (λ f. omega (arith, in_phase f v phase.Claim p)) (λ f. omega arith))
+  physical_row old v new made posts claims zone (physical.PhysicalServes.has_no_space p none n m q) = rw (n, q) (is_row (row.finds_none old v (physical.no_block sizes)) (λ f. omega (arith, in_phase f v phase.Claim p)) (λ f. omega arith))
   physical_row old v new made posts claims zone (physical.PhysicalServes.counts x slab z p some claim takes change n m q) =
       rw (n, q) (is_row (row.counts_block old z v x some (counted_moves v.page old.counts z x slab zone.0 claim takes change)) (λ f. omega (arith, in_phase f v phase.Count p)) (λ f. omega arith))
   physical_row old v new made posts claims zone (physical.PhysicalServes.drops x z p some claim change n m q) =
@@ -452,7 +452,7 @@ module _ (sizes : Sizes) where
           subst (λ (o : PhysicalZone). IsRow sizes (at.Physical o) (Decrement e ∷ []) (at.Physical (record o { strays = e ∷ o.strays })) ((home_of sizes e, Report e) ∷ tells o.strays x)) whole
           (is_row (row.strays_again old e first strays) (λ f. omega arith) (λ f. omega arith))
 
-  dropped_sum : (f : Item → ℕ) (vs : List Vio) → posts_sum (all_dropped vs) f ≡ all_ended phase.AbortEnteredClaim reply.Stopped vs f
+  dropped_sum : (f : Item → ℕ) (vs : List Vio) → posts_sum (all_dropped sizes vs) f ≡ all_ended phase.AbortEnteredClaim reply.Stopped vs f
   dropped_sum f [] = refl
   dropped_sum f (v ∷ vs) = omega (arith, dropped_sum f vs)
 
@@ -474,26 +474,26 @@ module _ (sizes : Sizes) where
       (λ f. omega (arith, there_more f old.filling (turned phase.Pending v), there_sum f (old.filling ++ turned phase.Pending v ∷ []) old.waiting))))
 
   -- where a committed entry goes, and what goes behind it
-  handed_to : (v : Vio) (m : Mapping) → v.new ≡ m → v.claim ≡ block_in v.new → (q : Phase) × IsHandedOut v q × ((hands_to v v.new).1 ≡ Request (turned q v))
-  handed_to v (At x) is claim = (phase.Count, to_count, ap (λ (n : Mapping). (hands_to v n).1) is)
-  handed_to v Unmapped is claim = (phase.Settle, to_slot (claim ∙ ap block_in is), ap (λ (n : Mapping). (hands_to v n).1) is)
-  handed_to v Zero is claim = (phase.Settle, to_slot (claim ∙ ap block_in is), ap (λ (n : Mapping). (hands_to v n).1) is)
+  handed_to : (v : Vio) (m : Mapping) → v.new ≡ m → v.claim ≡ block_in v.new → (q : Phase) × IsHandedOut v q × ((hands_to sizes v v.new).1 ≡ Request (turned q v))
+  handed_to v (At x) is claim = (phase.Count, to_count, ap (λ (n : Mapping). (hands_to sizes v n).1) is)
+  handed_to v Unmapped is claim = (phase.Settle, to_slot (claim ∙ ap block_in is), ap (λ (n : Mapping). (hands_to sizes v n).1) is)
+  handed_to v Zero is claim = (phase.Settle, to_slot (claim ∙ ap block_in is), ap (λ (n : Mapping). (hands_to sizes v n).1) is)
 
   none_old : (f : Remapping → ℕ) (es : List Remapping) → length es ≡ 0 → total f es ≡ 0
   none_old f [] none = refl
   none_old f (e ∷ es) none = absurd (omega (arith, none))
 
   decrement_is : (v : Vio) → IsCounted v → (o : Option PageId) (m : Mapping) → v.page ≡ o → v.old ≡ m
-      → (more : Sum) × IsDecrementOf v more × ((f : Item → ℕ) → posts_sum (decrement_for v.page (remapping v) v.old) f ≡ more f)
+      → (more : Sum) × IsDecrementOf v more × ((f : Item → ℕ) → posts_sum (decrement_for sizes v.page (remapping v) v.old) f ≡ more f)
   decrement_is v counted (Some page) m some is =
       let empty : length (remappings (logged v ∷ [])) ≡ 0 = counted ∙ ap (λ (o : Option PageId). bit (not (is_some o))) some in
-      (λ f. 0, of_page page some (λ y. none_old (is_old y) (remappings (logged v ∷ [])) empty) (λ w. none_old (has_old w) (remappings (logged v ∷ [])) empty), λ f. ap (λ (o : Option PageId). posts_sum (decrement_for o (remapping v) v.old) f) some)
+      (λ f. 0, of_page page some (λ y. none_old (is_old y) (remappings (logged v ∷ [])) empty) (λ w. none_old (has_old w) (remappings (logged v ∷ [])) empty), λ f. ap (λ (o : Option PageId). posts_sum (decrement_for sizes o (remapping v) v.old) f) some)
   decrement_is v counted None (At x) none is =
-      (λ f. f (Decrement (remapping v)), of_block none, λ f. ap (λ (o : Option PageId). posts_sum (decrement_for o (remapping v) v.old) f) none ∙ ap (λ (n : Mapping). posts_sum (decrement_for None (remapping v) n) f) is ∙ (let one : f (Decrement (remapping v)) + 0 ≡ f (Decrement (remapping v)) = omega arith in one))
+      (λ f. f (Decrement (remapping v)), of_block none, λ f. ap (λ (o : Option PageId). posts_sum (decrement_for sizes o (remapping v) v.old) f) none ∙ ap (λ (n : Mapping). posts_sum (decrement_for sizes None (remapping v) n) f) is ∙ (let one : f (Decrement (remapping v)) + 0 ≡ f (Decrement (remapping v)) = omega arith in one))
   decrement_is v counted None Unmapped none is =
-      (λ f. 0, of_none none (ap block_in is), λ f. ap (λ (o : Option PageId). posts_sum (decrement_for o (remapping v) v.old) f) none ∙ ap (λ (n : Mapping). posts_sum (decrement_for None (remapping v) n) f) is)
+      (λ f. 0, of_none none (ap block_in is), λ f. ap (λ (o : Option PageId). posts_sum (decrement_for sizes o (remapping v) v.old) f) none ∙ ap (λ (n : Mapping). posts_sum (decrement_for sizes None (remapping v) n) f) is)
   decrement_is v counted None Zero none is =
-      (λ f. 0, of_none none (ap block_in is), λ f. ap (λ (o : Option PageId). posts_sum (decrement_for o (remapping v) v.old) f) none ∙ ap (λ (n : Mapping). posts_sum (decrement_for None (remapping v) n) f) is)
+      (λ f. 0, of_none none (ap block_in is), λ f. ap (λ (o : Option PageId). posts_sum (decrement_for sizes o (remapping v) v.old) f) none ∙ ap (λ (n : Mapping). posts_sum (decrement_for sizes None (remapping v) n) f) is)
 
   -- a block by its requests, which are in their phase
   block_with : (f : Item → ℕ) (b : SealedBlock) (vs : List Vio) → b.vios ≡ vs → f (Block b) ≡ f (Block (record b { vios = vs }))
@@ -515,7 +515,7 @@ module _ (sizes : Sizes) where
         let behind = decrement_is v one.1 v.page v.old refl refl in
         rw (n, q) (is_row (row.commits old b v vs to.0 behind.0 to.1 behind.1)
         (λ f. omega (arith, block_with f b (turned phase.Pending v ∷ vs) (vios ∙ ap (λ (u : Vio). u ∷ vs) (turned_is v phase.Pending pending)), there_sum f old.filling old.waiting))
-        (λ f. omega (arith, ap f to.2, behind.2 f, sum_append f (decrement_for v.page (remapping v) v.old) ((id.Journal, Block (record b { vios = vs })) ∷ []), there_sum f old.filling old.waiting)))
+        (λ f. omega (arith, ap f to.2, behind.2 f, sum_append f (decrement_for sizes v.page (remapping v) v.old) ((id.Journal, Block (record b { vios = vs })) ∷ []), there_sum f old.filling old.waiting)))
     ends_row new made posts (journal.seals v vs is vios filling due n m q) =
         rw (n, q) (is_row (row.seals old b) (λ f. omega (arith, block_with f b [] vios, there_sum f old.filling old.waiting))
         (λ f. omega (arith, ap (λ (us : List Vio). f (Block (journal.next_block old stage.Cover us))) filling, again_sum f old.waiting)))
@@ -528,8 +528,8 @@ module _ (sizes : Sizes) where
         (λ f. omega (arith, block_with f b (map (turned phase.Pending) b.vios) (all_turned phase.Pending b.vios p), there_sum f old.filling old.waiting, there_in f phase.Pending old.filling kept.0, there_in f phase.Enter old.waiting kept.1))
         (λ f. omega (
           arith,
-          sum_append f (all_dropped b.vios) (all_dropped old.filling ++ all_refused sizes reply.Stopped old.waiting),
-          sum_append f (all_dropped old.filling) (all_refused sizes reply.Stopped old.waiting),
+          sum_append f (all_dropped sizes b.vios) (all_dropped sizes old.filling ++ all_refused sizes reply.Stopped old.waiting),
+          sum_append f (all_dropped sizes old.filling) (all_refused sizes reply.Stopped old.waiting),
           dropped_sum f b.vios,
           dropped_sum f old.filling,
           refused_sum f reply.Stopped old.waiting,

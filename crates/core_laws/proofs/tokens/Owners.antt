@@ -1,6 +1,6 @@
 -- Who holds a request, and the lock of an address, holds it alone.
-use Rattle.std.proofs.Common.{◌≡◌, ℕ, ◌+◌, ◌≤◌, List, [], ◌∷◌, refl, ap, inl, inr, arith, ◌<◌, Bool, true, false, not, ◌&&◌, ◌==◌, Some, slice_get, sym, ◌∙◌, subst}
-use Rattle.core_laws.proofs.Common.{AllByRecursion, Balanced, as_items, kept_by, VioOk, DataOk, DeskLine, Each, IsDeskLog, Item, ItemOk, Lock, LockOk, LogicalZone, RightTrace, Script, Session, Sizes, Trace, Vio, Writer, Zone, ZoneData, ZoneId, ZoneOk, begins_of, begun, bit, desk_number, eqb_tells, every-map, given, holder_weight, holds, in_log, lease_token, lines, lock_weight, locks_at, logical_number, of_vio, request_token, same_tells, total, total-get, total_alone, weight, zone_number, zone_of}
+use Rattle.std.proofs.Common.{Option, None, ◌≡◌, ℕ, ◌+◌, ◌≤◌, List, [], ◌∷◌, refl, ap, inl, inr, arith, ◌<◌, Bool, true, false, not, ◌&&◌, ◌==◌, Some, slice_get, sym, ◌∙◌, subst}
+use Rattle.core_laws.proofs.Common.{Pbn, AllByRecursion, Balanced, as_items, kept_by, VioOk, DataOk, DeskLine, Each, IsDeskLog, Item, ItemOk, Lock, LockOk, LogicalZone, RightTrace, Script, Session, Sizes, Trace, Vio, Writer, Zone, ZoneData, ZoneId, ZoneOk, begins_of, begun, bit, desk_number, eqb_tells, every-map, given, holder_weight, holds, in_log, lease_token, lines, lock_weight, locks_at, logical_number, of_vio, request_token, same_tells, total, total-get, total_alone, weight, zone_number, zone_of}
 use Rattle.vdo_model.specs.declared.report.DeskLine.TheVariants.{Begin, Answer}
 use Rattle.core_laws.proofs.trace.DeskOfTrace.{desk_log_right}
 use Rattle.core_laws.proofs.trace.Growth.{begun_more}
@@ -10,6 +10,7 @@ use Rattle.core_laws.proofs.tokens.Known.{Leased}
 use Rattle.core_model.specs.declared.zones.ZoneData.TheVariants as at
 use Rattle.data_vio.specs.declared.items.Item.TheVariants as item
 use Rattle.blk_base.specs.declared.place.ZoneId.TheVariants as id
+use Rattle.data_vio.specs.Vios.{counts_for}
 
 -- A request is begun once, and under way in one place.
 
@@ -89,13 +90,15 @@ module _ (s : Session) (t : Trace) (a : ℕ) where
     given_at_home test n z had home = total_alone (given (lease_token a test)) zones n z had (λ j y k ne. locks_elsewhere test j y.keeps (each j y k).own (λ q. ne (q ∙ sym home)))
 
 -- A request served at a logical zone is served at its home.
-pub at_home : (sizes : Sizes) (n zone : ℕ) (home : ZoneId) (q : Where) → n ≡ logical_number zone → zone < sizes.zones → n ≡ number_at sizes home q → n ≡ zone_number sizes home
-at_home sizes n zone home AtHome is below to = to
-at_home sizes n zone home AtDesk is below to = absurd (omega (arith, is, below, to))
-at_home sizes n zone home AtPhysical is below to = absurd (omega (arith, is, below, to))
-at_home sizes n zone home AtJournal is below to = absurd (omega (arith, is, below, to))
-at_home sizes n zone home AtDevice is below to = absurd (omega (arith, is, below, to))
-at_home sizes n zone home InNoLane is below to = absurd (omega (arith, is, below, to))
+pub at_home : (sizes : Sizes) (n zone : ℕ) (home : ZoneId) (place : ℕ) (claim : Option Pbn) (q : Where) → n ≡ logical_number zone → zone < sizes.zones → n ≡ number_at sizes home (counts_for sizes place claim) q
+    → n ≡ zone_number sizes home
+at_home sizes n zone home place claim AtHome is below to = to
+at_home sizes n zone home place claim AtDesk is below to = absurd (omega (arith, is, below, to))
+at_home sizes n zone home place None AtPhysical is below to = absurd (omega (arith, is, below, to))
+at_home sizes n zone home place (Some x) AtPhysical is below to = absurd (omega (arith, is, below, to))
+at_home sizes n zone home place claim AtJournal is below to = absurd (omega (arith, is, below, to))
+at_home sizes n zone home place claim AtDevice is below to = absurd (omega (arith, is, below, to))
+at_home sizes n zone home place claim InNoLane is below to = absurd (omega (arith, is, below, to))
 
 -- its weight
 front_weight : (test : ℕ → Bool) (v : Vio) → holds v.phase ≡ true → holder_weight v.at.0 test v ≡ bit (test v.place)
@@ -137,7 +140,7 @@ leased_front s t zones n z l v rest each balance had front keeps h =
     let ok = each n z had in
     let own = subst (λ (d : ZoneData). DataOk s t n d) keeps ok.own in
     let first = (subst (λ (items : List Item). AllByRecursion (ItemOk s t n) items) front ok.inbox).0 in
-    let home : n ≡ home_of s v.at.0 = at_home s.sizes n l.zone v.home (row v.phase).zone own.number_is own.sound.among first.2 ∙ ap (zone_number s.sizes) first.0.home in
+    let home : n ≡ home_of s v.at.0 = at_home s.sizes n l.zone v.home v.place v.claim (row v.phase).zone own.number_is own.sound.among first.2 ∙ ap (zone_number s.sizes) first.0.home in
     leased_with s t zones n z l v each balance had keeps home (λ test.
     let one = front_weight test v h in
     let inbox = ap (total (of_vio (holder_weight v.at.0 test))) front in

@@ -9,6 +9,7 @@ use Rattle.data_vio.specs.declared.items.Item.TheVariants as item
 use Rattle.data_vio.specs.declared.items.Phase.TheVariants as phase
 use Rattle.core_model.specs.DeskRules.{vio_of}
 use Rattle.core_model.specs.LogicalRules.{are_zeros, enters_with, read_next, next_for, goes_on}
+use Rattle.data_vio.specs.Vios.{counts_of}
 
 -- a request that is begun has its name, and arrives or flushes
 pub begun_request : (sizes : Sizes) (w : Writer) (r : Request) (v : Vio) → vio_of sizes w r ≡ Some v → v.request ≡ w
@@ -42,11 +43,11 @@ begun_claim sizes w request.Flush v is = ap (λ (u : Vio). u.claim) (sym (same_S
 begun_claim sizes w other v is = absurd cc
 
 -- what is posted for a request that goes on with the lock of its address, by a fact of each post that it may be
-pub goes_by : (P : Post → Type 0) (v : Vio) (post : Post) → goes_on v ≡ Some post → (v.asks ≡ Read → P (read_next v v.old)) → (v.asks ≡ Write → are_zeros v.bytes ≡ true → P (enters_with Zero v))
-    → (v.asks ≡ Write → are_zeros v.bytes ≡ false → P (id.Physical 0, item.Request (turned phase.Claim v))) → (v.asks ≡ Discard → P (enters_with Unmapped v)) → P post
-goes_by P v post is reads zeros others discards = by v.asks refl is
+pub goes_by : (P : Post → Type 0) (sizes : Sizes) (v : Vio) (post : Post) → goes_on sizes v ≡ Some post → (v.asks ≡ Read → P (read_next v v.old)) → (v.asks ≡ Write → are_zeros v.bytes ≡ true → P (enters_with Zero v))
+    → (v.asks ≡ Write → are_zeros v.bytes ≡ false → P (counts_of sizes v, item.Request (turned phase.Claim v))) → (v.asks ≡ Discard → P (enters_with Unmapped v)) → P post
+goes_by P sizes v post is reads zeros others discards = by v.asks refl is
   where
-    by : (asks : Asks) → v.asks ≡ asks → next_for v asks ≡ Some post → P post
+    by : (asks : Asks) → v.asks ≡ asks → next_for sizes v asks ≡ Some post → P post
     by Read asks next = subst P (same_Some _ _ next) (reads asks)
     by Write asks next = elim (cases_Bool (are_zeros v.bytes)) [
       | inl all ↦ subst P (rw all at (same_Some _ _ next)) (zeros asks all)

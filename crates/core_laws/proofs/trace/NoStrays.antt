@@ -6,10 +6,12 @@ use Rattle.blk_base.specs.declared.journal_entry.Update.{Update}
 use Rattle.blk_base.specs.declared.place.Mapping.{Mapping}
 use Rattle.blk_base.specs.declared.place.Mapping.TheVariants.{Unmapped, Zero, At}
 use Rattle.blk_base.specs.declared.place.Pbn.{Pbn}
-use Rattle.core_laws.proofs.Common.{Adds, IsFair, IsSession, Logged, Makes, Remapping, Remaps, Removes, RightTrace, Session, Strays, Trace, bit, durable, entry_of, eqb_tells, fair_before, opened_image, total}
+use Rattle.core_laws.proofs.Common.{Adds, IsFair, IsSession, Logged, Makes, Remapping, Remaps, Removes, RightTrace, Session, Strays, Trace, bit, cases_Bool, durable, entry_of, eqb_tells, fair_before, opened_image, total}
 use Rattle.core_laws.proofs.kept.MapCounts.{durable_running}
+use Rattle.core_laws.proofs.lists.CountedIn.{counted_by, counted_here, leads_not, total_part}
 use Rattle.core_laws.proofs.trace.EntriesInTurn.{pointed}
-use Rattle.core_model.specs.CountUpdates.{CountUpdate, Decrement, Increment, decrement_of, increment_of, updates_by, updates_of, updates_taken}
+use Rattle.data_vio.specs.Zones.{physical_zone_of}
+use Rattle.core_model.specs.CountUpdates.{CountUpdate, Decrement, Increment, decrement_of, increment_of, is_counted_in, mapping_of, updates_by, updates_in, updates_of, updates_taken}
 use Rattle.core_model.specs.Sessions.{opened_uses}
 use Rattle.core_model.specs.Tokens.{is_entry, is_old, leads_to}
 use Rattle.core_model.specs.Trace.{added, new_of, removed, strayed}
@@ -57,6 +59,26 @@ by_entry (Makes p) n even odd = ((refl, even), tt)
 paired : (es : List Logged) → Pairs (updates_of es) (points.updates_of (pointed es))
 paired [] = tt
 paired (e ∷ es) = both_pair (updates_of es) (points.updates_of (pointed es)) (updates_by e) (points.updates_by (entry_of e) (2 * length es)) (paired es) (by_entry e (2 * length es) (omega arith) (omega arith))
+
+-- Of a physical zone: the test that says whether it counts a block, and the updates of its blocks.
+abbrev is_own : Session → ℕ → Pbn → Bool
+is_own s zone x = is_counted_in s.sizes zone (At x)
+
+own_paired : (s : Session) (zone : ℕ) (us : List CountUpdate) (ps : List Update) → Pairs us ps → Pairs (updates_in s.sizes zone us) (those_of (is_own s zone) ps)
+own_paired s zone [] [] pairs = tt
+own_paired s zone [] (p ∷ ps) pairs = absurd pairs
+own_paired s zone (u ∷ us) [] pairs = absurd pairs
+own_paired s zone (u ∷ us) (p ∷ ps) pairs =
+    let later = own_paired s zone us ps pairs.1 in
+    let same : is_counted_in s.sizes zone (mapping_of u) ≡ is_own s zone p.at = ap (is_counted_in s.sizes zone) (leads u pairs.0) in
+    elim (cases_Bool (is_own s zone p.at)) [
+      | inl is ↦ rw (is, same ∙ is) (pairs.0, later)
+      | inr other ↦ rw (other, same ∙ other) later
+    ]
+  where
+    leads : (u : CountUpdate) → IsOne u p → mapping_of u ≡ At p.at
+    leads (Increment e) one = one.0
+    leads (Decrement e) one = one.0
 
 -- what stands where
 record Cut (taken : List CountUpdate) (u : CountUpdate) (ps : List Update) : Type 0 where
@@ -126,10 +148,20 @@ taken_takes x (Removes e ∷ t) = omega (arith, one_last (takes_by x) (updates_t
 taken_takes x (Strays e ∷ t) = omega (arith, one_last (takes_by x) (updates_taken t) (Decrement e), taken_takes x t)
 taken_takes x (other ∷ t) = taken_takes x t
 
--- all blocks are of one zone
-all_those : (ps : List Update) → those_of (λ (x : Pbn). true) ps ≡ ps
-all_those [] = refl
-all_those (p ∷ ps) = ap (λ (qs : List Update). p ∷ qs) (all_those ps)
+-- of a block of a zone as many are added and taken away by the updates of the zone as by all
+own_adds : (s : Session) (zone : ℕ) (x : Pbn) → physical_zone_of s.sizes x ≡ zone → (us : List CountUpdate) → total (adds_by x) (updates_in s.sizes zone us) ≡ total (adds_by x) us
+own_adds s zone x here us = total_part (adds_by x) (λ u. is_counted_in s.sizes zone (mapping_of u)) us none
+  where
+    none : (u : CountUpdate) → is_counted_in s.sizes zone (mapping_of u) ≡ false → adds_by x u ≡ 0
+    none (Increment e) out = leads_not s.sizes zone (new_of e) x here out
+    none (Decrement e) out = refl
+
+own_takes : (s : Session) (zone : ℕ) (x : Pbn) → physical_zone_of s.sizes x ≡ zone → (us : List CountUpdate) → total (takes_by x) (updates_in s.sizes zone us) ≡ total (takes_by x) us
+own_takes s zone x here us = total_part (takes_by x) (λ u. is_counted_in s.sizes zone (mapping_of u)) us none
+  where
+    none : (u : CountUpdate) → is_counted_in s.sizes zone (mapping_of u) ≡ false → takes_by x u ≡ 0
+    none (Increment e) out = refl
+    none (Decrement e) out = leads_not s.sizes zone e.old x here out
 
 same_At : (x y : Pbn) → At x ≡ At y → x ≡ y
 same_At x y is = cc
@@ -145,33 +177,40 @@ no_strays s (Strays e ∷ t) session right fair =
     let none = no_strays s t session right.2 before in
     let stray = right.0 in
     let entries = pointed (durable t) in
-    let (rest, next) = stray.next in
-    let place = cut (updates_taken t) (Decrement e) rest (points.updates_of entries) (subst (λ (us : List CountUpdate). Pairs us (points.updates_of entries)) next (paired (durable t))) in
+    let zone = stray.next.zone in
+    let all = own_paired s zone (updates_of (durable t)) (points.updates_of entries) (paired (durable t)) in
+    let taken = updates_in s.sizes zone (updates_taken t) in
+    let place = cut taken (Decrement e) stray.next.rest (those_of (is_own s zone) (points.updates_of entries)) (subst (λ (us : List CountUpdate). Pairs us (those_of (is_own s zone) (points.updates_of entries))) stray.next.next all) in
     let x : Pbn = place.here.at in
+    let here : physical_zone_of s.sizes x ≡ zone = counted_by s.sizes zone x (sym (ap (is_counted_in s.sizes zone) place.is_one.0) ∙ stray.next.own) in
     let block : stray.block ≡ x = same_At stray.block x (sym stray.old_is ∙ place.is_one.0) in
     let none_counted : opened_uses s x + total (is_entry x) (added t) ≡ total (is_old x) (removed t) = subst (λ (y : Pbn). opened_uses s y + total (is_entry y) (added t) ≡ total (is_old y) (removed t)) block stray.none_counted in
-    let sums = pair_sums x (updates_taken t) place.before place.taken_pair in
+    let sums = pair_sums x taken place.before place.taken_pair in
+    let adds = own_adds s zone x here (updates_taken t) in
+    let takes = own_takes s zone x here (updates_taken t) in
     let strays = ap (total (is_old x)) none in
     let running = durable_running s t x session right.2 before in
-    let fits = next_fits_sum (limit_of s.sizes.geometry) (opened_uses s x) running.now entries (λ y. true) place.before place.behind place.here 0 running.counted
-    (all_those (points.updates_of entries) ∙ place.parts) (omega (arith, none_counted, sums.0, sums.1, taken_adds x t, taken_takes x t, strays)) in
+    let fits = next_fits_sum (limit_of s.sizes.geometry) (opened_uses s x) running.now entries (is_own s zone) place.before place.behind place.here 0 running.counted
+    place.parts (omega (arith, none_counted, sums.0, sums.1, adds, takes, taken_adds x t, taken_takes x t, strays)) in
     absurd (no_zero (limit_of s.sizes.geometry) place.here place.is_one.1 fits)
 no_strays s (h ∷ t) session right fair = no_strays s t session right.2 (fair_before s h t fair)
 
 -- So a counter that has the updates of all entries has what the map with these has.
-pub all_taken : (s : Session) (t : Trace) → IsSession s → RightTrace s t → IsFair s t → updates_taken t ≡ updates_of (durable t) → (x : Pbn) (counter : ℕ) → counter + uncounted t x ≡ counted s t x
-    → HasMappingsAfter (opened_image s) (pointed (durable t)) x counter
-all_taken s t session right fair all x counter sum =
+pub all_taken : (s : Session) (t : Trace) → IsSession s → RightTrace s t → IsFair s t → (zone : ℕ) → updates_in s.sizes zone (updates_taken t) ≡ updates_in s.sizes zone (updates_of (durable t))
+    → (x : Pbn) → physical_zone_of s.sizes x ≡ zone → (counter : ℕ) → counter + uncounted t x ≡ counted s t x → HasMappingsAfter (opened_image s) (pointed (durable t)) x counter
+all_taken s t session right fair zone all x here counter sum =
     let entries = pointed (durable t) in
     let running = durable_running s t x session right fair in
-    let sums = pair_sums x (updates_of (durable t)) (points.updates_of entries) (paired (durable t)) in
+    let own = updates_in s.sizes zone (updates_of (durable t)) in
+    let sums = pair_sums x own (those_of (is_own s zone) (points.updates_of entries)) (own_paired s zone (updates_of (durable t)) (points.updates_of entries) (paired (durable t))) in
     let adds = taken_adds x t in
     let takes = taken_takes x t in
     let adds_all = ap (total (adds_by x)) all in
     let takes_all = ap (total (takes_by x)) all in
+    let adds_own = own_adds s zone x here (updates_taken t) in
+    let takes_own = own_takes s zone x here (updates_taken t) in
     let strays = ap (total (is_old x)) (no_strays s t session right fair) in
-    let count : counter + takes_of (points_in x (points.updates_of entries)) ≡ opened_uses s x + adds_of (points_in x (points.updates_of entries)) =
-    omega (arith, sum, sums.0, sums.1, adds, takes, adds_all, takes_all, strays) in
-    let same = taken_is_mapped (opened_image s) entries x (opened_uses s x) running (λ y. true) counter refl
-    (subst (λ (ps : List Update). counter + takes_of (points_in x ps) ≡ opened_uses s x + adds_of (points_in x ps)) (sym (all_those (points.updates_of entries))) count) in
+    let count : counter + takes_of (points_in x (those_of (is_own s zone) (points.updates_of entries))) ≡ opened_uses s x + adds_of (points_in x (those_of (is_own s zone) (points.updates_of entries))) =
+    omega (arith, sum, sums.0, sums.1, adds, takes, adds_all, takes_all, adds_own, takes_own, strays) in
+    let same = taken_is_mapped (opened_image s) entries x (opened_uses s x) running (is_own s zone) counter (counted_here s.sizes zone x here) count in
     subst (HasMappingsAfter (opened_image s) entries x) (sym same) running.has

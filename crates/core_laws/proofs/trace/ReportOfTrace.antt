@@ -135,7 +135,7 @@ reads_right s t is right gives w at bytes p asked answered placed =
 
 -- the zones' lists have the places that were drawn
 listed : (s : Session) (t : Trace) → IsSession s → RightTrace s t → HaveSameZones (places t) (listed_places s t)
-listed s t session right = listed_same s.sizes.zones s.sizes.geometry.logical s.script (lines t) (places t) session.zones (places_drawn s t right)
+listed s t session right = listed_same s.sizes.zones s.sizes.geometry.logical s.script (lines t) (places t) session.zones.0 (places_drawn s t right)
 
 -- a run in which each request is answered is right
 pub run_right : (s : Session) (t : Trace) → IsSession s → RightTrace s t → AllAnswered s.script (lines t)

@@ -1,5 +1,5 @@
 -- Why a request may be answered: for each answer a trace that has its cause, and for each part of the cause one that lacks it.
-use Rattle.std.proofs.Common.{ℕ, ◌≡◌, ◌+◌, ◌*◌, ◌∙◌, true, false, None, Some, List, [], ◌∷◌, refl, ap, replicate, inl, inr, arith}
+use Rattle.std.proofs.Common.{ℕ, ◌≡◌, ◌+◌, ◌*◌, ◌∙◌, sym, true, false, None, Some, List, [], ◌∷◌, refl, ap, replicate, inl, inr, arith}
 use Rattle.std.proofs.lemmas.Option.{same_Some}
 use Rattle.blk_base.specs.Sectors.{zero_block}
 use Rattle.blk_base.specs.declared.place.Mapping.TheVariants.{Unmapped}
@@ -13,15 +13,15 @@ use Rattle.vdo_model.specs.declared.report.DeskLine.TheVariants.{Begin}
 use Rattle.data_vio.specs.declared.logged.Logged.TheVariants.{Remaps}
 use Rattle.core_model.specs.Sessions.{Session, opened_uses}
 use Rattle.page_codec.specs.declared.fault.PageFault.TheVariants.{Header}
-use Rattle.core_model.specs.RightTraces.{HadNoFree, HasCause, MayAnswer}
-use Rattle.core_model.specs.Uses.{NoneFree}
+use Rattle.core_model.specs.RightTraces.{HadNoFree, HadNoFreeNear, HasCause, MayAnswer}
+use Rattle.core_model.specs.Uses.{NoneFree, NoneFreeIn}
 use Rattle.core_model.specs.Tokens.{is_block, is_old}
 use Rattle.plain_laws.specs.Sums.{total}
 use Rattle.vdo_model.specs.Places.{place_of}
 use Rattle.zone_counts.proofs.OpenedCounts.{opened_some}
 use Rattle.std.proofs.lemmas.List.{get_or-replicate}
 use Rattle.core_model.specs.Trace.{Gift, Says, Gives, Takes, Aborts, Fails, Harms, Trace, places, removed, unclaimed}
-use Rattle.core_model.proofs.rows.WorkedTraces.{address, block, x, y, first, reader, second, other, late, flush, session, sizes, begun, drawn, took, handed_in, lasting, set, stopped, entry, of_first, of_other, given, in_block}
+use Rattle.core_model.proofs.rows.WorkedTraces.{place, address, block, x, y, first, reader, second, other, late, flush, session, sizes, begun, drawn, took, handed_in, lasting, set, stopped, entry, of_first, of_other, given, in_block}
 
 -- a read of an address, and a write of it
 abbrev Reads : Trace → Writer → ℕ → Answer → Type 0
@@ -184,13 +184,13 @@ at_once_of_a_write may = may.1.behind
 
 -- It is full where the one block of the journal is sealed.
 full_journal : Writes in_block second 0 Full
-full_journal = (refl, refl, omega arith)
+full_journal = (refl, refl, inl (omega arith))
 
 full_with_a_place : Writes in_block late 0 Full → ⊥
 full_with_a_place may = let placed = may.0 in absurd cc
 
 full_with_room : Writes took second 0 Full → ⊥
-full_with_room may = let journal = may.2 in absurd (omega (arith, journal))
+full_with_room may = elim may.2 [ inl journal ↦ absurd (omega (arith, journal)) | inr near ↦ absurd (let several = near.several in omega (arith, several)) ]
 
 full_before_it_enters : Writes in_block first 0 Full → ⊥
 full_before_it_enters may = let entered = may.1 in absurd cc
@@ -221,6 +221,26 @@ one_is_free none = none (block 90) (record { slab = 0; offset = 11; inside = (om
 
 no_space_at_a_moment_with_its_place : (s : Session) (t : Trace) (w : Writer) → (h : HadNoFree s t w) → place_of (places h.older) w ≡ None → ⊥
 no_space_at_a_moment_with_its_place s t w h none = absurd (let some = rw none at h.placed in cc)
+
+-- A write is full too where no block was free in the zone that it asks, at one moment since it had its place.
+abbrev crowded_near : Session
+crowded_near = record crowded { sizes = record sizes { physical = 2 } }
+
+none_near : (t : Trace) (zone : ℕ) → unclaimed t ≡ [] → removed t ≡ [] → NoneFreeIn crowded_near t zone
+none_near t zone undropped unremoved = λ x is_data here free. none_is_free t undropped unremoved x is_data free
+
+full_near : HasCause crowded_near (Says (Begin flush) ∷ drawn) second (request.Write (address 0) x false) Full
+full_near = (refl, refl, inr (record { several = omega arith; newer = Says (Begin flush) ∷ []; older = drawn; moment = refl; placed = place second 0 1; place_is = refl; none_free = none_near drawn 1 refl refl }))
+
+-- not where there is one zone, nor before it has its place, nor while a block is free in the zone that its place says
+near_of_several : (t : Trace) (w : Writer) → HadNoFreeNear crowded t w → ⊥
+near_of_several t w near = let several = near.several in absurd (omega (arith, several))
+
+near_with_its_place : (s : Session) (t : Trace) (w : Writer) (near : HadNoFreeNear s t w) → place_of (places near.older) w ≡ None → ⊥
+near_with_its_place s t w near none = let both = sym none ∙ near.place_is in absurd cc
+
+one_is_free_near : NoneFreeIn (record session { sizes = record sizes { physical = 2 } }) took 0 → ⊥
+one_is_free_near none = none (block 90) (record { slab = 0; offset = 11; inside = (omega arith, omega arith); stands = refl }) refl refl
 
 -- A flush is stopped after a stop, and answered Ok with its mark alone.
 flush_stopped : HasCause session (stopped begun) flush request.Flush Stopped

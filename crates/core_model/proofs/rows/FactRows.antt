@@ -16,12 +16,13 @@ use Rattle.data_vio.specs.declared.items.Item.TheVariants.{Request, Decrement, R
 use Rattle.data_vio.specs.declared.items.Phase.TheVariants as phase
 use Rattle.data_vio.specs.declared.items.Vio.{Vio}
 use Rattle.core_model.specs.declared.zones.Zone.{Zone}
+use Rattle.core_model.specs.CountUpdates.{replaced_in}
 use Rattle.core_model.specs.Facts.{AreFirstClaims, Carries, ClaimOk, DataOk, IsDecrement, IsInTurn, IsSoundPhysical, ItemOk, PhysicalLists, VioOk, ZoneOk}
 use Rattle.core_model.specs.Sessions.{IsFair}
 use Rattle.core_model.specs.Trace.{Commits, Enters, Gives, Removes, Sets, Trace, strayed}
 use Rattle.plain_laws.specs.Sums.{Each}
 use Rattle.core_model.proofs.rows.PhaseRows.{device, has_block, nothing, one, physical, seven, slab_with, vio, writes, zone_with}
-use Rattle.core_model.proofs.rows.WorkedTraces.{address, block, given, of_first, of_second, leafy, other, session, took, two_not_zeros, y}
+use Rattle.core_model.proofs.rows.WorkedTraces.{sizes, address, block, given, of_first, of_second, leafy, other, session, took, two_not_zeros, y}
 
 -- the physical zone with these counters and claims
 abbrev physical_of : List ℕ → List ℕ → PhysicalZone
@@ -184,16 +185,20 @@ own = record { data_block = record { slab = 0; offset = 6; inside = (omega arith
 a_claim_too_few : ¬ PhysicalLists leafy took (physical_of nothing nothing)
 a_claim_too_few = λ lists. let uses = lists.uses (block 85) own in omega (arith, uses)
 
+-- of a stray of another zone it keeps nothing
+strays_of_its_own : (replaced_in sizes 0 (of_second ∷ []) ≡ of_second ∷ []) × (replaced_in sizes 1 (of_second ∷ []) ≡ [])
+strays_of_its_own = (refl, refl)
+
 a_claim_too_many : ¬ PhysicalLists leafy [] (physical_of nothing one)
 a_claim_too_many = λ lists. let uses = lists.uses (block 85) own in omega (arith, uses)
 
 a_counter_too_many : ¬ PhysicalLists leafy [] (physical_of seven nothing)
 a_counter_too_many = λ lists. let counters = lists.counters (block 85) own in omega (arith, counters)
 
-stray_unkept : (t : Trace) → strayed t ≢ [] → ¬ PhysicalLists leafy t (physical_of nothing one)
+stray_unkept : (t : Trace) → replaced_in sizes 0 (strayed t) ≢ [] → ¬ PhysicalLists leafy t (physical_of nothing one)
 stray_unkept t some = λ lists. some (sym lists.strays_are)
 
--- IsSoundPhysical: all slabs of the session's image, in one zone, without tickets; a block that is claimed is mapped by nobody, and
+-- IsSoundPhysical: the slabs of its number, in as many zones as the session has, without tickets; a block that is claimed is mapped by nobody, and
 -- claimed once
 claimed_and_mapped : ¬ AreFirstClaims (zone_with (slab_with seven one))
 claimed_and_mapped = λ are. let both = (are (block 85) (omega arith)).0 in omega (arith, both)

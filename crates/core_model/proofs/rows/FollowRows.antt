@@ -34,7 +34,7 @@ use Rattle.data_vio.specs.declared.logged.Logged.{Logged}
 use Rattle.data_vio.specs.declared.logged.Remapping.{Remapping}
 use Rattle.data_vio.specs.declared.logged.NewPage.{NewPage}
 use Rattle.core_model.specs.Trace.{applied, filled, new_of, Says, Flushes, Draws, Enters, Seals, Commits, Sets, Gives, Takes, Drops, Adds, Removes, Strays, Hears, Aborts, Calls, Fails, Trace, Happening}
-use Rattle.core_model.proofs.rows.WorkedTraces.{address, block, leafy, writer, x, y, first, reader, second, other, late, flush, sizes, begun, drawn, took, handed_in, in_block, lasting, counted, set, stopped, place, entry, of_first, of_second, of_other, given, one_not_zeros, two_not_zeros}
+use Rattle.core_model.proofs.rows.WorkedTraces.{in_first_zone, address, block, leafy, writer, x, y, first, reader, second, other, late, flush, sizes, begun, drawn, took, handed_in, in_block, lasting, counted, set, stopped, place, entry, of_first, of_second, of_other, given, one_not_zeros, two_not_zeros}
 
 -- the session, with a journal that takes two blocks; and without leaves
 abbrev pub roomy : Session
@@ -230,16 +230,16 @@ drops_a_data_block may = let stands = may.1.is_data.stands in absurd (omega (ari
 
 -- An increment is taken once it is committed, of an open request, in the order of updates.
 adds : May (Adds (Remaps of_first)) lasting
-adds = record { is_open = record { is_begun = omega arith; unanswered = refl }; next = ([], refl) }
+adds = record { is_open = record { is_begun = omega arith; unanswered = refl }; next = record { zone = 0; own = refl; rest = []; next = refl } }
 
 adds_while_open : May (Adds (Remaps of_first)) (Says (Answer first Stopped) ∷ lasting) → ⊥
 adds_while_open may = let no = may.is_open.unanswered in absurd cc
 
 adds_what_is_committed : May (Adds (Remaps of_first)) in_block → ⊥
-adds_what_is_committed may = let all = ap length may.next.1 in absurd (omega (arith, all))
+adds_what_is_committed may = let all = ap length (in_first_zone roomy.sizes _ _ _ (block 85) refl refl may.next).1 in absurd (omega (arith, all))
 
 adds_once : May (Adds (Remaps of_first)) counted → ⊥
-adds_once may = let all = ap length may.next.1 in absurd (omega (arith, all))
+adds_once may = let all = ap length (in_first_zone roomy.sizes _ _ _ (block 85) refl refl may.next).1 in absurd (omega (arith, all))
 
 -- the second write is committed and counted, which replaces the block of the first one
 abbrev both_last : Trace
@@ -251,7 +251,7 @@ both = Adds (Remaps of_second) ∷ both_last
 -- A decrement is taken behind the increment of its entry, where a mapping of its block was counted.
 removes : May (Removes of_second) both
 removes = record {
-  next = ([], refl);
+  next = record { zone = 0; own = refl; rest = []; next = refl };
   block = block 85;
   old_is = refl;
   loss = record { is_data = record { slab = 0; offset = 5; inside = (omega arith, omega arith); stands = refl }; some = omega arith };
@@ -263,7 +263,7 @@ second_kind (u ∷ Decrement e ∷ us) = 1
 second_kind us = 2
 
 removes_behind_its_increment : May (Removes of_second) both_last → ⊥
-removes_behind_its_increment may = let kind : 0 ≡ 1 = ap second_kind may.next.1 in absurd (omega (arith, kind))
+removes_behind_its_increment may = let kind : 0 ≡ 1 = ap second_kind (in_first_zone roomy.sizes _ _ _ (block 85) refl refl may.next).1 in absurd (omega (arith, kind))
 
 removes_from_a_block : May (Removes of_first) set → ⊥
 removes_from_a_block may = let old = may.old_is in absurd cc
@@ -276,7 +276,7 @@ abbrev astray : Trace
 astray = Adds (Remaps of_stray) ∷ Commits (Remaps of_stray) ∷ Seals ∷ Enters (Remaps of_stray) ∷ Takes second None (block 86) ∷ set
 
 strays : May (Strays of_stray) astray
-strays = record { next = ([], refl); block = block 90; old_is = refl; none_counted = refl }
+strays = record { next = record { zone = 0; own = refl; rest = []; next = refl }; block = block 90; old_is = refl; none_counted = refl }
 
 same_block : (x y : Pbn) → At x ≡ At y → x ≡ y
 same_block x y is = cc

@@ -17,10 +17,13 @@ use Rattle.core_model.specs.Legal.{ComesAfter, Legal, share}
 use Rattle.core_model.specs.Steps.{Core}
 use Rattle.core_model.specs.Trace.{Says, Trace}
 use Rattle.blk_base.specs.declared.place.PageId.{PageId}
+use Rattle.core_model.specs.CountUpdates.{CountUpdate}
+use Rattle.core_model.specs.RightTraces.{GivesRight}
+use Rattle.core_model.specs.Sessions.{IsFair}
 use Rattle.core_model.specs.declared.zones.ZoneData.TheVariants as at
 use Rattle.core_model.proofs.rows.PageActRows.{leaf}
 use Rattle.core_model.proofs.rows.PhaseRows.{leafy, device, desk, empty_log, has_block, journal, nothing, one, seven, lock, log_with, logical, of_write, physical, vio}
-use Rattle.core_model.proofs.rows.WorkedTraces.{begun, block, first, of_first, of_second, place, reader, second, session}
+use Rattle.core_model.proofs.rows.WorkedTraces.{lasting, begun, block, first, of_first, of_second, place, reader, second, session}
 use Rattle.recovery_journal.specs.Log.{placed}
 
 -- its six zones, with nothing in their lanes, and only some of them
@@ -137,6 +140,23 @@ arrivals_lost = λ legal.
     let same = (legal.in_order 0 (omega arith)).in_order (zone 1 (logical 0 [] [] [] [] [])) (zone 0 (desk [] [] 0 [])) [] refl refl refl in
     let count : 3 ≡ 0 = ap (λ (ws : List Writer). length ws) same in
     omega (arith, count)
+
+-- updates: the journal committed an entry, and its increment came to no physical zone and isn't on its way
+abbrev unsent_update : Core
+unsent_update =
+    core
+    (zone 0 (desk [] [] 0 []) ∷ zone 1 (logical 0 [] [] [] [] []) ∷ zone 2 (logical 0 [] [] [] [] []) ∷ zone 3 (physical nothing nothing) ∷ zone 4 (journal true empty_log [] [] [] []) ∷ [])
+    lasting
+
+update_lost : ¬ Legal session unsent_update
+update_lost = λ legal.
+    let same = (legal.updates 0 (omega arith)).in_order (zone 3 (physical nothing nothing)) (zone 4 (journal true empty_log [] [] [] [])) [] refl refl refl in
+    let count : 1 ≡ 0 = ap (λ (us : List CountUpdate). length us) same in
+    omega (arith, count)
+
+-- gives_right: what a fair session shows is no other value
+shows_another : (zones : List Zone) (t : Trace) → IsFair session t → ¬ GivesRight session t → ¬ Legal session (core zones t)
+shows_another zones t fair wrong = λ legal. wrong (legal.gives_right fair)
 
 -- right: an answer may not follow where nothing was begun
 answers_early : (zones : List Zone) → ¬ Legal session (core zones (Says (line.Answer first reply.Ok) ∷ []))

@@ -18,7 +18,7 @@ use Rattle.plain_laws.specs.Sums.{total}
 
 -- so many logical zones, and so many requests of a stream under way
 abbrev sized : (zones depth : ℕ) → Sizes
-sized zones depth = record sizes { zones = zones; depth = depth }
+sized zones depth = record sizes { zones = zones; physical = 1; depth = depth }
 
 -- one stream of so many flushes, and so many empty ones
 abbrev flushes : ℕ → List Request
@@ -37,13 +37,14 @@ all_of_them requests empty = omega (arith, length-replicate requests request.Flu
 has_streams : (requests empty : ℕ) → length (streams requests empty) ≡ 1 + empty
 has_streams requests empty = omega (arith, length-replicate {A = List Request} empty [])
 
--- sixteen streams, sixteen requests of each under way, 65,536 requests, and four logical zones
-largest : IsLimited (sized 4 16) (streams 65536 15)
+-- sixteen streams, sixteen requests of each under way, 65,536 requests, and four logical and four physical zones
+largest : IsLimited (record (sized 4 16) { physical = 4 }) (streams 65536 15)
 largest = record {
   streams = omega (arith, has_streams 65536 15);
   depth = omega arith;
   requests = omega (arith, all_of_them 65536 15);
   zones = omega arith;
+  physical = omega arith;
 }
 
 -- one more of each
@@ -59,6 +60,9 @@ too_many_requests is = absurd (omega (arith, is.requests, all_of_them 65537 15))
 too_many_zones : IsLimited (sized 5 16) (streams 65536 15) → ⊥
 too_many_zones is = absurd (omega (arith, is.zones))
 
+too_many_physical : IsLimited (record (sized 4 16) { physical = 5 }) (streams 65536 15) → ⊥
+too_many_physical is = absurd (omega (arith, is.physical))
+
 -- a desk over the six requests of the script, with so many lines and marks, so many that wait, and so many notices heard
 abbrev line : DeskLine
 line = Begin first
@@ -72,24 +76,24 @@ waits = writes phase.Reply
 abbrev desk : (lines marks parked notices : ℕ) → Desk
 desk lines marks parked notices = record { requests = script; log = replicate lines line; marks = replicate marks mark; notices = notices; parked = replicate parked waits }
 
--- twelve lines, six marks, as many requests as are under way in all, and a notice of each of six zones
-fullest : IsDeskWithin (desk 12 6 520 6)
+-- twelve lines, six marks, as many requests as are under way in all, and a notice of each of nine zones
+fullest : IsDeskWithin (desk 12 6 526 9)
 fullest = record {
   log = omega (arith, length-replicate 12 line);
   marks = omega (arith, length-replicate 6 mark);
-  parked = omega (arith, length-replicate 520 waits);
+  parked = omega (arith, length-replicate 526 waits);
   notices = omega arith;
 }
 
 -- one more of each
-too_many_lines : IsDeskWithin (desk 13 6 520 6) → ⊥
+too_many_lines : IsDeskWithin (desk 13 6 526 9) → ⊥
 too_many_lines is = absurd (omega (arith, is.log, length-replicate 13 line))
 
-too_many_marks : IsDeskWithin (desk 12 7 520 6) → ⊥
+too_many_marks : IsDeskWithin (desk 12 7 526 9) → ⊥
 too_many_marks is = absurd (omega (arith, is.marks, length-replicate 7 mark))
 
-too_many_parked : IsDeskWithin (desk 12 6 521 6) → ⊥
-too_many_parked is = absurd (omega (arith, is.parked, length-replicate 521 waits))
+too_many_parked : IsDeskWithin (desk 12 6 527 9) → ⊥
+too_many_parked is = absurd (omega (arith, is.parked, length-replicate 527 waits))
 
-too_many_notices : IsDeskWithin (desk 12 6 520 7) → ⊥
+too_many_notices : IsDeskWithin (desk 12 6 526 10) → ⊥
 too_many_notices is = absurd (omega (arith, is.notices))

@@ -352,7 +352,7 @@ goes_to_enter : Acts (logical 1 [] (lock 0 ∷ []) [] [] []) (Request (record (v
 goes_to_enter = serves (LogicalServes.leafed _ refl refl refl refl refl)
 
 -- a flush takes no lock, and goes nowhere
-flush_goes_nowhere : goes_on (vio flush asks.Flush phase.LoadedLeaf 0) ≡ None
+flush_goes_nowhere : goes_on sizes (vio flush asks.Flush phase.LoadedLeaf 0) ≡ None
 flush_goes_nowhere = refl
 
 -- Claim: the lowest free block, or none is free
@@ -552,10 +552,10 @@ commits : Acts (journal true (log_with 2 [] (placed 1 0 (of_write ∷ of_read �
 commits = ends (JournalEnds.commits _ _ refl refl (omega arith) refl refl refl)
 
 -- one that has no block goes to its slot; and one that replaces a block has its decrement behind it
-hands_to_its_slot : hands_out (record (writes phase.Pending) { new = Zero }) ≡ (id.Logical 0, Request (record (writes phase.Settle) { new = Zero })) ∷ []
+hands_to_its_slot : hands_out sizes (record (writes phase.Pending) { new = Zero }) ≡ (id.Logical 0, Request (record (writes phase.Settle) { new = Zero })) ∷ []
 hands_to_its_slot = refl
 
-hands_a_decrement : hands_out (record (writes phase.Pending) { old = At (block 90) }) ≡ (id.Physical 0, Request (record (writes phase.Count) { old = At (block 90) })) ∷ (id.Physical 0, Decrement (record of_first { old = At (block 90) })) ∷ []
+hands_a_decrement : hands_out sizes (record (writes phase.Pending) { old = At (block 90) }) ≡ (id.Physical 0, Request (record (writes phase.Count) { old = At (block 90) })) ∷ (id.Physical 0, Decrement (record of_first { old = At (block 90) })) ∷ []
 hands_a_decrement = refl
 
 seals : Acts (journal true (log_with 1 (of_write ∷ []) [] 0 1) (writes phase.Pending ∷ []) (reads phase.Enter ∷ []) [] []) (Block (block_of stage.Commit []) ∷ [])

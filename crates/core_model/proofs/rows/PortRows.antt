@@ -17,18 +17,18 @@ boxes inbox outboxes = record { inbox = inbox; outboxes = outboxes }
 ports : ports_of (boxes (queue 5 1) (queue 6 2 ∷ queue 7 0 ∷ [])) ≡ record { inbox = StopNotice ∷ []; outboxes = (StopNotice ∷ StopNotice ∷ []) ∷ [] ∷ [] }
 ports = refl
 
--- IsLane: 1440 items fit
-lane_full : IsLane (queue 1440 1440)
-lane_full = record { room = refl; filled = omega (arith, length-replicate 1440 StopNotice) }
+-- IsLane: 1452 items fit
+lane_full : IsLane (queue 1452 1452)
+lane_full = record { room = refl; filled = omega (arith, length-replicate 1452 StopNotice) }
 
-lane_of_less_room : IsLane (queue 1439 0) → ⊥
+lane_of_less_room : IsLane (queue 1451 0) → ⊥
 lane_of_less_room is = absurd (omega (arith, is.room))
 
-lane_too_full : IsLane (queue 1440 1441) → ⊥
-lane_too_full is = absurd (omega (arith, is.filled, length-replicate 1441 StopNotice))
+lane_too_full : IsLane (queue 1452 1453) → ⊥
+lane_too_full is = absurd (omega (arith, is.filled, length-replicate 1453 StopNotice))
 
 -- AreLanes: the inbox, and each outbox
-lanes_all : AreLanes (boxes (queue 1440 1) (queue 1440 0 ∷ queue 1440 2 ∷ []))
+lanes_all : AreLanes (boxes (queue 1452 1) (queue 1452 0 ∷ queue 1452 2 ∷ []))
 lanes_all = record {
   inbox = record { room = refl; filled = omega arith };
   outboxes = (record { room = refl; filled = omega arith }, (record { room = refl; filled = omega arith }, tt));
@@ -38,8 +38,8 @@ lanes_all = record {
 lanes_not_the_inbox : AreLanes (boxes (queue 0 0) []) → ⊥
 lanes_not_the_inbox are = let room = are.inbox.room in absurd (omega (arith, room))
 
-lanes_not_the_second : AreLanes (boxes (queue 1440 0) (queue 1440 0 ∷ queue 3 0 ∷ [])) → ⊥
+lanes_not_the_second : AreLanes (boxes (queue 1452 0) (queue 1452 0 ∷ queue 3 0 ∷ [])) → ⊥
 lanes_not_the_second are = let room = are.outboxes.1.0.room in absurd (omega (arith, room))
 
-lanes_too_many : (outboxes : List (Queue Item)) → length outboxes ≡ 4294967296 → AreLanes (boxes (queue 1440 0) outboxes) → ⊥
+lanes_too_many : (outboxes : List (Queue Item)) → length outboxes ≡ 4294967296 → AreLanes (boxes (queue 1452 0) outboxes) → ⊥
 lanes_too_many outboxes many are = let few = are.few in absurd (omega (arith, few, many))

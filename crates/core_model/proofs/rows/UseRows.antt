@@ -1,6 +1,6 @@
 -- How often blocks are used by what happened, the updates in their order, and what tokens weigh: each at a small case that has it,
 -- and at one that hasn't.
-use Rattle.std.proofs.Common.{ℕ, ◌≡◌, ◌+◌, true, false, None, Some, List, [], ◌∷◌, replicate, refl, arith, length, ap}
+use Rattle.std.proofs.Common.{ℕ, ◌≡◌, ◌+◌, true, false, None, Some, List, [], ◌∷◌, replicate, refl, arith, length, length-append, ap, sym, subst}
 use Rattle.blk_base.specs.Regions.{IsDataBlock}
 use Rattle.blk_base.specs.declared.place.Mapping.TheVariants.{Unmapped, Zero, At}
 use Rattle.blk_base.specs.declared.place.PageId.{PageId}
@@ -11,18 +11,23 @@ use Rattle.data_vio.specs.declared.items.Item.TheVariants.{Request, Decrement, R
 use Rattle.data_vio.specs.declared.items.Phase.TheVariants as phase
 use Rattle.data_vio.specs.declared.logged.Logged.TheVariants.{Remaps, Makes}
 use Rattle.data_vio.specs.declared.logged.Remapping.{Remapping}
-use Rattle.core_model.specs.CountUpdates.{IsNextUpdate, updates_by, updates_of, updates_taken}
+use Rattle.core_model.specs.CountUpdates.{IsNextUpdate, is_counted_in, replaced_in, updates_by, updates_in, updates_of, updates_taken}
 use Rattle.core_model.specs.CountUpdates as update
 use Rattle.core_model.specs.Facts.{AwaitsReport}
 use Rattle.core_model.specs.Sessions.{Session}
 use Rattle.core_model.specs.Tokens.{Token, block_token, claim_token, damage_token, is_entry, is_old, leads_to, report_token, waiter_token}
 use Rattle.core_model.specs.Trace.{Adds, Commits, Drops, Hears, Removes, Strays, Takes, Trace, added, claimed, damage_in, has_stopped, removed, strayed, unclaimed}
-use Rattle.core_model.specs.Uses.{IsFreeAt, NoneFree, counted, data_blocks, gained, is_used, lost, sum_below, uncounted, used_at, used_of_slab}
+use Rattle.core_model.specs.Uses.{IsFreeAt, NoneFree, NoneFreeIn, counted, data_blocks, gained, is_used, lost, sum_below, uncounted, used_at, used_of_slab}
 use Rattle.core_model.specs.declared.zones.ZoneData.{ZoneData}
 use Rattle.core_model.specs.declared.zones.ZoneData.TheVariants as at
 use Rattle.vdo_model.specs.declared.report.Damage.TheVariants.{Stray}
 use Rattle.core_model.proofs.rows.PhaseRows.{empty_log, has_block, journal, logical, nothing, one, physical, seven, slab_with, writes, zone_with}
-use Rattle.core_model.proofs.rows.WorkedTraces.{block, first, of_first, of_second, second, session, took}
+use Rattle.core_model.proofs.rows.WorkedTraces.{block, first, of_first, of_second, second, session, sizes, took}
+use Rattle.blk_base.specs.Regions.{first_slab_of, slab_stride_of}
+use Rattle.data_vio.specs.declared.sizes.Sizes.{Sizes}
+use Rattle.std.proofs.Math.Nat.{mod-one}
+use Rattle.std.proofs.lemmas.Bool.{eqb-true}
+use Rattle.zone_counts.specs.Zone.{slab_number}
 use Rattle.blk_base.specs.declared.place.ZoneId.TheVariants as id
 
 abbrev leaf : PageId
@@ -66,6 +71,13 @@ free_again = refl
 not_free : ¬ IsFreeAt session took (block 85)
 not_free = λ free. omega (arith, free)
 
+-- NoneFreeIn: of the blocks of the zone alone
+some_is_free_here : ¬ NoneFreeIn session took 0
+some_is_free_here = λ none. none (block 90) (record { slab = 0; offset = 11; inside = (omega arith, omega arith); stands = refl }) refl refl
+
+none_of_another_zone : NoneFreeIn session took 1
+none_of_another_zone = λ x is_data here free. let one = mod-one (slab_number sizes.geometry x) in omega (arith, one, here)
+
 some_is_free : ¬ NoneFree session took
 some_is_free = λ none. none (block 90) (record { slab = 0; offset = 11; inside = (omega arith, omega arith); stands = refl }) refl
 
@@ -99,11 +111,40 @@ taken_so_far : (updates_taken (Strays of_second ∷ Adds (Remaps of_second) ∷ 
     × (updates_taken (Removes of_second ∷ Adds (Remaps of_second) ∷ Adds (Remaps of_first) ∷ took) ≡ updates_of (Remaps of_second ∷ Remaps of_first ∷ []))
 taken_so_far = (refl, refl)
 
-next_one : IsNextUpdate (Remaps of_second ∷ Remaps of_first ∷ []) (Adds (Remaps of_first) ∷ took) (update.Increment (Remaps of_second))
-next_one = (update.Decrement of_second ∷ [], refl)
+-- is_counted_in, updates_in, replaced_in: of the first of two zones, in its order
+abbrev two : Sizes
+two = record sizes { geometry = record sizes.geometry { slabs = 2 }; physical = 2 }
 
-none_is_next : (u : update.CountUpdate) → ¬ IsNextUpdate (Remaps of_first ∷ []) (Adds (Remaps of_first) ∷ took) u
-none_is_next u = λ is. let all = ap length is.1 in omega (arith, all)
+abbrev elsewhere : Remapping
+elsewhere = record of_second { old = Unmapped; new = At (block (first_slab_of two.geometry + slab_stride_of two.geometry)) }
+
+counted_by_zone : (is_counted_in two 0 (At (block 85)) ≡ true) × (is_counted_in two 1 (At (block 85)) ≡ false) × (is_counted_in two 1 elsewhere.new ≡ true) × (is_counted_in two 0 Zero ≡ false) × (is_counted_in two 0 Unmapped ≡ false)
+counted_by_zone = (refl, refl, refl, refl, refl)
+
+parted : (updates_in two 0 (updates_of (Remaps elsewhere ∷ Remaps of_second ∷ Remaps of_first ∷ [])) ≡ update.Increment (Remaps of_first) ∷ update.Increment (Remaps of_second) ∷ update.Decrement of_second ∷ [])
+    × (updates_in two 1 (updates_of (Remaps elsewhere ∷ Remaps of_second ∷ Remaps of_first ∷ [])) ≡ update.Increment (Remaps elsewhere) ∷ [])
+    × (replaced_in two 0 (of_second ∷ elsewhere ∷ []) ≡ of_second ∷ []) × (replaced_in two 1 (of_second ∷ []) ≡ [])
+parted = (refl, refl, refl, refl)
+
+-- IsNextUpdate: the next of its zone, whatever another zone has yet to take; that it is of the zone follows, since the zone's
+-- updates have it
+next_one : IsNextUpdate sizes (Remaps of_second ∷ Remaps of_first ∷ []) (Adds (Remaps of_first) ∷ took) (update.Increment (Remaps of_second))
+next_one = record { zone = 0; own = refl; rest = update.Decrement of_second ∷ []; next = refl }
+
+next_of_its_zone : IsNextUpdate two (Remaps elsewhere ∷ Remaps of_first ∷ []) took (update.Increment (Remaps elsewhere))
+next_of_its_zone = record { zone = 1; own = refl; rest = []; next = refl }
+
+not_before_the_first : ¬ IsNextUpdate two (Remaps of_second ∷ Remaps of_first ∷ []) took (update.Increment (Remaps of_second))
+not_before_the_first = λ is.
+    let zone : 0 ≡ is.zone = eqb-true 0 is.zone is.own in
+    let first_one = subst (λ (z : ℕ). updates_in two z (updates_of (Remaps of_second ∷ Remaps of_first ∷ [])) ≡ update.Increment (Remaps of_second) ∷ is.rest) (sym zone) is.next in
+    cc
+
+none_is_next : (u : update.CountUpdate) → ¬ IsNextUpdate sizes (Remaps of_first ∷ []) (Adds (Remaps of_first) ∷ took) u
+none_is_next u = λ is.
+    let all = ap length is.next in
+    let parts = length-append (updates_in sizes is.zone (update.Increment (Remaps of_first) ∷ [])) (u ∷ is.rest) in
+    omega (arith, all, parts)
 
 -- damage of another zone stops the session, and is its damage
 stops : (has_stopped (Hears (Stray (block 85) 0) ∷ took) ≡ true) × (damage_in (Hears (Stray (block 86) 0) ∷ Hears (Stray (block 85) 0) ∷ took) ≡ Some (Stray (block 85) 0)) × (has_stopped (Strays of_second ∷ took) ≡ false)

@@ -1,6 +1,6 @@
 -- A small session of three streams and two zones, and what happens in it: at these the definitions of a right trace are
 -- computed. Its journal takes one block, and two data blocks are free.
-use Rattle.std.proofs.Common.{Option, None, Some, ℕ, ◌≡◌, ◌≢◌, true, false, List, [], ◌∷◌, length, replicate, ap, arith, if◌then◌else◌}
+use Rattle.std.proofs.Common.{Option, None, Some, ℕ, ◌≡◌, ◌≢◌, ◌∙◌, true, false, List, [], ◌∷◌, ◌++◌, length, replicate, ap, sym, subst, arith, if◌then◌else◌}
 use Rattle.std.proofs.lemmas.List.{length-replicate}
 use Rattle.image_model.specs.Pages.{is_page, leaf_of}
 use Rattle.blk_base.specs.Sectors.{zero_block}
@@ -18,7 +18,11 @@ use Rattle.vdo_model.specs.Scripts.{Script}
 use Rattle.data_vio.specs.declared.logged.Logged.TheVariants.{Remaps}
 use Rattle.data_vio.specs.declared.sizes.Sizes.{Sizes}
 use Rattle.data_vio.specs.declared.logged.Remapping.{Remapping}
+use Rattle.core_model.specs.CountUpdates.{CountUpdate, IsNextUpdate, is_counted_in, mapping_of, updates_in, updates_of, updates_taken}
 use Rattle.core_model.specs.Sessions.{Session}
+use Rattle.data_vio.specs.Zones.{physical_zone_of}
+use Rattle.data_vio.specs.declared.logged.Logged.{Logged}
+use Rattle.std.proofs.lemmas.Bool.{eqb-true}
 use Rattle.core_model.specs.Trace.{Gift, Says, Draws, Enters, Seals, Commits, Adds, Sets, Takes, Fails, Trace}
 
 abbrev pub address : ℕ → Lba
@@ -79,11 +83,19 @@ sizes = record {
   geometry = record { logical = 1000; slabs = 1; slab_blocks = 64; journal = 2; index = 16; slab_journal = 4; height = 2; nonce = 1 };
   start = 1;
   zones = 2;
+  physical = 1;
   depth = 2;
 }
 
 abbrev pub session : Session
 session = record { sizes = sizes; script = script; links = λ page. None; counters = replicate 64 0; blocks = []; before = []; image = [] }
+
+-- an update of a block in the first slab is one of the first physical zone
+pub in_first_zone : (of : Sizes) (es : List Logged) (t : Trace) (u : CountUpdate) (x : Pbn) → mapping_of u ≡ At x → physical_zone_of of x ≡ 0 → IsNextUpdate of es t u
+    → (rest : List CountUpdate) × (updates_in of 0 (updates_of es) ≡ updates_in of 0 (updates_taken t) ++ u ∷ rest)
+in_first_zone of es t u x is home next =
+    let zone : 0 ≡ next.zone = sym home ∙ eqb-true (physical_zone_of of x) next.zone (sym (ap (is_counted_in of next.zone) is) ∙ next.own) in
+    (next.rest, subst (λ (z : ℕ). updates_in of z (updates_of es) ≡ updates_in of z (updates_taken t) ++ u ∷ next.rest) (sym zone) next.next)
 
 -- the same, where the image links the leaves of both addresses
 abbrev pub leaves : PageId → Option Pbn

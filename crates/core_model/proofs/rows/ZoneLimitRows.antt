@@ -62,55 +62,55 @@ with_pages l making lacking unlinkable = record l { making = replicate making le
 abbrev with_reports : LogicalZone → ℕ → ℕ → LogicalZone
 with_reports l settling reported = record l { settling = replicate settling waits; reported = replicate reported of_first }
 
--- one that made nine steps: nine places at most, 65,536 requests in all, 520 items under way, one entry of each request for its
+-- one that made nine steps: nine places at most, 65,536 requests in all, 526 items under way, one entry of each request for its
 -- address, and two for pages
-logical_full : IsLogicalWithin 9 (with_reports (with_pages (logical 9 65536 520 520 65536 65536) 520 520 196608) 520 520)
+logical_full : IsLogicalWithin 9 (with_reports (with_pages (logical 9 65536 526 526 65536 65536) 526 526 196608) 526 526)
 logical_full = record {
   next = omega arith;
   places = omega (arith, length-replicate 65536 drawn);
-  held = omega (arith, length-replicate 520 lock);
-  waiting = omega (arith, length-replicate 520 waits);
+  held = omega (arith, length-replicate 526 lock);
+  waiting = omega (arith, length-replicate 526 waits);
   retired = omega (arith, length-replicate 65536 (address 0));
   slots = omega (arith, length-replicate 65536 of_first);
-  making = omega (arith, length-replicate 520 leaf);
-  lacking = omega (arith, length-replicate 520 waits);
+  making = omega (arith, length-replicate 526 leaf);
+  lacking = omega (arith, length-replicate 526 waits);
   unlinkable = omega (arith, length-replicate 196608 leaf);
-  settling = omega (arith, length-replicate 520 waits);
-  reported = omega (arith, length-replicate 520 of_first);
+  settling = omega (arith, length-replicate 526 waits);
+  reported = omega (arith, length-replicate 526 of_first);
 }
 
-logical_settling : IsLogicalWithin 9 (with_reports (logical 9 65536 520 520 65536 65536) 521 520) → ⊥
-logical_settling is = absurd (omega (arith, is.settling, length-replicate 521 waits))
+logical_settling : IsLogicalWithin 9 (with_reports (logical 9 65536 526 526 65536 65536) 527 526) → ⊥
+logical_settling is = absurd (omega (arith, is.settling, length-replicate 527 waits))
 
-logical_reported : IsLogicalWithin 9 (with_reports (logical 9 65536 520 520 65536 65536) 520 521) → ⊥
-logical_reported is = absurd (omega (arith, is.reported, length-replicate 521 of_first))
+logical_reported : IsLogicalWithin 9 (with_reports (logical 9 65536 526 526 65536 65536) 526 527) → ⊥
+logical_reported is = absurd (omega (arith, is.reported, length-replicate 527 of_first))
 
-logical_making : IsLogicalWithin 9 (with_pages (logical 9 65536 520 520 65536 65536) 521 520 196608) → ⊥
-logical_making is = absurd (omega (arith, is.making, length-replicate 521 leaf))
+logical_making : IsLogicalWithin 9 (with_pages (logical 9 65536 526 526 65536 65536) 527 526 196608) → ⊥
+logical_making is = absurd (omega (arith, is.making, length-replicate 527 leaf))
 
-logical_lacking : IsLogicalWithin 9 (with_pages (logical 9 65536 520 520 65536 65536) 520 521 196608) → ⊥
-logical_lacking is = absurd (omega (arith, is.lacking, length-replicate 521 waits))
+logical_lacking : IsLogicalWithin 9 (with_pages (logical 9 65536 526 526 65536 65536) 526 527 196608) → ⊥
+logical_lacking is = absurd (omega (arith, is.lacking, length-replicate 527 waits))
 
-logical_unlinkable : IsLogicalWithin 9 (with_pages (logical 9 65536 520 520 65536 65536) 520 520 196609) → ⊥
+logical_unlinkable : IsLogicalWithin 9 (with_pages (logical 9 65536 526 526 65536 65536) 526 526 196609) → ⊥
 logical_unlinkable is = absurd (omega (arith, is.unlinkable, length-replicate 196609 leaf))
 
 -- one more of each
-logical_next : IsLogicalWithin 9 (logical 10 65536 520 520 65536 65536) → ⊥
+logical_next : IsLogicalWithin 9 (logical 10 65536 526 526 65536 65536) → ⊥
 logical_next is = absurd (omega (arith, is.next))
 
-logical_places : IsLogicalWithin 9 (logical 9 65537 520 520 65536 65536) → ⊥
+logical_places : IsLogicalWithin 9 (logical 9 65537 526 526 65536 65536) → ⊥
 logical_places is = absurd (omega (arith, is.places, length-replicate 65537 drawn))
 
-logical_held : IsLogicalWithin 9 (logical 9 65536 521 520 65536 65536) → ⊥
-logical_held is = absurd (omega (arith, is.held, length-replicate 521 lock))
+logical_held : IsLogicalWithin 9 (logical 9 65536 527 526 65536 65536) → ⊥
+logical_held is = absurd (omega (arith, is.held, length-replicate 527 lock))
 
-logical_waiting : IsLogicalWithin 9 (logical 9 65536 520 521 65536 65536) → ⊥
-logical_waiting is = absurd (omega (arith, is.waiting, length-replicate 521 waits))
+logical_waiting : IsLogicalWithin 9 (logical 9 65536 526 527 65536 65536) → ⊥
+logical_waiting is = absurd (omega (arith, is.waiting, length-replicate 527 waits))
 
-logical_retired : IsLogicalWithin 9 (logical 9 65536 520 520 65537 65536) → ⊥
+logical_retired : IsLogicalWithin 9 (logical 9 65536 526 526 65537 65536) → ⊥
 logical_retired is = absurd (omega (arith, is.retired, length-replicate 65537 (address 0)))
 
-logical_slots : IsLogicalWithin 9 (logical 9 65536 520 520 65536 65537) → ⊥
+logical_slots : IsLogicalWithin 9 (logical 9 65536 526 526 65536 65537) → ⊥
 logical_slots is = absurd (omega (arith, is.slots, length-replicate 65537 of_first))
 
 -- a journal with so many of each
@@ -126,28 +126,28 @@ journal sequence filling waiting entered committed = record {
   committed = replicate committed (Remaps of_first);
 }
 
-journal_full : IsJournalWithin (journal (2 ^ 55 - 1) 192 520 196608 196608)
+journal_full : IsJournalWithin (journal (2 ^ 55 - 1) 192 526 196608 196608)
 journal_full = record {
   sequence = omega arith;
   filling = omega (arith, length-replicate 192 waits);
-  waiting = omega (arith, length-replicate 520 waits);
+  waiting = omega (arith, length-replicate 526 waits);
   entered = omega (arith, length-replicate 196608 (Remaps of_first));
   committed = omega (arith, length-replicate 196608 (Remaps of_first));
 }
 
-journal_sequence : IsJournalWithin (journal (2 ^ 55) 192 520 196608 196608) → ⊥
+journal_sequence : IsJournalWithin (journal (2 ^ 55) 192 526 196608 196608) → ⊥
 journal_sequence is = absurd (omega (arith, is.sequence))
 
-journal_filling : IsJournalWithin (journal 1 193 520 196608 196608) → ⊥
+journal_filling : IsJournalWithin (journal 1 193 526 196608 196608) → ⊥
 journal_filling is = absurd (omega (arith, is.filling, length-replicate 193 waits))
 
-journal_waiting : IsJournalWithin (journal 1 192 521 196608 196608) → ⊥
-journal_waiting is = absurd (omega (arith, is.waiting, length-replicate 521 waits))
+journal_waiting : IsJournalWithin (journal 1 192 527 196608 196608) → ⊥
+journal_waiting is = absurd (omega (arith, is.waiting, length-replicate 527 waits))
 
-journal_entered : IsJournalWithin (journal 1 192 520 196609 196608) → ⊥
+journal_entered : IsJournalWithin (journal 1 192 526 196609 196608) → ⊥
 journal_entered is = absurd (omega (arith, is.entered, length-replicate 196609 (Remaps of_first)))
 
-journal_committed : IsJournalWithin (journal 1 192 520 196608 196609) → ⊥
+journal_committed : IsJournalWithin (journal 1 192 526 196608 196609) → ⊥
 journal_committed is = absurd (omega (arith, is.committed, length-replicate 196609 (Remaps of_first)))
 
 -- a device that made so many calls, as the zone that made nine steps, with so many items in its inbox and its two outboxes
@@ -160,20 +160,20 @@ lane items = replicate items StopNotice
 abbrev zone : (inbox one other calls : ℕ) → Zone
 zone inbox one other calls = record { number = 5; steps = 9; keeps = at.Device (device calls); ports = record { inbox = lane inbox; outboxes = lane one ∷ lane other ∷ [] } }
 
-zone_full : IsWithin (zone 520 520 520 9)
+zone_full : IsWithin (zone 526 526 526 9)
 zone_full = record {
-  inbox = omega (arith, length-replicate 520 StopNotice);
-  outboxes = (omega (arith, length-replicate 520 StopNotice), (omega (arith, length-replicate 520 StopNotice), tt));
+  inbox = omega (arith, length-replicate 526 StopNotice);
+  outboxes = (omega (arith, length-replicate 526 StopNotice), (omega (arith, length-replicate 526 StopNotice), tt));
   own = omega arith;
 }
 
-zone_inbox : IsWithin (zone 521 520 520 9) → ⊥
-zone_inbox is = absurd (omega (arith, is.inbox, length-replicate 521 StopNotice))
+zone_inbox : IsWithin (zone 527 526 526 9) → ⊥
+zone_inbox is = absurd (omega (arith, is.inbox, length-replicate 527 StopNotice))
 
-zone_outbox : IsWithin (zone 520 520 521 9) → ⊥
-zone_outbox is = absurd (omega (arith, is.outboxes.1.0, length-replicate 521 StopNotice))
+zone_outbox : IsWithin (zone 526 526 527 9) → ⊥
+zone_outbox is = absurd (omega (arith, is.outboxes.1.0, length-replicate 527 StopNotice))
 
-zone_calls : IsWithin (zone 520 520 520 10) → ⊥
+zone_calls : IsWithin (zone 526 526 526 10) → ⊥
 zone_calls is = absurd (omega (arith, is.own))
 
 -- the physical zone: as many decrements that found 0 as requests

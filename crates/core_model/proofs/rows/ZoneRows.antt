@@ -1,5 +1,5 @@
 -- The zones, the table of phases and stages, and the steps of a zone, at a core of two logical zones.
-use Rattle.std.proofs.Common.{◌≡◌, ℕ, Bool, true, false, List, [], ◌∷◌, length, refl, inl, inr, arith}
+use Rattle.std.proofs.Common.{◌≡◌, ◌+◌, ℕ, Bool, true, false, Some, List, [], ◌∷◌, length, refl, inl, inr, arith}
 use Rattle.blk_base.specs.declared.place.ZoneId.{ZoneId}
 use Rattle.blk_base.specs.declared.place.ZoneId.TheVariants as id
 use Rattle.blk_base.specs.declared.request.Writer.{Writer}
@@ -16,9 +16,14 @@ use Rattle.core_model.specs.Facts.{zone_at, zone_of_stage, arriving}
 use Rattle.data_vio.specs.Phases.{row, stage_row}
 use Rattle.core_model.specs.Steps.{ZoneStep, IsIdle, takes_notice}
 use Rattle.core_model.specs.Tokens.{holds, owes, has_entry, kept_items}
-use Rattle.data_vio.specs.Zones.{IsZone, zone_number, zone_count, notified, notified_zones}
+use Rattle.blk_base.specs.Regions.{first_slab_of, slab_stride_of}
+use Rattle.blk_base.specs.declared.place.Pbn.{Pbn}
+use Rattle.data_vio.specs.Vios.{counts_of}
+use Rattle.data_vio.specs.Zones.{IsZone, counts_in, physical_zone_of, zone_number, zone_count, notified, notified_zones}
+use Rattle.data_vio.specs.declared.items.Vio.{Vio}
+use Rattle.data_vio.specs.declared.sizes.Sizes.{Sizes}
 use Rattle.core_model.proofs.rows.PhaseRows.{writes, reads, desk, empty_log, logical, nothing, one, physical, slab_with, zone_with, journal, device}
-use Rattle.core_model.proofs.rows.WorkedTraces.{first, sizes}
+use Rattle.core_model.proofs.rows.WorkedTraces.{block, first, sizes}
 
 -- the desk, two logical zones, one physical zone, the journal and the device are there, and have the numbers from 0 to 5
 are_zones : IsZone sizes id.Desk × IsZone sizes (id.Logical 0) × IsZone sizes (id.Logical 1) × IsZone sizes (id.Physical 0) × IsZone sizes id.Journal × IsZone sizes id.Device
@@ -46,11 +51,37 @@ no_others = (λ is. absurd (omega (arith, is)), λ is. absurd (omega (arith, is)
 are_notified : (notified sizes ≡ id.Journal ∷ id.Physical 0 ∷ id.Logical 1 ∷ id.Logical 0 ∷ []) × (length (notified sizes) ≡ notified_zones sizes)
 are_notified = (refl, refl)
 
+-- where there are two physical zones, these have the numbers behind the logical ones, and both are notified
+abbrev two : Sizes
+two = record sizes { geometry = record sizes.geometry { slabs = 2 }; physical = 2 }
+
+are_two : IsZone two (id.Physical 0) × IsZone two (id.Physical 1) × (IsZone two (id.Physical 2) → ⊥) × (zone_number two (id.Physical 0) ≡ 3) × (zone_number two (id.Physical 1) ≡ 4) × (zone_number two id.Journal ≡ 5) × (zone_number two id.Device ≡ 6)
+    × (zone_count two ≡ 7)
+are_two = (omega arith, omega arith, λ is. absurd (omega (arith, is)), refl, refl, refl, refl, refl)
+
+both_notified : (notified two ≡ id.Journal ∷ id.Physical 1 ∷ id.Physical 0 ∷ id.Logical 1 ∷ id.Logical 0 ∷ []) × (length (notified two) ≡ notified_zones two)
+both_notified = (refl, refl)
+
+-- the slabs go round among them: the first slab is counted in zone 0, the second in zone 1; one zone has both
+abbrev of_slab_1 : Pbn
+of_slab_1 = block (first_slab_of two.geometry + slab_stride_of two.geometry)
+
+go_round : (physical_zone_of two (block 85) ≡ 0) × (physical_zone_of two of_slab_1 ≡ 1) × (physical_zone_of (record two { physical = 1 }) of_slab_1 ≡ 0) × (counts_in two of_slab_1 ≡ id.Physical 1)
+go_round = (refl, refl, refl, refl)
+
+-- a request asks the zone that its place says; once it has a claim, that is the zone of the block
+ask_in_turn : (counts_of two (record (writes phase.Look) { place = 1 }) ≡ id.Physical 1) × (counts_of two (record (writes phase.Look) { place = 2 }) ≡ id.Physical 0)
+    × (counts_of two (record (writes phase.Count) { place = 1; claim = Some (block 85) }) ≡ id.Physical 0) × (counts_of two (record (writes phase.Count) { place = 0; claim = Some of_slab_1 }) ≡ id.Physical 1)
+ask_in_turn = (refl, refl, refl, refl)
+
+abbrev of_zone_1 : Vio
+of_zone_1 = record (writes phase.Look) { home = id.Logical 1 }
+
 -- A line of the table of phases, of a request of logical zone 1: the number of the zone where it is done (the count of the
 -- zones is none), and whether it has the lock, has a claim, owes an increment, has yet to arrive, and has an entry.
 abbrev IsRow : Phase → ℕ → Bool → Bool → Bool → List Writer → Bool → Type 0
 IsRow now number locks claims owing arrives entered =
-    (zone_at sizes (id.Logical 1) now ≡ number) × (holds now ≡ locks) × ((row now).claims ≡ claims) × (owes now ≡ owing) × (arriving now first ≡ arrives) × (has_entry now ≡ entered)
+    (zone_at sizes of_zone_1 now ≡ number) × (holds now ≡ locks) × ((row now).claims ≡ claims) × (owes now ≡ owing) × (arriving now first ≡ arrives) × (has_entry now ≡ entered)
 
 row_arrive : IsRow phase.Arrive 2 false false false (first ∷ []) false
 row_arrive = (refl, refl, refl, refl, refl, refl)

@@ -1,8 +1,6 @@
-use Rattle.std.proofs.Common.{◌≡◌, ◌<◌, ℕ, Some, slice_get}
-use Rattle.core_model.specs.declared.zones.PhysicalZone.{PhysicalZone}
-use Rattle.core_model.specs.declared.zones.Zone.{Zone}
-use Rattle.core_model.specs.declared.zones.ZoneData.TheVariants as at
+use Rattle.std.proofs.Common.{◌≡◌, ◌<◌, ◌^◌, take}
+use Rattle.core_reports.specs.Listed.{used_by_all}
 use Rattle.core_reports.proofs.lists.used_space.Given as goal
 
 abbrev pub invariant-loop-zone : goal.invariant-loop-zone
-invariant-loop-zone l = (n : ℕ) (z : Zone) (p : PhysicalZone) → n < l.zone-index → slice_get l.zones n ≡ Some z → z.keeps ≡ at.Physical p → ⊥
+invariant-loop-zone l = used_by_all l.zones < 2 ^ 32 → l.used ≡ used_by_all (take l.zone-index l.zones)

@@ -7,6 +7,7 @@ begin-requires c = record {
   same = refl;
   start = search rules;
   zones = search rules;
+  physical = search rules;
   depth = search rules;
   limits = search rules;
   served = c.requires.served;

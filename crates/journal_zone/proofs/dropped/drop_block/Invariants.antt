@@ -7,7 +7,7 @@ abbrev pub invariant-loop-vio : goal.invariant-loop-vio
 invariant-loop-vio l = record {
   room : length l.posts + length l.vios ≤ POST_ROOM;
   count : length l.posts + length l.vios ≡ length l.fn.posts + length l.fn.vios;
-  posts : l.posts ++ all_dropped l.vios ≡ l.fn.posts ++ all_dropped l.fn.vios;
+  posts : l.posts ++ all_dropped l.sizes l.vios ≡ l.fn.posts ++ all_dropped l.sizes l.fn.vios;
 }
 
 abbrev pub decreases-loop-vio : goal.decreases-loop-vio

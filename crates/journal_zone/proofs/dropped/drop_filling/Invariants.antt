@@ -8,7 +8,7 @@ invariant-loop-vio l = record {
   room : length l.posts + length l.zone.filling ≤ POST_ROOM;
   zone : record l.zone { filling = [] } ≡ record l.fn.zone { filling = [] };
   count : length l.posts + length l.zone.filling ≡ length l.fn.posts + length l.fn.zone.filling;
-  posts : l.posts ++ all_dropped l.zone.filling ≡ l.fn.posts ++ all_dropped l.fn.zone.filling;
+  posts : l.posts ++ all_dropped l.sizes l.zone.filling ≡ l.fn.posts ++ all_dropped l.sizes l.fn.zone.filling;
 }
 
 abbrev pub decreases-loop-vio : goal.decreases-loop-vio

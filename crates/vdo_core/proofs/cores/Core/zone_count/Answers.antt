@@ -6,7 +6,7 @@ pub overflow_cast-result : goal.overflow_cast-result
 overflow_cast-result c =
     let few = few_zones c.self.inside.sizes c.self.inside.zones c.self.invariant.reached in
     let same = c.as_slice.ensures in
-    let here : length c.as_slice.result.now ≤ 8 = rw same few in
+    let here : length c.as_slice.result.now ≤ 11 = rw same few in
     omega (arith, here)
 
 pub returns-clause-few : goal.returns-clause-few
