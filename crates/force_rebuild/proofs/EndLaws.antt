@@ -4,17 +4,19 @@ use Rattle.blk_base.specs.declared.geometry.Geometry.{Geometry}
 use Rattle.disk_model.specs.declared.call.Call.{Call}
 use Rattle.disk_model.specs.declared.call.Failed.{Failed}
 use Rattle.disk_model.specs.Log.{Blocks, block_at}
-use Rattle.disk_model.specs.Seen.{Later, Seen, Stays}
+use Rattle.disk_model.specs.Seen.{Seen}
 use Rattle.disk_model.proofs.SeenLaws.{later_on, stays_on}
 use Rattle.image_format.specs.Runs.{Makes, OneFailed, WereMade, as_failed}
 use Rattle.image_model.specs.Maps.{Image}
-use Rattle.rebuild.proofs.ActLaws.{grows_on, made_grows}
+use Rattle.rebuild.proofs.ActLaws.{grows_on, made_grows, made_stays}
 use Rattle.rebuild.proofs.FailLaws.{failed_on, makes_failed, on_err}
+use Rattle.rebuild.specs.Acts.{Acts, AreMade, HasStopped, IsPageCall, page_writing}
 use Rattle.rebuild.specs.Done.{ArePagesDone}
+use Rattle.force_rebuild.proofs.PageLaws.{pages_start}
 use Rattle.force_rebuild.proofs.MomentLaws.{at_last_one, cut_stops, failures, pages_stops, stops}
-use Rattle.force_rebuild.specs.Acts.{Acts, AreMade, HasStopped, IsStart, image_at}
 use Rattle.force_rebuild.specs.Calls.{ArePagePuts, closing_calls, forced_calls}
 use Rattle.force_rebuild.specs.Kept.{IsRebuilt}
+use Rattle.force_rebuild.specs.Starts.{IsStart, image_at}
 use Rattle.force_rebuild.specs.Outcomes.{Ends, IsAllMade, IsKeptSince, WritesAll}
 use Rattle.force_rebuild.specs.Written.{AreMappings}
 use Rattle.image_model.specs.Looked.{HasOneImageButIndex}
@@ -32,15 +34,17 @@ module _ (tells honest : Bool) (first : Seen) (blocks : Blocks) (start : IsStart
   whole b below = start.one.whole b (let size = start.one.size in omega (arith, size, below))
 
   -- while the pages are written
-  pub made_kept : (now : Seen) (calls : List Call) → AreMade image first now calls → IsKeptSince image first now
+  pub made_kept : (now : Seen) (calls : List Call) → AreMade (IsPageCall image) first now calls → IsKeptSince image first now
   made_kept now calls made = (calls, made.logged, pages_stops blocks start.is start.named whole first.opening first.log calls start.one made.each)
 
-  pub stopped_kept : (now : Seen) → HasStopped image first now → IsKeptSince image first now
-  stopped_kept now stopped = elim stopped.logged [
-    | inl is ↦
-        (as_failed stopped.call ∷ stopped.calls, is, cut_stops blocks start.is start.named whole first.opening first.log stopped.calls stopped.call start.one stopped.each stopped.kind)
-    | inr lost ↦ (stopped.calls, lost.0, pages_stops blocks start.is start.named whole first.opening first.log stopped.calls start.one stopped.each)
-  ]
+  pub stopped_kept : (now : Seen) → HasStopped (IsPageCall image) (λ call. ⊥) first now → IsKeptSince image first now
+  stopped_kept now stopped =
+      let page : IsPageCall image stopped.call = elim stopped.kind [ inl is ↦ is | inr none ↦ absurd none ] in
+      elim stopped.logged [
+        | inl is ↦
+            (as_failed stopped.call ∷ stopped.calls, is, cut_stops blocks start.is start.named whole first.opening first.log stopped.calls stopped.call start.one stopped.each page)
+        | inr lost ↦ (stopped.calls, lost.0, pages_stops blocks start.is start.named whole first.opening first.log stopped.calls start.one stopped.each)
+      ]
 
   pub all_kept : (now : Seen) → IsAllMade image last first now → IsKeptSince image first now
   all_kept now all = (
@@ -56,7 +60,7 @@ module _ (tells honest : Bool) (first : Seen) (blocks : Blocks) (start : IsStart
       (is.0, subst (λ (log : List Call). HasOneImageButIndex first.opening log is.0) (sym all.logged) is.1, is.2)
 
   -- while it is closed
-  module _ (before now : Seen) (puts : List Call) (made : AreMade image first before puts) (done : ArePagesDone image puts) (counters : List ℕ) (mappings : AreMappings image counters) where
+  module _ (before now : Seen) (puts : List Call) (made : AreMade (IsPageCall image) first before puts) (done : ArePagesDone image puts) (counters : List ℕ) (mappings : AreMappings image counters) where
     abbrev closing : List Call
     closing = closing_calls image.geometry last counters
 
@@ -105,7 +109,7 @@ ends_failed image last first now (Ok _) is kept = absurd (cc is)
 ends_failed image last first now (Err _) is kept = kept
 
 pub pages_failed : (tells honest : Bool) (before now : Seen) (N N' : Image → Type 0) (last : ℕ) (fault : Failed) (result : Result (Unit {0}) Failed) → IsErr result
-    → ((image : Image) → N image → N' image) → Acts tells honest before now N' ArePagesDone (Err fault) → WritesAll tells honest before now N last result
+    → ((image : Image) → N image → N' image) → Acts tells (page_writing honest) before now N' ArePagesDone (Err fault) → WritesAll tells honest before now N last result
 pages_failed tells honest before now N N' last fault result is needs acts = record {
   stays = acts.stays;
   later = acts.later;
@@ -113,26 +117,22 @@ pages_failed tells honest before now N N' last fault result is needs acts = reco
   failed = on_err tells before now result acts.failed;
   ends = λ first blocks start calls made has same.
       ends_failed (image_at blocks start) last first now result is
-      (stopped_kept tells honest first blocks start now (acts.writes first blocks start calls made (needs (image_at blocks start) has)));
+      (stopped_kept tells honest first blocks start now (acts.writes start.told first (image_at blocks start, pages_start tells honest first blocks start) calls made (needs (image_at blocks start) has)));
 }
 
 module _ (tells honest : Bool) (before middle now : Seen) (N N' : Image → Type 0) (last : ℕ) (g : Geometry) (counters : List ℕ) where
-  makes_stays : (calls : List Call) (result : Result (Unit {0}) Failed) → Makes tells middle now calls result → Stays middle now × Later middle now
-  makes_stays calls (Ok _) makes = (makes.stays, makes.later)
-  makes_stays calls (Err _) makes = (makes.stays, makes.later)
-
   pub all_written : (result : Result (Unit {0}) Failed) → ((image : Image) → N image → N' image) → ((image : Image) → N image → image.geometry ≡ g)
-      → ((image : Image) → N image → AreMappings image counters) → Acts tells honest before middle N' ArePagesDone (Ok tt)
+      → ((image : Image) → N image → AreMappings image counters) → Acts tells (page_writing honest) before middle N' ArePagesDone (Ok tt)
       → Makes tells middle now (closing_calls g last counters) result → WritesAll tells honest before now N last result
   all_written result needs sizes mappings acts makes =
-      let parts = makes_stays (closing_calls g last counters) result makes in record {
+      let parts = made_stays tells middle now (closing_calls g last counters) result makes in record {
         stays = stays_on before middle now acts.stays parts.0;
         later = later_on before middle now acts.later parts.1;
         grows = grows_on tells before middle now acts.grows (made_grows tells middle now (closing_calls g last counters) result makes);
         failed = failed_on tells before middle now result acts.later acts.grows (makes_failed tells middle now (closing_calls g last counters) result makes);
         ends = λ first blocks start calls made has same.
             let image = image_at blocks start in
-            let went = acts.writes first blocks start calls made (needs image has) in
+            let went = acts.writes start.told first (image, pages_start tells honest first blocks start) calls made (needs image has) in
             subst (λ (n : ℕ). Ends image n first now result) same
             (closes_to tells honest first blocks start middle now (went.0 ++ calls) went.1 went.2 counters (mappings image has) result
             (subst (λ (n : ℕ). Makes tells middle now (closing_calls image.geometry n counters) result) (sym same)

@@ -28,7 +28,8 @@ use Rattle.image_model.specs.declared.fault.ImageFault.TheVariants.{Super, Windo
 use Rattle.image_opening.specs.Heads.{HeadFails, IsHeadRead}
 use Rattle.journal_window.specs.Reads.{IsWindowRead}
 use Rattle.journal_window.specs.States.{WindowState}
-use Rattle.rebuild.proofs.ActLaws.{grows_on, untouched_grows}
+use Rattle.rebuild.proofs.ActLaws.{grows_on, none_made, read_made, untouched_grows}
+use Rattle.rebuild.specs.Acts.{AreMade, IsPageCall, page_writing}
 use Rattle.rebuild.proofs.FailLaws.{failed_after}
 use Rattle.rebuild.proofs.KeptLaws.{reads_behind, reads_miss}
 use Rattle.rebuild.proofs.ReadLaws.{still}
@@ -37,12 +38,11 @@ use Rattle.replay_map.specs.Changes.{AreNewest}
 use Rattle.replay_map.specs.Replayed.{HasMap, IsFound, IsMapRead, MapFails}
 use Rattle.replay_map.specs.declared.changes.SlotId.{SlotId}
 use Rattle.replay_map.specs.declared.recovered.RecoveredMap.{RecoveredMap}
-use Rattle.force_rebuild.proofs.ActLaws.{none_made, read_made}
 use Rattle.force_rebuild.proofs.CountedLaws.{are_mappings, counted_to, uncountable}
 use Rattle.force_rebuild.proofs.EndLaws.{all_kept, all_rebuilt, made_kept}
 use Rattle.force_rebuild.proofs.ShownLaws.{accepted, forced_answer, found_here, head_refused, unclosed_refused, window_here}
 use Rattle.force_rebuild.proofs.StopLaws.{alike_is_kept}
-use Rattle.force_rebuild.specs.Acts.{AreMade, IsStart, image_at}
+use Rattle.force_rebuild.specs.Starts.{IsStart, image_at}
 use Rattle.force_rebuild.specs.Counted.{AreCounters, CountersFail}
 use Rattle.force_rebuild.specs.Forcing.{CountingFails, ForcesUnclosed, IsForcing, IsToRebuild, UnclosedFails, unclosed}
 use Rattle.force_rebuild.specs.Outcomes.{Ends, HasContents, IsKeptSince, WritesAll}
@@ -90,7 +90,7 @@ read_refused tells honest u before now why fails untouched = record {
   nothing = inr untouched;
   ends = λ first blocks start before_it same.
       let image = image_at blocks start in
-      let made = read_made tells image first first now [] start.told (none_made image first) (untouched_on tells first before now before_it untouched) in
+      let made = read_made tells (page_writing honest) image first first now [] start.told (none_made (IsPageCall image) first) (untouched_on tells first before now before_it untouched) in
       made_kept tells honest first blocks start now (made.0 ++ []) made.1;
 }
 
@@ -175,8 +175,8 @@ module _ (tells honest : Bool) (u : Superblock) (before second third now : Seen)
           mappings = are_mappings image map has_map counters here.tallied here.limit;
         }
 
-    made : (reads : List Call) × AreMade image first third (reads ++ [])
-    made = read_made tells image first first third [] start.told (none_made image first) (untouched_on tells first before third before_it all_read)
+    made : (reads : List Call) × AreMade (IsPageCall image) first third (reads ++ [])
+    made = read_made tells (page_writing honest) image first first third [] start.told (none_made (IsPageCall image) first) (untouched_on tells first before third before_it all_read)
 
     ends_so : (result : Result (Unit {0}) Failed) → WritesAll tells honest third now Needs window.last result → Ends image start.is.last first now result
     ends_so result writes =

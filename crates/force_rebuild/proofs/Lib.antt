@@ -5,9 +5,7 @@ pub mod SlabLaws
 pub mod PutLaws
 pub mod StopLaws
 pub mod MomentLaws
-pub mod ActLaws
 pub mod PageLaws
-pub mod TurnLaws
 pub mod EndLaws
 pub mod CountedLaws
 pub mod ShownLaws

@@ -26,11 +26,12 @@ use Rattle.recovery_laws.proofs.ContentLaws.{Puts, contents_are}
 use Rattle.recovery_laws.proofs.OldLaws.{no_page_there}
 use Rattle.recovery_laws.proofs.SuperLaws.{first_of_image, first_sector_says}
 use Rattle.recovery_laws.specs.Kept.{AreIndexMissed, recovered_super}
+use Rattle.rebuild.specs.Acts.{IsPageCall}
 use Rattle.force_rebuild.proofs.PutLaws.{IsFullBlock, IsPartBlock, full_block_is_part, old_is_part, pages_part, settled_full, writes, writes_full}
 use Rattle.force_rebuild.proofs.SlabLaws.{IsSlabCall, length-slab_block, slabs_right}
 use Rattle.force_rebuild.proofs.SoundLaws.{here, known, rewritten_is_rebuilt, room, sizes, underway_is_kept}
 use Rattle.force_rebuild.proofs.StopLaws.{full_image, full_is_underway, no_page_first, no_slab_first, page_inside, part_image}
-use Rattle.force_rebuild.specs.Calls.{ArePagePuts, IsPageCall, forced_calls, slabs_below}
+use Rattle.force_rebuild.specs.Calls.{ArePagePuts, forced_calls, slabs_below}
 use Rattle.force_rebuild.specs.Kept.{AreStopsKept, IsKept, IsRebuilt, IsSlabPlace}
 use Rattle.force_rebuild.specs.Rebuildable.{IsRebuildable}
 use Rattle.force_rebuild.specs.Written.{AreMappings, commit_behind}

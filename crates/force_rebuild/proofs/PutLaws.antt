@@ -20,9 +20,10 @@ use Rattle.recovery_laws.proofs.OldLaws.{no_page_there, own_slot}
 use Rattle.recovery_laws.proofs.PageIdLaws.{one_page}
 use Rattle.recovery_laws.proofs.PutLaws.{full_is_part}
 use Rattle.recovery_laws.proofs.WindowFacts.{IsKnown}
+use Rattle.rebuild.specs.Acts.{IsPageCall}
 use Rattle.force_rebuild.proofs.SlabLaws.{IsSlabCall, IsSlabPut, slabs_right, slabs_written}
 use Rattle.force_rebuild.proofs.SoundLaws.{here, known, sizes}
-use Rattle.force_rebuild.specs.Calls.{ArePagePuts, IsPageCall, slabs_below}
+use Rattle.force_rebuild.specs.Calls.{ArePagePuts, slabs_below}
 use Rattle.force_rebuild.specs.Kept.{IsSlabBlock, IsSlabPlace}
 use Rattle.force_rebuild.specs.Rebuildable.{IsRebuildable}
 use Rattle.force_rebuild.specs.Written.{commit_behind, slab_block}

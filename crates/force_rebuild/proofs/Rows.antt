@@ -13,7 +13,7 @@ use Rattle.blk_base.specs.declared.place.Pbn.{Pbn}
 use Rattle.blk_base.specs.declared.point.Half.TheVariants.{Increment}
 use Rattle.byte_fields.specs.Fields.{number_at}
 use Rattle.count_updates.specs.Numbers.{all_blocks, block_number}
-use Rattle.disk_model.specs.declared.call.Call.TheVariants.{Read, Write, Flush}
+use Rattle.disk_model.specs.declared.call.Call.TheVariants.{Flush}
 use Rattle.disk_model.specs.Log.{Blocks, block_at}
 use Rattle.image_format.specs.Calls.{put}
 use Rattle.image_format.proofs.StopLaws.{zero_size}
@@ -29,11 +29,10 @@ use Rattle.image_model.specs.Looked.{is_looked_at}
 use Rattle.image_model.specs.Maps.{Image, page_at}
 use Rattle.image_model.specs.Sound.{IsDataPlace, IsSound}
 use Rattle.journal_codec.specs.Grammar.{IsSector}
-use Rattle.recovery_laws.specs.Written.{IsFullPage}
 use Rattle.force_rebuild.proofs.AcceptLaws.{sound_is_rebuildable}
 use Rattle.force_rebuild.proofs.OtherLaws.{no_slab_there}
 use Rattle.force_rebuild.proofs.PutLaws.{old_is_part}
-use Rattle.force_rebuild.specs.Calls.{ArePagePuts, IsPageCall, closing_calls, slab_calls, slabs_below}
+use Rattle.force_rebuild.specs.Calls.{ArePagePuts, closing_calls, slab_calls, slabs_below}
 use Rattle.force_rebuild.specs.Forcing.{IsToRebuild, unclosed}
 use Rattle.force_rebuild.specs.Kept.{AreOthersKept, IsKept, IsRebuilt, IsSlabBlock, MapTheSame}
 use Rattle.force_rebuild.specs.Rebuildable.{IsCountable, IsRebuildable, rebuildable_image}
@@ -229,23 +228,6 @@ journal_left image commit counters blocks same now full =
     omega (arith, size)
 
 -- Calls.
-
--- pages are written whole and where they stand, with reads among them; no flush, no write that failed, and no part of a block
-page_call : (image : Image) (which : PageId) (at : Pbn) (bytes : List ℕ) → length bytes ≡ 4096 → page_at image which ≡ Some at → IsFullPage image which at bytes
-    → IsPageCall image (Write at bytes true)
-page_call image which at bytes size there full = (size, (which, there, full))
-
-read_among : (image : Image) → IsPageCall image (Read (pbn 9) [] false)
-read_among image = tt
-
-no_flush : (image : Image) → IsPageCall image (Flush true) → ⊥
-no_flush image is = is
-
-no_failed : (image : Image) → IsPageCall image (Write (pbn 9) zero_block false) → ⊥
-no_failed image is = is
-
-no_part : (image : Image) → IsPageCall image (Write (pbn 9) [] true) → ⊥
-no_part image is = let size = is.0 in omega (arith, size)
 
 -- each: a flush among them; all: the window puts zeros into slot 5 of the leaf at 85, and it isn't written
 puts_with_flush : (image : Image) → ArePagePuts image (Flush true ∷ []) → ⊥

@@ -1,26 +1,20 @@
 -- The calls that rebuild an image, the newest first.
-use Rattle.std.specs.Prelude.{ℕ, ◌≡◌, true, false, List, [], ◌∷◌, ◌++◌, length}
+use Rattle.std.specs.Prelude.{ℕ, true, List, [], ◌∷◌, ◌++◌}
 use Rattle.std.specs.List.{AllByRecursion}
 use Rattle.blk_base.specs.Regions.{ReferenceBlock, SlabJournalSlot, block_of, references_of}
 use Rattle.blk_base.specs.declared.geometry.Geometry.{Geometry}
 use Rattle.disk_model.specs.declared.call.Call.{Call}
-use Rattle.disk_model.specs.declared.call.Call.TheVariants.{Read, Write, Flush}
+use Rattle.disk_model.specs.declared.call.Call.TheVariants.{Flush}
 use Rattle.image_format.specs.Calls.{calls_below, put, zeros_from}
 use Rattle.image_layout.specs.Superblock.{super_block}
 use Rattle.image_model.specs.Maps.{Image}
+use Rattle.rebuild.specs.Acts.{IsPageCall}
 use Rattle.rebuild.specs.Done.{ArePagesDone}
-use Rattle.recovery_laws.specs.Calls.{IsPagePut}
 use Rattle.recovery_laws.specs.Kept.{recovered_super}
 use Rattle.force_rebuild.specs.Written.{commit_behind, counted_block, counters_of_slab}
 
--- The pages: a write of a whole page that says by itself what it says with the window, or a read.
-abbrev pub IsPageCall : Image → Call → Type 0
-IsPageCall image (Write at bytes true) = (length bytes ≡ 4096) × IsPagePut image at bytes
-IsPageCall image (Write at bytes false) = ⊥
-IsPageCall image (Read _ _ _) = Unit {0}
-IsPageCall image (Flush _) = ⊥
-
--- such calls in any order, and among them a write of each page with a slot into which the window puts something
+-- The pages: reads and writes of whole pages in any order, and among them a write of each page with a slot into which the
+-- window puts something.
 pub record ArePagePuts (image : Image) (calls : List Call) : Type 0 where
   pub each : AllByRecursion (IsPageCall image) calls
   pub all : ArePagesDone image calls

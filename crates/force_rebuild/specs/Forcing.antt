@@ -26,7 +26,7 @@ use Rattle.rebuild.specs.Openings.{IsCleanImage}
 use Rattle.rebuild.specs.Outcomes.{WritesNothing}
 use Rattle.rebuild.specs.Recoveries.{IsTold}
 use Rattle.replay_map.specs.Replayed.{IsFound, MapFails}
-use Rattle.force_rebuild.specs.Acts.{IsStart, image_at}
+use Rattle.force_rebuild.specs.Starts.{IsStart, image_at}
 use Rattle.force_rebuild.specs.Counted.{IsCountedTo, IsUncountable}
 use Rattle.force_rebuild.specs.Kept.{IsRebuilt}
 use Rattle.force_rebuild.specs.Outcomes.{Ends, IsKeptSince}

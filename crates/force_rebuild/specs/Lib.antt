@@ -2,7 +2,7 @@ pub mod Rebuildable
 pub mod Kept
 pub mod Written
 pub mod Calls
-pub mod Acts
+pub mod Starts
 pub mod Counted
 pub mod Outcomes
 pub mod Forcing

@@ -9,14 +9,14 @@ use Rattle.disk_model.specs.Seen.{Later, Seen, Stays}
 use Rattle.disk_model.specs.Since.{SinceThen}
 use Rattle.image_format.specs.Formats.{LastFailed}
 use Rattle.image_model.specs.Maps.{Image}
-use Rattle.rebuild.specs.Acts.{Grows}
+use Rattle.rebuild.specs.Acts.{AreMade, Grows, IsPageCall}
 use Rattle.replay_map.specs.Changes.{AreNewest}
 use Rattle.replay_map.specs.Replayed.{AreAllLinks}
 use Rattle.replay_map.specs.declared.changes.SlotId.{SlotId}
 use Rattle.replay_map.specs.declared.links.Link.{Link}
-use Rattle.force_rebuild.specs.Acts.{AreMade, IsStart, image_at}
 use Rattle.force_rebuild.specs.Calls.{ArePagePuts, forced_calls}
 use Rattle.force_rebuild.specs.Kept.{AreStopsKept}
+use Rattle.force_rebuild.specs.Starts.{IsStart, image_at}
 use Rattle.force_rebuild.specs.Written.{AreMappings}
 
 -- What is needed of an image: it has these sizes, changes and links, and these are its numbers of mappings.
@@ -51,5 +51,5 @@ pub record WritesAll (tells honest : Bool) (before now : Seen) (Needs : Image �
   pub later : Later before now
   pub grows : Grows tells before now
   pub failed : OnErr result (LastFailed tells before now)
-  pub ends : (first : Seen) (blocks : Blocks) (start : IsStart tells honest first blocks) (calls : List Call) → AreMade (image_at blocks start) first before calls
+  pub ends : (first : Seen) (blocks : Blocks) (start : IsStart tells honest first blocks) (calls : List Call) → AreMade (IsPageCall (image_at blocks start)) first before calls
       → Needs (image_at blocks start) → start.is.last ≡ last → Ends (image_at blocks start) last first now result

@@ -10,7 +10,6 @@ ghost use Rattle.force_rebuild.specs.Outcomes.{HasContents, WritesAll};
 
 use crate::Forced;
 use crate::counting::{count_map, count_used};
-use crate::pages::put_pages;
 use crate::slabs::put_slabs;
 use blk_base::{Layout, Super};
 use disk_model::{Disk, Failed};
@@ -18,6 +17,7 @@ use image_format::calls::close;
 use image_model::ImageFault;
 use image_opening::read_head;
 use journal_window::read_window;
+use rebuild::put_pages;
 use replay_map::{Changes, RecoveredMap};
 use std::alloc::Global;
 

@@ -21,10 +21,10 @@ use Rattle.image_model.specs.Sound.{IsSound, Opens, image_of}
 use Rattle.image_model.specs.Windows.{IsWindow}
 use Rattle.image_model.specs.Looked.{HasOneImageButIndex, looked_in}
 use Rattle.recovery_laws.proofs.WholeLaws.{cut, failures, parts, stops, stops_behind}
-use Rattle.recovery_laws.specs.Calls.{ArePuts, recovery_calls}
+use Rattle.recovery_laws.specs.Calls.{ArePuts, IsPut, recovery_calls}
 use Rattle.recovery_laws.specs.Kept.{IsHeadKept, PutsOnly, image_in, recovered_super}
 use Rattle.recovery_laws.proofs.AlikeLaws.{alike_is_kept}
-use Rattle.rebuild.specs.Acts.{AreMade, HasStopped, IsStart}
+use Rattle.rebuild.specs.Acts.{AreMade, HasStopped, IsFlush, IsStart}
 use Rattle.rebuild.specs.Outcomes.{Ends, IsAllMade, IsKeptSince}
 
 -- Where there were only reads.
@@ -70,10 +70,10 @@ module _ (tells honest : Bool) (first : Seen) (blocks : Blocks) (start : IsStart
   abbrev last : ℕ
   last = start.to.sound.last
 
-  pub made_kept : (now : Seen) (calls : List Call) → AreMade image first now calls → IsKeptSince blocks start.to.sound first now
+  pub made_kept : (now : Seen) (calls : List Call) → AreMade (IsPut image) first now calls → IsKeptSince blocks start.to.sound first now
   made_kept now calls made = (calls, made.logged, parts first.opening blocks first.log calls start.to made.each)
 
-  pub stopped_kept : (now : Seen) → HasStopped image first now → IsKeptSince blocks start.to.sound first now
+  pub stopped_kept : (now : Seen) → HasStopped (IsPut image) IsFlush first now → IsKeptSince blocks start.to.sound first now
   stopped_kept now stopped = elim stopped.logged [
     | inl is ↦ (as_failed stopped.call ∷ stopped.calls, is, cut first.opening blocks first.log stopped.calls start.to stopped.each stopped.call stopped.kind)
     | inr lost ↦ (stopped.calls, lost.0, parts first.opening blocks first.log stopped.calls start.to stopped.each)
@@ -83,7 +83,7 @@ module _ (tells honest : Bool) (first : Seen) (blocks : Blocks) (start : IsStart
   all_kept now (puts, are, logged) = (recovery_calls image last puts, logged, stops first.opening blocks first.log puts start.to are)
 
   -- While it is closed.
-  module _ (before now : Seen) (puts : List Call) (made : AreMade image first before puts) (are : ArePuts image puts) where
+  module _ (before now : Seen) (puts : List Call) (made : AreMade (IsPut image) first before puts) (are : ArePuts image puts) where
     abbrev closing : List Call
     closing = Flush true ∷ put 0 (super_block (recovered_super image.geometry last)) ∷ Flush true ∷ []
 

@@ -1,6 +1,7 @@
 pub mod FailLaws
 pub mod ActLaws
 pub mod WrittenLaws
+pub mod PageLaws
 pub mod DoneLaws
 pub mod TurnLaws
 pub mod ReadLaws

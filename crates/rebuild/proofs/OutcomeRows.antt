@@ -32,7 +32,7 @@ use Rattle.image_model.proofs.FaultRows.{nothing as blank}
 use Rattle.journal_window.specs.States.{WindowState}
 use Rattle.journal_window.specs.Windows.{IsWindowOf}
 use Rattle.recovery_laws.proofs.KeptRows.{kept_by_itself, kept_by_nothing}
-use Rattle.recovery_laws.specs.Calls.{ArePuts, recovery_calls}
+use Rattle.recovery_laws.specs.Calls.{ArePuts, IsPut, recovery_calls}
 use Rattle.recovery_laws.specs.Kept.{AreKept, image_in, AreStopsKept}
 use Rattle.replay_counts.specs.Recovered.{Holds}
 use Rattle.replay_map.specs.Reads.{Shows}
@@ -267,7 +267,7 @@ any image = Unit {0}
 -- ends: from a start on nothing was written
 none_is_written : (first : Seen) (blocks : Blocks) (start : IsStart true true first blocks) → WritesAll true true first first any start.to.sound.last (Ok tt) → ⊥
 none_is_written first blocks start writes =
-    let all = writes.ends first blocks start [] (none_made (image_in blocks start.to.sound) first) tt refl in
+    let all = writes.ends first blocks start [] (none_made (IsPut (image_in blocks start.to.sound)) first) tt refl in
     let size = ap (λ (l : List Call). length l) all.2 in
     omega (arith, size, length-append (recovery_calls (image_in blocks start.to.sound) start.to.sound.last all.0) first.log)
 

@@ -18,8 +18,9 @@ use Rattle.image_model.specs.Maps.{Image}
 use Rattle.image_model.specs.Sound.{image_of}
 use Rattle.image_model.specs.declared.fault.ImageFault.TheVariants.{Device, Unclean, Memory}
 use Rattle.image_layout.specs.Opened.{super_of_image}
+use Rattle.recovery_laws.specs.Calls.{IsPut}
 use Rattle.rebuild.proofs.ActLaws.{none_made}
-use Rattle.rebuild.specs.Acts.{AreMade, Grows, HasStopped}
+use Rattle.rebuild.specs.Acts.{AreMade, Grows, HasStopped, IsFlush}
 use Rattle.rebuild.specs.Again.{FindsClosed, HasClosedImage}
 use Rattle.rebuild.specs.Outcomes.{WritesNothing}
 use Rattle.rebuild.specs.Recoveries.{IsAnswer, IsRecovery, IsRefusal}
@@ -50,27 +51,27 @@ last_is_not failed = let last = failed.logged refl in of_last last.0 last.1 last
     of_last (Flush ok) done is (inl stands) = let front : Flush true ≡ Flush ok = cc stands in absurd (cc (front, is))
 
 -- logged, each: since a start only reads and recovery's writes were made, and these
-nothing_made : (image : Image) → AreMade image seen seen []
-nothing_made image = none_made image seen
+nothing_made : (image : Image) → AreMade (IsPut image) seen seen []
+nothing_made image = none_made (IsPut image) seen
 
-read_made : (image : Image) → AreMade image seen (record seen { log = Read (pbn 0) [] true ∷ [] }) (Read (pbn 0) [] true ∷ [])
+read_made : (image : Image) → AreMade (IsPut image) seen (record seen { log = Read (pbn 0) [] true ∷ [] }) (Read (pbn 0) [] true ∷ [])
 read_made image = record { stays = record { opening = refl; size = refl }; logged = refl; each = (tt, tt) }
 
-not_logged : (image : Image) → AreMade image seen flushed [] → ⊥
+not_logged : (image : Image) → AreMade (IsPut image) seen flushed [] → ⊥
 not_logged image made = let same = ap (λ (log : List Call). length log) made.logged in omega (arith, same)
 
-no_flush : (image : Image) → AreMade image seen flushed (Flush true ∷ []) → ⊥
+no_flush : (image : Image) → AreMade (IsPut image) seen flushed (Flush true ∷ []) → ⊥
 no_flush image made = made.each.0
 
 -- stays: the device has as many blocks
-other_size : (image : Image) → AreMade image seen (record seen { size = 3 }) [] → ⊥
+other_size : (image : Image) → AreMade (IsPut image) seen (record seen { size = 3 }) [] → ⊥
 other_size image made = let size = made.stays.size in omega (arith, size)
 
 -- kind: the call that failed may be a flush, and no write of another block
-flush_failed : (image : Image) → HasStopped image seen (record seen { log = Flush false ∷ [] })
+flush_failed : (image : Image) → HasStopped (IsPut image) IsFlush seen (record seen { log = Flush false ∷ [] })
 flush_failed image = record { calls = []; each = tt; call = Flush true; kind = inr refl; logged = inl refl }
 
-call_lost : (image : Image) → HasStopped image seen seen
+call_lost : (image : Image) → HasStopped (IsPut image) IsFlush seen seen
 call_lost image = record { calls = []; each = tt; call = Flush true; kind = inr refl; logged = inr (refl, tt) }
 
 -- A refusal wrote nothing, or a call failed.

@@ -10,7 +10,7 @@ use Rattle.disk_model.specs.declared.call.Call.{Call}
 use Rattle.disk_model.specs.declared.call.Call.TheVariants.{Flush}
 use Rattle.disk_model.specs.declared.call.Failed.{Failed}
 use Rattle.disk_model.specs.Log.{Blocks}
-use Rattle.disk_model.specs.Seen.{Later, Seen, Stays}
+use Rattle.disk_model.specs.Seen.{Seen}
 use Rattle.disk_model.specs.Since.{IsUntouched}
 use Rattle.disk_model.proofs.SeenLaws.{later_on, stays_on}
 use Rattle.disk_model.proofs.SinceLaws.{untouched_on, were_only_read}
@@ -26,17 +26,17 @@ use Rattle.image_model.specs.Looked.{HasOneImageButIndex}
 use Rattle.journal_window.proofs.ReadWindowLaws.{window_shown}
 use Rattle.journal_window.specs.Reads.{IsWindowRead}
 use Rattle.journal_window.specs.States.{WindowState}
-use Rattle.recovery_laws.specs.Calls.{ArePuts}
+use Rattle.recovery_laws.specs.Calls.{ArePuts, IsPut}
 use Rattle.recovery_laws.specs.Kept.{image_in, recovered_super}
 use Rattle.replay_counts.specs.Recovered.{HasCounts}
 use Rattle.replay_map.specs.Changes.{AreNewest}
 use Rattle.replay_map.specs.Replayed.{HasMap}
 use Rattle.replay_map.specs.declared.changes.SlotId.{SlotId}
-use Rattle.rebuild.proofs.ActLaws.{grows_on, made_grows, none_made, read_made, untouched_grows}
+use Rattle.rebuild.proofs.ActLaws.{grows_on, made_grows, made_stays, none_made, read_made, untouched_grows}
 use Rattle.rebuild.proofs.FailLaws.{failed_after, failed_on, makes_failed, on_err}
 use Rattle.rebuild.proofs.KeptLaws.{closes_to, image_alike, made_kept, opened_alike, stopped_kept}
 use Rattle.rebuild.proofs.ReadLaws.{both_shown, still}
-use Rattle.rebuild.specs.Acts.{Acts, AreMade, IsStart}
+use Rattle.rebuild.specs.Acts.{Acts, AreMade, IsStart, recovery}
 use Rattle.rebuild.specs.Done.{AreBothDone, HasContents}
 use Rattle.rebuild.specs.Outcomes.{Ends, IsKeptSince, RecoversUnclean, UncleanFails, WritesAll}
 use Rattle.audit.specs.Reads.{AreContents}
@@ -50,7 +50,7 @@ ends_failed blocks sound first now (Err _) is kept = kept
 -- Writing.
 
 pub blocks_failed : (tells honest : Bool) (before now : Seen) (N : Image → Type 0) (last : ℕ) (fault : Failed) (result : Result (Unit {0}) Failed) → IsErr result
-    → Acts tells honest before now N AreBothDone (Err fault) → WritesAll tells honest before now N last result
+    → Acts tells (recovery tells honest) before now N AreBothDone (Err fault) → WritesAll tells honest before now N last result
 blocks_failed tells honest before now N last fault result is acts = record {
   stays = acts.stays;
   later = acts.later;
@@ -58,28 +58,24 @@ blocks_failed tells honest before now N last fault result is acts = record {
   failed = on_err tells before now result acts.failed;
   ends = λ first blocks start calls made has same.
       ends_failed blocks start.to.sound first now result is
-      (stopped_kept tells honest first blocks start now (acts.recovers first blocks start calls made has));
+      (stopped_kept tells honest first blocks start now (acts.writes start.told first (blocks, start) calls made has));
 }
 
 module _ (tells honest : Bool) (before middle now : Seen) (N : Image → Type 0) (last : ℕ) where
   abbrev closing : Geometry → List Call
   closing g = Flush true ∷ put 0 (super_block (recovered_super g last)) ∷ Flush true ∷ []
 
-  makes_stays : (calls : List Call) (result : Result (Unit {0}) Failed) → Makes tells middle now calls result → Stays middle now × Later middle now
-  makes_stays calls (Ok _) makes = (makes.stays, makes.later)
-  makes_stays calls (Err _) makes = (makes.stays, makes.later)
-
-  pub all_written : (g : Geometry) (result : Result (Unit {0}) Failed) → ((image : Image) → N image → image.geometry ≡ g) → Acts tells honest before middle N AreBothDone (Ok tt)
+  pub all_written : (g : Geometry) (result : Result (Unit {0}) Failed) → ((image : Image) → N image → image.geometry ≡ g) → Acts tells (recovery tells honest) before middle N AreBothDone (Ok tt)
       → Makes tells middle now (closing g) result → WritesAll tells honest before now N last result
   all_written g result sizes acts makes =
-      let parts = makes_stays (closing g) result makes in record {
+      let parts = made_stays tells middle now (closing g) result makes in record {
         stays = stays_on before middle now acts.stays parts.0;
         later = later_on before middle now acts.later parts.1;
         grows = grows_on tells before middle now acts.grows (made_grows tells middle now (closing g) result makes);
         failed = failed_on tells before middle now result acts.later acts.grows (makes_failed tells middle now (closing g) result makes);
         ends = λ first blocks start calls made has same.
             let image = image_in blocks start.to.sound in
-            let went = acts.recovers first blocks start calls made has in
+            let went = acts.writes start.told first (blocks, start) calls made has in
             let are : ArePuts image (went.0 ++ calls) = record { each = went.1.each; pages = went.2.0; counters = went.2.1 } in
             closes_to tells honest first blocks start middle now (went.0 ++ calls) went.1 are result
             (subst (λ (n : ℕ). Makes tells middle now (Flush true ∷ put 0 (super_block (recovered_super image.geometry n)) ∷ Flush true ∷ []) result) (sym same)
@@ -99,7 +95,7 @@ read_refused tells honest head before now why fails untouched = record {
   nothing = inr untouched;
   ends = λ first blocks start before_it accepted.
       let image = image_in blocks start.to.sound in
-      let made = read_made tells image first first now [] start.told (none_made image first) (untouched_on tells first before now before_it untouched) in
+      let made = read_made tells (recovery tells honest) image first first now [] start.told (none_made (IsPut image) first) (untouched_on tells first before now before_it untouched) in
       made_kept tells honest first blocks start now (made.0 ++ []) made.1;
 }
 
@@ -146,8 +142,8 @@ module _ (tells honest : Bool) (head : Superblock) (before second third now : Se
     last_is : start.to.sound.last ≡ window.last
     last_is = sym (opened_alike blocks start.to.sound head window.last window.entries opens).1
 
-    made : (reads : List Call) × AreMade image first third (reads ++ [])
-    made = read_made tells image first first third [] start.told (none_made image first) (untouched_on tells first before third before_it all_read)
+    made : (reads : List Call) × AreMade (IsPut image) first third (reads ++ [])
+    made = read_made tells (recovery tells honest) image first first third [] start.told (none_made (IsPut image) first) (untouched_on tells first before third before_it all_read)
 
     ends_so : (result : Result (Unit {0}) Failed) → WritesAll tells honest third now Needs window.last result → Ends blocks start.to.sound first now result
     ends_so result writes = writes.ends first blocks start (made.0 ++ []) made.1 needs last_is

@@ -33,7 +33,7 @@ use Rattle.disk_model.proofs.LookedLaws.{one_in-settled}
 use Rattle.image_format.specs.Calls.{put}
 use Rattle.image_model.proofs.EmptyLaws.{sizes_of_image}
 use Rattle.image_model.specs.Counts.{Stores}
-use Rattle.image_model.specs.Maps.{Image, head_of, or_else, page_at, put_by, put_last, says}
+use Rattle.image_model.specs.Maps.{Image, head_of, or_else, put_by, put_last, says}
 use Rattle.image_model.specs.Pages.{leaf_of, slot_of_address}
 use Rattle.image_model.specs.Sound.{IsSound}
 use Rattle.image_model.specs.Windows.{IsOfImage, LeadsToData}
@@ -50,14 +50,10 @@ use Rattle.recovery_laws.specs.Calls.{IsCountersPut, IsPut}
 use Rattle.recovery_laws.specs.Kept.{image_in}
 use Rattle.recovery_laws.specs.Written.{IsFullPage, IsOldSector, IsPartPage}
 use Rattle.recovery_laws.proofs.BlockLaws.{part_of_mix}
-use Rattle.recovery_laws.proofs.CallLaws.{puts_part}
 use Rattle.recovery_laws.proofs.ContentLaws.{Puts, contents_are}
 use Rattle.recovery_laws.proofs.CountsKept.{stored_fits}
 use Rattle.recovery_laws.proofs.OldLaws.{says_put}
-use Rattle.recovery_laws.proofs.PutLaws.{IsFullBlock, IsPartBlock, old_is_part, puts_full}
-use Rattle.recovery_laws.proofs.SoundLaws.{known}
-use Rattle.recovery_laws.proofs.WindowFacts.{IsKnown}
-use Rattle.recovery_laws.proofs.StopLaws.{page_looked_at}
+use Rattle.recovery_laws.proofs.PutLaws.{IsFullBlock, puts_full}
 use Rattle.replay_counts.specs.Recovered.{HasCounts}
 use Rattle.replay_counts.specs.declared.forms.SectorPoints.{SectorPoints}
 use Rattle.replay_map.specs.Changes.{AreNewest}
@@ -100,13 +96,13 @@ one_held : (g : Geometry) (level : ℕ) (o other : Option Mapping) (put : Mappin
 one_held g level (Some own) other put here later is = let same : own ≡ put = cc is in subst (HoldsMapping g level) same (here own refl)
 one_held g level None other put here later is = later is
 
-put_held : (g : Geometry) (last : ℕ) (window : List CommittedEntry) (page : PageId) (slot : ℕ) (put : Mapping) → IsGeometry g → All (IsKnown g last) window
+put_held : (g : Geometry) (window : List CommittedEntry) (page : PageId) (slot : ℕ) (put : Mapping) → IsGeometry g → All (λ (committed : CommittedEntry). IsOfImage g committed.entry) window
     → put_last window page slot ≡ Some put → HoldsMapping g page.level put
-put_held g last [] page slot put sizes each is = absurd (cc is)
-put_held g last (committed ∷ older) page slot put sizes each is =
+put_held g [] page slot put sizes each is = absurd (cc is)
+put_held g (committed ∷ older) page slot put sizes each is =
     one_held g page.level (put_by committed.entry page slot) (put_last older page slot) put
-    (λ own here. entry_held g committed.entry page slot own sizes (All-head (IsKnown g last) committed older each).of_image here)
-    (λ later. put_held g last older page slot put sizes (All-tail (IsKnown g last) committed older each) later) is
+    (λ own here. entry_held g committed.entry page slot own sizes (All-head (λ (committed : CommittedEntry). IsOfImage g committed.entry) committed older each) here)
+    (λ later. put_held g older page slot put sizes (All-tail (λ (committed : CommittedEntry). IsOfImage g committed.entry) committed older each) later) is
 
 -- Pages.
 
@@ -129,10 +125,10 @@ page_of_mix image page at options bytes whole mix all =
           };
     }
 
-pub page_of_patch : (image : Image) (last : ℕ) (page : PageId) (at : Pbn) (changes : List (SlotId × Mapping)) (given bytes : List ℕ) → IsGeometry image.geometry
-    → All (IsKnown image.geometry last) image.window → page.level < 2 ^ 8 → AreNewest image.window changes → IsPartPage image page at given
+pub page_of_patch : (image : Image) (page : PageId) (at : Pbn) (changes : List (SlotId × Mapping)) (given bytes : List ℕ) → IsGeometry image.geometry
+    → All (λ (committed : CommittedEntry). IsOfImage image.geometry committed.entry) image.window → page.level < 2 ^ 8 → AreNewest image.window changes → IsPartPage image page at given
     → IsPatched changes page PAGE_SLOTS given bytes → IsFullPage image page at bytes
-page_of_patch image last page at changes given bytes sizes all_known low newest part patched =
+page_of_patch image page at changes given bytes sizes each low newest part patched =
     let headed : HasHead (head_of image page at) bytes = patched.head ∙ part.headed in
     record {
       headed = headed;
@@ -147,7 +143,7 @@ page_of_patch image last page at changes given bytes sizes all_known low newest 
             let said = says_put image page at slot mapping is in record {
               headed = headed;
               spelled = patched.put slot mapping small small (newest page slot low ∙ is) ∙ ap mapping_bytes (sym said);
-              held = subst (HoldsMapping image.geometry page.level) (sym said) (put_held image.geometry last image.window page slot mapping sizes all_known is);
+              held = subst (HoldsMapping image.geometry page.level) (sym said) (put_held image.geometry image.window page slot mapping sizes each is);
             }
       ];
     }
@@ -200,16 +196,13 @@ module _ (tells honest : Bool) (first : Seen) (blocks : Blocks) (start : IsStart
   abbrev g : Geometry
   g = sound.head.geometry
 
-  whole : (b : ℕ) → b < length blocks → length (block_at blocks b) ≡ 4096
-  whole b below = start.to.one.whole b (let size = start.to.one.size in omega (arith, size, below))
-
   sizes : IsGeometry g
   sizes = sizes_of_image blocks sound.head sound.opens.accepted
 
   settled_kinds : (P : ℕ → List ℕ → Type 0) (calls : List Call) (b : ℕ) → P b (block_at blocks b) → AllByRecursion (Puts P) calls → AllByRecursion (P b) (settled blocks calls b)
   settled_kinds P calls b was puts = settled_are_contents (P b) blocks calls b (contents_are P blocks calls b was puts)
 
-  module _ (before middle : Seen) (calls : List Call) (made : AreMade image first before calls) (at : Pbn) (given : List ℕ)
+  module _ (before middle : Seen) (calls : List Call) (made : AreMade (IsPut image) first before calls) (at : Pbn) (given : List ℕ)
       (below : at.0 < length blocks) (read : WereRead tells honest at.0 before middle (given ∷ [])) where
     full_puts : AllByRecursion (Puts (IsFullBlock blocks sound start.to.named)) calls
     full_puts = puts_full blocks sound start.to.named calls made.each
@@ -222,18 +215,6 @@ module _ (tells honest : Bool) (first : Seen) (blocks : Blocks) (start : IsStart
         let opened = subst (λ (opening : Blocks). IsMixOf (settled opening (calls ++ first.log) at.0) given) made.stays.opening logged in
         one_in-settled (looked_in blocks) first.opening first.log calls blocks at.0 given start.to.one (let size = start.to.one.size in omega (arith, size, below))
         (looked_in_place blocks sound.head sound.opens.accepted at.0 looked) opened
-
-    -- a page
-    pub page_put : (page : PageId) (changes : List (SlotId × Mapping)) (bytes : List ℕ) → page_at image page ≡ Some at → page.level < 2 ^ 8 → AreNewest image.window changes
-        → IsPatched changes page PAGE_SLOTS given bytes → IsPut image (put at.0 bytes)
-    page_put page changes bytes there low newest patched =
-        let parts = settled_kinds (IsPartBlock blocks sound start.to.named) calls at.0 (old_is_part blocks sound start.to.named at.0)
-        (puts_part blocks sound start.to.named start.to.unclean whole calls full_puts) in
-        let part = page_of_mix image page at (settled blocks calls at.0) given read.given.0 (given_mix (page_looked_at blocks sound start.to.named page at there))
-        (all_weaker (IsPartBlock blocks sound start.to.named at.0) (IsPartPage image page at) (settled blocks calls at.0) (λ content is. is.page page at there refl) parts) in (
-          patched.size ∙ read.given.0,
-          inl (page, there, page_of_patch image sound.last page at changes given bytes sizes (known blocks blocks sound) low newest part patched),
-        )
 
     -- a block of counters
     abbrev PastKept : ℕ → List ℕ → Type 0

@@ -16,7 +16,7 @@ use Rattle.image_model.specs.declared.fault.ImageFault.{ImageFault}
 use Rattle.image_model.specs.declared.fault.ImageFault.TheVariants.{Device}
 use Rattle.journal_window.specs.Reads.{IsWindowRead, Fails}
 use Rattle.journal_window.specs.States.{WindowState}
-use Rattle.recovery_laws.specs.Calls.{ArePuts, recovery_calls}
+use Rattle.recovery_laws.specs.Calls.{ArePuts, IsPut, recovery_calls}
 use Rattle.recovery_laws.specs.Kept.{AreStopsKept, image_in}
 use Rattle.rebuild.specs.Acts.{AreMade, Grows, IsStart}
 
@@ -70,7 +70,7 @@ pub record WritesAll (tells honest : Bool) (before now : Seen) (Needs : Image �
   pub later : Later before now
   pub grows : Grows tells before now
   pub failed : OnErr result (LastFailed tells before now)
-  pub ends : (first : Seen) (blocks : Blocks) (start : IsStart tells honest first blocks) (calls : List Call) → AreMade (image_in blocks start.to.sound) first before calls
+  pub ends : (first : Seen) (blocks : Blocks) (start : IsStart tells honest first blocks) (calls : List Call) → AreMade (IsPut (image_in blocks start.to.sound)) first before calls
       → Needs (image_in blocks start.to.sound) → start.to.sound.last ≡ last → Ends blocks start.to.sound first now result
 
 -- what recovering an image answers whose superblock was read and says that its last session wasn't closed

@@ -3,7 +3,7 @@ ghost use Rattle.blk_base.specs.Limits.{IsGeometry};
 ghost use Rattle.blk_base.specs.Regions.{needed_blocks};
 ghost use Rattle.count_updates.specs.Numbers.{all_blocks, all_sectors};
 ghost use Rattle.replay_map.specs.Forms.{HasForm};
-ghost use Rattle.rebuild.specs.Acts.{Acts};
+ghost use Rattle.rebuild.specs.Acts.{Acts, recovery};
 ghost use Rattle.rebuild.specs.Done.{AreBothDone, HasContents};
 ghost use Rattle.rebuild.specs.Outcomes.{RecoversUnclean, WritesAll};
 
@@ -78,7 +78,7 @@ fn write_blocks<D: Disk>(
     requires sectors { length contents.now.counts.sectors.items ≡ all_sectors layout.now.geometry }
     requires form { HasForm layout.now.geometry contents.now.map.links.items
         contents.now.map.slots.items }
-    ensures { Acts D.tells D.honest (D.seen device.old) (D.seen device.new)
+    ensures { Acts D.tells (recovery D.tells D.honest) (D.seen device.old) (D.seen device.new)
         (HasContents layout.now.geometry changes.now contents.now.map.links.items
         contents.now.counts.counts.items contents.now.counts.sectors.items)
         AreBothDone result }

@@ -2,7 +2,7 @@ use Rattle.std.proofs.Common.{ℕ, ◌≡◌, Ok, Err, arith, subst}
 use Rattle.rebuild.proofs.ActLaws.{still_failed}
 use Rattle.rebuild.proofs.TurnLaws.{no_blocks, one_block_more}
 use Rattle.blk_base.specs.Regions.{references_of}
-use Rattle.rebuild.specs.Acts.{Acts}
+use Rattle.rebuild.specs.Acts.{Acts, recovery}
 use Rattle.rebuild.specs.Done.{HasTheseCounts, IsSlabDone}
 use Rattle.rebuild.proofs.counters.put_slab.Goals as goal
 
@@ -28,5 +28,5 @@ returns g c =
     let all : c.loop-i.i ≡ references_of c.args.layout.now.geometry = omega (arith, ended, within, count) in
     let disk = g.D.Disk in
     let counts = c.args.counts.now in
-    subst (λ (n : ℕ). Acts disk.tells disk.honest (disk.seen c.args.device.now) (disk.seen c.loop-i.device) (HasTheseCounts c.args.layout.now.geometry counts.counts.items counts.sectors.items)
+    subst (λ (n : ℕ). Acts disk.tells (recovery disk.tells disk.honest) (disk.seen c.args.device.now) (disk.seen c.loop-i.device) (HasTheseCounts c.args.layout.now.geometry counts.counts.items counts.sectors.items)
     (IsSlabDone c.args.layout.now.geometry counts.sectors.items c.args.slab n) (Ok tt)) all c.loop-i.invariant

@@ -1,7 +1,7 @@
 use Rattle.std.proofs.Common.{ℕ, ◌≡◌, Ok, Err, arith, subst}
 use Rattle.rebuild.proofs.ActLaws.{still_failed}
 use Rattle.rebuild.proofs.TurnLaws.{no_slabs, one_slab_more}
-use Rattle.rebuild.specs.Acts.{Acts}
+use Rattle.rebuild.specs.Acts.{Acts, recovery}
 use Rattle.rebuild.specs.Done.{AreSlabsDone, HasTheseCounts}
 use Rattle.rebuild.proofs.counters.put_slabs.Goals as goal
 
@@ -26,5 +26,5 @@ returns g c =
     let all : c.loop-slab.slab ≡ c.args.layout.now.geometry.slabs = omega (arith, ended, within) in
     let disk = g.D.Disk in
     let counts = c.args.counts.now in
-    subst (λ (n : ℕ). Acts disk.tells disk.honest (disk.seen c.args.device.now) (disk.seen c.loop-slab.device) (HasTheseCounts c.args.layout.now.geometry counts.counts.items counts.sectors.items)
+    subst (λ (n : ℕ). Acts disk.tells (recovery disk.tells disk.honest) (disk.seen c.args.device.now) (disk.seen c.loop-slab.device) (HasTheseCounts c.args.layout.now.geometry counts.counts.items counts.sectors.items)
     (AreSlabsDone c.args.layout.now.geometry counts.sectors.items n) (Ok tt)) all c.loop-slab.invariant

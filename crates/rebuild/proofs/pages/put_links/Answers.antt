@@ -3,7 +3,7 @@ use Rattle.std.proofs.lemmas.List.{take_all}
 use Rattle.replay_map.specs.declared.links.Link.{Link}
 use Rattle.rebuild.proofs.ActLaws.{still_failed}
 use Rattle.rebuild.proofs.TurnLaws.{no_links, one_link_more}
-use Rattle.rebuild.specs.Acts.{Acts}
+use Rattle.rebuild.specs.Acts.{Acts, page_writing}
 use Rattle.rebuild.specs.Done.{AreLinksDone, HasLinks}
 use Rattle.rebuild.proofs.pages.put_links.Goals as goal
 
@@ -24,7 +24,7 @@ returns-in_err-put_page g c =
 pub returns : goal.returns
 returns g c =
     let disk = g.D.Disk in
-    subst (λ (links : List Link). Acts disk.tells disk.honest (disk.seen c.args.device.now) (disk.seen c.loop-link.device) (HasLinks c.args.changes.now c.args.links.now)
+    subst (λ (links : List Link). Acts disk.tells (page_writing disk.honest) (disk.seen c.args.device.now) (disk.seen c.loop-link.device) (HasLinks c.args.changes.now c.args.links.now)
     (AreLinksDone c.args.changes.now links) (Ok tt)) (take_all c.loop-link.link-index c.args.links.now c.loop-link-test.false) c.loop-link.invariant
 
 pub put_page-requires : goal.put_page-requires

@@ -3,7 +3,7 @@ use Rattle.blk_base.specs.declared.sizes.TheConstants.{TREES}
 use Rattle.replay_map.proofs.SlotLaws.{page_inside}
 use Rattle.rebuild.proofs.ActLaws.{still_failed}
 use Rattle.rebuild.proofs.TurnLaws.{no_roots, one_root_more}
-use Rattle.rebuild.specs.Acts.{Acts}
+use Rattle.rebuild.specs.Acts.{Acts, page_writing}
 use Rattle.rebuild.specs.Done.{AreRootsDone, HasRoots}
 use Rattle.rebuild.proofs.pages.put_roots.Goals as goal
 
@@ -24,7 +24,7 @@ returns g c =
     let inside = c.loop-tree.auto.tree-end in
     let all : c.loop-tree.tree ≡ TREES = omega (arith, ended, inside) in
     let disk = g.D.Disk in
-    subst (λ (n : ℕ). Acts disk.tells disk.honest (disk.seen c.args.device.now) (disk.seen c.loop-tree.device) (HasRoots c.args.layout.now.geometry c.args.changes.now)
+    subst (λ (n : ℕ). Acts disk.tells (page_writing disk.honest) (disk.seen c.args.device.now) (disk.seen c.loop-tree.device) (HasRoots c.args.layout.now.geometry c.args.changes.now)
     (AreRootsDone c.args.layout.now.geometry c.args.changes.now n) (Ok tt)) all c.loop-tree.invariant
 
 pub put_page-requires : goal.put_page-requires

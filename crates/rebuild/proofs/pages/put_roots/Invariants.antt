@@ -1,9 +1,9 @@
 use Rattle.std.proofs.Common.{Ok}
-use Rattle.rebuild.specs.Acts.{Acts}
+use Rattle.rebuild.specs.Acts.{Acts, page_writing}
 use Rattle.rebuild.specs.Done.{AreRootsDone, HasRoots}
 use Rattle.rebuild.proofs.pages.put_roots.Given as goal
 
 abbrev pub invariant-loop-tree : goal.invariant-loop-tree
 invariant-loop-tree g l =
     let disk = g.D.Disk in
-    Acts disk.tells disk.honest (disk.seen l.fn.device) (disk.seen l.device) (HasRoots l.layout.geometry l.changes) (AreRootsDone l.layout.geometry l.changes l.tree) (Ok tt)
+    Acts disk.tells (page_writing disk.honest) (disk.seen l.fn.device) (disk.seen l.device) (HasRoots l.layout.geometry l.changes) (AreRootsDone l.layout.geometry l.changes l.tree) (Ok tt)

@@ -1,6 +1,7 @@
 use Rattle.std.proofs.Common.{Err, arith}
 use Rattle.rebuild.proofs.ActLaws.{acts_as, still_failed}
-use Rattle.rebuild.proofs.TurnLaws.{both_done, links_inside}
+use Rattle.rebuild.proofs.PageLaws.{recovers_pages}
+use Rattle.rebuild.proofs.TurnLaws.{both_done, links_inside, page_list_stays}
 use Rattle.rebuild.specs.Done.{ArePagesDone, HasContents}
 use Rattle.rebuild.proofs.unclean.write_blocks.Goals as goal
 
@@ -10,7 +11,7 @@ returns-in_err-put_pages g c =
     let sizes = c.args.layout.now.geometry in
     still_failed _ _ _ _ _ _ _ _ c.from_residual.result c.from_residual.ensures.0
     (acts_as _ _ _ _ _ (HasContents sizes c.args.changes.now contents.map.links.items contents.counts.counts.items contents.counts.sectors.items) _ ArePagesDone (Err _)
-    (rw c.deref.ensures.value at c.in_err-put_pages.ensures)
+    (recovers_pages _ _ _ _ _ _ (Err _) (rw c.deref.ensures.value at c.in_err-put_pages.ensures) page_list_stays)
     (λ image has. (has.newest, has.sizes, has.links)) (λ image calls has is. is))
 
 pub returns : goal.returns
