@@ -1,6 +1,6 @@
 use blk_base::{Block, DataPlace, Geometry, Half, Layout, Pbn, Point};
 
-// The numbers of these tests were computed by tools/layout.py. Those of the default image are the table in docs/DESIGN.md.
+// The numbers of these tests were computed by tools/layout.py. Those of the default image are the table in docs/FORMAT.md.
 const DEFAULT_NEEDED: u32 = 154;
 
 // Sequences 0, 1, 7, 8 and 15.

@@ -2,8 +2,7 @@
 //!
 //! Only tested: a table of texts.
 //!
-//! Not there: a command that prints `sectors` by these texts; how many blocks are used behind a run or a workload, since a
-//! session doesn't tell it.
+//! Not there: a command that prints `sectors` by these texts.
 #![tactic(auto)]
 
 mod audits;
