@@ -5,7 +5,7 @@ pub struct Ticket {
     /// The physical zone that was asked.
     pub zone: u32,
     /// No two tickets of a zone that are out have the same number.
-    pub number: u32,
+    pub number: u64,
     /// The zone's step that asked.
     pub asked: u64,
 }

@@ -52,7 +52,7 @@ fn take_ticket(
     tickets: &mut Tickets,
     held: &mut Vec<Ticket>,
     clock: &mut Clock,
-) -> Result<Option<(u32, u64)>, AllocError>
+) -> Result<Option<(u64, u64)>, AllocError>
     requires { AreOut tickets.old held.old.items clock.old.issued clock.old.step }
     ensures { OnOk result (AreOut tickets.new held.new.items clock.new.issued clock.new.step) }
 {
@@ -86,7 +86,7 @@ fn take_back(
     held: &mut Vec<Ticket>,
     clock: &Clock,
     place: usize,
-) -> Option<(u32, Worth)>
+) -> Option<(u64, Worth)>
     requires { AreOut tickets.old held.old.items clock.now.issued clock.now.step }
     ensures { AreOut tickets.new held.new.items clock.now.issued clock.now.step }
 {

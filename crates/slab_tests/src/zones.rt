@@ -27,7 +27,7 @@ struct Held {
 #[derive(Clone, Copy, Debug, PartialEq, Eq)]
 enum Given {
     Block(u32),
-    Ticket(u32, u64),
+    Ticket(u64, u64),
 }
 
 // The second of two zones, in its first step, of which nothing is held. Its only free block is block 112.

@@ -67,7 +67,7 @@ room_for_one = record { fewer = omega arith; number = omega arith }
 no_room : ¬ HasRoom (record two { room = 2 })
 no_room = λ room. omega (arith, room.fewer)
 
-no_number : ¬ HasRoom (record two { issued = 4294967295 })
+no_number : ¬ HasRoom (record two { issued = 18446744073709551615 })
 no_number = λ room. omega (arith, room.number)
 
 -- Issues: of this step, this zone, the next number, behind all others

@@ -52,7 +52,7 @@ NoneWaits desk = position (λ waiting. not (is_served waiting)) desk.out ≡ Non
 -- there is room for one more, and a number
 pub record HasRoom (desk : Desk) : Type 0 where
   pub fewer : length desk.out < desk.room
-  pub number : desk.issued < 2 ^ 32 - 1
+  pub number : desk.issued < 2 ^ 64 - 1
 
 -- one more ticket is out, the youngest
 pub record Issues (old new : Desk) (writer : Writer) (ticket : Ticket) : Type 0 where

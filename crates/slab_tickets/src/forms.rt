@@ -4,7 +4,7 @@ use slab_counts::{Claim, Receipt};
 /// A ticket that is out: the request that asked, and in which step of the zone, and the block that went to it.
 #[derive(Drop)]
 pub struct Waiting {
-    pub number: u32,
+    pub number: u64,
     pub asked: u64,
     pub writer: Writer,
     pub block: Option<Claim>,

@@ -13,7 +13,7 @@ pub struct Tickets {
     zone: u32,
     room: u32,
     // The number of the next ticket.
-    issued: u32,
+    issued: u64,
     // The step under way, and the last one at whose end the zone had a free block.
     step: Option<u64>,
     last_free: Option<u64>,
@@ -79,7 +79,7 @@ impl Tickets {
     pub fn has_room(&self) -> bool
         ensures { IsTrue result ↔ HasRoom self.now }
     {
-        self.out.len() < self.room as usize && self.issued < u32::MAX
+        self.out.len() < self.room as usize && self.issued < u64::MAX
     }
 
     /// Whether the ticket is out.
@@ -158,7 +158,7 @@ fn first_unserved(out: &[Waiting]) -> Option<usize>
 }
 
 // The place of the ticket with this number.
-fn place_of(out: &[Waiting], number: u32) -> Option<usize>
+fn place_of(out: &[Waiting], number: u64) -> Option<usize>
     ensures { result ≡ position (λ waiting. waiting.number == number) out.now }
 {
     out.iter().position(|waiting| waiting.number == number)

@@ -13,7 +13,7 @@ use Rattle.zone_counts.specs.Zone.{Zone, BeginsBehind, IsOf, IsClaimedIn, NoneFr
 use Rattle.blk_base.specs.declared.point.Half.TheVariants.{Increment, Decrement}
 use Rattle.blk_base.specs.declared.opened.Opened.{Opened}
 use Rattle.slab_tickets.specs.declared.forms.Withdrawn.TheVariants.{Block, Nothing}
-use Rattle.zone_counts.specs.ByBlock.{has_block, counter_in, claims_in, out_with, makes, drops, maps, unmaps, withdraws, served_block}
+use Rattle.zone_counts.specs.ByBlock.{has_block, counter_in, claims_in, out_with, makes, drops, maps, unmaps, withdraws, served_block, served_ticket}
 use Rattle.zone_counts.specs.Openings.{opened_count}
 use Rattle.zone_counts.specs.Calls.{Call, Asks', Withdraws', Shares', Extends, Drops, SpendsPage, Applies}
 use Rattle.zone_counts.specs.declared.forms.Asked.TheVariants as asked
@@ -280,6 +280,13 @@ served_to_the_ticket = refl
 
 served_to_nobody : served_block nothing_is_free ≡ None
 served_to_nobody = refl
+
+-- served_ticket
+served_the_fifth : served_ticket serves_the_ticket ≡ Some 5
+served_the_fifth = refl
+
+served_none : served_ticket nothing_is_free ≡ None
+served_none = refl
 
 -- AreOpened, IsOpeningZone: of an image with these sizes
 abbrev just_opened : Zone

@@ -72,6 +72,11 @@ abbrev pub served_block : {slabs slabs' : List Counts} {desk desk' : Desk} → S
 served_block (inl same) = None
 served_block (inr serves) = Some serves.block
 
+-- the number of the ticket to which it went
+abbrev pub served_ticket : {slabs slabs' : List Counts} {desk desk' : Desk} → Serves slabs desk slabs' desk' → Option ℕ
+served_ticket (inl same) = None
+served_ticket (inr serves) = Some serves.gives.waiting.number
+
 abbrev pub served_in : (call : Call) (old new : Zone) → Does call old new → Option Pbn
 served_in (Drops at) old new did = served_block did.1.serves
 served_in (Applies half at slab) old new did = served_block did.2.serves
