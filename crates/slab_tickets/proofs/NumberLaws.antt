@@ -150,7 +150,7 @@ in_order low (y ∷ ws) next (suc i) zero u w rises had had' less =
     omega (arith, less, low_at (suc y.number) ws next i u rises.1 had, ap (λ (v : Waiting). v.number) (same_Some _ _ had'))
 in_order low (y ∷ ws) next (suc i) (suc j) u w rises had had' less = omega (arith, in_order (suc y.number) ws next i j u w rises.1 had had' less)
 
-get_read : (ws : List Waiting) (i : ℕ) (w : Waiting) → slice_get ws i ≡ Some w → (i < length ws) × (get_or ws i w ≡ w)
+pub get_read : (ws : List Waiting) (i : ℕ) (w : Waiting) → slice_get ws i ≡ Some w → (i < length ws) × (get_or ws i w ≡ w)
 get_read [] i w had = absurd cc
 get_read (y ∷ ws) zero w had = (omega arith, same_Some _ _ had)
 get_read (y ∷ ws) (suc i) w had = let r = get_read ws i w had in (omega (arith, r.0), r.1)

@@ -88,14 +88,17 @@ begun_full old step behind below = record {
   waiting = behind.waiting;
 }
 
+pub issued_behind : (old new : Desk) (writer : Writer) (ticket : Ticket) → IsBehind old → Issues old new writer ticket → IsBehind new
+issued_behind old new writer ticket behind did = behind_as new _ did.after (record {
+  strict = behind.strict;
+  never = behind.never;
+  waiting = All-push (AskedBehind old.last_free) old.out _ behind.waiting (λ unserved. behind.strict ticket.asked did.now);
+})
+
 pub call_keeps : (call : Call) (old new : Desk) → IsBehind old → Does call old new → IsBehind new
 call_keeps (Begins true step) old new behind did = behind_as new (begun true step old) did.2 (begun_free old step behind did.0 did.1)
 call_keeps (Begins false step) old new behind did = behind_as new (begun false step old) did.1 (begun_full old step behind did.0)
-call_keeps (Issued writer ticket) old new behind did = behind_as new _ did.1.after (record {
-  strict = behind.strict;
-  never = behind.never;
-  waiting = All-push (AskedBehind old.last_free) old.out _ behind.waiting (λ unserved. behind.strict ticket.asked did.1.now);
-})
+call_keeps (Issued writer ticket) old new behind did = issued_behind old new writer ticket behind did.1
 call_keeps (Given block) old new behind did = behind_as new _ did.after (record {
   strict = behind.strict;
   never = behind.never;

@@ -67,10 +67,10 @@ module _ (z : Zone) (is : IsZone z) where
       subst (λ (x : Zone). IsZone x) (sym did.same)
       (served z 0 (place_of z at) (slab_of z at) c is no_mark (inside z.geometry z.zone z.zones z.slabs at is.slabs own) (read at own) new.slabs new.desk at change only did.serves)
 
-as_zone : (new made : Zone) → new ≡ made → IsZone made → IsZone new
+pub as_zone : (new made : Zone) → new ≡ made → IsZone made → IsZone new
 as_zone new made same is = subst (λ (x : Zone). IsZone x) (sym same) is
 
-call_keeps : (call : Call) (old new : Zone) → IsZone old → Does call old new → IsZone new
+pub call_keeps : (call : Call) (old new : Zone) → IsZone old → Does call old new → IsZone new
 call_keeps (Begins true step) old new is did = as_zone new _ did.1.after (record { slabs = is.slabs; desk = is.desk; settled = is.settled })
 call_keeps (Begins false step) old new is did = as_zone new _ did.1.after (record { slabs = is.slabs; desk = is.desk; settled = is.settled })
 call_keeps (Asks' writer (asked.Block at)) old new is did = as_zone new _ did.1.same (zone_claimed old new.slabs at is did.1.claims)
@@ -118,7 +118,7 @@ record OnTickets (first : Desk) (desk : Desk) (last step : Option ℕ) : Type 0 
 same_desk : (first old new : Desk) (last step : Option ℕ) → new ≡ old → OnTickets first old last step → OnTickets first new last step
 same_desk first old new last step same on = subst (λ (d : Desk). OnTickets first d last step) (sym same) on
 
-quiet : (z : Zone) → IsZone z → ¬ NoneFree z.slabs → NoneWaits z.desk
+pub quiet : (z : Zone) → IsZone z → ¬ NoneFree z.slabs → NoneWaits z.desk
 quiet z is some = elim is.settled [ inl none ↦ none | inr free ↦ absurd (some free) ]
 
 changed : (first : Desk) (old new : Zone) (at : Pbn) (c : Counts) (last step : Option ℕ) → Changes old new at c → OnTickets first old.desk last step → OnTickets first new.desk last step

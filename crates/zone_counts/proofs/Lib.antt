@@ -14,3 +14,4 @@ mod ViewRows
 pub mod FreeBlocks
 pub mod OpenedCounts
 pub mod FitLaws
+pub mod TicketLaws

@@ -1,19 +1,21 @@
-ghost use Rattle.std.specs.Prelude.{ℕ, List, [], Option, None, Some, ◌≡◌, ◌⊎◌, ◌↔◌, ◌+◌, ◌<◌, ◌≤◌};
+ghost use Rattle.std.specs.Prelude.{ℕ, Bool, List, [], Option, None, Some, ◌≡◌, ◌⊎◌, ◌↔◌, ◌+◌, ◌<◌, ◌≤◌, ◌==◌, if◌then◌else◌};
 ghost use Rattle.blk_base.specs.Counters.{limit_of};
 ghost use Rattle.blk_base.specs.Regions.{IsDataBlock};
 ghost use Rattle.blk_base.specs.declared.geometry.Geometry.{Geometry};
 ghost use Rattle.blk_base.specs.declared.opened.Opened.{Opened};
+ghost use Rattle.plain_laws.specs.Sums.{bit, total};
 ghost use Rattle.slab_counts.specs.declared.refusals.Refusal.{Refusal};
 ghost use Rattle.slab_counts.specs.declared.tickets.Ticket.{Ticket};
 ghost use Rattle.slab_counts.specs.declared.tickets.Receipt.{Receipt};
-ghost use Rattle.slab_tickets.specs.Numbers.{ticket_of};
-ghost use Rattle.slab_tickets.specs.Tickets.{IsNow, IsOutAt, empty_desk};
+ghost use Rattle.slab_tickets.specs.Numbers.{AreNumbered, IsBehind, ticket_of};
+ghost use Rattle.slab_tickets.specs.Tickets.{IsNow, IsBelow, IsOutAt, empty_desk};
 ghost use Rattle.slab_tickets.specs.declared.forms.Withdrawn.{Withdrawn};
-ghost use Rattle.slab_tickets.specs.declared.forms.Withdrawn.TheVariants.{Nothing};
+ghost use Rattle.slab_tickets.specs.declared.forms.Withdrawn.TheVariants.{Block, Nothing};
+ghost use Rattle.slab_tickets.specs.declared.forms.Waiting.{Waiting};
 ghost use Rattle.zone_counts.specs.Zone.{Zone, IsZone, IsOfZone, IsClaimedIn, IsOpeningZone, BeginsStep, Changes, NoneFree, slab_of, with_slab};
 ghost use Rattle.zone_counts.specs.Openings.{opened_count};
-ghost use Rattle.zone_counts.specs.Asking.{Asks, GivesBlock, SharesIn, WithdrawsFrom, IsRefusedIn};
-ghost use Rattle.zone_counts.specs.ByBlock.{counter_in, claims_in, out_with, is_at, makes, drops, maps, unmaps, withdraws, served_block, served_in};
+ghost use Rattle.zone_counts.specs.Asking.{Asks, GivesBlock, GivesTicket, SharesIn, WithdrawsFrom, IsRefusedIn};
+ghost use Rattle.zone_counts.specs.ByBlock.{counter_in, claims_in, out_with, is_at, makes, drops, maps, unmaps, withdraws, served_block, served_ticket, served_in};
 ghost use Rattle.zone_counts.specs.declared.forms.Asked.{Asked};
 ghost use Rattle.slab_counts.specs.Counts.{Counts, IsFree, IsStray, Takes, counter_of, claims_of, claimed, unclaimed};
 ghost use Rattle.blk_base.specs.declared.place.Pbn.{Pbn};
@@ -101,6 +103,127 @@ pub fn what_is_served_is_what_became_free()
         (served_block change.serves ≡ None) × (new ≡ with_slab old at slab) }
     ensures quiet { (old new : Zone) (at : Pbn) (slab : Counts) → old.desk.out ≡ [] →
         Changes old new at slab → new ≡ with_slab old at slab }
+{}
+
+/// Each call keeps that the tickets of a zone have numbers of their own, and that those that wait asked behind the last step
+/// that ended with a free block. What each call makes of what is said of a number, and of how many tickets have a number that
+/// passes a test; and no ticket waits where a block is free.
+pub fn a_zone_keeps_its_tickets()
+    ensures begun { (old new : Zone) (step : ℕ) → BeginsStep old new step
+        →
+        (new.desk.out ≡ old.desk.out)
+        × (new.desk.issued ≡ old.desk.issued)
+        × (new.slabs ≡ old.slabs) }
+    ensures issued { (old new : Zone) (writer : Writer) (ticket : Ticket) (k : ℕ) →
+        AreNumbered old.desk → GivesTicket old new writer ticket
+        →
+        ticket_of new.desk.out k
+        ≡ (if ticket.number == k then Some None else ticket_of old.desk.out k) }
+    ensures next { (old new : Zone) (writer : Writer) (ticket : Ticket) →
+        GivesTicket old new writer ticket
+        →
+        (ticket.number ≡ old.desk.issued)
+        × (new.desk.issued ≡ old.desk.issued + 1)
+        × (ticket.zone ≡ old.desk.zone)
+        × (new.slabs ≡ old.slabs) }
+    ensures withdrawn { (old new : Zone) (ticket : Ticket) (result : Withdrawn) (k : ℕ) →
+        AreNumbered old.desk → WithdrawsFrom old new ticket result
+        →
+        ticket_of new.desk.out k
+        ≡ (if ticket.number == k then None else ticket_of old.desk.out k) }
+    ensures had_block { (old new : Zone) (ticket : Ticket) (at : Pbn) → AreNumbered old.desk →
+        WithdrawsFrom old new ticket (Block at)
+        → ticket_of old.desk.out ticket.number ≡ Some (Some at) }
+    ensures had_none { (old new : Zone) (ticket : Ticket) (receipt : Receipt) →
+        AreNumbered old.desk → WithdrawsFrom old new ticket (Nothing receipt)
+        → ticket_of old.desk.out ticket.number ≡ Some None }
+    ensures kept { (old new : Zone) (ticket : Ticket) (result : Withdrawn) →
+        WithdrawsFrom old new ticket result
+        → (new.desk.issued ≡ old.desk.issued) × (new.slabs ≡ old.slabs) }
+    ensures unserved { (old new : Zone) (at : Pbn) (slab : Counts) (k : ℕ) →
+        (change : Changes old new at slab) → served_ticket change.serves ≡ None
+        → ticket_of new.desk.out k ≡ ticket_of old.desk.out k }
+    ensures served { (old new : Zone) (at : Pbn) (slab : Counts) (n : ℕ) (block : Pbn) →
+        AreNumbered old.desk
+        → (change : Changes old new at slab) → served_ticket change.serves ≡ Some n
+        → served_block change.serves ≡ Some block
+        →
+        ((k : ℕ) →
+        ticket_of new.desk.out k
+        ≡ (if n == k then Some (Some block) else ticket_of old.desk.out k))
+        × (ticket_of old.desk.out n ≡ Some None)
+        × ((j : ℕ) → j < n → ¬ (ticket_of old.desk.out j ≡ Some None)) }
+    ensures same_next { (old new : Zone) (at : Pbn) (slab : Counts) → Changes old new at slab →
+        new.desk.issued ≡ old.desk.issued }
+    ensures begun_numbered { (old new : Zone) (step : ℕ) → AreNumbered old.desk →
+        BeginsStep old new step → AreNumbered new.desk }
+    ensures issued_numbered { (old new : Zone) (writer : Writer) (ticket : Ticket) →
+        AreNumbered old.desk → GivesTicket old new writer ticket → AreNumbered new.desk }
+    ensures withdrawn_numbered { (old new : Zone) (ticket : Ticket) (result : Withdrawn) →
+        AreNumbered old.desk → WithdrawsFrom old new ticket result → AreNumbered new.desk }
+    ensures changed_numbered { (old new : Zone) (at : Pbn) (slab : Counts) →
+        AreNumbered old.desk → Changes old new at slab → AreNumbered new.desk }
+    ensures begun_behind { (old new : Zone) (step : ℕ) → IsZone old → IsBehind old.desk →
+        IsBelow old.desk.step step → BeginsStep old new step → IsBehind new.desk }
+    ensures issued_behind { (old new : Zone) (writer : Writer) (ticket : Ticket) →
+        IsBehind old.desk → GivesTicket old new writer ticket → IsBehind new.desk }
+    ensures withdrawn_behind { (old new : Zone) (ticket : Ticket) (result : Withdrawn) →
+        IsBehind old.desk → WithdrawsFrom old new ticket result → IsBehind new.desk }
+    ensures changed_behind { (old new : Zone) (at : Pbn) (slab : Counts) → IsBehind old.desk →
+        Changes old new at slab → IsBehind new.desk }
+    ensures receipt { (old new : Zone) (ticket : Ticket) (receipt : Receipt) → IsBehind old.desk →
+        WithdrawsFrom old new ticket (Nothing receipt)
+        → IsBelow old.desk.last_free receipt.asked }
+    ensures free { (zone : Zone) (at : Pbn) → IsZone zone → IsOfZone zone at →
+        counter_in at zone.slabs + claims_in at zone.slabs ≡ 0
+        → (k : ℕ) → ¬ (ticket_of zone.desk.out k ≡ Some None) }
+    ensures dropped { (old new : Zone) (at : Pbn) (n : ℕ) → IsZone old → IsClaimedIn old at →
+        (change : Changes old new at (unclaimed (slab_of old at) at))
+        → served_ticket change.serves ≡ Some n →
+        (served_block change.serves ≡ Some at)
+        × (counter_in at new.slabs ≡ 0)
+        × (claims_in at new.slabs ≡ 1)
+        × (counter_in at old.slabs + claims_in at old.slabs ≡ 1) }
+    ensures removed { (old new : Zone) (at : Pbn) (slab : Counts) (n : ℕ) → IsZone old →
+        IsOfZone old at → Takes Decrement (slab_of old at) slab at
+        → (change : Changes old new at slab) → served_ticket change.serves ≡ Some n →
+        (served_block change.serves ≡ Some at)
+        × (counter_in at new.slabs ≡ 0)
+        × (claims_in at new.slabs ≡ 1)
+        × (counter_in at old.slabs + claims_in at old.slabs ≡ 1) }
+    ensures dropped_unserved { (old new : Zone) (at : Pbn) → IsZone old → IsClaimedIn old at →
+        (change : Changes old new at (unclaimed (slab_of old at) at))
+        → served_ticket change.serves ≡ None
+        → counter_in at new.slabs + claims_in at new.slabs ≡ 0
+        → (k : ℕ) → ¬ (ticket_of new.desk.out k ≡ Some None) }
+    ensures removed_unserved { (old new : Zone) (at : Pbn) (slab : Counts) → IsZone old →
+        IsOfZone old at → Takes Decrement (slab_of old at) slab at
+        → (change : Changes old new at slab) → served_ticket change.serves ≡ None
+        → counter_in at new.slabs + claims_in at new.slabs ≡ 0
+        → (k : ℕ) → ¬ (ticket_of new.desk.out k ≡ Some None) }
+    ensures begun_counted { (test : ℕ → Bool) (old new : Zone) (step : ℕ) →
+        BeginsStep old new step
+        →
+        total (λ (w : Waiting). bit (test w.number)) new.desk.out
+        ≡ total (λ (w : Waiting). bit (test w.number)) old.desk.out }
+    ensures issued_counted { (test : ℕ → Bool) (old new : Zone) (writer : Writer)
+        (ticket : Ticket) → GivesTicket old new writer ticket
+        →
+        total (λ (w : Waiting). bit (test w.number)) new.desk.out
+        ≡ total (λ (w : Waiting). bit (test w.number)) old.desk.out + bit (test ticket.number) }
+    ensures withdrawn_counted { (test : ℕ → Bool) (old new : Zone) (ticket : Ticket)
+        (result : Withdrawn) → WithdrawsFrom old new ticket result
+        →
+        total (λ (w : Waiting). bit (test w.number)) new.desk.out + bit (test ticket.number)
+        ≡ total (λ (w : Waiting). bit (test w.number)) old.desk.out }
+    ensures changed_counted { (test : ℕ → Bool) (old new : Zone) (at : Pbn) (slab : Counts) →
+        Changes old new at slab
+        →
+        total (λ (w : Waiting). bit (test w.number)) new.desk.out
+        ≡ total (λ (w : Waiting). bit (test w.number)) old.desk.out }
+    ensures out { (zone : Zone) (ticket : Ticket) →
+        1 ≤ total (λ (w : Waiting). bit (w.number == ticket.number)) zone.desk.out
+        → (place : ℕ) × IsOutAt zone.desk ticket place }
 {}
 
 /// A zone is opened with the counters of the image, without claims, and without tickets.

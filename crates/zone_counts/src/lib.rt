@@ -19,10 +19,10 @@ mod zone;
 pub use forms::Asked;
 pub use laws::{
     a_block_has_one_home, a_call_has_one_result, a_claim_is_of_its_zone,
-    a_ticket_waits_where_no_block_is_free, an_opened_zone_has_the_opened_counters,
-    calls_move_claims_and_counters, counts_of_a_block_are_within_the_limit, each_call_has_a_result,
-    every_receipt_is_right, what_a_zone_gives_was_free, what_is_served_is_what_became_free,
-    zones_stay_settled,
+    a_ticket_waits_where_no_block_is_free, a_zone_keeps_its_tickets,
+    an_opened_zone_has_the_opened_counters, calls_move_claims_and_counters,
+    counts_of_a_block_are_within_the_limit, each_call_has_a_result, every_receipt_is_right,
+    what_a_zone_gives_was_free, what_is_served_is_what_became_free, zones_stay_settled,
 };
 pub use slab_tickets::Withdrawn;
 pub use zone::ZoneCounts;
