@@ -1,1 +1,5 @@
+pub mod AskFacts
+pub mod AskTurns
 pub mod PhysicalFacts
+pub mod TicketDesks
+pub mod ZoneFacts

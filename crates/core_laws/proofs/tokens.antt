@@ -1,5 +1,6 @@
 pub mod ActRows
 pub mod ActSums
+pub mod AskMoves
 pub mod Moves
 pub mod Known
 pub mod LeaseTokens

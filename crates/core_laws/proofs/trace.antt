@@ -17,6 +17,7 @@ pub mod ShownPages
 pub mod ShownMaps
 pub mod StopsOfTrace
 pub mod SuperblockOfTrace
+pub mod TicketsOfTrace
 pub mod TurnsOfTrace
 pub mod Walks
 pub mod ZeroWrites

@@ -1,7 +1,6 @@
 -- How long a desk log gets: each request of the script is begun once at most, and answered once at most.
-use Rattle.std.proofs.Common.{◌≡◌, ℕ, true, ◌+◌, ◌*◌, ◌<◌, ◌≤◌, IsNone, IsSome, Some, List, [], ◌∷◌, length, get_or, refl, ap, inl, inr, arith}
-use Rattle.std.proofs.lemmas.Option.{slice_get_within}
-use Rattle.core_laws.proofs.Common.{AllByRecursion, DeskLine, Fails, Flushes, IsDeskLog, IsNextLine, Says, Script, Trace, Writer, answer_of, begun, eqb_tells, is_answer, is_begin, lines, marks, request_at, same_tells, some_of, total}
+use Rattle.std.proofs.Common.{◌≡◌, ℕ, true, ◌+◌, ◌*◌, ◌<◌, ◌≤◌, IsNone, Some, List, [], ◌∷◌, length, refl, ap, inl, inr, arith}
+use Rattle.core_laws.proofs.Common.{AllByRecursion, DeskLine, Fails, Flushes, IsDeskLog, IsNextLine, Says, Script, Trace, Writer, answer_of, begun, eqb_tells, is_answer, is_begin, lines, marks, same_tells, total}
 use Rattle.vdo_model.specs.declared.report.DeskLine.TheVariants.{Begin, Answer}
 use Rattle.core_model.specs.Limits.{requests_in}
 use Rattle.core_limits.proofs.StreamSums.{Apart, Inside, named, names_few, over, over_le, over_more, over_none, over_script, stream_there}

@@ -12,3 +12,4 @@ mod MakingLimits
 mod PageLimits
 pub mod UpdateSums
 pub mod StrayLimits
+mod TicketLimits

@@ -1,5 +1,5 @@
 -- As many pages are made at most as requests are under way: each has a maker of its own.
-use Rattle.std.proofs.Common.{◌≡◌, ℕ, ◌+◌, ◌*◌, ◌≤◌, true, Option, None, Some, List, [], ◌∷◌, length, slice_get, refl, ap, sym, ◌∙◌, subst, inl, inr, arith}
+use Rattle.std.proofs.Common.{◌≡◌, ℕ, ◌+◌, ◌*◌, ◌≤◌, true, Option, None, Some, List, [], ◌∷◌, length, slice_get, refl, ap, subst, inl, inr, arith}
 use Rattle.core_laws.proofs.Common.{AllByRecursion, DataOk, Item, LogicalZone, Session, Vio, Zone, ZoneData, bit, cases_Bool, every-map, given, room_token, total, total-get, weight}
 use Rattle.blk_base.specs.declared.place.PageId.{PageId}
 use Rattle.image_model.specs.Pages.{is_page}

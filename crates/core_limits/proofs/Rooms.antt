@@ -1,6 +1,6 @@
 -- In a legal core no lane and no list of a zone has more than its share.
-use Rattle.std.proofs.Common.{◌≡◌, ℕ, zero, suc, ◌+◌, ◌*◌, ◌<◌, ◌≤◌, Bool, true, false, cond, Some, List, [], ◌∷◌, length, slice_get, get_or, refl, ap, ◌∙◌, subst, inl, inr, arith}
-use Rattle.core_laws.proofs.Common.{answered, begun, DataOk, desk_number, DeskLine, device_number, eqb_tells, given, in_log, is_answer, is_begin, is_sealed, is_word, IsDeskLog, Item, journal_token, kept_by, lines, notice_token, notified_by, notified_zones, queued, room_token, Script, Session, some_of, Token, total, total-get, total_alone, weight, Zone, ZoneData}
+use Rattle.std.proofs.Common.{◌≡◌, ℕ, zero, suc, ◌+◌, ◌*◌, ◌≤◌, Bool, true, false, cond, Some, List, [], ◌∷◌, length, slice_get, get_or, refl, ap, ◌∙◌, subst, inl, inr, arith}
+use Rattle.core_laws.proofs.Common.{answered, begun, DataOk, desk_number, DeskLine, device_number, eqb_tells, given, in_log, is_answer, is_begin, is_sealed, is_word, IsDeskLog, Item, journal_token, kept_by, lines, notice_token, notified_by, notified_zones, queued, room_token, Script, Session, some_of, total, total-get, total_alone, weight, Zone, ZoneData}
 use Rattle.std.proofs.lemmas.Option.{slice_get_within}
 use Rattle.vdo_model.specs.declared.report.DeskLine.TheVariants.{Begin, Answer}
 use Rattle.data_vio.specs.declared.items.Item.TheVariants as item

@@ -41,7 +41,7 @@ no_word [] = refl
 no_word (v ∷ vs) = omega (arith, no_word vs)
 
 -- what two lists of requests weigh
-both_items : (weigh : Item → ℕ) (vs ws : List Vio) → total weigh (as_items (vs ++ ws)) ≡ total weigh (as_items vs) + total weigh (as_items ws)
+pub both_items : (weigh : Item → ℕ) (vs ws : List Vio) → total weigh (as_items (vs ++ ws)) ≡ total weigh (as_items vs) + total weigh (as_items ws)
 both_items weigh [] ws = omega arith
 both_items weigh (v ∷ vs) ws = omega (arith, both_items weigh vs ws)
 

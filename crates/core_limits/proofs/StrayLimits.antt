@@ -36,7 +36,7 @@ module _ (sizes : Sizes) (zone : ℕ) where
   strays_taken : (t : Trace) → length (replaced_in sizes zone (strayed t)) ≤ own (updates_taken t)
   strays_taken [] = omega arith
   strays_taken (Adds e ∷ t) = omega (arith, own_last (updates_taken t) (Increment e), strays_taken t)
-  strays_taken (Removes e ∷ t) = omega (arith, own_last (updates_taken t) (Decrement e), strays_taken t)
+  strays_taken (Removes e to ∷ t) = omega (arith, own_last (updates_taken t) (Decrement e), strays_taken t)
   strays_taken (Strays e ∷ t) =
       let before = strays_taken t in
       let last = own_last (updates_taken t) (Decrement e) in
@@ -72,7 +72,7 @@ module _ (sizes : Sizes) (zone : ℕ) where
   taken_committed s [] are right = omega arith
   taken_committed s (Commits e ∷ t) are right = let more = own_both (updates_of (durable t)) (updates_by e) in omega (arith, more, taken_committed s t are right.2)
   taken_committed s (Adds e ∷ t) are right = omega (arith, own_last (updates_taken t) (Increment e), no_increment_here e, taken_committed s t are right.2)
-  taken_committed s (Removes e ∷ t) are right =
+  taken_committed s (Removes e to ∷ t) are right =
       let next = subst (λ (k : Sizes). IsNextUpdate k (durable t) t (Decrement e)) are right.0.next in
       omega (arith, own_last (updates_taken t) (Decrement e), next_taken (durable t) t e next (taken_committed s t are right.2))
   taken_committed s (Strays e ∷ t) are right =

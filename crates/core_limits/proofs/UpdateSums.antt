@@ -1,16 +1,16 @@
 -- No more decrements and reports are anywhere than requests are under way: each has its request.
-use Rattle.std.proofs.Common.{◌≡◌, ℕ, zero, suc, ◌+◌, ◌<◌, ◌≤◌, ◌==◌, ◌&&◌, ◌⊎◌, Bool, true, false, not, is_some, if◌then◌else◌, IsSome, List, [], ◌∷◌, length, refl, ap, sym, ◌∙◌, subst, inl, inr, arith}
-use Rattle.core_laws.proofs.Common.{AllByRecursion, DataOk, Each, Item, ItemOk, IsWrite, Remapping, Session, Token, Trace, Vio, Writer, Zone, ZoneData, as_items, bit, committed, durable, eqb_tells, every-front, given, kept_by, of_vio, physical_number, queued, remapping, remappings, request_at, room_token, same_writer, some_is, total, total-get, weight}
+use Rattle.std.proofs.Common.{◌≡◌, ℕ, zero, suc, ◌+◌, ◌<◌, ◌≤◌, ◌==◌, ◌&&◌, ◌⊎◌, Bool, true, false, not, is_some, if◌then◌else◌, IsSome, List, [], ◌∷◌, length, refl, ap, inl, inr, arith}
+use Rattle.core_laws.proofs.Common.{AllByRecursion, DataOk, Each, Item, ItemOk, IsWrite, Remapping, Session, Token, Vio, Writer, Zone, ZoneData, as_items, bit, durable, eqb_tells, every-front, given, kept_by, physical_number, queued, remappings, request_at, room_token, same_writer, some_is, total, weight}
 use Rattle.core_laws.proofs.kept.ZoneKinds.{physical_below}
 use Rattle.core_laws.proofs.logical.ReportFacts.{each_logged}
 use Rattle.core_laws.proofs.tokens.Known.{Replaces}
 use Rattle.core_laws.proofs.trace.DeskOfTrace.{committed_writes}
-use Rattle.core_limits.proofs.StreamSums.{Inside, all_named, asked_inside, requests_of, at, named, of_stream, over, over_le, over_none}
+use Rattle.core_limits.proofs.StreamSums.{Inside, all_named, asked_inside, requests_of, at, named, over, over_le, over_none}
 use Rattle.core_model.specs.Facts.{IsDecrement}
 use Rattle.core_model.specs.Legal.{Legal}
 use Rattle.core_model.specs.PageLinks.{block_in}
 use Rattle.core_model.specs.Steps.{Core}
-use Rattle.core_model.specs.Tokens.{damage_token, decrement_weight, has_old, is_committed, is_damage, report_token, reported_at, settled_at, some_stray, strayed_at, waiter_token, waiter_weight}
+use Rattle.core_model.specs.Tokens.{damage_token, decrement_weight, has_old, is_committed, report_token, reported_at, settled_at, some_stray, strayed_at, waiter_token, waiter_weight}
 use Rattle.core_model.specs.Trace.{passed}
 use Rattle.core_model.specs.declared.zones.ZoneData.TheVariants as kind
 use Rattle.blk_base.specs.declared.place.Mapping.{Mapping}

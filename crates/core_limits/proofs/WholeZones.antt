@@ -8,6 +8,7 @@ use Rattle.core_model.specs.Steps.{Core}
 use Rattle.core_limits.proofs.Bounds.{calls_within, committed_within, entered_within, filling_within, held_within, next_within, retired_within, sequence_within, slots_within, strays_within, unlinkable_within}
 use Rattle.core_limits.proofs.Rooms.{kept_few}
 use Rattle.core_limits.proofs.MakingLimits.{makers_few}
+use Rattle.core_limits.proofs.TicketLimits.{physical_within}
 use Rattle.core_limits.proofs.ZoneLimits.{desk_within, few_items, inbox_within, lanes_within, places_within, waiting_within}
 
 module _ (s : Session) (core : Core) (session : IsSession s) (legal : Legal s core) (n : ℕ) (z : Zone) (had : slice_get core.zones n ≡ Some z) where
@@ -41,7 +42,7 @@ module _ (s : Session) (core : Core) (session : IsSession s) (legal : Legal s co
         committed = committed_within s core legal n z had session j keeps;
       }
   data_within (at.Device d) keeps = calls_within s core legal n z had d keeps
-  data_within (at.Physical p) keeps = strays_within s core legal n z had session p keeps
+  data_within (at.Physical p) keeps = physical_within s core session legal n z had p keeps (strays_within s core legal n z had session p keeps)
 
   pub zone_within : IsWithin z
   zone_within = record { inbox = inbox_within s core session legal n z had; outboxes = lanes_within s core session legal n z had; own = data_within z.keeps refl }

@@ -1,5 +1,5 @@
 -- Who waits for the report of its decrement, and the reports that came first: what is taken out by its request.
-use Rattle.std.specs.Prelude.{ℕ, ◌≡◌, Bool, true, false, List, Option, None, Some, is_some, position, slice_index_or}
+use Rattle.std.specs.Prelude.{ℕ, ◌≡◌, Bool, true, false, List, None, Some, is_some, position, slice_index_or}
 use Rattle.std.specs.List.{find, remove}
 use Rattle.std.proofs.Common.{ap, sym, ◌∙◌}
 use Rattle.blk_base.specs.declared.request.Writer.{Writer}

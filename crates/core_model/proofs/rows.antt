@@ -5,6 +5,7 @@ pub mod BeginRows
 pub mod PhaseRows
 pub mod ZoneRows
 pub mod WorkedTraces
+pub mod TicketTraces
 mod FactRows
 mod LeafRows
 mod StillRows
@@ -22,3 +23,6 @@ pub mod PageActRows
 mod PageFactRows
 mod SuperblockRows
 mod UseRows
+mod TicketActRows
+mod TicketFollowRows
+mod TicketFactRows

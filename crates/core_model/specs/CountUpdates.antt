@@ -37,7 +37,7 @@ updates_of (e ∷ older) = updates_of older ++ updates_by e
 abbrev pub updates_taken : Trace → List CountUpdate
 updates_taken [] = []
 updates_taken (Adds e ∷ t) = updates_taken t ++ Increment e ∷ []
-updates_taken (Removes e ∷ t) = updates_taken t ++ Decrement e ∷ []
+updates_taken (Removes e to ∷ t) = updates_taken t ++ Decrement e ∷ []
 updates_taken (Strays e ∷ t) = updates_taken t ++ Decrement e ∷ []
 updates_taken (other ∷ t) = updates_taken t
 

@@ -1,5 +1,5 @@
 -- What a request carries, and what a zone keeps: facts on their own fields and on the trace.
-use Rattle.std.specs.Prelude.{ℕ, ◌+◌, ◌≡◌, ◌⊎◌, ◌<◌, ◌≤◌, Bool, true, false, Option, None, Some, IsNone, IsTrue, List, [], ◌∷◌, ◌++◌, length, map, reverse, slice_get, Contains, if◌then◌else◌}
+use Rattle.std.specs.Prelude.{ℕ, suc, ◌+◌, ◌%◌, ◌≡◌, ◌⊎◌, ◌<◌, ◌≤◌, Bool, true, false, Option, None, Some, IsNone, IsSome, IsTrue, List, [], ◌∷◌, ◌++◌, length, map, reverse, slice_get, Contains, if◌then◌else◌}
 use Rattle.std.specs.List.{AllByRecursion}
 use Rattle.blk_base.specs.declared.place.Lba.{Lba}
 use Rattle.blk_base.specs.declared.place.Mapping.{Mapping}
@@ -48,7 +48,7 @@ use Rattle.core_model.specs.LogicalRules.{is_among, is_held, is_reported}
 use Rattle.data_vio.specs.Phases.{row, number_at, stage_row}
 use Rattle.core_model.specs.CountUpdates.{replaced_in}
 use Rattle.data_vio.specs.Zones.{counts_in, zone_number, zone_count, notified_zones, logical_number, device_number}
-use Rattle.core_model.specs.RightTraces.{HearingMayFollow, IsLeafy, IsLinkedAt, IsOpen, IsReported, IsPending, MapsTo, NeedsBlock, Quiet, IsCommitted, AllBelow, HasPlace, HasBelow, HasCause}
+use Rattle.core_model.specs.RightTraces.{WasRefused, HearingMayFollow, IsLeafy, IsLinkedAt, IsOpen, IsReported, IsPending, MapsTo, NeedsBlock, Quiet, IsCommitted, AllBelow, HasPlace, HasBelow, HasCause}
 use Rattle.core_model.specs.Sessions.{Session, IsFair, OnBlock, NewReads, NewStands, ReadsAs, AtRest, OnItsWay, ReadsBlock, mapping_by, said_by, value_at}
 use Rattle.block_map_tree.specs.Tree.{Tree, IsLinkable}
 use Rattle.blk_base.specs.Pages.{above}
@@ -59,11 +59,14 @@ use Rattle.core_model.specs.PageTrees.{IsMapTree, is_listed, link_at, missing_at
 use Rattle.plain_laws.specs.Sums.{bit, total, Each}
 use Rattle.core_model.specs.Superblocks.{superblock_stage}
 use Rattle.core_model.specs.Tokens.{lock_weight}
-use Rattle.core_model.specs.Trace.{Trace, all_of, filled, sealed, moments, lines, calls, marks, places, journaled, entered, durable, applied, done, dropped, remappings, aborted, added, strayed, has_taken, has_stopped, of_address, newest, logged_of, entry_of, damage_in}
-use Rattle.data_vio.specs.Vios.{all_logged, asked, counts_of, logged, request_of, remapping}
-use Rattle.core_model.specs.Uses.{counted, gained, lost, uncounted}
+use Rattle.core_model.specs.Trace.{Asks as AsksIn, Trace, all_of, filled, sealed, moments, lines, calls, marks, places, journaled, entered, durable, applied, done, dropped, remappings, aborted, added, strayed, has_taken, has_stopped, of_address, newest, logged_of, entry_of, damage_in}
+use Rattle.data_vio.specs.Vios.{all_logged, asked, counts_of, logged, request_of, remapping, ticket_zone}
+use Rattle.core_model.specs.PhysicalRules.{HasTicketRoom, next_step}
+use Rattle.core_model.specs.Uses.{counted, gained, issued, lost, ticket_at, uncounted}
+use Rattle.slab_counts.specs.declared.tickets.Ticket.{Ticket}
+use Rattle.slab_tickets.specs.Numbers.{AreNumbered, ticket_of}
 use Rattle.vdo_model.specs.declared.report.Damage.{Damage}
-use Rattle.zone_counts.specs.ByBlock.{claims_in, counter_in}
+use Rattle.zone_counts.specs.ByBlock.{claims_in, counter_in, out_with}
 use Rattle.zone_counts.specs.Zone.{IsOfZone, IsZone}
 use Rattle.zone_counts.specs.Zone.{Zone as Counts}
 use Rattle.data_vio.specs.declared.logged.Logged.TheVariants.{Remaps}
@@ -71,7 +74,7 @@ use Rattle.recovery_journal.specs.Log.{Log, head_of}
 
 -- the number of the zone where a phase, and a stage, is done
 abbrev pub zone_at : Sizes → Vio → Phase → ℕ
-zone_at sizes v p = number_at sizes v.home (counts_of sizes v) (row p).zone
+zone_at sizes v p = number_at sizes v.home (counts_of sizes v) (ticket_zone v.tickets) (row p).zone
 
 abbrev pub zone_of_stage : Sizes → Stage → ℕ
 zone_of_stage sizes now = zone_number sizes (stage_row now).zone
@@ -92,17 +95,51 @@ pub record IsUnderWay (s : Session) (t : Trace) (w : Writer) (asks : Asks) (at :
 abbrev pub VioOk : Session → Trace → Vio → Type 0
 VioOk s t v = IsUnderWay s t v.request v.asks v.at v.bytes v.home
 
--- its claim is on the block to which it maps its address, or where its page will stand, in the phases in which it has one
+-- its claim is on the block to which it maps its address, or where its page will stand, in the phases in which it has one; and it
+-- has tickets in those alone in which it asks for one
 abbrev pub claim_of : Bool → Mapping → Option Pbn
 claim_of true new = block_in new
 claim_of false new = None
 
-pub record HasClaim (s : Session) (claims : Bool) (claim : Option Pbn) (new : Mapping) : Type 0 where
+pub record HasClaim (s : Session) (claims asks : Bool) (claim : Option Pbn) (new : Mapping) (tickets : List Ticket) : Type 0 where
   pub claim_is : claim ≡ claim_of claims new
   pub on_data : IsTrue claims → OnBlock (λ x. IsDataBlock s.sizes.geometry x.0) new
+  pub no_ticket : asks ≡ false → tickets ≡ []
+
+abbrev pub ClaimFor : Session → Vio → Phase → Type 0
+ClaimFor s v q = HasClaim s (row q).claims (row q).asks v.claim v.new v.tickets
 
 abbrev pub ClaimOk : Session → Vio → Type 0
-ClaimOk s v = HasClaim s (row v.phase).claims v.claim v.new
+ClaimOk s v = ClaimFor s v v.phase
+
+-- these tickets are of the zones that are asked in turn, from this turn on
+abbrev pub AreInTurn : Sizes → (turn : ℕ) → List Ticket → Type 0
+AreInTurn sizes turn [] = Unit {0}
+AreInTurn sizes turn (k ∷ others) = (k.zone ≡ turn % sizes.physical) × AreInTurn sizes (suc turn) others
+
+-- A write asks for a block: it was given these tickets, by the zones that it asked, and has one to ask.
+pub record IsAsking (s : Session) (t : Trace) (w : Writer) (place : ℕ) (tickets : List Ticket) : Type 0 where
+  pub in_turn : AreInTurn s.sizes place tickets
+  pub fewer : length tickets < s.sizes.physical
+  pub asked : AllByRecursion (λ k. Contains t (AsksIn w k)) tickets
+
+-- It had asked each zone by a moment, and of each it has the ticket yet, or withdrew that, to which no block went.
+pub record LacksBlock (s : Session) (t : Trace) (w : Writer) (tickets : List Ticket) : Type 0 where
+  pub newer : Trace
+  pub older : Trace
+  pub moment : t ≡ newer ++ older
+  pub placed : IsSome (place_of (places older) w)
+  pub each : (zone : ℕ) → zone < s.sizes.physical
+      → WasRefused newer older w zone ⊎ ((k : Ticket) × (k.zone ≡ zone) × Contains tickets k × Contains older (AsksIn w k))
+
+-- It withdraws its tickets: while none brought it a block, it asked each zone.
+pub record IsWithdrawing (s : Session) (t : Trace) (w : Writer) (claim : Option Pbn) (tickets : List Ticket) : Type 0 where
+  pub turn : ℕ
+  pub in_turn : AreInTurn s.sizes turn tickets
+  pub few : length tickets ≤ s.sizes.physical
+  pub some : 0 < length tickets
+  pub asked : AllByRecursion (λ k. Contains t (AsksIn w k)) tickets
+  pub lacks : claim ≡ None → LacksBlock s t w tickets
 
 -- a request for a block: it reads, writes or discards
 abbrev pub IsForBlock : Asks → Type 0
@@ -244,7 +281,8 @@ pub record HasPageEntry (s : Session) (t : Trace) (e : Logged) (page : PageId) :
 
 -- what a write carries while it makes a page
 abbrev pub CarriesPage : Session → Trace → Vio → PageId → Phase → Type 0
-CarriesPage s t v page phase.Claim = MakesPage s t v page × IsUnmade s t page
+CarriesPage s t v page phase.Claim = MakesPage s t v page × IsUnmade s t page × IsAsking s t v.request v.place v.tickets
+CarriesPage s t v page phase.Withdraw = MakesPage s t v page × IsUnmade s t page × IsWithdrawing s t v.request v.claim v.tickets
 CarriesPage s t v page phase.Store = MakesPage s t v page × IsUnmade s t page × IsToBlock v.new
 CarriesPage s t v page phase.Enter = MakesPage s t v page × IsUnmade s t page × IsToBlock v.new × (IsFair s t → OnBlock (λ x. ReadsAs s t x.0 (page_at s.sizes page x)) v.new)
 CarriesPage s t v page phase.Pending = MakesPage s t v page × IsToBlock v.new × HasPageEntry s t (logged v) page
@@ -263,7 +301,8 @@ CarriesOwn s t v phase.Wait = IsPlaced s t v × (has_taken t v.request ≡ false
 CarriesOwn s t v phase.Look = IsInTurn s t v × (has_taken t v.request ≡ false)
 CarriesOwn s t v phase.LoadLeaf = IsInTurn s t v × (has_taken t v.request ≡ false) × NeedsLeaf s t v.at.0 v.leaf v.latest
 CarriesOwn s t v phase.LoadedLeaf = HasLeaf s t v.request v.asks v.at.0 v.place v.old v.latest × (has_taken t v.request ≡ false)
-CarriesOwn s t v phase.Claim = Holds s t v × (v.asks ≡ Write) × NeedsBlock t v.request v.bytes × IsLeafy s t v.at.0
+CarriesOwn s t v phase.Claim = Holds s t v × (v.asks ≡ Write) × NeedsBlock t v.request v.bytes × IsLeafy s t v.at.0 × IsAsking s t v.request v.place v.tickets
+CarriesOwn s t v phase.Withdraw = Holds s t v × (v.asks ≡ Write) × IsLeafy s t v.at.0 × IsWithdrawing s t v.request v.claim v.tickets
 CarriesOwn s t v phase.Store = Holds s t v × (v.asks ≡ Write) × IsToBlock v.new × IsLeafy s t v.at.0
 CarriesOwn s t v phase.Enter = Holds s t v × MapsTo v.asks v.bytes v.new × (IsFair s t → OnBlock (λ x. ReadsAs s t x.0 v.bytes) v.new) × IsLeafy s t v.at.0
 CarriesOwn s t v phase.Pending = HasPendingEntry s t v.asks v.bytes (remapping v)
@@ -382,6 +421,9 @@ pub record PhysicalLists (s : Session) (t : Trace) (p : PhysicalZone) : Type 0 w
   pub counters : (x : Pbn) → IsOfZone p.counts x → counter_in x p.counts.slabs + uncounted t x ≡ counted s t x
   pub uses : (x : Pbn) → IsOfZone p.counts x → counter_in x p.counts.slabs + claims_in x p.counts.slabs + lost t x ≡ gained s t x
   pub strays_are : p.strays ≡ replaced_in s.sizes p.counts.zone (strayed t)
+  -- what it knows of its tickets is what happened to them
+  pub tickets_are : (number : ℕ) → ticket_of p.counts.desk.out number ≡ ticket_at s.sizes t p.counts.zone number
+  pub issued_is : p.counts.desk.issued ≡ issued t p.counts.zone
 
 -- The log has the entries of the blocks that were sealed, and of the one being filled, in their order. No zone lets go of an
 -- entry, so its head is the first sequence.
@@ -488,12 +530,16 @@ pub record IsSoundLogical (s : Session) (l : LogicalZone) : Type 0 where
 abbrev pub AreFirstClaims : Counts → Type 0
 AreFirstClaims z = (x : Pbn) → 0 < claims_in x z.slabs → (counter_in x z.slabs ≡ 0) × (claims_in x z.slabs ≡ 1)
 
--- It has all slabs of the image, and no ticket is out.
+-- It has all slabs of the image, and its tickets have numbers of their own, at most one for each step in which it gave or took back one.
 pub record IsSoundPhysical (s : Session) (p : PhysicalZone) : Type 0 where
   pub is_zone : IsZone p.counts
   pub geometry : p.counts.geometry ≡ s.sizes.geometry
   pub zones : p.counts.zones ≡ s.sizes.physical
-  pub no_ticket : p.counts.desk.out ≡ []
+  pub numbered : AreNumbered p.counts.desk
+  pub few : p.counts.desk.issued ≤ next_step p.counts.desk.step
+  pub room : HasTicketRoom s.sizes p.counts.desk.room
+  -- what went to one is a block of the zone
+  pub passed : (x : Pbn) → 0 < out_with x p.counts.desk → IsOfZone p.counts x
   pub first_claims : AreFirstClaims p.counts
 
 abbrev pub IsSound : Session → ZoneData → Type 0
@@ -549,9 +595,10 @@ abbrev pub arrival : Item → List Writer
 arrival (item.Request v) = arriving v.phase v.request
 arrival other = []
 
--- how many places a zone drew, or calls it made: a step makes one more at most
+-- how many places a zone drew, or calls it made, or how often it gave or took back tickets: a step makes one more at most
 abbrev pub made_by : ZoneData → ℕ
 made_by (at.Logical l) = l.next
+made_by (at.Physical p) = next_step p.counts.desk.step
 made_by (at.Device d) = d.calls
 made_by other = 0
 

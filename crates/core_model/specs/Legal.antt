@@ -13,7 +13,7 @@ use Rattle.core_model.specs.Sessions.{Session, IsFair, opened_uses}
 use Rattle.core_model.specs.Steps.{Core}
 use Rattle.core_model.specs.Streams.{Flows}
 use Rattle.plain_laws.specs.Sums.{Each}
-use Rattle.core_model.specs.Tokens.{Balanced, AtMost, request_token, lease_token, block_token, claim_token, report_token, waiter_token, damage_token, journal_token, room_token, notice_token, holder_token, entry_token, making_token, page_entry_token}
+use Rattle.core_model.specs.Tokens.{Balanced, AtMost, request_token, lease_token, block_token, claim_token, ticket_token, report_token, waiter_token, damage_token, journal_token, room_token, notice_token, holder_token, entry_token, making_token, page_entry_token}
 
 -- in a zone, each stream's places are drawn in the order of its requests: a request has a greater number than those of its
 -- stream that have a place there
@@ -45,6 +45,8 @@ pub record Legal (s : Session) (core : Core) : Type 0 where
   pub blocks : (x : Pbn) → Balanced (block_token (opened_uses s) x) core.zones
   -- each claim that a request has is counted
   pub claims : (x : Pbn) → AtMost (claim_token x) core.zones
+  -- each ticket that is out is held by one request
+  pub tickets : (zone : ℕ) (test : ℕ → Bool) → Balanced (ticket_token zone test) core.zones
   -- each committed entry that replaces a block has its decrement under way, or the report of that, until its slot is set; and so
   -- has its request
   pub reports : (w : Writer) → Balanced (report_token w) core.zones

@@ -11,6 +11,7 @@ use Rattle.core_model.specs.declared.zones.PhysicalZone.{PhysicalZone}
 use Rattle.core_model.specs.JournalData.{JournalZone}
 use Rattle.core_model.specs.LogicalData.{LogicalZone}
 use Rattle.core_model.specs.declared.zones.Zone.{Zone}
+use Rattle.core_model.specs.PhysicalRules.{next_step}
 use Rattle.plain_laws.specs.Sums.{total}
 
 -- a list of items, or of requests, is no longer than as many as are under way
@@ -52,9 +53,13 @@ pub record IsJournalWithin (j : JournalZone) : Type 0 where
   pub entered : length j.entered ≤ most_entries
   pub committed : length j.committed ≤ most_entries
 
--- The physical zone keeps the entries whose decrement found 0: each request has one at most.
-abbrev pub IsPhysicalWithin : PhysicalZone → Type 0
-IsPhysicalWithin p = length p.strays ≤ most_requests
+-- A physical zone keeps the entries whose decrement found 0: each request has one at most. It has room for one more ticket, and has given
+-- or taken back one at most in each of so many steps.
+pub record IsPhysicalWithin (steps : ℕ) (p : PhysicalZone) : Type 0 where
+  pub strays : length p.strays ≤ most_requests
+  pub tickets : length p.counts.desk.out < p.counts.desk.room
+  pub issued : p.counts.desk.issued ≤ next_step p.counts.desk.step
+  pub begun : next_step p.counts.desk.step ≤ steps
 
 -- The device's zone makes one call a step at most.
 abbrev pub IsDeviceWithin : ℕ → DeviceZone → Type 0
@@ -64,7 +69,7 @@ IsDeviceWithin steps d = d.calls ≤ steps
 abbrev pub IsDataWithin : ℕ → ZoneData → Type 0
 IsDataWithin steps (at.Desk desk) = IsDeskWithin desk
 IsDataWithin steps (at.Logical l) = IsLogicalWithin steps l
-IsDataWithin steps (at.Physical p) = IsPhysicalWithin p
+IsDataWithin steps (at.Physical p) = IsPhysicalWithin steps p
 IsDataWithin steps (at.Journal j) = IsJournalWithin j
 IsDataWithin steps (at.Device d) = IsDeviceWithin steps d
 

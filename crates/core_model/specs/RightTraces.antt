@@ -1,5 +1,5 @@
 -- A right trace: each happening may follow those before it, and at each moment a stop leaves what it may.
-use Rattle.std.specs.Prelude.{ℕ, ◌+◌, ◌%◌, ◌≡◌, ◌≢◌, ◌⊎◌, ◌<◌, ◌≤◌, Bool, true, false, Option, None, Some, IsNone, IsSome, List, [], ◌∷◌, ◌++◌, length, Contains}
+use Rattle.std.specs.Prelude.{ℕ, ◌+◌, ◌≡◌, ◌≢◌, ◌⊎◌, ◌<◌, ◌≤◌, Bool, true, false, Option, None, Some, IsNone, IsSome, List, [], ◌∷◌, ◌++◌, length, Contains}
 use Rattle.std.specs.List.{AllByRecursion}
 use Rattle.blk_base.specs.Regions.{IsDataBlock}
 use Rattle.blk_base.specs.declared.place.Lba.{Lba}
@@ -38,9 +38,11 @@ use Rattle.vdo_model.specs.declared.report.Damage.TheVariants.{Stray}
 use Rattle.core_model.specs.CountUpdates.{Increment, Decrement, IsNextUpdate}
 use Rattle.core_model.specs.Superblocks.{IsInOrder, superblock_stage}
 use Rattle.core_model.specs.Sessions.{IsFair, OnBlock, Session, Shown, mapping_by, value_at}
-use Rattle.core_model.specs.Uses.{IsFreeAt, NoneFree, NoneFreeIn, counted, gained, lost, uncounted}
+use Rattle.core_model.specs.Uses.{IsFreeAt, NoneFree, NoneFreeIn, Waits, counted, gained, issued, lost, ticket_at, uncounted}
+use Rattle.data_vio.specs.Zones.{physical_zone_of}
+use Rattle.slab_counts.specs.declared.tickets.Ticket.{Ticket}
 use Rattle.data_vio.specs.Vios.{asked}
-use Rattle.core_model.specs.Trace.{Happening, Says, Flushes, Draws, Enters, Passes, Seals, Commits, Sets, Gives, Takes, Drops, Adds, Removes, Strays, Hears, Aborts, Calls, Fails, Harms, Trace, Gift, added, removed, strayed, moments, lines, places, journaled, entered, new_of, remappings, filled, sealed, all_of, durable, committed, applied, done, dropped, aborted, gifts, has_taken, is_read, is_ok, has_stopped, has_read_fault, is_harmed, of_address, logged_of, request_in, gift_of}
+use Rattle.core_model.specs.Trace.{Happening, Says, Flushes, Draws, Enters, Passes, Seals, Commits, Sets, Gives, Takes, Asks as AsksIn, Withdraws, Drops, Adds, Removes, Strays, Hears, Aborts, Calls, Fails, Harms, Trace, Gift, added, removed, strayed, moments, lines, places, journaled, entered, new_of, remappings, filled, sealed, all_of, durable, committed, applied, done, dropped, aborted, gifts, has_taken, is_read, is_ok, has_stopped, has_read_fault, is_harmed, of_address, logged_of, request_in, gift_of}
 
 -- a request is begun and not answered
 pub record IsOpen (t : Trace) (w : Writer) : Type 0 where
@@ -105,23 +107,22 @@ pub record NeedsBlock (t : Trace) (w : Writer) (bytes : List ℕ) : Type 0 where
   pub not_zeros : bytes ≢ zero_block
   pub none_taken : has_taken t w ≡ false
 
--- at one moment since a request had its place no data block was free
+-- a request asked this physical zone for a block by a moment, and since then it withdrew the ticket of that, to which no block went
+pub record WasRefused (newer older : Trace) (w : Writer) (zone : ℕ) : Type 0 where
+  pub ticket : Ticket
+  pub zone_is : ticket.zone ≡ zone
+  pub asked : Contains older (AsksIn w ticket)
+  pub withdrawn : Contains newer (Withdraws w ticket None)
+
+-- At one moment since a request had its place no data block was free: by then it had asked each physical zone, and none of these
+-- tickets was withdrawn before, and no block went to any.
 pub record HadNoFree (s : Session) (t : Trace) (w : Writer) : Type 0 where
   pub newer : Trace
   pub older : Trace
   pub moment : t ≡ newer ++ older
   pub placed : IsSome (place_of (places older) w)
   pub none_free : NoneFree s older
-
--- at one moment since it had its place no data block of the physical zone that it asks was free, which is one of several
-pub record HadNoFreeNear (s : Session) (t : Trace) (w : Writer) : Type 0 where
-  pub several : 1 < s.sizes.physical
-  pub newer : Trace
-  pub older : Trace
-  pub moment : t ≡ newer ++ older
-  pub placed : Placed
-  pub place_is : place_of (places older) w ≡ Some placed
-  pub none_free : NoneFreeIn s older (placed.place % s.sizes.physical)
+  pub refused : (zone : ℕ) → zone < s.sizes.physical → WasRefused newer older w zone
 
 -- a write or a discard has its place, and no entry of it was handed in; the read of the leaf of its address had this fault
 abbrev pub HasNoLeaf : Trace → Writer → Bool → Type 0
@@ -139,14 +140,14 @@ HasCause s t w (request.Read at) reply.Damaged = IsSome (place_of (places t) w) 
 HasCause s t w (request.Read at) other = ⊥
 -- a write: its slot was set; its address isn't below the logical size; the session is stopped, and its slot isn't set; the read of
 -- the leaf of its address failed, or that doesn't decode; no data block was free for it, or for a page of its path; no block of the
--- journal is left for it, or none was free where it asked
+-- journal is left for it
 HasCause s t w (request.Write at bytes fua) reply.Ok = IsSome (logged_of (done t) w)
 HasCause s t w (request.Write at bytes fua) reply.Range = s.sizes.geometry.logical ≤ at.0
 HasCause s t w (request.Write at bytes fua) reply.Stopped = (has_stopped t ≡ true) × IsSome (place_of (places t) w) × IsNone (logged_of (done t) w)
 HasCause s t w (request.Write at bytes fua) reply.ReadFault = HasNoLeaf t w (has_read_fault t w)
 HasCause s t w (request.Write at bytes fua) reply.Damaged = HasNoLeaf t w (is_harmed t w)
 HasCause s t w (request.Write at bytes fua) reply.NoSpace = IsSome (place_of (places t) w) × IsNone (logged_of (entered t) w) × HadNoFree s t w
-HasCause s t w (request.Write at bytes fua) reply.Full = IsSome (place_of (places t) w) × IsNone (logged_of (entered t) w) × (HasFullJournal s t ⊎ HadNoFreeNear s t w)
+HasCause s t w (request.Write at bytes fua) reply.Full = IsSome (place_of (places t) w) × IsNone (logged_of (entered t) w) × HasFullJournal s t
 HasCause s t w (request.Write at bytes fua) other = ⊥
 -- a discard: the same, but that it needs no data block
 HasCause s t w (request.Discard at) reply.Ok = IsSome (logged_of (done t) w)
@@ -316,21 +317,43 @@ pub record TakeMayFollow (s : Session) (w : Writer) (page : Option PageId) (x : 
   pub is_data : IsDataBlock s.sizes.geometry x.0
   pub is_free : IsFreeAt s t x
 
+-- one that has its place may ask a physical zone in which none is free, and is given the next ticket of that
+pub record AskMayFollow (s : Session) (w : Writer) (k : Ticket) (t : Trace) : Type 0 where
+  pub is_open : IsOpen t w
+  pub placed : IsSome (place_of (places t) w)
+  pub inside : k.zone < s.sizes.physical
+  pub number : k.number ≡ issued t k.zone
+  pub none_free : NoneFreeIn s t k.zone
+
+-- one that was given a ticket may withdraw it, with what went to it
+pub record WithdrawMayFollow (s : Session) (w : Writer) (k : Ticket) (got : Option Pbn) (t : Trace) : Type 0 where
+  pub is_open : IsOpen t w
+  pub asked : Contains t (AsksIn w k)
+  pub out : ticket_at s.sizes t k.zone k.number ≡ Some got
+
+-- a block that becomes free goes to the oldest ticket of its zone that waits; to none only where none waits, or it isn't free
+abbrev pub PassesOn : Session → Pbn → Option ℕ → Trace → Type 0
+PassesOn s x None t = gained s t x ≡ lost t x + 1 → (number : ℕ) → Waits s.sizes t (physical_zone_of s.sizes x) number → ⊥
+PassesOn s x (Some k) t =
+    (gained s t x ≡ lost t x + 1) × Waits s.sizes t (physical_zone_of s.sizes x) k
+    × ((number : ℕ) → number < k → Waits s.sizes t (physical_zone_of s.sizes x) number → ⊥)
+
 -- a use of a data block may go, where there is one
-pub record LossMayFollow (s : Session) (x : Pbn) (t : Trace) : Type 0 where
+pub record LossMayFollow (s : Session) (x : Pbn) (to : Option ℕ) (t : Trace) : Type 0 where
   pub is_data : IsDataBlock s.sizes.geometry x.0
   pub some : lost t x < gained s t x
+  pub passes : PassesOn s x to t
 
 -- an update is taken in its turn: a mapping more, or one less; or one less finds that none was counted
 pub record AddMayFollow (s : Session) (e : Logged) (t : Trace) : Type 0 where
   pub is_open : IsOpen t (request_in e)
   pub next : IsNextUpdate s.sizes (durable t) t (Increment e)
 
-pub record RemoveMayFollow (s : Session) (e : Remapping) (t : Trace) : Type 0 where
+pub record RemoveMayFollow (s : Session) (e : Remapping) (to : Option ℕ) (t : Trace) : Type 0 where
   pub next : IsNextUpdate s.sizes (durable t) t (Decrement e)
   pub block : Pbn
   pub old_is : e.old ≡ At block
-  pub loss : LossMayFollow s block t
+  pub loss : LossMayFollow s block to t
 
 pub record StrayMayFollow (s : Session) (e : Remapping) (t : Trace) : Type 0 where
   pub next : IsNextUpdate s.sizes (durable t) t (Decrement e)
@@ -414,9 +437,11 @@ MayFollow s (Sets (Remaps e)) t = SlotMayFollow s e t
 MayFollow s (Sets (Makes p)) t = LinkMayFollow s p t
 MayFollow s (Gives g) t = GiftMayFollow s g t
 MayFollow s (Takes w page x) t = TakeMayFollow s w page x t
-MayFollow s (Drops w x) t = IsOpen t w × LossMayFollow s x t
+MayFollow s (AsksIn w k) t = AskMayFollow s w k t
+MayFollow s (Withdraws w k got) t = WithdrawMayFollow s w k got t
+MayFollow s (Drops w x to) t = IsOpen t w × LossMayFollow s x to t
 MayFollow s (Adds e) t = AddMayFollow s e t
-MayFollow s (Removes e) t = RemoveMayFollow s e t
+MayFollow s (Removes e to) t = RemoveMayFollow s e to t
 MayFollow s (Strays e) t = StrayMayFollow s e t
 MayFollow s (Hears damage) t = HearingMayFollow damage t
 MayFollow s (Aborts (Remaps e)) t = AbortMayFollow s e t

@@ -14,6 +14,8 @@ use Rattle.data_vio.specs.Zones.{desk_number, logical_number, physical_number, j
 use Rattle.core_model.specs.PageTrees.{IsMapTree}
 use Rattle.blk_base.specs.declared.place.Pbn.{Pbn}
 use Rattle.core_model.specs.Sessions.{Session, opened_uses}
+use Rattle.core_model.specs.PhysicalRules.{HasTicketRoom}
+use Rattle.slab_tickets.specs.Tickets.{empty_desk}
 use Rattle.zone_counts.specs.ByBlock.{claims_in, counter_in}
 use Rattle.zone_counts.specs.Zone.{IsOfZone, IsZone}
 use Rattle.core_model.specs.Steps.{Core}
@@ -58,7 +60,8 @@ pub record IsFirstPhysical (s : Session) (number : ℕ) (p : PhysicalZone) : Typ
   pub zones : p.counts.zones ≡ s.sizes.physical
   pub counters : (x : Pbn) → IsOfZone p.counts x → counter_in x p.counts.slabs ≡ opened_uses s x
   pub claims : (x : Pbn) → claims_in x p.counts.slabs ≡ 0
-  pub no_ticket : p.counts.desk.out ≡ []
+  pub desk : p.counts.desk ≡ empty_desk p.counts.zone p.counts.desk.room
+  pub room : HasTicketRoom s.sizes p.counts.desk.room
 
 -- The log of a session is empty. The logical and the physical zones say what they need of it.
 abbrev pub first_log : Sizes → Log

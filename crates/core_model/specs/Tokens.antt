@@ -1,5 +1,5 @@
 -- Tokens: what is given out once and held once. Of each token as many are held as were given.
-use Rattle.std.specs.Prelude.{ℕ, ◌+◌, ◌≡◌, ◌≤◌, ◌==◌, Bool, true, false, ◌&&◌, not, Option, None, Some, is_some, List, [], ◌∷◌, ◌++◌, length, cond, if◌then◌else◌}
+use Rattle.std.specs.Prelude.{ℕ, ◌+◌, ◌≡◌, ◌≤◌, ◌==◌, Bool, true, false, ◌&&◌, not, Option, None, Some, is_some, List, [], ◌∷◌, ◌++◌, length, cond, nat_eq, if◌then◌else◌}
 use Rattle.blk_base.specs.declared.place.Mapping.{Mapping}
 use Rattle.blk_base.specs.declared.place.Mapping.TheVariants.{At}
 use Rattle.blk_base.specs.declared.place.PageId.{PageId}
@@ -29,7 +29,9 @@ use Rattle.data_vio.specs.Vios.{remapping}
 use Rattle.data_vio.specs.Zones.{notified_zones}
 use Rattle.plain_laws.specs.Sums.{total, bit}
 use Rattle.slab_counts.specs.Calls.{one_of}
-use Rattle.zone_counts.specs.ByBlock.{claims_in, counter_in, is_at}
+use Rattle.slab_counts.specs.declared.tickets.Ticket.{Ticket}
+use Rattle.zone_counts.specs.ByBlock.{claims_in, counter_in, is_at, out_with}
+use Rattle.zone_counts.specs.Zone.{Zone as Counts}
 
 -- a kind of token: what an item weighs, what a zone's data weighs beside the items that it keeps, and what it gave out
 pub record Token : Type 0 where
@@ -147,8 +149,8 @@ pages_entered_at other = 0
 abbrev pub page_entry_token : Token
 page_entry_token = record { item = of_vio (λ v. bit (has_entry v.phase && is_some v.page)); own = unlinkable_at; gave = pages_entered_at }
 
--- Data blocks: each claim whose entry isn't handed in, each mapping of the opened image, each entry that was handed in, and each
--- decrement under way, or that found 0, against the counters, the claims, and the committed entries that map their addresses away.
+-- Data blocks: each claim of a request whose entry isn't handed in, and of a ticket that is out, each mapping of the opened image, each
+-- entry that was handed in, and each decrement under way, or that found 0, against the counters, the claims, and the committed entries that map their addresses away.
 -- `opened` has the opened counters.
 abbrev pub owes : Phase → Bool
 owes p = (row p).owes
@@ -181,7 +183,7 @@ block_item x other = of_vio (unowed_weight x) other
 
 abbrev pub entries_at : (Pbn → ℕ) → Pbn → ZoneData → ℕ
 entries_at opened x (at.Journal j) = opened x + total (is_entry x) j.entered
-entries_at opened x (at.Physical p) = total (is_old x) p.strays
+entries_at opened x (at.Physical p) = out_with x p.counts.desk + total (is_old x) p.strays
 entries_at opened x other = 0
 
 abbrev pub uses_at : Pbn → ZoneData → ℕ
@@ -192,13 +194,31 @@ uses_at x other = 0
 abbrev pub block_token : (Pbn → ℕ) → Pbn → Token
 block_token opened x = record { item = block_item x; own = entries_at opened x; gave = uses_at x }
 
--- Claims: each that a request has is counted; those that were spent for good are counted too.
+-- Claims: each that a request has, or that went to a ticket, is counted; those that were spent for good are counted too.
 abbrev pub claims_at : Pbn → ZoneData → ℕ
 claims_at x (at.Physical p) = claims_in x p.counts.slabs
 claims_at x other = 0
 
+abbrev pub passed_at : Pbn → ZoneData → ℕ
+passed_at x (at.Physical p) = out_with x p.counts.desk
+passed_at x other = 0
+
 abbrev pub claim_token : Pbn → Token
-claim_token x = record { item = of_vio (claim_weight x); own = none; gave = claims_at x }
+claim_token x = record { item = of_vio (claim_weight x); own = passed_at x; gave = claims_at x }
+
+-- Tickets: each that is out in a physical zone is held by one request. `test` is any test of numbers.
+abbrev pub ticket_weight : ℕ → (ℕ → Bool) → Ticket → ℕ
+ticket_weight zone test k = bit (nat_eq k.zone zone && test k.number)
+
+abbrev pub out_in : (ℕ → Bool) → Counts → ℕ
+out_in test z = total (λ waiting. bit (test waiting.number)) z.desk.out
+
+abbrev pub out_at : ℕ → (ℕ → Bool) → ZoneData → ℕ
+out_at zone test (at.Physical p) = if nat_eq p.counts.zone zone then out_in test p.counts else 0
+out_at zone test other = 0
+
+abbrev pub ticket_token : ℕ → (ℕ → Bool) → Token
+ticket_token zone test = record { item = of_vio (λ v. total (ticket_weight zone test) v.tickets); own = none; gave = out_at zone test }
 
 -- Decrements: that of each committed entry of a request is under way, or its report is, or that came before its request, or
 -- the slot is set. And so is the request itself.

@@ -18,11 +18,13 @@ use Rattle.vdo_model.specs.declared.report.FlushMark.{FlushMark}
 use Rattle.vdo_model.specs.declared.report.Placed.{Placed}
 use Rattle.vdo_model.specs.FlushMarks.{Moment, Desk, Device, lines_of, calls_of}
 use Rattle.vdo_model.specs.Scripts.{same_writer}
+use Rattle.core_model.specs.PageLinks.{block_in}
 use Rattle.data_vio.specs.declared.logged.Logged.{Logged}
 pub use Rattle.data_vio.specs.Vios.{Gift, entry_of}
 use Rattle.data_vio.specs.declared.logged.Logged.TheVariants.{Remaps, Makes}
 use Rattle.data_vio.specs.declared.logged.NewPage.{NewPage}
 use Rattle.data_vio.specs.declared.logged.Remapping.{Remapping}
+use Rattle.slab_counts.specs.declared.tickets.Ticket.{Ticket}
 
 pub data Happening : Type 0 where
   -- a line of the desk log, but the answer Ok of a flush
@@ -41,12 +43,16 @@ pub data Happening : Type 0 where
   Seals : Happening
   -- a read is given its bytes
   Gives : Gift → Happening
-  -- a write claims a free data block, for the page that it makes, or for its data; its claim is dropped
+  -- a write claims a free data block, for the page that it makes, or for its data; it finds none in a physical zone and is given a
+  -- ticket there; it withdraws that, with the block that went to it; its claim is dropped. A block that becomes free goes to a ticket
+  -- in the same moment, where one of the zone waits: that of this number
   Takes : Writer → Option PageId → Pbn → Happening
-  Drops : Writer → Pbn → Happening
+  Asks : Writer → Ticket → Happening
+  Withdraws : Writer → Ticket → Option Pbn → Happening
+  Drops : Writer → Pbn → (to : Option ℕ) → Happening
   -- the increment of a committed entry is taken; and its decrement, or that finds the counter at 0
   Adds : Logged → Happening
-  Removes : Remapping → Happening
+  Removes : Remapping → (to : Option ℕ) → Happening
   Strays : Remapping → Happening
   -- the device's zone is told what another zone found damaged
   Hears : Damage → Happening
@@ -175,15 +181,22 @@ gifts [] = []
 gifts (Gives g ∷ t) = g ∷ gifts t
 gifts (other ∷ t) = gifts t
 
--- the data blocks that were claimed, and those of the claims that were dropped
+-- the block that became free, where it went to a ticket
+abbrev pub passed_on : Option Pbn → Option ℕ → List Pbn
+passed_on (Some x) (Some number) = x ∷ []
+passed_on other to = []
+
+-- the data blocks that were claimed, for a request or for its ticket, and those of the claims that were dropped
 abbrev pub claimed : Trace → List Pbn
 claimed [] = []
 claimed (Takes w page x ∷ t) = x ∷ claimed t
+claimed (Drops w x to ∷ t) = passed_on (Some x) to ++ claimed t
+claimed (Removes e to ∷ t) = passed_on (block_in e.old) to ++ claimed t
 claimed (other ∷ t) = claimed t
 
 abbrev pub unclaimed : Trace → List Pbn
 unclaimed [] = []
-unclaimed (Drops w x ∷ t) = x ∷ unclaimed t
+unclaimed (Drops w x to ∷ t) = x ∷ unclaimed t
 unclaimed (other ∷ t) = unclaimed t
 
 -- the entries whose increments were taken; those whose decrements were, and those whose decrements found 0
@@ -194,7 +207,7 @@ added (other ∷ t) = added t
 
 abbrev pub removed : Trace → List Remapping
 removed [] = []
-removed (Removes e ∷ t) = e ∷ removed t
+removed (Removes e to ∷ t) = e ∷ removed t
 removed (other ∷ t) = removed t
 
 abbrev pub strayed : Trace → List Remapping

@@ -10,7 +10,7 @@ ghost use Rattle.plain_laws.specs.Sums.{total};
 use crate::counts::StreamCounts;
 use crate::scripts::count_requests;
 use blk_base::{Answer, Block, Lba, Mapping, Writer, ZoneId};
-use data_vio::{Asks, BoxedVio, Fifo, LANE_ROOM, MOST_UNDER_WAY, Phase, Vio};
+use data_vio::{Asks, BoxedVio, Fifo, HeldTickets, LANE_ROOM, MOST_UNDER_WAY, Phase, Vio};
 use std::alloc::{AllocError, Global};
 use std::marker::Model;
 use vdo_model::{DeskLine, FlushMark, ReportList, Requests};
@@ -90,6 +90,8 @@ fn blank() -> Vio {
         latest: None,
         new: Mapping::Unmapped,
         claim: None,
+        tickets: HeldTickets::new(),
+        receipt: None,
         answer: None,
         calls: 0,
     }

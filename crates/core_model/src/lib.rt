@@ -2,7 +2,7 @@
 //! which states are legal.
 //!
 //! As yet a session seals each block of the journal with its first sequence as the head (`sealed_with`), so no block is
-//! let go of. The physical zones give no tickets: a write that finds no free data block in its zone is answered at once.
+//! let go of.
 //!
 //! `Phases` of `data_vio` and the files `..Rules` are the rules; `Trace`, `RightTraces` what happens and may happen; `Tokens`,
 //! `Facts`, `Legal` the invariant; `Sessions`, `Start`, `Limits` what a session is; `Views`, `Streams` what threads

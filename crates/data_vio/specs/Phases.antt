@@ -14,51 +14,55 @@ pub data Where : Type 0 where
   AtDesk : Where
   AtHome : Where
   AtPhysical : Where
+  AtTicket : Where
   AtJournal : Where
   AtDevice : Where
   InNoLane : Where
 
--- Where a phase is done; whether the request holds the lock of its address, has a claim on the block to which it maps that,
--- owes the increment of an entry that was handed in, has yet to draw its place, and has an entry that was handed in and of
+-- Where a phase is done; whether the request holds the lock of its address, has a claim on the block to which it maps that, may
+-- hold tickets, owes the increment of an entry that was handed in, has yet to draw its place, and has an entry that was handed in and of
 -- which neither the slot is set nor the address retired.
 pub record PhaseRow : Type 0 where
   pub zone : Where
   pub locks : Bool
   pub claims : Bool
+  pub asks : Bool
   pub owes : Bool
   pub arrives : Bool
   pub entered : Bool
 
 abbrev pub row : Phase → PhaseRow
-row phase.Arrive = record { zone = AtHome; locks = false; claims = false; owes = false; arrives = true; entered = false }
-row phase.Wait = record { zone = InNoLane; locks = false; claims = false; owes = false; arrives = false; entered = false }
-row phase.Look = record { zone = AtHome; locks = true; claims = false; owes = false; arrives = false; entered = false }
-row phase.LoadLeaf = record { zone = AtDevice; locks = true; claims = false; owes = false; arrives = false; entered = false }
-row phase.LoadedLeaf = record { zone = AtHome; locks = true; claims = false; owes = false; arrives = false; entered = false }
-row phase.Claim = record { zone = AtPhysical; locks = true; claims = false; owes = false; arrives = false; entered = false }
-row phase.Store = record { zone = AtDevice; locks = true; claims = true; owes = false; arrives = false; entered = false }
-row phase.Enter = record { zone = AtJournal; locks = true; claims = true; owes = false; arrives = false; entered = false }
-row phase.Pending = record { zone = InNoLane; locks = true; claims = true; owes = true; arrives = false; entered = true }
-row phase.Count = record { zone = AtPhysical; locks = true; claims = true; owes = true; arrives = false; entered = true }
-row phase.Settle = record { zone = AtHome; locks = true; claims = false; owes = false; arrives = false; entered = true }
-row phase.Load = record { zone = AtDevice; locks = true; claims = false; owes = false; arrives = false; entered = false }
-row phase.Loaded = record { zone = AtHome; locks = true; claims = false; owes = false; arrives = false; entered = false }
-row phase.AbortClaim = record { zone = AtPhysical; locks = true; claims = true; owes = false; arrives = false; entered = false }
-row phase.Abort = record { zone = AtHome; locks = true; claims = false; owes = false; arrives = false; entered = false }
-row phase.AbortEnteredClaim = record { zone = AtPhysical; locks = true; claims = true; owes = true; arrives = false; entered = true }
-row phase.AbortEntered = record { zone = AtHome; locks = true; claims = false; owes = false; arrives = false; entered = true }
-row phase.Flush = record { zone = AtDevice; locks = false; claims = false; owes = false; arrives = false; entered = false }
-row phase.Reply = record { zone = AtDesk; locks = false; claims = false; owes = false; arrives = false; entered = false }
+row phase.Arrive = record { zone = AtHome; locks = false; claims = false; asks = false; owes = false; arrives = true; entered = false }
+row phase.Wait = record { zone = InNoLane; locks = false; claims = false; asks = false; owes = false; arrives = false; entered = false }
+row phase.Look = record { zone = AtHome; locks = true; claims = false; asks = false; owes = false; arrives = false; entered = false }
+row phase.LoadLeaf = record { zone = AtDevice; locks = true; claims = false; asks = false; owes = false; arrives = false; entered = false }
+row phase.LoadedLeaf = record { zone = AtHome; locks = true; claims = false; asks = false; owes = false; arrives = false; entered = false }
+row phase.Claim = record { zone = AtPhysical; locks = true; claims = false; asks = true; owes = false; arrives = false; entered = false }
+row phase.Withdraw = record { zone = AtTicket; locks = true; claims = true; asks = true; owes = false; arrives = false; entered = false }
+row phase.Store = record { zone = AtDevice; locks = true; claims = true; asks = false; owes = false; arrives = false; entered = false }
+row phase.Enter = record { zone = AtJournal; locks = true; claims = true; asks = false; owes = false; arrives = false; entered = false }
+row phase.Pending = record { zone = InNoLane; locks = true; claims = true; asks = false; owes = true; arrives = false; entered = true }
+row phase.Count = record { zone = AtPhysical; locks = true; claims = true; asks = false; owes = true; arrives = false; entered = true }
+row phase.Settle = record { zone = AtHome; locks = true; claims = false; asks = false; owes = false; arrives = false; entered = true }
+row phase.Load = record { zone = AtDevice; locks = true; claims = false; asks = false; owes = false; arrives = false; entered = false }
+row phase.Loaded = record { zone = AtHome; locks = true; claims = false; asks = false; owes = false; arrives = false; entered = false }
+row phase.AbortClaim = record { zone = AtPhysical; locks = true; claims = true; asks = false; owes = false; arrives = false; entered = false }
+row phase.Abort = record { zone = AtHome; locks = true; claims = false; asks = false; owes = false; arrives = false; entered = false }
+row phase.AbortEnteredClaim = record { zone = AtPhysical; locks = true; claims = true; asks = false; owes = true; arrives = false; entered = true }
+row phase.AbortEntered = record { zone = AtHome; locks = true; claims = false; asks = false; owes = false; arrives = false; entered = true }
+row phase.Flush = record { zone = AtDevice; locks = false; claims = false; asks = false; owes = false; arrives = false; entered = false }
+row phase.Reply = record { zone = AtDesk; locks = false; claims = false; asks = false; owes = false; arrives = false; entered = false }
 
--- the number of the zone there, for a request of this home, whose block this zone counts; where it is in no lane, none to a zone's
--- number
-abbrev pub number_at : Sizes → (home counts : ZoneId) → Where → ℕ
-number_at sizes home counts AtDesk = zone_number sizes id.Desk
-number_at sizes home counts AtHome = zone_number sizes home
-number_at sizes home counts AtPhysical = zone_number sizes counts
-number_at sizes home counts AtJournal = zone_number sizes id.Journal
-number_at sizes home counts AtDevice = zone_number sizes id.Device
-number_at sizes home counts InNoLane = zone_count sizes
+-- the number of the zone there, for a request of this home, whose block this zone counts, and whose oldest ticket is of this one;
+-- where it is in no lane, none to a zone's number
+abbrev pub number_at : Sizes → (home counts ticket : ZoneId) → Where → ℕ
+number_at sizes home counts ticket AtDesk = zone_number sizes id.Desk
+number_at sizes home counts ticket AtHome = zone_number sizes home
+number_at sizes home counts ticket AtPhysical = zone_number sizes counts
+number_at sizes home counts ticket AtTicket = zone_number sizes ticket
+number_at sizes home counts ticket AtJournal = zone_number sizes id.Journal
+number_at sizes home counts ticket AtDevice = zone_number sizes id.Device
+number_at sizes home counts ticket InNoLane = zone_count sizes
 
 -- the zone where a stage is done, and the stage behind it; at Commit and at Fail the block's way ends
 pub record StageRow : Type 0 where

@@ -1,5 +1,5 @@
 -- A request under way: what it asked, and what becomes of it.
-use Rattle.std.specs.Prelude.{ℕ, ◌%◌, false, Option, None, Some, List, [], ◌∷◌, ◌++◌}
+use Rattle.std.specs.Prelude.{ℕ, ◌+◌, ◌%◌, false, length, Option, None, Some, List, [], ◌∷◌, ◌++◌}
 use Rattle.blk_base.specs.declared.place.Lba.{Lba}
 use Rattle.blk_base.specs.declared.place.Mapping.{Mapping}
 use Rattle.blk_base.specs.declared.place.Mapping.TheVariants.{Unmapped, At}
@@ -10,6 +10,8 @@ use Rattle.blk_base.specs.declared.place.ZoneId.TheVariants as id
 use Rattle.blk_base.specs.declared.request.Answer.{Answer}
 use Rattle.blk_base.specs.declared.request.Request.{Request}
 use Rattle.blk_base.specs.declared.request.Request.TheVariants as request
+use Rattle.slab_counts.specs.declared.tickets.Receipt.{Receipt}
+use Rattle.slab_counts.specs.declared.tickets.Ticket.{Ticket}
 use Rattle.blk_base.specs.declared.request.Writer.{Writer}
 use Rattle.vdo_model.specs.Places.{zone_of}
 use Rattle.data_vio.specs.declared.items.Asks.{Asks}
@@ -72,6 +74,8 @@ begun_vio sizes w asks at bytes =
       latest = None;
       new = Unmapped;
       claim = None;
+      tickets = [];
+      receipt = None;
       answer = None;
       calls = 0;
     }
@@ -87,6 +91,20 @@ ended next answer v = record v { phase = next; answer = Some answer }
 -- it has a claim on this block, for its data or for the page that it makes
 abbrev pub claiming : Pbn → Vio → Vio
 claiming x v = record v { phase = phase.Store; new = At x; claim = Some x }
+
+-- it has one more ticket; it has asked each zone; and a ticket was withdrawn to which no block went
+abbrev pub holding : Ticket → Vio → Vio
+holding k v = record v { tickets = v.tickets ++ k ∷ [] }
+
+abbrev pub withdrawing : Vio → Vio
+withdrawing v = record v { phase = phase.Withdraw; new = Unmapped }
+
+abbrev pub refused : Receipt → Vio → Vio
+refused receipt v = record v { receipt = Some receipt }
+
+-- it has these tickets alone
+abbrev pub with_tickets : List Ticket → Vio → Vio
+with_tickets tickets v = record v { tickets = tickets }
 
 -- it has no claim any more, and goes on to another phase
 abbrev pub unclaiming : Phase → Vio → Vio
@@ -111,16 +129,22 @@ made v = record v { phase = phase.Look; page = None; new = Unmapped }
 abbrev pub gives_up : Vio → Vio
 gives_up v = record v { phase = phase.Reply; page = None }
 
--- the physical zone that it asks for a block, by its place; and that counts the block on which it has a claim, or else is asked
-abbrev pub asks_in : Sizes → ℕ → ZoneId
-asks_in sizes place = id.Physical (place % sizes.physical)
+-- the physical zone that it asks for a block: each in turn, from that of its place on; and that which counts the block on which it
+-- has a claim, or else is asked
+abbrev pub asks_in : Sizes → (turn : ℕ) → ZoneId
+asks_in sizes turn = id.Physical (turn % sizes.physical)
 
 abbrev pub counts_for : Sizes → ℕ → Option Pbn → ZoneId
-counts_for sizes place None = asks_in sizes place
-counts_for sizes place (Some x) = counts_in sizes x
+counts_for sizes turn None = asks_in sizes turn
+counts_for sizes turn (Some x) = counts_in sizes x
 
 abbrev pub counts_of : Sizes → Vio → ZoneId
-counts_of sizes v = counts_for sizes v.place v.claim
+counts_of sizes v = counts_for sizes (length v.tickets + v.place) v.claim
+
+-- the zone of its oldest ticket
+abbrev pub ticket_zone : List Ticket → ZoneId
+ticket_zone [] = id.Desk
+ticket_zone (k ∷ others) = id.Physical k.zone
 
 -- the logical zone of the address of an entry
 abbrev pub home_of : Sizes → Remapping → ZoneId

@@ -1,11 +1,11 @@
-ghost use Rattle.std.specs.Prelude.{◌≡◌, None, Some, IfOk};
+ghost use Rattle.std.specs.Prelude.{◌≡◌, ◌<◌, ◌∷◌, [], None, Some, IfOk, IfSome, IfNone, length};
 ghost use Rattle.blk_base.specs.declared.request.Answer.TheVariants as reply;
 ghost use Rattle.data_vio.specs.declared.items.Phase.TheVariants as phase;
-ghost use Rattle.data_vio.specs.Vios.{claiming, ended, entry_of, gives_up, has_leaf, logged, made, makes, reads_leaf, remapping, turned};
+ghost use Rattle.data_vio.specs.Vios.{claiming, ended, entry_of, gives_up, has_leaf, holding, logged, made, makes, reads_leaf, refused, remapping, turned, withdrawing};
 
 use crate::{Logged, NewPage, Phase, Remapping, Vio};
 use blk_base::{Answer, Block, Entry, Mapping, PageId, Pbn};
-use slab_counts::Claim;
+use slab_counts::{Claim, Receipt, Ticket};
 use std::alloc::{AllocError, Global};
 use std::marker::Model;
 
@@ -117,6 +117,42 @@ impl BoxedVio {
         self.vio.phase = Phase::Store;
         self.vio.new = Mapping::At(claim.block());
         self.vio.claim = Some(claim);
+        self
+    }
+
+    /// No block is free for it in a zone, and it has the ticket of that, of fewer than four.
+    pub fn hold(mut self, ticket: Ticket) -> BoxedVio
+        requires { length self.tickets < 4 }
+        ensures { result ≡ holding ticket self }
+    {
+        self.vio.tickets.push(ticket);
+        self
+    }
+
+    /// It asked each zone, and withdraws its tickets.
+    pub fn withdraw(mut self) -> BoxedVio
+        ensures { result ≡ withdrawing self }
+    {
+        self.vio.phase = Phase::Withdraw;
+        self.vio.new = Mapping::Unmapped;
+        self
+    }
+
+    /// Its oldest ticket, which leaves it.
+    pub fn take_ticket(&mut self) -> Option<Ticket>
+        ensures some { IfSome result (λ ticket.
+            (self.old.tickets ≡ ticket ∷ self.new.tickets)
+            × (self.new ≡ record self.old { tickets = self.new.tickets })) }
+        ensures none { IfNone result (self.old.tickets ≡ []) }
+    {
+        self.vio.tickets.pop()
+    }
+
+    /// No block went to the ticket that was withdrawn last.
+    pub fn refuse(mut self, receipt: Receipt) -> BoxedVio
+        ensures { result ≡ refused receipt self }
+    {
+        self.vio.receipt = Some(receipt);
         self
     }
 

@@ -1,6 +1,6 @@
-use crate::{BLOCK_ENTRIES, BoxedVio, Fifo, Remapping};
+use crate::{BLOCK_ENTRIES, BoxedVio, Fifo, HeldTickets, Remapping};
 use blk_base::{Answer, Block, Lba, Mapping, PageId, Pbn, Writer, ZoneId};
-use slab_counts::Claim;
+use slab_counts::{Claim, Receipt};
 use vdo_model::Damage;
 
 /// What a request asks for.
@@ -26,8 +26,11 @@ pub enum Phase {
     LoadLeaf,
     /// Logical: it has the lock, and its leaf said what is mapped at its address: that says where it goes.
     LoadedLeaf,
-    /// Physical: a write claims a free data block, for its data or for the page that it makes.
+    /// Physical: a write claims a free data block, for its data or for the page that it makes; or it is given a ticket, and asks
+    /// the next zone.
     Claim,
+    /// Physical: its oldest ticket is withdrawn; a block that went to it is the write's, or dropped where that has one.
+    Withdraw,
     /// Device: the data of a write, or its page, is written to its block.
     Store,
     /// Journal: the entry of a write or a discard, or of its page, is handed in, or waits until there is room for it.
@@ -85,6 +88,10 @@ pub struct Vio {
     pub new: Mapping,
     /// Its claim on that block, until the increment is taken, or the claim is dropped.
     pub claim: Option<Claim>,
+    /// Its tickets, while it asks for a block, and until they are withdrawn.
+    pub tickets: HeldTickets,
+    /// What its last ticket became to which no block went.
+    pub receipt: Option<Receipt>,
     /// What it is answered with, once that is known.
     pub answer: Option<Answer>,
     /// Of a flush, how many calls of the device had succeeded when its own returned; 0 until then.

@@ -9,6 +9,7 @@
 
 mod boxed;
 mod fifo;
+mod held_tickets;
 mod items;
 mod limits;
 mod logged;
@@ -17,6 +18,7 @@ mod sizes;
 
 pub use boxed::BoxedVio;
 pub use fifo::Fifo;
+pub use held_tickets::HeldTickets;
 pub use items::{Asks, Item, Phase, SealedBlock, Stage, Vio};
 pub use limits::{
     BLOCK_ENTRIES, ENTRY_ROOM, LANE_ROOM, LOCK_ROOM, MAKING_ROOM, MOST_DEPTH, MOST_ENTRIES,

@@ -14,7 +14,7 @@ ghost use Rattle.desk_zone.specs.Begins.{CanBegin};
 use crate::replies::is_notified;
 use blk_base::{Answer, Block, Lba, Mapping, Request, Writer, ZoneId};
 use core_model::Desk;
-use data_vio::{Asks, Item, Phase, Sizes, Vio};
+use data_vio::{Asks, HeldTickets, Item, Phase, Sizes, Vio};
 use step_parts::{Posts, home_of};
 
 // A request for an address when it is begun.
@@ -36,6 +36,8 @@ fn begun_vio(sizes: &Sizes, request: Writer, asks: Asks, at: Lba, bytes: Block) 
         latest: None,
         new: Mapping::Unmapped,
         claim: None,
+        tickets: HeldTickets::new(),
+        receipt: None,
         answer: None,
         calls: 0,
     }

@@ -10,7 +10,7 @@ use Rattle.data_vio.specs.declared.sizes.Sizes.{Sizes}
 use Rattle.core_model.specs.declared.zones.ZoneData.TheVariants as at
 use Rattle.core_model.specs.declared.zones.PhysicalZone.{PhysicalZone}
 use Rattle.core_model.specs.PhysicalRules.{PhysicalServes, PhysicalTakes}
-use Rattle.core_model.specs.PhysicalRules.PhysicalServes.{claims, has_no_space, counts, drops, drops_none, spends}
+use Rattle.core_model.specs.PhysicalRules.PhysicalServes.{asks, claims, counts, drops, drops_block, drops_none, has_none, spends, takes_block}
 use Rattle.core_model.specs.PhysicalRules.PhysicalTakes.{removes, is_stray}
 use Rattle.core_model.specs.Steps.{HasAct}
 use Rattle.core_model.specs.Steps.Act.{takes, takes_notice, updates}
@@ -23,7 +23,10 @@ use Rattle.zone_counts.specs.Zone.{IsOfZone}
 
 serves_silently : (sizes : Sizes) (old new : PhysicalZone) (v : Vio) (made : Trace) (posts : List Post) → PhysicalServes sizes old v new made posts → Silent made
 serves_silently sizes old new v made posts (claims x z h1 h2 h3 is h5) = silent _ _ is refl refl refl
-serves_silently sizes old new v made posts (has_no_space h1 h2 h3 is h5) = silent _ _ is refl refl refl
+serves_silently sizes old new v made posts (asks k b z h1 h2 h3 h4 h5 is h7) = silent _ _ is refl refl refl
+serves_silently sizes old new v made posts (takes_block k others x b z h1 h2 h3 h4 h5 h6 is h8) = silent _ _ is refl refl refl
+serves_silently sizes old new v made posts (drops_block k others x y b m z h1 h2 h3 h4 h5 h6 change h8 is h10) = silent _ _ is refl refl refl
+serves_silently sizes old new v made posts (has_none k others receipt b z h1 h2 h3 h4 h5 is h7) = silent _ _ is refl refl refl
 serves_silently sizes old new v made posts (counts x slab z h1 h2 h3 h4 h5 h6 is h8) = silent _ _ is refl refl refl
 serves_silently sizes old new v made posts (drops x z h1 h2 h3 h4 h5 is h7) = silent _ _ is refl refl refl
 serves_silently sizes old new v made posts (drops_none h1 h2 h3 is h5) = silent _ _ is refl refl refl

@@ -1,2 +1,3 @@
 mod ActLaws
+mod AskingLaws
 mod StartLaws

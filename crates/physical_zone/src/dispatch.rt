@@ -1,8 +1,9 @@
-ghost use Rattle.std.specs.Prelude.{◌≡◌, ◌<◌, [], ◌∷◌};
+ghost use Rattle.std.specs.Prelude.{◌≡◌, ◌-◌, ◌^◌, ◌<◌, [], ◌∷◌};
 ghost use Rattle.core_model.specs.declared.zones.ZoneData.TheVariants as at;
 ghost use Rattle.core_model.specs.Limits.{IsPhysicalWithin};
 ghost use Rattle.core_model.specs.Steps.{HasAct};
 ghost use Rattle.step_parts.specs.Acts.{ActsAlone};
+ghost use Rattle.step_parts.specs.ZoneSizes.{AreFew, HasPhysical};
 
 use crate::requests::{hear_stop, serve_physical};
 use crate::updates::take_decrement;
@@ -13,7 +14,9 @@ use step_parts::Posts;
 /// What a physical zone does with the item in front of its inbox, to which a rule applies: it posts this.
 pub fn act(sizes: &Sizes, zone: &mut PhysicalZone, item: Item, posts: &mut Posts)
     requires zones { 0 < sizes.now.zones }
-    requires within { IsPhysicalWithin zone.old }
+    requires physical { HasPhysical sizes.now }
+    requires few { AreFew sizes.now }
+    requires within { IsPhysicalWithin (2 ^ 64 - 2) zone.old }
     requires rule { HasAct sizes.now (at.Physical zone.old) (item ∷ []) }
     requires none { posts.old ≡ [] }
     ensures { ActsAlone sizes.now (at.Physical zone.old) (item ∷ [])

@@ -1,9 +1,10 @@
-//! A physical zone: what it does with the item in front of its inbox. Writes claim its data blocks here, and the counters of these
-//! take their updates.
+//! A physical zone: what it does with the item in front of its inbox. Writes claim its data blocks here, or are given tickets, and
+//! the counters of its blocks take their updates.
 //!
 //! Only tested: as part of the core.
 #![tactic(auto)]
 
+mod asking;
 mod dispatch;
 mod requests;
 mod start;

@@ -1,14 +1,17 @@
-ghost use Rattle.std.specs.Prelude.{◌≡◌, [], ◌∷◌, true};
+ghost use Rattle.std.specs.Prelude.{◌≡◌, ◌-◌, ◌^◌, [], ◌∷◌, true};
 ghost use Rattle.blk_base.specs.declared.place.ZoneId.TheVariants as id;
-ghost use Rattle.core_model.specs.PhysicalRules.{PhysicalServes, no_block, spent_for};
+ghost use Rattle.core_model.specs.Limits.{IsPhysicalWithin};
+ghost use Rattle.core_model.specs.PhysicalRules.{PhysicalServes, spent_for};
 ghost use Rattle.core_model.specs.Trace.{Trace};
 ghost use Rattle.data_vio.specs.Vios as vios;
 ghost use Rattle.data_vio.specs.declared.items.Item.TheVariants.{Request, StopNotice};
 ghost use Rattle.data_vio.specs.declared.items.Phase.TheVariants as phase;
 ghost use Rattle.step_parts.specs.Rules.{Applies};
+ghost use Rattle.step_parts.specs.ZoneSizes.{AreFew, HasPhysical};
 ghost use Rattle.zone_counts.specs.Zone.{IsClaimedIn};
 
-use blk_base::{Answer, Half, PageId, Pbn, ZoneId};
+use crate::asking::{claim, withdraw};
+use blk_base::{Half, PageId, Pbn, ZoneId};
 use core_model::PhysicalZone;
 use data_vio::{BoxedVio, Item, Phase, Sizes};
 use slab_counts::Claim;
@@ -22,33 +25,6 @@ fn go_home(vio: BoxedVio, phase: Phase, posts: &mut Posts)
 {
     let home = vio.get().home;
     posts.first(home, Item::Request(vio.turn(phase)));
-}
-
-// What a write is answered with where no block of the zone is free: that of one zone among several says nothing of the others.
-fn no_block(sizes: &Sizes) -> Answer
-    ensures { result ≡ no_block sizes.now }
-{
-    if sizes.physical == 1 {
-        Answer::NoSpace
-    } else {
-        Answer::Full
-    }
-}
-
-// A write claims the lowest free data block of the zone, or none is free there.
-fn claim(sizes: &Sizes, zone: &mut PhysicalZone, vio: BoxedVio, posts: &mut Posts)
-    requires phase { vio.phase ≡ phase.Claim }
-    requires none { posts.old ≡ [] }
-    ensures { (made : Trace) × PhysicalServes sizes.now zone.old vio zone.new made posts.new }
-{
-    match zone.counts.claim_free() {
-        Some(claim) => posts.first(ZoneId::Device, Item::Request(vio.claim(claim))),
-        None => {
-            let home = vio.get().home;
-            let unserved = vio.end(Phase::Abort, no_block(sizes));
-            posts.first(home, Item::Request(unserved));
-        }
-    }
 }
 
 // Spends a claim. The block of a page is shared by nobody from now on.
@@ -109,6 +85,9 @@ pub(crate) fn serve_physical(
     vio: BoxedVio,
     posts: &mut Posts,
 )
+    requires physical { HasPhysical sizes.now }
+    requires few { AreFew sizes.now }
+    requires within { IsPhysicalWithin (2 ^ 64 - 2) zone.old }
     requires rule { Applies (PhysicalServes sizes.now zone.old vio) }
     requires none { posts.old ≡ [] }
     ensures { (made : Trace) × PhysicalServes sizes.now zone.old vio zone.new made posts.new }
@@ -116,6 +95,7 @@ pub(crate) fn serve_physical(
     let phase = vio.get().phase;
     match phase {
         Phase::Claim => claim(sizes, zone, vio, posts),
+        Phase::Withdraw => withdraw(sizes, zone, vio, posts),
         Phase::Count => count(sizes, zone, vio, posts),
         Phase::AbortClaim => drop_claim(sizes, zone, vio, posts),
         Phase::AbortEnteredClaim => leave_claim(vio, posts),

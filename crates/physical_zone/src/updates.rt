@@ -1,4 +1,4 @@
-ghost use Rattle.std.specs.Prelude.{◌≡◌, ◌<◌, [], ◌∷◌, ◌++◌, length};
+ghost use Rattle.std.specs.Prelude.{◌≡◌, ◌-◌, ◌^◌, ◌<◌, [], ◌∷◌, ◌++◌, length};
 ghost use Rattle.core_model.specs.Limits.{IsPhysicalWithin};
 ghost use Rattle.core_model.specs.PhysicalRules.{PhysicalTakes, tells};
 ghost use Rattle.core_model.specs.Trace.{Trace};
@@ -12,7 +12,7 @@ use vdo_model::Damage;
 
 // A decrement found its counter at 0: its entry is kept, and the device's zone is told of the first one.
 fn keep_stray(zone: &mut PhysicalZone, entry: Remapping, at: Pbn, posts: &mut Posts)
-    requires within { IsPhysicalWithin zone.old }
+    requires within { IsPhysicalWithin (2 ^ 64 - 2) zone.old }
     requires room { length posts.old < POST_ROOM }
     ensures zone { zone.new ≡ record zone.old { strays = entry ∷ zone.old.strays } }
     ensures posts { posts.new ≡ posts.old ++ tells zone.old.strays at }
@@ -32,7 +32,7 @@ pub(crate) fn take_decrement(
     posts: &mut Posts,
 )
     requires zones { 0 < sizes.now.zones }
-    requires within { IsPhysicalWithin zone.old }
+    requires within { IsPhysicalWithin (2 ^ 64 - 2) zone.old }
     requires rule { Applies (PhysicalTakes sizes.now zone.old entry) }
     requires none { posts.old ≡ [] }
     ensures { (made : Trace) × PhysicalTakes sizes.now zone.old entry zone.new made posts.new }

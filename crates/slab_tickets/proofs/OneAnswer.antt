@@ -39,6 +39,11 @@ one_issued old new new' writer ticket ticket' one other =
 abbrev given_at : Desk → Pbn → ℕ → Waiting → Desk
 given_at old block place waiting = record old { out = set old.out place (record waiting { block = Some block }) }
 
+-- the oldest without a block is one
+pub one_waiting : (old new new' : Desk) (block block' : Pbn) → (one : Gives old new block) → (other : Gives old new' block') → one.waiting ≡ other.waiting
+one_waiting old new new' block block' one other =
+    (one_there (λ (w : Waiting). not (is_served w)) old.out one.place other.place one.waiting other.waiting one.oldest other.oldest one.is other.is).1
+
 pub one_given : (old new new' : Desk) (block : Pbn) → Gives old new block → Gives old new' block → new ≡ new'
 one_given old new new' block one other =
     let there = one_there (λ (w : Waiting). not (is_served w)) old.out one.place other.place one.waiting other.waiting one.oldest other.oldest one.is other.is in

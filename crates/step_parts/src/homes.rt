@@ -1,6 +1,6 @@
-ghost use Rattle.std.specs.Prelude.{◌≡◌, ◌<◌};
+ghost use Rattle.std.specs.Prelude.{◌≡◌, ◌+◌, ◌<◌, length};
 ghost use Rattle.blk_base.specs.declared.place.ZoneId.TheVariants as id;
-ghost use Rattle.data_vio.specs.Vios.{counts_of};
+ghost use Rattle.data_vio.specs.Vios.{asks_in, counts_of};
 ghost use Rattle.data_vio.specs.Zones.{counts_in};
 ghost use Rattle.step_parts.specs.ZoneSizes.{HasPhysical};
 ghost use Rattle.vdo_model.specs.Places.{zone_of};
@@ -36,6 +36,16 @@ pub fn physical_of(sizes: &Sizes, at: Pbn) -> ZoneId
     ZoneId::Physical(slab % u32::from(sizes.physical))
 }
 
+// The physical zone that a request asks for a block: each in turn, from that of its place on.
+fn asked_by(sizes: &Sizes, vio: &Vio) -> ZoneId
+    requires { 0 < sizes.now.physical }
+    ensures { result ≡ asks_in sizes.now (length vio.now.tickets + vio.now.place) }
+{
+    let zones = u64::from(sizes.physical);
+    let turn = u64::from(vio.tickets.len()) + vio.place % zones;
+    ZoneId::Physical((turn % zones) as u32)
+}
+
 /// The physical zone of a request: that which counts the block of its claim, or else that which it asks for one.
 pub fn counts_of(sizes: &Sizes, vio: &Vio) -> ZoneId
     requires { HasPhysical sizes.now }
@@ -43,6 +53,6 @@ pub fn counts_of(sizes: &Sizes, vio: &Vio) -> ZoneId
 {
     match &vio.claim {
         Some(claim) => physical_of(sizes, claim.block()),
-        None => ZoneId::Physical((vio.place % u64::from(sizes.physical)) as u32),
+        None => asked_by(sizes, vio),
     }
 }

@@ -22,7 +22,7 @@ use Rattle.disk_model.specs.Seen.{Seen}
 use Rattle.disk_model.specs.Streams.{SourceSeen}
 use Rattle.plain_laws.specs.Sums.{Each}
 use Rattle.rebuild.specs.declared.forms.Recovered.{Recovered}
-use Rattle.slab_tickets.specs.Tickets.{Desk}
+use Rattle.slab_tickets.specs.Tickets.{Desk, empty_desk}
 use Rattle.step_parts.specs.DeviceLog.{HasCalled}
 use Rattle.stream_text.specs.ReadingBytes.{HasWholeBlock}
 use Rattle.stream_text.specs.StreamRows.{no_requests}
@@ -55,8 +55,7 @@ still_report start = report_of (sessions.bare (run_sizes start.head) no_requests
 
 -- the counters with which the physical zone begins
 pub record AreFirst (start : Opened) (counts : Counters) : Type 0 where
-  pub room : ℕ
-  pub opens : IsOpeningZone start 0 1 room counts
+  pub opens : IsOpeningZone start 0 1 32 counts
   pub right : IsZone counts
 
 -- The first core over what was opened, with this script.
@@ -82,6 +81,12 @@ module _ (start : Opened) (script : Script) (counts : Counters) where
 
     physical_are : s.sizes.physical ≡ 1
     physical_are = ap (λ (sizes : Sizes). sizes.physical) over.sizes_is
+
+    depth_is : s.sizes.depth ≡ 1
+    depth_is = ap (λ (sizes : Sizes). sizes.depth) over.sizes_is
+
+    room_is : counts.desk.room ≡ 32
+    room_is = ap (λ (d : Desk). d.room) first.opens.desk
 
     begun : (number : ℕ) (keeps : ZoneData) → IsFirstData s number keeps → IsFirstZone s number (first_zone number keeps)
     begun number keeps own = record { number_is = refl; steps = refl; lanes = omega (arith, zones_are, physical_are); inbox = refl; outboxes = (refl, (refl, (refl, (refl, (refl, tt))))); own = own }
@@ -113,11 +118,12 @@ module _ (start : Opened) (script : Script) (counts : Counters) where
       geometry = first.opens.geometry ∙ its_geometry;
       zones = first.opens.zones ∙ sym physical_are;
       counters = λ x own.
-          (opened_here start 0 1 first.room counts first.opens first.right x own).0
+          (opened_here start 0 1 32 counts first.opens first.right x own).0
           ∙ ap (λ (g : Geometry). opened_count g start.counters.items x) its_geometry
           ∙ ap (λ (ns : List ℕ). opened_count s.sizes.geometry ns x) (sym over.counters_are);
-      claims = λ x. opened_claims start 0 1 first.room counts first.opens first.right x;
-      no_ticket = ap (λ (d : Desk). d.out) first.opens.desk;
+      claims = λ x. opened_claims start 0 1 32 counts first.opens first.right x;
+      desk = first.opens.desk ∙ ap (λ (zone : ℕ). empty_desk zone 32) (sym first.opens.zone) ∙ ap (λ (room : ℕ). empty_desk counts.zone room) (sym room_is);
+      room = (omega (arith, room_is), omega (arith, room_is, depth_is));
     }))
     each (suc (suc (suc zero))) zone is = subst (IsFirstZone s 3) (same_Some _ _ is) (begun 3 _ (record {
       number_is = omega (arith, zones_are, physical_are);

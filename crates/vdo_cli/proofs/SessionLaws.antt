@@ -30,7 +30,7 @@ use Rattle.core_model.specs.RightTraces.{HarmMayFollow, HearingMayFollow, MayAns
 use Rattle.core_model.specs.Sessions.{Session, IsFair, IsSession}
 use Rattle.core_model.specs.Start.{IsFirst}
 use Rattle.core_model.specs.Steps.{Leads}
-use Rattle.core_model.specs.Trace.{Aborts, Adds, Passes, Calls, Commits, Draws, Drops, Enters, Seals, Fails, Flushes, Gives, Happening, Harms, Hears, Removes, Says, Sets, Strays, Takes, Trace, calls, damage_in, first_of, has_read_fault, has_stopped, is_harmed, lines, moments, strayed}
+use Rattle.core_model.specs.Trace.{Aborts, Adds, Asks, Withdraws, Passes, Calls, Commits, Draws, Drops, Enters, Seals, Fails, Flushes, Gives, Happening, Harms, Hears, Removes, Says, Sets, Strays, Takes, Trace, calls, damage_in, first_of, has_read_fault, has_stopped, is_harmed, lines, moments, strayed}
 use Rattle.core_laws.proofs.kept.FirstState.{legal_first}
 use Rattle.core_laws.proofs.trace.AbortsOfTrace.{stops_at_failure}
 use Rattle.core_laws.proofs.trace.DamageOfTrace.{fair_undamaged}
@@ -174,9 +174,11 @@ answered_told s (Sets e ∷ t) w r a right asked is = answered_told s t w r a ri
 answered_told s (Gives g ∷ t) w r a right asked is = answered_told s t w r a right.2 asked is
 answered_told s (Hears damage ∷ t) w r a right asked is = more_damage (failed_calls t) (damage_in t) damage a (answered_told s t w r a right.2 asked is)
 answered_told s (Takes v page x ∷ t) w r a right asked is = answered_told s t w r a right.2 asked is
-answered_told s (Drops v x ∷ t) w r a right asked is = answered_told s t w r a right.2 asked is
+answered_told s (Asks v k ∷ t) w r a right asked is = answered_told s t w r a right.2 asked is
+answered_told s (Withdraws v k got ∷ t) w r a right asked is = answered_told s t w r a right.2 asked is
+answered_told s (Drops v x to ∷ t) w r a right asked is = answered_told s t w r a right.2 asked is
 answered_told s (Adds e ∷ t) w r a right asked is = answered_told s t w r a right.2 asked is
-answered_told s (Removes e ∷ t) w r a right asked is = answered_told s t w r a right.2 asked is
+answered_told s (Removes e to ∷ t) w r a right asked is = answered_told s t w r a right.2 asked is
 answered_told s (Strays e ∷ t) w r a right asked is = answered_told s t w r a right.2 asked is
 answered_told s (Passes e ∷ t) w r a right asked is = answered_told s t w r a right.2 asked is
 answered_told s (Aborts e ∷ t) w r a right asked is = answered_told s t w r a right.2 asked is

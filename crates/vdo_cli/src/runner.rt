@@ -464,7 +464,7 @@ fn serve_on_device<R: Wait, D: Disk, S: Source, K: Sink>(
 /// | Status | Comes where |
 /// |---|---|
 /// | 0 | each request was answered Ok, or with bytes; or what a stop leaves was told; or the image was made; or recovered, or was closed; or rebuilt, or grown; or no block differs, or the status was told |
-/// | 1 | a request was answered Full: no journal block was left for its entry or that of a page, or no data block |
+/// | 1 | a request was answered Full, as no journal block was left for its entry or that of a page, or NoSpace, as at one moment no data block was free |
 /// | 2 | the words are no command that is served (`Usage`) or a line of the script has a fault (`Script`) |
 /// | 3 | the device failed: before the script was read, or while it was copied, or while an image was made, recovered, rebuilt, grown or looked at (`Device`), or a request was answered Stopped or with a read fault |
 /// | 4 | the device has no image, or the image that was picked is none, or it has a fault in its window, a page or a count (`Image`); or it isn't closed, or has a mapping in an address that it is to get (`Image`, `Grow`); or a session found damage |

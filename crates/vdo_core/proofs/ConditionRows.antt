@@ -15,7 +15,7 @@ use Rattle.core_model.specs.declared.zones.Zone.{Zone}
 use Rattle.core_model.specs.declared.zones.ZoneData.{ZoneData}
 use Rattle.core_model.specs.declared.zones.ZoneData.TheVariants as at
 use Rattle.core_model.proofs.rows.PhaseRows.{nothing, slab_with, zone_with}
-use Rattle.core_model.specs.PhysicalRules.PhysicalServes.{claims, counts, drops, drops_none, has_no_space, spends}
+use Rattle.core_model.specs.PhysicalRules.PhysicalServes.{asks, claims, counts, drops, drops_block, drops_none, has_none, spends, takes_block}
 use Rattle.core_model.specs.Limits.{HasRoomToBegin}
 use Rattle.core_model.specs.Steps.{Act, HasAct, MayBegin, takes, takes_notice}
 use Rattle.core_model.specs.Trace.{Trace}
@@ -46,7 +46,7 @@ module _ (g : Geometry) where
     few = record { logical = omega arith; physical = omega arith };
     physical = record { geometry = within; some = omega arith };
     begins = tt;
-    within = record { inbox = omega arith; outboxes = (omega arith, tt); own = omega arith };
+    within = record { inbox = omega arith; outboxes = (omega arith, tt); own = record { strays = omega arith; tickets = omega arith; issued = omega arith; begun = omega arith } };
     rule = notice_applies 2;
     lanes = lane_there;
   }
@@ -71,7 +71,10 @@ module _ (g : Geometry) where
   -- rule: not with a request in front that no rule serves
   none_serves : (v : Vio) → v.phase ≡ phase.Reply → HasAct (sizes 2) (at.Physical (record { notified = false; strays = []; counts = zone_with (slab_with nothing nothing) })) (Asked v ∷ []) → ⊥
   none_serves v is (new, made, posts, takes (claims x z p gives n m q)) = let both = sym is ∙ p in cc
-  none_serves v is (new, made, posts, takes (has_no_space p none n m q)) = let both = sym is ∙ p in cc
+  none_serves v is (new, made, posts, takes (asks k b z p fewer begins gives n m q)) = let both = sym is ∙ p in cc
+  none_serves v is (new, made, posts, takes (takes_block k others x b z p tickets claim begins withdraws n m q)) = let both = sym is ∙ p in cc
+  none_serves v is (new, made, posts, takes (drops_block k others x y b w z p tickets claim begins withdraws has change n m q)) = let both = sym is ∙ p in cc
+  none_serves v is (new, made, posts, takes (has_none k others receipt b z p tickets begins withdraws n m q)) = let both = sym is ∙ p in cc
   none_serves v is (new, made, posts, takes (counts x slab z p has claimed fits changes n m q)) = let both = sym is ∙ p in cc
   none_serves v is (new, made, posts, takes (drops x z p has claimed changes n m q)) = let both = sym is ∙ p in cc
   none_serves v is (new, made, posts, takes (drops_none p none n m q)) = let both = sym is ∙ p in cc

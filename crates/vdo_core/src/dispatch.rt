@@ -16,6 +16,7 @@ use step_parts::Posts;
 pub(crate) fn act_alone(sizes: &Sizes, keeps: &mut ZoneData, item: Item, posts: &mut Posts)
     requires other { CallsDevice keeps.old → ⊥ }
     requires zones { 0 < sizes.now.zones }
+    requires few { AreFew sizes.now }
     requires physical { HasPhysical sizes.now }
     requires within { IsDataWithin (2 ^ 64 - 2) keeps.old }
     requires rule { HasAct sizes.now keeps.old (item ∷ []) }

@@ -5,7 +5,7 @@ ghost use Rattle.block_map_tree.specs.Opening.{IsOpened, all_trees};
 ghost use Rattle.data_vio.specs.Zones as numbers;
 ghost use Rattle.core_model.specs.PageLinks.{opened_page};
 ghost use Rattle.core_model.specs.Sessions.{AreCounters, Session, IsServed};
-ghost use Rattle.core_model.specs.SessionLimits.{most_requests, most_streams, requests_in};
+ghost use Rattle.core_model.specs.SessionLimits.{most_depth, most_requests, most_streams, requests_in};
 ghost use Rattle.core_model.specs.Start.{IsFirst, IsFirstZone, IsFirstData};
 ghost use Rattle.plain_laws.specs.Sums.{Each};
 ghost use Rattle.step_parts.specs.ZoneSizes.{AreFew};
@@ -90,6 +90,7 @@ fn add_physical(
     requires geometry { IsGeometry opened.now.head.geometry }
     requires same { sizes.now.geometry ≡ opened.now.head.geometry }
     requires few { AreFew sizes.now }
+    requires depth { sizes.now.depth ≤ most_depth }
     requires counters { AreCounters sizes.now.geometry opened.now.counters.items }
     ensures count { OnOk result (length zones.new.items ≡ numbers.journal_number sizes.now) }
     ensures first { OnOk result
@@ -130,8 +131,8 @@ fn add_last(alloc: Global, sizes: &Sizes, zones: &mut Vec<Zone>) -> Result<(), A
 
 /// The core at the start of a session: it has the requests, no one of which is begun, the pages that the opened image links,
 /// and the counters of its data blocks. There are 4 logical and 4 physical zones at most. Each request must be one that is served, and there may be 16
-/// streams and 65,536 requests in all. It takes all the room that the session will need, and fails where no memory is found
-/// for it.
+/// streams, 16 requests of each under way, and 65,536 requests in all. It takes all the room that the session will need, and
+/// fails where no memory is found for it.
 pub fn begin(
     alloc: Global,
     sizes: &Sizes,
@@ -143,6 +144,7 @@ pub fn begin(
     requires start { (1 ≤ sizes.now.start) × (sizes.now.start < 2 ^ 54) }
     requires zones { AreFew sizes.now }
     requires physical { 0 < sizes.now.physical }
+    requires depth { sizes.now.depth ≤ most_depth }
     requires pages { IsOpened (all_trees opened.now.head.geometry) opened.now.pages.items }
     requires counters { AreCounters sizes.now.geometry opened.now.counters.items }
     requires served { AllByRecursion (AllByRecursion IsServed) requests }

@@ -1,5 +1,5 @@
 -- What a zone gives was free; counter and claims of a block are within the limit, so what there is a claim or a mapping for fits.
-use Rattle.std.specs.Prelude.{ℕ, ◌≡◌, ◌≢◌, ◌⊎◌, ◌↔◌, ◌+◌, ◌%◌, ◌<◌, ◌≤◌, Bool, List, [], ◌∷◌, position, not, None, Some}
+use Rattle.std.specs.Prelude.{ℕ, ◌≡◌, ◌⊎◌, ◌↔◌, ◌+◌, ◌%◌, ◌<◌, ◌≤◌, List, [], position, not, None}
 use Rattle.std.proofs.Common.{refl, ap, sym, ◌∙◌, subst, arith, inl, inr}
 use Rattle.std.proofs.lemmas.Bool.{cases_eq}
 use Rattle.blk_base.specs.Counters.{limit_of}
@@ -8,7 +8,6 @@ use Rattle.blk_base.specs.declared.opened.Opened.{Opened}
 use Rattle.blk_base.specs.declared.place.Pbn.{Pbn}
 use Rattle.blk_base.specs.declared.point.Half.TheVariants.{Increment, Decrement}
 use Rattle.slab_counts.specs.Counts.{Counts, IsFree, IsStray, Takes, claims_of, counter_of, mapped, offset_of, unmapped}
-use Rattle.slab_counts.specs.Kept.{IsWithin}
 use Rattle.slab_tickets.specs.Tickets.{Desk, is_served}
 use Rattle.zone_counts.specs.Asking.{GivesBlock}
 use Rattle.zone_counts.specs.ByBlock.{counter_in, claims_in}

@@ -1,5 +1,5 @@
 -- A call of a zone has one result.
-use Rattle.std.specs.Prelude.{ℕ, ◌≡◌, Bool, true, false, List}
+use Rattle.std.specs.Prelude.{ℕ, ◌≡◌, Bool, true, false, List, Some}
 use Rattle.std.proofs.Common.{sym, ◌∙◌, ap, subst, arith, inl, inr, refl, set}
 use Rattle.std.proofs.lemmas.Bool.{cases_lt}
 use Rattle.blk_base.specs.declared.place.Pbn.{Pbn}
@@ -12,7 +12,9 @@ use Rattle.slab_counts.specs.declared.tickets.Ticket.{Ticket}
 use Rattle.slab_counts.proofs.AnswerLaws.{one_free, shared_or_refused, one_refusal}
 use Rattle.slab_tickets.specs.Tickets.{Desk, Gives, begun}
 use Rattle.slab_tickets.specs.declared.forms.Withdrawn.{Withdrawn}
-use Rattle.slab_tickets.proofs.OneAnswer.{one_issued, one_given, one_withdrawn}
+use Rattle.slab_tickets.proofs.OneAnswer.{one_issued, one_given, one_waiting, one_withdrawn}
+use Rattle.slab_tickets.specs.declared.forms.Waiting.{Waiting}
+use Rattle.zone_counts.specs.ByBlock.{served_ticket}
 use Rattle.zone_counts.specs.Zone.{Zone, BeginsStep, Changes, ClaimsLowest, NoneFree, Serves, slab_at, slab_of, with_slab, place_of}
 use Rattle.zone_counts.specs.Asking.{Asks, SharesIn, IsRefusedIn, WithdrawsFrom}
 use Rattle.zone_counts.specs.declared.forms.Asked.{Asked}
@@ -74,14 +76,29 @@ one_served slabs s s' desk d d' (inr one) (inr other) =
     let same = one_lowest slabs s s' one.block other.block one.claims other.claims in
     (same.1, one_given desk d d' one.block one.gives (subst (λ (b : Pbn). Gives desk d' b) (sym same.0) other.gives))
 
-pub one_changed : (old new new' : Zone) (at : Pbn) (counts : Counts) → Changes old new at counts → Changes old new' at counts → new ≡ new'
-one_changed old new new' at counts one other =
-    let same = one_served (set old.slabs (place_of old at) counts) new.slabs new'.slabs old.desk new.desk new'.desk one.serves other.serves in
-    one.same ∙ ap (λ (xs : List Counts). record old { slabs = xs; desk = new.desk }) same.0 ∙ ap (λ (d : Desk). record old { slabs = new'.slabs; desk = d }) same.1 ∙ sym other.same
+-- and by which ticket
+pub one_ticket : (slabs slabs' s s' : List Counts) (desk d d' : Desk) → slabs ≡ slabs' → (one : Serves slabs desk s d) → (other : Serves slabs' desk s' d') → served_ticket one ≡ served_ticket other
+one_ticket slabs slabs' s s' desk d d' same (inl one) (inl other) = refl
+one_ticket slabs slabs' s s' desk d d' same (inl (inl quiet, kept, kept')) (inr other) = let oldest = other.gives.oldest in absurd cc
+one_ticket slabs slabs' s s' desk d d' same (inl (inr none, kept, kept')) (inr other) = absurd (lowest_or_none slabs' s' other.block other.claims (subst NoneFree same none))
+one_ticket slabs slabs' s s' desk d d' same (inr one) (inl (inl quiet, kept, kept')) = let oldest = one.gives.oldest in absurd cc
+one_ticket slabs slabs' s s' desk d d' same (inr one) (inl (inr none, kept, kept')) = absurd (lowest_or_none slabs s one.block one.claims (subst NoneFree (sym same) none))
+one_ticket slabs slabs' s s' desk d d' same (inr one) (inr other) = ap (λ (w : Waiting). Some w.number) (one_waiting desk d d' one.block other.block one.gives other.gives)
 
 one_taken : (half : Half) (old c c' : Counts) (at : Pbn) → Takes half old c at → Takes half old c' at → c ≡ c'
 one_taken Increment old c c' at one other = one.2 ∙ sym other.2
 one_taken Decrement old c c' at one other = one.1 ∙ sym other.1
+
+pub one_passed : (half : Half) (old new new' : Zone) (at : Pbn) (c c' : Counts) → Takes half (slab_of old at) c at → (one : Changes old new at c) → Takes half (slab_of old at) c' at → (other : Changes old new' at c')
+    → served_ticket one.serves ≡ served_ticket other.serves
+one_passed half old new new' at c c' takes one takes' other =
+    one_ticket (set old.slabs (place_of old at) c) (set old.slabs (place_of old at) c') new.slabs new'.slabs old.desk new.desk new'.desk
+    (ap (λ (x : Counts). set old.slabs (place_of old at) x) (one_taken half (slab_of old at) c c' at takes takes')) one.serves other.serves
+
+pub one_changed : (old new new' : Zone) (at : Pbn) (counts : Counts) → Changes old new at counts → Changes old new' at counts → new ≡ new'
+one_changed old new new' at counts one other =
+    let same = one_served (set old.slabs (place_of old at) counts) new.slabs new'.slabs old.desk new.desk new'.desk one.serves other.serves in
+    one.same ∙ ap (λ (xs : List Counts). record old { slabs = xs; desk = new.desk }) same.0 ∙ ap (λ (d : Desk). record old { slabs = new'.slabs; desk = d }) same.1 ∙ sym other.same
 
 pub one_applied : (half : Half) (old new new' : Zone) (at : Pbn) (c c' : Counts) → Takes half (slab_of old at) c at → Changes old new at c → Takes half (slab_of old at) c' at → Changes old new' at c' → new ≡ new'
 one_applied half old new new' at c c' takes one takes' other =

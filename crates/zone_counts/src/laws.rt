@@ -300,4 +300,8 @@ pub fn a_call_has_one_result()
     ensures applied { (half : Half) (old new new' : Zone) (at : Pbn) (slab slab' : Counts) →
         Takes half (slab_of old at) slab at → Changes old new at slab
         → Takes half (slab_of old at) slab' at → Changes old new' at slab' → new ≡ new' }
+    ensures passed { (half : Half) (old new new' : Zone) (at : Pbn) (slab slab' : Counts) →
+        Takes half (slab_of old at) slab at → (one : Changes old new at slab)
+        → Takes half (slab_of old at) slab' at → (other : Changes old new' at slab')
+        → served_ticket one.serves ≡ served_ticket other.serves }
 {}

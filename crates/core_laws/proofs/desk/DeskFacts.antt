@@ -96,7 +96,7 @@ module _ (s : Session) (t : Trace) (w : Writer) (is : IsSession s) (right : Righ
           record { asked = asks; is_open = begins_open; address = address q; home = refl },
           record { for_block = block; unplaced = unborn_place s t w right late; not_entered = unborn_entry s t w right late; none_taken = unborn_take s t w right late },
           refl,
-          record { claim_is = refl; on_data = λ holds. absurd cc },
+          record { claim_is = refl; on_data = λ holds. absurd cc; no_ticket = λ asks. refl },
         ),
       )
     where
@@ -115,7 +115,7 @@ module _ (s : Session) (t : Trace) (w : Writer) (is : IsSession s) (right : Righ
       let once : at_once s.sizes notified Write at.0 ≡ None = rw (← same_Some _ _ served) at none in
       subst (λ (u : Vio). PostOk s (Says (line.Begin w) ∷ t) (first_zone u, item.Request u)) (same_Some _ _ served) (begins_block Write at bytes tt asks (sent_below at.0 s.sizes.geometry.logical _ once))
   begins_post notified request.Flush v served asks none =
-      subst (λ (u : Vio). PostOk s (Says (line.Begin w) ∷ t) (first_zone u, item.Request u)) (same_Some _ _ served) (omega arith, (record { asked = asks; is_open = begins_open; address = tt; home = refl }, refl, refl, record { claim_is = refl; on_data = λ holds. absurd cc }))
+      subst (λ (u : Vio). PostOk s (Says (line.Begin w) ∷ t) (first_zone u, item.Request u)) (same_Some _ _ served) (omega arith, (record { asked = asks; is_open = begins_open; address = tt; home = refl }, refl, refl, record { claim_is = refl; on_data = λ holds. absurd cc; no_ticket = λ asks. refl }))
   begins_post notified (request.Write at bytes true) v served asks none = absurd cc
   begins_post notified (request.Discard at) v served asks none =
       let once : at_once s.sizes notified Discard at.0 ≡ None = rw (← same_Some _ _ served) at none in

@@ -1,6 +1,6 @@
 -- The device's calls: what they write, what reads give, and which data blocks they are of.
 use Rattle.std.proofs.Common.{◌≡◌, ◌≢◌, ℕ, zero, suc, ◌*◌, ◌/◌, ◌%◌, ◌<◌, ◌≤◌, ◌^◌, Bool, Some, List, [], ◌∷◌, ◌++◌, length, length-append, get_or, subst, inl, inr, arith, ◌⊎◌, false, Option, None, ap, sym, ◌∙◌, ◌+◌, true, refl}
-use Rattle.core_laws.proofs.Common.{all_of, AllByRecursion, AreAllThere, asked, Asks, AtRest, Call, Calls, ComesLast, device_number, Entry, entry_of, eqb_tells, every-front, every-get, every-map, filled, Geometry, Happening, HasBlocks, IsAsOpened, IsFair, IsServed, IsSession, IsWrite, Lba, log, Remapping, Mapping, MayFollow, newest, NewStands, of_address, OnBlock, OnItsWay, Pbn, Quiet, ReadsAs, ReadsBlock, Request, request_at, RightTrace, sealed, Session, Shown, Stands, Trace, value_from, value_written, Writer, Logged, Makes, Remaps, remappings, durable, journaled, new_of, NewPage as MadePage, applied, passed, mapped_or, mapping_by, opened_at}
+use Rattle.core_laws.proofs.Common.{all_of, AllByRecursion, AreAllThere, asked, Asks, AtRest, Call, Calls, ComesLast, device_number, entry_of, eqb_tells, every-front, every-get, every-map, filled, Geometry, Happening, IsAsOpened, IsFair, IsServed, IsSession, IsWrite, Lba, log, Remapping, Mapping, MayFollow, newest, NewStands, of_address, OnBlock, OnItsWay, Pbn, Quiet, ReadsAs, ReadsBlock, Request, request_at, RightTrace, sealed, Session, Shown, Stands, Trace, value_from, value_written, Writer, Logged, Makes, Remaps, remappings, durable, journaled, new_of, NewPage as MadePage, applied, passed, mapped_or, mapping_by, opened_at}
 use Rattle.core_laws.proofs.trace.PassesOfTrace.{cut_passed}
 use Rattle.std.proofs.Math.Nat.{div-le_self, mod-lt, mul-le-mul_left}
 use Rattle.std.proofs.lemmas.List.Elements.{All-from_recursion}

@@ -1,6 +1,6 @@
 -- What the acts of the device zone owe: it stores, loads and flushes for requests, and flushes and writes for sealed blocks.
 use Rattle.std.proofs.Common.{◌≡◌, ℕ, zero, suc, ◌+◌, ◌<◌, ◌≤◌, Bool, true, false, Some, IsNone, IsSome, slice_index_or, List, [], ◌∷◌, ◌++◌, map, refl, ap, sym, ◌∙◌, subst, inl, inr, arith, ◌⊎◌, Option, None, ◌≢◌}
-use Rattle.core_laws.proofs.Common.{all_logged, all_of, AllByRecursion, asked, Asks, AtRest, Call, calls, Calls, DataOk, DeviceZone, each_at, ended, Entry, entry_of, eqb_tells, every-map, Fails, IsToBlock, Phase, FailureMayFollow, fair_before, Happening, has_read_fault, has_stopped, HasAddress, HasCause, is_ok, is_read, IsAsOpened, IsChange, IsEarned, IsFair, IsMadeFor, IsOpen, IsSealed, IsSession, KeptOk, Lba, log, logged, logical_zones, Mapping, MapsTo, moments, NewReads, NewStands, notified, OnBlock, OnItsWay, Pbn, place_of, places, Post, ReadsAs, ReadsBlock, request_of, RightTrace, same_self, same_Some, SealedBlock, Session, Shown, Sizes, some_is, Stage, StandsAt, Trace, value_at, value_from, Vio, VioOk, Writer, zone_count, zone_number, applied, journaled, Logged, new_of, remappings, passed, every-front, MayReply, turned, Item, ItemOk, SuperblockStage, superblock_stage, mapped_or, opened_at, Harms, is_harmed, IsForBlock, IsPlaced, entered, logged_of}
+use Rattle.core_laws.proofs.Common.{all_logged, all_of, AllByRecursion, asked, Asks, AtRest, Call, calls, Calls, DataOk, DeviceZone, each_at, ended, Entry, entry_of, eqb_tells, every-map, Fails, IsToBlock, Phase, FailureMayFollow, fair_before, Happening, has_read_fault, has_stopped, HasAddress, HasCause, is_ok, is_read, IsAsOpened, IsChange, IsEarned, IsFair, IsMadeFor, IsOpen, IsSealed, IsSession, KeptOk, Lba, log, logged, logical_zones, Mapping, MapsTo, moments, NewReads, NewStands, notified, OnBlock, OnItsWay, Pbn, place_of, places, Post, ReadsAs, ReadsBlock, request_of, RightTrace, same_self, same_Some, SealedBlock, Session, Shown, Sizes, some_is, Stage, StandsAt, Trace, value_at, value_from, Vio, VioOk, Writer, zone_count, zone_number, applied, Logged, new_of, remappings, MayReply, turned, Item, ItemOk, SuperblockStage, superblock_stage, mapped_or, opened_at, Harms, is_harmed, IsForBlock, IsPlaced, entered, logged_of}
 use Rattle.core_laws.proofs.trace.PassesOfTrace.{value_past}
 use Rattle.vdo_model.specs.FlushMarks.{IsMark, successes}
 use Rattle.blk_base.specs.declared.place.PageId.{PageId}
@@ -93,7 +93,7 @@ cause_fault s t w q at bytes is some faulty = rw is (some, faulty)
 cause_unflushed : (s : Session) (t : Trace) (w : Writer) (q : Asks) (at : Lba) (bytes : List ℕ) → q ≡ Flush → has_stopped t ≡ true → HasCause s t w (asked q at bytes) reply.Stopped
 cause_unflushed s t w q at bytes is stopped = rw is stopped
 
-unflushed_post : (s : Session) (t : Trace) (v : Vio) → has_stopped t ≡ true → VioOk s t v → v.asks ≡ Flush → v.page ≡ None → HasClaim s false v.claim v.new → PostOk s t (id.Desk, item.Request (ended phase.Reply reply.Stopped v))
+unflushed_post : (s : Session) (t : Trace) (v : Vio) → has_stopped t ≡ true → VioOk s t v → v.asks ≡ Flush → v.page ≡ None → HasClaim s false false v.claim v.new v.tickets → PostOk s t (id.Desk, item.Request (ended phase.Reply reply.Stopped v))
 unflushed_post s t v stopped ok is bare claim = (omega arith, (ok, carries_own s t (ended phase.Reply reply.Stopped v) phase.Reply bare (cause_unflushed s t v.request v.asks v.at v.bytes is stopped), refl, claim))
 
 abbrev answered_flush : DeviceZone → Vio → Vio
@@ -308,7 +308,7 @@ module _ {s : Session} {t : Trace} {n : ℕ} {old : DeviceZone} {v : Vio} (known
   refused_carries u (Some page) right stopped k =
       let placed = k.0.turn.is_placed in (k.0, k.1, may_stop s u v (writes_change v.asks k.0.is_write) stopped placed.placed (unentered_slot s u v.request right placed.not_entered))
 
-  refused_post : (u : Trace) → RightTrace s u → has_stopped u ≡ true → VioOk s u v → HasClaim s true v.claim v.new → CarriesFor s u v phase.Store v.page → PostOk s u (counts_of s.sizes v, item.Request (ended phase.AbortClaim reply.Stopped v))
+  refused_post : (u : Trace) → RightTrace s u → has_stopped u ≡ true → VioOk s u v → HasClaim s true false v.claim v.new v.tickets → CarriesFor s u v phase.Store v.page → PostOk s u (counts_of s.sizes v, item.Request (ended phase.AbortClaim reply.Stopped v))
   refused_post u right stopped ok claim k = (counts_within s.sizes v known.session.zones.1, (ok, refused_carries u v.page right stopped k, refl, claim))
 
   -- what it carries to the device stays over its call

@@ -1,12 +1,11 @@
 -- A leaf that is read says what its address is mapped to, where the session is fair: the opened image has it, or a session's entry made
 -- it, and then it is empty.
-use Rattle.std.proofs.Common.{◌≡◌, ◌⊎◌, ℕ, zero, suc, ◌+◌, ◌<◌, Option, None, Some, List, [], ◌∷◌, ◌++◌, Contains, length, replicate, slice_index_or, refl, sym, ◌∙◌, ap, subst, inl, inr, arith}
+use Rattle.std.proofs.Common.{◌≡◌, ◌⊎◌, ℕ, zero, suc, ◌+◌, ◌<◌, None, Some, List, [], ◌∷◌, Contains, length, replicate, slice_index_or, refl, sym, ◌∙◌, ap, subst, inl, inr, arith}
 use Rattle.std.proofs.Math.Nat.{mod-lt}
 use Rattle.std.proofs.lemmas.List.{get_or-replicate}
-use Rattle.core_laws.proofs.Common.{AllByRecursion, AreAllThere, AtRest, ComesLast, Commits, Enters, IsFair, IsHonestRead, IsSession, Lba, Logged, Makes, OnItsWay, PagesStand, Pbn, Remapping, Remaps, RightTrace, Session, Sets, Shown, Stands, Trace, Writer, all_of, applied, append-nil, durable, journaled, log, mapped_or, mapping_by, new_pages, newest, of_address, opened_at, opened_image, remappings, sealed}
+use Rattle.core_laws.proofs.Common.{AllByRecursion, AreAllThere, AtRest, ComesLast, Commits, Enters, IsFair, IsHonestRead, IsSession, Logged, Makes, OnItsWay, PagesStand, Pbn, Remapping, Remaps, RightTrace, Session, Sets, Stands, Trace, Writer, all_of, applied, durable, journaled, log, mapped_or, mapping_by, newest, of_address, opened_at, opened_image, remappings, sealed}
 use Rattle.blk_base.proofs.RegionLaws.{data_block_high, data_block_inside}
 use Rattle.blk_base.specs.Regions.{IsDataBlock}
-use Rattle.blk_base.specs.declared.geometry.Geometry.{Geometry}
 use Rattle.blk_base.specs.declared.place.Mapping.{Mapping}
 use Rattle.blk_base.specs.declared.place.Mapping.TheVariants.{Unmapped}
 use Rattle.blk_base.specs.declared.place.PageId.{PageId}

@@ -1,7 +1,7 @@
 -- What the acts of the journal owe: entries are handed in, wait, or are refused; a block is sealed, and its entries are
 -- committed, or it failed.
 use Rattle.std.proofs.Common.{◌≡◌, Contains, ◌≢◌, ◌++◌, ◌≤◌, suc, Option, None, append_assoc, length-append, ℕ, ◌<◌, true, Some, IsNone, IsSome, List, [], ◌∷◌, refl, ap, arith, ◌+◌, Bool, false, length, sym, ◌∙◌, inl, inr, subst}
-use Rattle.core_laws.proofs.Common.{all_logged, all_of, AllBelow, AllByRecursion, Answer, asked, Asks, AtRest, bit, BlockOk, Carries, Commits, committed, DataOk, done, each_at, ended, entered, Enters, entry_of, every-append, fair_before, filled, Happening, has_stopped, HasCause, HasFullJournal, HasPendingEntry, HasPlace, holder_weight, IsChange, IsFair, IsOpen, IsPlaced, IsSession, JournalLists, JournalZone, KeptEach, KeptOk, Lba, logged, logged_of, ltb-false, ltb-true, Mapping, MapsTo, MayReply, NewReads, OnBlock, or_parts, Pbn, place_of, places, Post, ReadsAs, Request, RestsAt, RightTrace, same_self, same_tells, same_writer, sealed, SealedBlock, Seals, Session, Shown, some_is, Stage, StandsAt, total, Trace, turned, value_written, Vio, VioOk, Writer, zone_count, zone_number, zone_of, zone_of_stage, applied, durable, journaled, remapping, Logged, Remaps, Makes, passed, remappings, Phase, IsCommitted}
+use Rattle.core_laws.proofs.Common.{all_logged, all_of, AllBelow, AllByRecursion, Answer, asked, Asks, AtRest, bit, BlockOk, Carries, Commits, committed, DataOk, done, each_at, ended, entered, Enters, entry_of, every-append, fair_before, filled, Happening, has_stopped, HasCause, HasFullJournal, HasPendingEntry, HasPlace, holder_weight, IsChange, IsFair, IsOpen, IsPlaced, IsSession, JournalLists, JournalZone, KeptEach, KeptOk, Lba, logged, logged_of, ltb-false, ltb-true, Mapping, MapsTo, MayReply, NewReads, OnBlock, or_parts, Pbn, place_of, places, Post, ReadsAs, Request, RestsAt, RightTrace, same_self, same_tells, same_writer, sealed, SealedBlock, Seals, Session, Shown, some_is, Stage, StandsAt, total, Trace, turned, value_written, Vio, VioOk, Writer, zone_count, zone_number, zone_of, zone_of_stage, applied, durable, remapping, Logged, Remaps, Makes, passed, remappings, IsCommitted}
 use Rattle.core_laws.proofs.trace.PassesOfTrace.{cut_passed}
 use Rattle.std.proofs.Math.Nat.{mod-lt}
 use Rattle.data_vio.specs.declared.items.Asks.TheVariants.{Read, Write, Discard, Flush}
@@ -10,7 +10,7 @@ use Rattle.core_laws.proofs.kept.ActKept.{carries_page, claim_at, claim_in, clai
 use Rattle.core_laws.proofs.lists.Changes.{maps_change}
 use Rattle.core_laws.proofs.trace.DeskOfTrace.{shown_of}
 use Rattle.core_laws.proofs.trace.AbortsOfTrace.{unentered_abort}
-use Rattle.core_laws.proofs.kept.Keys.{Clears, IfAny, Key, OfAddress, OfBlock, OfJournal, OfPage, OfRequest, any, claim_one, holder_one, idle_none, own_name, token_of}
+use Rattle.core_laws.proofs.kept.Keys.{Clears, IfAny, Key, OfAddress, OfJournal, OfPage, OfRequest, any, holder_one, idle_none, own_name, token_of}
 use Rattle.core_laws.proofs.journal.LogLaws.{filling_length, log_committed, log_entered, log_sealed}
 use Rattle.core_laws.proofs.journal.SealedBlocks.{logged_length}
 use Rattle.core_laws.proofs.kept.Spared.{OffNumber, below_kept, leafy_kept, mapping_same, of_same, quiet_kept}
@@ -35,7 +35,6 @@ use Rattle.core_model.specs.Facts.{HasClaim, IsEntered}
 use Rattle.core_model.specs.JournalRules.{decrement_for, hands_to}
 use Rattle.recovery_journal.specs.Log.{head_of}
 use Rattle.core_laws.proofs.lists.CountedIn.{block_within, counts_within}
-use Rattle.core_model.specs.RightTraces.{HadNoFreeNear}
 
 -- once the session is stopped, a write or a discard whose slot isn't set may be answered so; where no block is left for it, one
 -- that has its place and isn't handed in is answered `Full`
@@ -48,7 +47,7 @@ cause_stopped s t w Flush at bytes is stopped placed none = absurd is
 
 cause_full : (s : Session) (t : Trace) (w : Writer) (q : Asks) (at : Lba) (bytes : List ℕ) → IsChange q → IsNone (logged_of (entered t) w) → IsSome (place_of (places t) w) → HasFullJournal s t
     → HasCause s t w (asked q at bytes) reply.Full
-cause_full s t w Write at bytes is none some full = (some, none, inl full)
+cause_full s t w Write at bytes is none some full = (some, none, full)
 cause_full s t w Discard at bytes is none some full = (some, none, full)
 cause_full s t w Read at bytes is none some full = absurd is
 cause_full s t w Flush at bytes is none some full = absurd is
@@ -58,19 +57,11 @@ cause_no_space : (s : Session) (t : Trace) (w : Writer) (q : Asks) (at : Lba) (b
     → HasCause s t w (asked q at bytes) reply.NoSpace
 cause_no_space s t w q at bytes is none some no_free = rw is (some, none, no_free)
 
--- or none in the zone that it asks, which is one of several
-cause_near : (s : Session) (t : Trace) (w : Writer) (q : Asks) (at : Lba) (bytes : List ℕ) → q ≡ Write → IsNone (logged_of (entered t) w) → IsSome (place_of (places t) w) → HadNoFreeNear s t w
-    → HasCause s t w (asked q at bytes) reply.Full
-cause_near s t w q at bytes is none some no_free = rw is (some, none, inr no_free)
-
 pub may_stop : (s : Session) (t : Trace) (v : Vio) → IsChange v.asks → has_stopped t ≡ true → HasPlace s t v.request v.at.0 v.place → IsNone (logged_of (done t) v.request) → MayReply s t v (Some reply.Stopped)
 may_stop s t v is stopped placed none = cause_stopped s t v.request v.asks v.at v.bytes is stopped (some_is _ _ placed) none
 
 pub write_no_space : (s : Session) (t : Trace) (v : Vio) → v.asks ≡ Write → IsPlaced s t v → HadNoFree s t v.request → MayReply s t v (Some reply.NoSpace)
 write_no_space s t v is k no_free = cause_no_space s t v.request v.asks v.at v.bytes is k.not_entered (some_is _ _ k.placed) no_free
-
-pub write_no_space_near : (s : Session) (t : Trace) (v : Vio) → v.asks ≡ Write → IsPlaced s t v → HadNoFreeNear s t v.request → MayReply s t v (Some reply.Full)
-write_no_space_near s t v is k no_free = cause_near s t v.request v.asks v.at v.bytes is k.not_entered (some_is _ _ k.placed) no_free
 
 pub may_fill : (s : Session) (t : Trace) (v : Vio) → IsChange v.asks → IsPlaced s t v → HasFullJournal s t → MayReply s t v (Some reply.Full)
 may_fill s t v is k full = cause_full s t v.request v.asks v.at v.bytes is k.not_entered (some_is _ _ k.placed) full
@@ -94,11 +85,11 @@ module _ (s : Session) (t : Trace) (session : IsSession s) where
       by None k = (k.0.turn, may k.0.turn.is_placed (maps_change v.asks v.bytes v.new k.1))
       by (Some page) k = (k.0, k.1, may k.0.turn.is_placed (writes_change v.asks k.0.is_write))
 
-  pub stopped_post : (v : Vio) → RightTrace s t → has_stopped t ≡ true → VioOk s t v → Carries s t v phase.Enter → HasClaim s true v.claim v.new → PostOk s t (refused s.sizes reply.Stopped v)
+  pub stopped_post : (v : Vio) → RightTrace s t → has_stopped t ≡ true → VioOk s t v → Carries s t v phase.Enter → HasClaim s true false v.claim v.new v.tickets → PostOk s t (refused s.sizes reply.Stopped v)
   stopped_post v right stopped ok carries claim =
       (counts_within s.sizes v session.zones.1, (ok, refused_carries v reply.Stopped carries (λ placed is. may_stop s t v is stopped placed.placed (unentered_slot s t v.request right placed.not_entered)), refl, claim))
 
-  pub full_post : (v : Vio) → HasFullJournal s t → VioOk s t v → Carries s t v phase.Enter → HasClaim s true v.claim v.new → PostOk s t (refused s.sizes reply.Full v)
+  pub full_post : (v : Vio) → HasFullJournal s t → VioOk s t v → Carries s t v phase.Enter → HasClaim s true false v.claim v.new v.tickets → PostOk s t (refused s.sizes reply.Full v)
   full_post v full ok carries claim = (counts_within s.sizes v session.zones.1, (ok, refused_carries v reply.Full carries (λ placed is. may_fill s t v is placed full), refl, claim))
 
   -- all that wait do
@@ -146,7 +137,7 @@ reads_now s t Read place bytes m maps reads = absurd maps
 reads_now s t Flush place bytes m maps reads = absurd maps
 
 -- The entry of a write or a discard is handed in, of its own address.
-module _ (s : Session) (t : Trace) (v : Vio) (right : RightTrace s t) (ok : VioOk s t v) (bare : v.page ≡ None) (carries : CarriesOwn s t v phase.Enter) (claim : HasClaim s true v.claim v.new) (unused : IsFair s t → OnBlock (IsUnused s t) v.new)
+module _ (s : Session) (t : Trace) (v : Vio) (right : RightTrace s t) (ok : VioOk s t v) (bare : v.page ≡ None) (carries : CarriesOwn s t v phase.Enter) (claim : HasClaim s true false v.claim v.new v.tickets) (unused : IsFair s t → OnBlock (IsUnused s t) v.new)
     (left : length (sealed t) + 1 < s.sizes.geometry.journal) (room : length (filled t) < 192) where
   abbrev enters : Happening
   enters = Enters (Remaps (remapping v))
@@ -209,7 +200,7 @@ module _ (s : Session) (t : Trace) (v : Vio) (right : RightTrace s t) (ok : VioO
   )
 
 -- or of the page that it makes
-module _ (s : Session) (t : Trace) (v : Vio) (right : RightTrace s t) (ok : VioOk s t v) (carries : Carries s t v phase.Enter) (claim : HasClaim s true v.claim v.new) (unused : IsFair s t → OnBlock (IsUnused s t) v.new)
+module _ (s : Session) (t : Trace) (v : Vio) (right : RightTrace s t) (ok : VioOk s t v) (carries : Carries s t v phase.Enter) (claim : HasClaim s true false v.claim v.new v.tickets) (unused : IsFair s t → OnBlock (IsUnused s t) v.new)
     (left : length (sealed t) + 1 < s.sizes.geometry.journal) (room : length (filled t) < 192) where
   abbrev Handed : Logged → Type 0
   Handed e = RightTrace s (Enters e ∷ t) × KeptOk s (Enters e ∷ t) phase.Pending (turned phase.Pending v)
@@ -479,7 +470,7 @@ module _ {s : Session} {t : Trace} {n : ℕ} {old : JournalZone} {b : SealedBloc
       journal = inl (weighed (omega arith));
     }
 
-    claim : HasClaim s true v.claim v.new
+    claim : HasClaim s true false v.claim v.new v.tickets
     claim = claim_at s v phase.Pending mine.0.2 mine.0.3
 
     -- it is to be counted, or where it has no block its slot is to be set
@@ -493,8 +484,8 @@ module _ {s : Session} {t : Trace} {n : ℕ} {old : JournalZone} {b : SealedBloc
     )
 
     -- one without a block has no claim
-    no_claim : (m : Mapping) → v.new ≡ m → block_in m ≡ None → HasClaim s false v.claim v.new
-    no_claim m to none = record { claim_is = claim.claim_is ∙ ap block_in to ∙ none; on_data = λ holds. absurd cc }
+    no_claim : (m : Mapping) → v.new ≡ m → block_in m ≡ None → HasClaim s false false v.claim v.new v.tickets
+    no_claim m to none = record { claim_is = claim.claim_is ∙ ap block_in to ∙ none; on_data = λ holds. absurd cc; no_ticket = claim.no_ticket }
 
     own_hands : v.page ≡ None → HasPendingEntry s t v.asks v.bytes (remapping v) → (m : Mapping) → v.new ≡ m → PostOk s (commits ∷ t) (hands_to s.sizes v m)
     own_hands bare k (At x) to = let c = own_committed bare k in

@@ -1,5 +1,5 @@
 -- The entry of a page is handed in: it is the first that puts the page anywhere.
-use Rattle.std.proofs.Common.{◌≡◌, true, ◌+◌, ◌<◌, Some, ◌∷◌, length, refl, sym, subst, arith}
+use Rattle.std.proofs.Common.{false, ◌≡◌, true, ◌+◌, ◌<◌, Some, ◌∷◌, length, refl, sym, subst, arith}
 use Rattle.core_laws.proofs.Common.{Enters, Happening, IsFair, KeptOk, Logged, Makes, Mapping, NewPage, OnBlock, Pbn, ReadsAs, RightTrace, Session, Shown, Trace, Vio, VioOk, asked, durable, fair_before, filled, journaled, sealed, turned, some_is}
 use Rattle.blk_base.specs.declared.place.Mapping.TheVariants.{At}
 use Rattle.blk_base.specs.declared.place.PageId.{PageId}
@@ -21,7 +21,7 @@ page_bytes_are : (s : Session) (p : NewPage) → page_at s.sizes p.page p.at ≡
 unfolding empty_page
 page_bytes_are s p = refl
 
-module _ (s : Session) (t : Trace) (v : Vio) (page : PageId) (x : Pbn) (right : RightTrace s t) (ok : VioOk s t v) (some : v.page ≡ Some page) (to : v.new ≡ At x) (carries : CarriesPage s t v page phase.Enter) (claim : HasClaim s true v.claim v.new) (unused : IsFair s t → IsUnused s t x)
+module _ (s : Session) (t : Trace) (v : Vio) (page : PageId) (x : Pbn) (right : RightTrace s t) (ok : VioOk s t v) (some : v.page ≡ Some page) (to : v.new ≡ At x) (carries : CarriesPage s t v page phase.Enter) (claim : HasClaim s true false v.claim v.new v.tickets) (unused : IsFair s t → IsUnused s t x)
     (left : length (sealed t) + 1 < s.sizes.geometry.journal) (room : length (filled t) < 192) where
   abbrev made : NewPage
   made = record { request = v.request; page = page; at = x }

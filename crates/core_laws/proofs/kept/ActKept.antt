@@ -1,6 +1,6 @@
 -- What each act may use and what it owes.
 use Rattle.std.proofs.Common.{◌≡◌, ℕ, ◌+◌, ◌<◌, ◌≤◌, Bool, true, Option, None, Some, IsNone, List, [], ◌∷◌, ◌++◌, refl, ap, sym, ◌∙◌, subst, inl, inr, arith, false}
-use Rattle.core_laws.proofs.Common.{all_of, AllByRecursion, begun, Calls, Carries, Commits, DataOk, DeviceZone, done, entered, Enters, Fails, fair_before, filled, GivesRight, Happening, holds, IsFair, IsSession, IsWrite, Item, ItemOk, kept_by, KeptEach, KeptOk, lines, logged_of, LogicalZone, none_is, not_both, OnBlock, option_cases, Pbn, Phase, place_of, Placed, places, Post, RightTrace, same_Some, same_tells, sealed, Seals, Session, Shown, total, of_vio, Trace, Vio, VioOk, Writer, zone_count, zone_number, ZoneData, cases_Bool, has_taken, Harms, Says, Flushes, Takes, durable, journaled, superblock_stage}
+use Rattle.core_laws.proofs.Common.{AllByRecursion, begun, Calls, Carries, Commits, DataOk, done, entered, Enters, Fails, fair_before, filled, GivesRight, Happening, holds, IsFair, IsSession, IsWrite, Item, ItemOk, kept_by, KeptEach, KeptOk, lines, logged_of, LogicalZone, none_is, not_both, OnBlock, option_cases, Pbn, Phase, place_of, Placed, places, Post, RightTrace, same_Some, same_tells, Seals, Session, Shown, total, of_vio, Trace, Vio, VioOk, Writer, zone_count, zone_number, ZoneData, cases_Bool, has_taken, Harms, Says, Flushes, Takes, durable, superblock_stage}
 use Rattle.blk_base.specs.declared.place.Mapping.TheVariants.{At}
 use Rattle.data_vio.specs.declared.items.Item.TheVariants as item
 use Rattle.data_vio.specs.declared.items.Phase.TheVariants as phase
@@ -8,7 +8,7 @@ use Rattle.core_model.specs.declared.zones.ZoneData.TheVariants as at
 use Rattle.blk_base.specs.declared.place.PageId.{PageId}
 use Rattle.blk_base.specs.Regions.{IsDataBlock}
 use Rattle.data_vio.specs.Phases.{row}
-use Rattle.core_model.specs.Facts.{CarriesFor, CarriesOwn, CarriesPage, ClaimOk, HasClaim, claim_of}
+use Rattle.core_model.specs.Facts.{CarriesFor, CarriesOwn, CarriesPage, ClaimFor, ClaimOk, claim_of}
 use Rattle.core_model.specs.Legal.{ComesAfter}
 use Rattle.core_model.specs.Sessions.{SuperblockStands}
 use Rattle.core_laws.proofs.trace.DeskOfTrace.{logged_has, entered_writes, done_is_entered}
@@ -132,8 +132,8 @@ pub carries_at : (s : Session) (t : Trace) (v : Vio) (q : Phase) → v.phase ≡
 carries_at s t v q is k = subst (λ (p : Phase). Carries s t v p) is k
 
 -- what its phase says of its claim
-pub claim_at : (s : Session) (v : Vio) (q : Phase) → v.phase ≡ q → ClaimOk s v → HasClaim s (row q).claims v.claim v.new
-claim_at s v q is k = subst (λ (p : Phase). HasClaim s (row p).claims v.claim v.new) is k
+pub claim_at : (s : Session) (v : Vio) (q : Phase) → v.phase ≡ q → ClaimOk s v → ClaimFor s v q
+claim_at s v q is k = subst (λ (p : Phase). ClaimFor s v p) is k
 
 -- In a phase where none makes a page it makes none; and what it carries of its own, or of its page, it carries.
 pub bare_of : (s : Session) (t : Trace) (v : Vio) (q : Phase) → ((page : PageId) → CarriesPage s t v page q → ⊥) → Carries s t v q → (v.page ≡ None) × CarriesOwn s t v q
@@ -191,7 +191,7 @@ module _ {s : Session} {t : Trace} {n : ℕ} {d : ZoneData} {v : Vio} (known : K
   in_phase q is = carries_at s t v q is known.front_ok.0.1
 
   -- its claim, by its phase
-  pub claim_in : (q : Phase) → v.phase ≡ q → HasClaim s (row q).claims v.claim v.new
+  pub claim_in : (q : Phase) → v.phase ≡ q → ClaimFor s v q
   claim_in q is = claim_at s v q is known.front_ok.0.3
 
   -- where it has one, it is on the data block that its entry names, and it is its own

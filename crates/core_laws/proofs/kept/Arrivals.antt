@@ -1,5 +1,5 @@
 -- What each act owes of the arrivals: the desk alone sends requests that have yet to draw a place, and their logical zone takes them.
-use Rattle.std.proofs.Common.{◌∙◌, ◌≡◌, ◌<◌, ◌≤◌, ℕ, ◌⊎◌, Bool, true, false, cond, Option, None, Some, IsSome, List, [], ◌∷◌, ◌++◌, nat_eq, refl, sym, subst, ap, inl, inr, arith}
+use Rattle.std.proofs.Common.{if◌then◌else◌, nat_lt, length, ◌∙◌, ◌≡◌, ◌<◌, ◌≤◌, ℕ, ◌⊎◌, Bool, true, false, cond, Option, None, Some, IsSome, List, [], ◌∷◌, ◌++◌, nat_eq, refl, sym, subst, ap, inl, inr, arith}
 use Rattle.core_laws.proofs.Common.{AllByRecursion, Answer, Asks, Carries, DataOk, Desk, DeviceZone, Happening, HasAddress, HasCause, IsEarned, Item, ItemOk, JournalZone, LogicalZone, Mapping, MayFollow, MayReply, Phase, PhysicalZone, Placed, Post, Request, RightTrace, Says, SealedBlock, Session, Sizes, Trace, Vio, VioOk, Writer, ZoneData, ZoneId, append-nil, arrival, arriving, asked, begun, desk_number, device_number, eqb_tells, every-append, every-front, every-map, lines, logical_number, none_of, notified, place_of, places, request_at, request_of, same_Some, same_tells, some_of, zone_number, zone_of, Pbn, Remapping, remapping}
 use Rattle.blk_base.specs.declared.place.Mapping.TheVariants.{Unmapped, Zero, At}
 use Rattle.blk_base.specs.declared.place.ZoneId.TheVariants as id
@@ -17,6 +17,8 @@ use Rattle.core_model.specs.DeviceRules.{Announces, DeviceServes, DeviceWorks, n
 use Rattle.data_vio.specs.Phases.{AtDevice, row}
 use Rattle.core_model.specs.JournalRules as journal
 use Rattle.core_model.specs.PhysicalRules as physical
+use Rattle.data_vio.specs.Vios as vios
+use Rattle.slab_counts.specs.declared.tickets.Ticket.{Ticket}
 use Rattle.core_model.specs.PhysicalRules.{PhysicalServes, PhysicalTakes}
 use Rattle.core_model.specs.JournalRules.{JournalServes, JournalEnds, all_again, all_dropped, all_refused}
 use Rattle.core_model.specs.LogicalRules as logical
@@ -157,9 +159,26 @@ module _ (s : Session) (t : Trace) where
   logical_course old v new made posts kept (logical.drops page p some n m q) =
       still (past v p) (rw q (refl, every-append Still (logical.granted v.at.0 old) (logical.all_again old.lacking) (passes_still (first_for v.at.0 old.waiting)) (looks_still old.lacking kept.1))) (rw m refl) (λ zone. rw m refl)
 
+  -- one that asks for a block has its place
+  served_still : (u : Vio) (tickets : List Ticket) (claim : Option Pbn) → Still (physical.goes_on u tickets claim)
+  served_still u (k ∷ others) claim = refl
+  served_still u [] (Some x) = refl
+  served_still u [] None = refl
+
+  asks_still : (k : Ticket) (v : Vio) → v.phase ≡ phase.Claim → Still (physical.asks_on s.sizes (vios.holding k v))
+  asks_still k v is = by (nat_lt (length (v.tickets ++ k ∷ [])) s.sizes.physical)
+    where
+      by : (b : Bool)
+          → Still (if b then (vios.counts_of s.sizes (vios.holding k v), item.Request (vios.holding k v)) else (vios.ticket_zone (v.tickets ++ k ∷ []), item.Request (vios.withdrawing (vios.holding k v))))
+      by true = ap (λ (q : Phase). arriving q v.request) is
+      by false = refl
+
   physical_course : (old : PhysicalZone) (v : Vio) (new : PhysicalZone) (made : Trace) (posts : List Post) → PhysicalServes s.sizes old v new made posts → Course s t (at.Physical old) (item.Request v ∷ []) made posts
-  physical_course old v new made posts (physical.claims x z p f n m q) = still (past v p) (rw q (refl, tt)) (rw m refl) (λ zone. rw m refl)
-  physical_course old v new made posts (PhysicalServes.has_no_space p f n m q) = still (past v p) (rw q (refl, tt)) (rw m refl) (λ zone. rw m refl)
+  physical_course old v new made posts (physical.claims x z p f n m q) = still (past v p) (rw q (served_still (vios.claiming x v) v.tickets (Some x), tt)) (rw m refl) (λ zone. rw m refl)
+  physical_course old v new made posts (physical.asks k b z p fewer begins gives n m q) = still (past v p) (rw q (asks_still k v p, tt)) (rw m refl) (λ zone. rw m refl)
+  physical_course old v new made posts (physical.takes_block k others x b z p has none begins from n m q) = still (past v p) (rw q (served_still (vios.claiming x (vios.with_tickets others v)) others (Some x), tt)) (rw m refl) (λ zone. rw m refl)
+  physical_course old v new made posts (physical.drops_block k others x y b between z p has some begins from claim change n m q) = still (past v p) (rw q (served_still (vios.with_tickets others v) others v.claim, tt)) (rw m refl) (λ zone. rw m refl)
+  physical_course old v new made posts (physical.has_none k others r b z p has begins from n m q) = still (past v p) (rw q (served_still (vios.refused r (vios.with_tickets others v)) others v.claim, tt)) (rw m refl) (λ zone. rw m refl)
   physical_course old v new made posts (PhysicalServes.counts x slab z p claim own fits change n m q) = still (past v p) (rw q (refl, tt)) (rw m refl) (λ zone. rw m refl)
   physical_course old v new made posts (PhysicalServes.drops x z p claim own change n m q) = still (past v p) (rw q (refl, tt)) (rw m refl) (λ zone. rw m refl)
   physical_course old v new made posts (PhysicalServes.drops_none p none n m q) = still (past v p) (rw q (refl, tt)) (rw m refl) (λ zone. rw m refl)

@@ -1,6 +1,6 @@
 -- What requests and sealed blocks carry stays where the next happening is about something else.
-use Rattle.std.proofs.Common.{◌≡◌, ℕ, ◌≤◌, Bool, true, false, Option, None, Some, List, [], ◌∷◌, ◌++◌, refl, inl, inr, ap, sym, ◌∙◌, subst, arith}
-use Rattle.core_laws.proofs.Common.{AllByRecursion, Answer, BlockOk, Carries, Happening, HasCause, Holds, IsEarned, IsEntered, IsInTurn, IsFair, IsPlaced, IsSealed, IsUndrawn, Item, ItemOk, KeptOk, Looks, MayReply, Pbn, Phase, Remapping, Request, SealedBlock, Session, Stage, StandsAt, Trace, Vio, VioOk, Writer, all_logged, all_of, done, entered, fair_before, gift_of, gifts, has_taken, holds, logged_of, newest, place_of, places, request_of, sealed, total, applied, remapping, request_in, Logged, Mapping, OnBlock, logged}
+use Rattle.std.proofs.Common.{◌≡◌, ℕ, ◌≤◌, Bool, true, false, Option, None, Some, List, [], ◌∷◌, ◌++◌, refl, ap, sym, ◌∙◌, subst, arith}
+use Rattle.core_laws.proofs.Common.{AllByRecursion, Answer, BlockOk, Carries, Happening, HasCause, Holds, IsEarned, IsEntered, IsInTurn, IsFair, IsPlaced, IsSealed, IsUndrawn, Item, ItemOk, KeptOk, Looks, MayReply, Pbn, Phase, Remapping, Request, SealedBlock, Session, Stage, StandsAt, Trace, Vio, VioOk, Writer, all_logged, all_of, done, entered, fair_before, gift_of, gifts, has_taken, holds, logged_of, newest, place_of, places, request_of, sealed, total, applied, remapping, request_in, Mapping, OnBlock, logged}
 use Rattle.blk_base.specs.declared.place.Mapping.TheVariants.{At}
 use Rattle.blk_base.specs.declared.request.Answer.TheVariants as reply
 use Rattle.blk_base.specs.declared.request.Request.TheVariants as request
@@ -18,7 +18,7 @@ use Rattle.data_vio.specs.declared.logged.Logged.TheVariants.{Remaps}
 use Rattle.core_model.specs.Facts.{CarriesFor, CarriesOwn, CarriesPage, ClaimOk, IsDecrement, ReportOk, claim_of, HasLeaf, HasPageEntry, IsUnmade, MakesPage, NeedsLeaf}
 use Rattle.image_model.specs.Pages.{leaf_of}
 use Rattle.core_laws.proofs.kept.Keys.{Key, OfRequest, OfAddress, OfBlock, OfJournal, OfPage, token_of, Spares, own_name, holder_one, claim_one, maker_one}
-use Rattle.core_laws.proofs.kept.Spared.{applied_at, SparesRequest, SparesAddress, SparesPage, open_kept, durable_has, leafy_kept, journaled_has, link_same, put_same, there_kept, undropped_kept, place_same, entry_same, slot_same, abort_same, gift_same, take_same, stop_kept, fault_kept, harm_kept, linked_at_kept, abort_kept, needs_kept, journal_full_kept, mapping_same, quiet_kept, committed_kept, below_kept, pending_kept, mark_kept, value_same, added_has, hearing_kept, no_free_kept, no_free_near_kept, reported_kept}
+use Rattle.core_laws.proofs.kept.Spared.{applied_at, SparesRequest, SparesAddress, SparesPage, open_kept, durable_has, leafy_kept, journaled_has, link_same, put_same, there_kept, undropped_kept, place_same, entry_same, slot_same, abort_same, gift_same, take_same, stop_kept, fault_kept, harm_kept, linked_at_kept, abort_kept, needs_kept, journal_full_kept, mapping_same, quiet_kept, committed_kept, below_kept, pending_kept, mark_kept, value_same, added_has, hearing_kept, no_free_kept, asking_kept, withdrawing_kept, reported_kept}
 use Rattle.core_laws.proofs.kept.StandsOn.{SparesBlock, SparesJournal, SparesJournaled, SparesMap, SparesSealed, block_reads_kept, comes_stands, last_spared, new_kept, new_reads_kept, on_each, reads_kept, rest_spared, rests_kept, way_kept}
 
 none_weigh : (vs : List Vio) → total (λ v. 0) vs ≡ 0
@@ -37,6 +37,7 @@ logged_request v = by v.page v.new
 -- while a write makes a page it holds the lock of its address
 pub page_locks : (s : Session) (t : Trace) (v : Vio) (page : PageId) (q : Phase) → CarriesPage s t v page q → holds q ≡ true
 page_locks s t v page phase.Claim k = refl
+page_locks s t v page phase.Withdraw k = refl
 page_locks s t v page phase.Store k = refl
 page_locks s t v page phase.Enter k = refl
 page_locks s t v page phase.Pending k = refl
@@ -72,8 +73,7 @@ module _ (s : Session) (h : Happening) (t : Trace) where
   cause_kept w (request.Write at bytes fua) reply.Range same k = k
   cause_kept w (request.Write at bytes fua) reply.Stopped same k = (stop_kept h t k.0, rw (same.of_place) k.1, rw (same.of_slot) k.2)
   cause_kept w (request.Write at bytes fua) reply.NoSpace same k = (rw (same.of_place) k.0, rw (same.of_entry) k.1, no_free_kept s h t w k.2)
-  cause_kept w (request.Write at bytes fua) reply.Full same k =
-      (rw (same.of_place) k.0, rw (same.of_entry) k.1, elim k.2 [ inl full ↦ inl (journal_full_kept s h t full) | inr near ↦ inr (no_free_near_kept s h t w near) ])
+  cause_kept w (request.Write at bytes fua) reply.Full same k = (rw (same.of_place) k.0, rw (same.of_entry) k.1, journal_full_kept s h t k.2)
   cause_kept w (request.Write at bytes fua) reply.ReadFault same k = (rw (same.of_place) k.0, rw (same.of_entry) k.1, fault_kept h t w k.2)
   cause_kept w (request.Write at bytes fua) reply.Damaged same k = (rw (same.of_place) k.0, rw (same.of_entry) k.1, harm_kept h t w k.2)
   cause_kept w (request.Write at bytes fua) other same k = absurd k
@@ -168,7 +168,8 @@ module _ (s : Session) (h : Happening) (t : Trace) where
   by_phase v phase.Look r a b k = (turn_kept v r (a refl) k.0, take_same h t v.request r ∙ k.1)
   by_phase v phase.LoadLeaf r a b k = (turn_kept v r (a refl) k.0, take_same h t v.request r ∙ k.1, needs_leaf_kept v (a refl) k.2)
   by_phase v phase.LoadedLeaf r a b k = (has_leaf_kept v r (a refl) k.0, take_same h t v.request r ∙ k.1)
-  by_phase v phase.Claim r a b k = (holds_kept v r (a refl) k.0, k.1, needs_kept h t v.request v.bytes (take_same h t v.request r) k.2, leafy_kept s h t v.at.0 k.3)
+  by_phase v phase.Claim r a b k = (holds_kept v r (a refl) k.0, k.1, needs_kept h t v.request v.bytes (take_same h t v.request r) k.2, leafy_kept s h t v.at.0 k.3, asking_kept s h t v.request v.place v.tickets k.4)
+  by_phase v phase.Withdraw r a b k = (holds_kept v r (a refl) k.0, k.1, leafy_kept s h t v.at.0 k.2, withdrawing_kept s h t v.request v.claim v.tickets k.3)
   by_phase v phase.Store r a b k = (holds_kept v r (a refl) k.0, k.1, k.2, leafy_kept s h t v.at.0 k.3)
   by_phase v phase.Enter r a b k = (
     holds_kept v r (a refl) k.0,
@@ -224,7 +225,8 @@ module _ (s : Session) (h : Happening) (t : Trace) where
     }
 
     by_page : (q : Phase) → (q ≡ phase.Enter → (x : Pbn) → v.new ≡ At x → SparesBlock h x.0) → CarriesPage s t v page q → CarriesPage s (h ∷ t) v page q
-    by_page phase.Claim b k = (making_kept k.0, unmade_kept k.1)
+    by_page phase.Claim b k = (making_kept k.0, unmade_kept k.1, asking_kept s h t v.request v.place v.tickets k.2)
+    by_page phase.Withdraw b k = (making_kept k.0, unmade_kept k.1, withdrawing_kept s h t v.request v.claim v.tickets k.2)
     by_page phase.Store b k = (making_kept k.0, unmade_kept k.1, k.2)
     by_page phase.Enter b k = (
       making_kept k.0,

@@ -1,11 +1,13 @@
 -- A logical zone draws one place a step at most, and the device's zone makes one call.
 use Rattle.std.proofs.Common.{ℕ, ◌+◌, ◌≡◌, ◌≤◌, Option, None, Some, List, refl, ap, arith}
-use Rattle.core_laws.proofs.Common.{DeviceZone, Item, LogicalZone, Post, SealedBlock, Sizes, Trace, Vio, ZoneData, made_by, Writer, Remapping}
+use Rattle.core_laws.proofs.Common.{DeviceZone, Item, LogicalZone, PhysicalZone, Post, SealedBlock, Sizes, Trace, Vio, ZoneData, made_by, Writer, Remapping}
 use Rattle.core_model.specs.DeviceRules as device
 use Rattle.core_model.specs.DeviceRules.{Announces, DeviceServes, DeviceWorks}
 use Rattle.data_vio.specs.declared.items.Item.TheVariants as item
 use Rattle.core_model.specs.LogicalRules as logical
 use Rattle.core_model.specs.LogicalRules.{LogicalHears, LogicalServes, first_for, passed_to}
+use Rattle.core_model.specs.PhysicalRules.{PhysicalServes, PhysicalTakes, next_step}
+use Rattle.core_laws.proofs.physical.TicketDesks.{back_keeps, changed_after, changed_keeps, claimed_keeps, counted_keeps, ticket_keeps}
 use Rattle.core_model.specs.Steps as steps
 use Rattle.core_model.specs.Steps.{Act}
 
@@ -63,9 +65,26 @@ module _ (sizes : Sizes) where
   work_once old b new made posts (device.fails call slot kept v vs vios place needs going durable n m q) = rw n (omega arith)
   work_once old b new made posts (device.unmade call slot v vs first needs stopped n m q) = rw n (omega arith)
 
+  physical_once : (old : PhysicalZone) (v : Vio) (new : PhysicalZone) (made : Trace) (posts : List Post) → PhysicalServes sizes old v new made posts → next_step new.counts.desk.step ≤ next_step old.counts.desk.step + 1
+  physical_once old v new made posts (PhysicalServes.claims x z p gives n m q) = rw n (claimed_keeps old.counts z x gives).once
+  physical_once old v new made posts (PhysicalServes.asks k b z p fewer begins gives n m q) = rw n (ticket_keeps old.counts b begins z v.request k gives).once
+  physical_once old v new made posts (PhysicalServes.takes_block k others x b z p has none begins from n m q) = rw n (back_keeps old.counts b begins z k _ from).once
+  physical_once old v new made posts (PhysicalServes.drops_block k others x y b between z p has some begins from claim change n m q) = rw n (changed_after old.counts between z x _ (back_keeps old.counts b begins between k _ from) change).once
+  physical_once old v new made posts (PhysicalServes.has_none k others r b z p has begins from n m q) = rw n (back_keeps old.counts b begins z k _ from).once
+  physical_once old v new made posts (PhysicalServes.counts x slab z p some claim takes change n m q) = rw n (counted_keeps v.page old.counts z x slab change).once
+  physical_once old v new made posts (PhysicalServes.drops x z p some claim change n m q) = rw n (changed_keeps old.counts z x _ change).once
+  physical_once old v new made posts (PhysicalServes.drops_none p none n m q) = rw n (omega arith)
+  physical_once old v new made posts (PhysicalServes.spends p n m q) = rw n (omega arith)
+
+  update_once : (old : PhysicalZone) (e : Remapping) (new : PhysicalZone) (made : Trace) (posts : List Post) → PhysicalTakes sizes old e new made posts → next_step new.counts.desk.step ≤ next_step old.counts.desk.step + 1
+  update_once old e new made posts (PhysicalTakes.removes x slab z from own takes change n m q) = rw n (changed_keeps old.counts z x slab change).once
+  update_once old e new made posts (PhysicalTakes.is_stray x from own stray n m q) = rw n (omega arith)
+
   pub made_once : {old new : ZoneData} {front : List Item} {made : Trace} {posts : List Post} → Act sizes old front new made posts → made_by new ≤ made_by old + 1
   made_once (steps.serves act) = logical_once _ _ _ _ _ act
   made_once (steps.settles act) = heard_once _ _ _ _ _ act
+  made_once (steps.takes act) = physical_once _ _ _ _ _ act
+  made_once (steps.updates act) = update_once _ _ _ _ _ act
   made_once (steps.calls act) = device_once _ _ _ _ _ act
   made_once (steps.works act) = work_once _ _ _ _ _ act
   made_once (steps.halts act) = let same = ap (λ (d : DeviceZone). d.calls) act.new_is in omega (arith, same)

@@ -1,10 +1,9 @@
 -- One session that can be served, over a new image, and the core at its start: so that there is a legal core, and a fair
 -- session.
-use Rattle.std.proofs.Common.{◌≡◌, ℕ, zero, suc, ◌+◌, ◌-◌, ◌*◌, ◌<◌, ◌≤◌, false, None, List, [], ◌∷◌, replicate, slice_index, refl, sym, subst, ap, ◌∙◌, inl, inr, arith}
-use Rattle.core_laws.proofs.Common.{AllByRecursion, Desk, DeviceZone, Each, Geometry, IsFair, IsSession, Item, JournalZone, LogicalZone, Pbn, PhysicalZone, Request, Session, Sizes, Zone, ZoneData, cases_lt, get_or-replicate, get_or_past, length-replicate, same_Some, zone_count}
+use Rattle.std.proofs.Common.{◌≡◌, ℕ, zero, suc, ◌+◌, ◌-◌, ◌*◌, ◌<◌, false, None, List, [], ◌∷◌, replicate, slice_index, refl, sym, subst, ◌∙◌, inl, inr, arith}
+use Rattle.core_laws.proofs.Common.{AllByRecursion, Desk, DeviceZone, Each, IsFair, IsSession, Item, JournalZone, LogicalZone, Pbn, PhysicalZone, Request, Session, Sizes, Zone, ZoneData, cases_lt, get_or-replicate, get_or_past, length-replicate, same_Some, zone_count}
 use Rattle.blk_base.specs.Sectors.{zero_block}
 use Rattle.blk_base.specs.declared.request.Request.TheVariants as request
-use Rattle.disk_model.specs.Log.{block_at}
 use Rattle.image_model.proofs.Example.{small, small_is}
 use Rattle.image_model.proofs.WholeRows.{empty_image, empty_is, empty_size, empty_whole}
 use Rattle.core_model.specs.declared.zones.SuperblockStage.TheVariants.{AsOpened}
@@ -172,7 +171,8 @@ small_first = record {
             zones = refl;
             counters = λ x own. (small_unused x).0 ∙ sym (none_counted small_session small_served small_new x);
             claims = λ x. (small_unused x).1;
-            no_ticket = refl;
+            desk = refl;
+            room = (omega arith, omega arith);
           }),
           (
             empty_first 4 (at.Journal small_journal) (record { number_is = refl; notified = refl; busy = refl; broken = refl; log = refl; filling = refl; waiting = refl; entered = refl; committed = refl }),

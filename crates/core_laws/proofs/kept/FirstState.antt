@@ -1,9 +1,15 @@
 -- A core at its start is legal, with an empty trace.
-use Rattle.std.proofs.Common.{◌≡◌, ℕ, suc, ◌⊎◌, ◌≤◌, Bool, false, not, List, [], ◌∷◌, ◌++◌, length, refl, sym, ◌∙◌, ap, subst, inl, inr, arith, ◌%◌}
+use Rattle.std.proofs.Common.{◌≡◌, if◌then◌else◌, nat_eq, true, ℕ, suc, ◌≤◌, Bool, false, not, List, [], ◌∷◌, ◌++◌, length, refl, sym, ◌∙◌, ap, subst, inl, arith, ◌%◌}
 use Rattle.core_laws.proofs.journal.LogLaws.{log_at_start}
-use Rattle.core_laws.proofs.Common.{PhysicalZone, all_logged, AllByRecursion, answers_of, arrival, as_items, AtMost, AtRest, Balanced, begins_of, bit, DataOk, desk_number, DeskLine, Each, entry_token, every-get, given, HasBlocks, holder_token, in_log, is_answer, is_begin, is_block, is_entry, IsAsOpened, IsSession, Item, ItemOk, journal_token, KeptEach, KeptOk, Lba, lease_token, Lock, lock_weight, LocksOk, Remapping, logical_number, LogicalZone, made_by, MapOk, Mapping, newest, notice_token, notified_by, of_address, OnBlock, Pbn, queued, request_token, RestsAt, room_token, Session, Shown, Stands, Token, total, Trace, Vio, weight, Zone, zone_count, ZoneData, ZoneOk, Logged, remappings, opened_at, KeptStands, Writer, physical_number, journal_number, total_alone, Geometry}
+use Rattle.core_laws.proofs.Common.{PhysicalZone, all_logged, AllByRecursion, answers_of, arrival, as_items, AtMost, AtRest, Balanced, begins_of, bit, DataOk, desk_number, DeskLine, Each, entry_token, every-get, given, holder_token, in_log, is_answer, is_begin, is_entry, IsAsOpened, IsSession, Item, ItemOk, journal_token, KeptEach, KeptOk, Lba, lease_token, Lock, lock_weight, LocksOk, Remapping, logical_number, made_by, MapOk, Mapping, notice_token, notified_by, of_address, OnBlock, Pbn, queued, request_token, RestsAt, room_token, Session, Shown, Stands, Token, total, Trace, Vio, weight, Zone, zone_count, ZoneData, ZoneOk, Logged, remappings, opened_at, KeptStands, Writer, physical_number, journal_number, total_alone, Geometry}
 use Rattle.blk_base.specs.Regions.{IsDataBlock}
 use Rattle.core_laws.proofs.kept.ZoneKinds.{Sits, journal_sits, physical_sits}
+use Rattle.core_model.specs.PhysicalRules.{next_step}
+use Rattle.core_model.specs.Tokens.{ticket_token}
+use Rattle.slab_tickets.specs.Numbers.{AreNumbered, ticket_of}
+use Rattle.slab_tickets.specs.Tickets.{Desk as TicketDesk}
+use Rattle.slab_tickets.specs.declared.forms.Waiting.{Waiting}
+use Rattle.zone_counts.specs.ByBlock.{out_with}
 use Rattle.core_model.specs.Sessions.{opened_uses}
 use Rattle.core_model.specs.Start.{IsFirstJournal, IsFirstPhysical}
 use Rattle.core_laws.proofs.lists.CountedIn.{zone_inside}
@@ -52,6 +58,7 @@ no_lanes w (l ∷ ls) h = omega (arith, ap (total w) h.0, no_lanes w ls h.1)
 
 none_made : (s : Session) (n : ℕ) (d : ZoneData) → IsFirstData s n d → made_by d ≡ 0
 none_made s n (at.Logical l) h = h.next
+none_made s n (at.Physical p) h = ap (λ (d : TicketDesk). next_step d.step) h.desk
 none_made s n (at.Device d) h = h.calls
 none_made s n other h = refl
 
@@ -101,7 +108,16 @@ none_dropped s n other h = omega arith
 
 -- claims, reports and who waits for them, damage: there is none yet
 no_claims : (x : Pbn) (s : Session) (n : ℕ) (d : ZoneData) → IsFirstData s n d → (claim_token x).own d ≤ (claim_token x).gave d
-no_claims x s n d h = omega arith
+no_claims x s n (at.Physical p) h = let none = ap (out_with x) h.desk in omega (arith, none)
+no_claims x s n other h = omega arith
+
+no_tickets : (zone : ℕ) (test : ℕ → Bool) (s : Session) (n : ℕ) (d : ZoneData) → IsFirstData s n d → (ticket_token zone test).own d ≡ (ticket_token zone test).gave d
+no_tickets zone test s n (at.Physical p) h = sym (ap (λ (d : TicketDesk). if nat_eq p.counts.zone zone then total (λ (waiting : Waiting). bit (test waiting.number)) d.out else 0) h.desk ∙ neither (nat_eq p.counts.zone zone))
+  where
+    neither : (b : Bool) → ◌≡◌ {A = ℕ} (if b then 0 else 0) 0
+    neither true = refl
+    neither false = refl
+no_tickets zone test s n other h = refl
 
 no_reports : (w : Writer) (s : Session) (n : ℕ) (d : ZoneData) → IsFirstData s n d → (report_token w).own d ≡ (report_token w).gave d
 no_reports w s n (at.Logical l) h = omega (arith, ap (total (has_old w)) h.slots, ap (total (has_old w)) h.reported)
@@ -201,8 +217,19 @@ module _ (s : Session) (session : IsSession s) where
       counters = λ x of_zone. let same = h.counters x of_zone in omega (arith, same);
       uses = λ x of_zone. let same = h.counters x of_zone in let none = h.claims x in omega (arith, same, none);
       strays_are = h.strays;
+      tickets_are = λ number. ap (λ (d : TicketDesk). ticket_of d.out number) h.desk;
+      issued_is = ap (λ (d : TicketDesk). d.issued) h.desk;
     };
-    sound = record { is_zone = h.is_zone; geometry = h.geometry; zones = h.zones; no_ticket = h.no_ticket; first_claims = λ x some. let none = h.claims x in absurd (omega (arith, some, none)) };
+    sound = record {
+      is_zone = h.is_zone;
+      geometry = h.geometry;
+      zones = h.zones;
+      numbered = subst AreNumbered (sym h.desk) (omega arith);
+      few = let none = ap (λ (d : TicketDesk). d.issued) h.desk in omega (arith, none);
+      room = h.room;
+      passed = λ x some. let none = ap (out_with x) h.desk in absurd (omega (arith, some, none));
+      first_claims = λ x some. let none = h.claims x in absurd (omega (arith, some, none));
+    };
     kept = tt;
     answers = tt;
     told = tt;
@@ -304,7 +331,7 @@ module _ (s : Session) (session : IsSession s) where
       where
         elsewhere : (n : ℕ) (d : ZoneData) → IsFirstData s n d → (n ≡ journal_number s.sizes → ⊥) → token.own d ≡ 0
         elsewhere n (at.Journal j) h ne = absurd (ne h.number_is)
-        elsewhere n (at.Physical p) h ne = ap (total (is_old x)) h.strays
+        elsewhere n (at.Physical p) h ne = let none = ap (out_with x) h.desk in let no_stray = ap (total (is_old x)) h.strays in omega (arith, none, no_stray)
         elsewhere n other h ne = refl
 
         here : token.own (at.Journal journal.it) ≡ opened_uses s x
@@ -340,6 +367,7 @@ module _ (s : Session) (session : IsSession s) where
     dropped = at_most_at_start s zones first page_entry_token (none_dropped s);
     blocks = λ x. blocks_at_start zones count first x;
     claims = λ x. at_most_at_start s zones first (claim_token x) (no_claims x s);
+    tickets = λ zone test. balanced_at_start s zones first (ticket_token zone test) (no_tickets zone test s);
     reports = λ w. balanced_at_start s zones first (report_token w) (no_reports w s);
     waiters = λ w. balanced_at_start s zones first (waiter_token w) (no_waiters w s);
     damage = at_most_at_start s zones first damage_token (no_damage s);

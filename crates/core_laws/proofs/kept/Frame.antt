@@ -1,14 +1,16 @@
 -- A zone that weighs nothing for what a happening is about keeps all its facts. Paid once for all kinds of zone and item.
-use Rattle.std.proofs.Common.{◌≡◌, ◌≢◌, ◌⊎◌, ℕ, ◌≤◌, ◌==◌, Bool, true, false, Some, is_some, List, [], ◌∷◌, ◌++◌, slice_get, refl, ap, sym, ◌∙◌, subst, inl, inr, arith, ◌<◌}
+use Rattle.std.proofs.Common.{◌≡◌, ◌≢◌, ◌⊎◌, ℕ, ◌≤◌, ◌==◌, Bool, true, false, Option, None, Some, is_some, nat_eq, List, [], ◌∷◌, ◌++◌, slice_get, refl, ap, sym, ◌∙◌, subst, inl, inr, arith, ◌<◌}
 use Rattle.core_model.specs.CountUpdates.{replaced_in}
 use Rattle.core_model.specs.Facts.{IsSound, ReportOk}
 use Rattle.core_model.specs.Tokens.{leads_to}
-use Rattle.data_vio.specs.Zones.{counts_in}
-use Rattle.blk_base.specs.declared.place.Mapping.TheVariants.{At}
+use Rattle.data_vio.specs.Zones.{counts_in, physical_zone_of}
+use Rattle.core_model.specs.PageLinks.{block_in}
+use Rattle.core_model.specs.Uses.{given_at, issued, ticket_at}
+use Rattle.blk_base.specs.declared.place.Mapping.TheVariants.{Unmapped, Zero, At}
 use Rattle.zone_counts.specs.Zone.{IsOfZone}
-use Rattle.core_laws.proofs.lists.CountedIn.{leads_elsewhere, not_counted, zone_is}
-use Rattle.core_model.specs.Trace.{Adds, Drops, Hears, Removes, Strays, added, claimed, damage_in, removed, strayed, unclaimed}
-use Rattle.core_laws.proofs.Common.{all_of, AllBelow, AllByRecursion, Answers, calls, Calls, Commits, durable, desk_number, device_number, drawn, Draws, Each, journaled, Enters, eq-eqb, eqb_tells, every-front, Fails, fair_before, filled, Flushes, Gives, Happening, has_stopped, HasLists, is_block, is_entry, is_old, Item, ItemOk, journal_number, kept_by, KeptEach, KeptOk, lines, logical_number, marks, name_of, new_of, of_address, Pbn, Phase, physical_number, places, RestsAt, Says, sealed, Seals, Session, Remaps, Sets, Sizes, Takes, Token, total, total-append, total-get, Trace, Vio, WasTold, weight, Zone, zone_number, zone_of, ZoneData, ZoneOk, Passes, applied, passed, remappings, Remapping, superblock_stage, Harms}
+use Rattle.core_laws.proofs.lists.CountedIn.{counting_number, leads_elsewhere, not_counted, zone_is}
+use Rattle.core_model.specs.Trace.{Adds, Asks, Drops, Hears, Removes, Strays, Withdraws, added, claimed, passed_on, damage_in, removed, strayed, unclaimed}
+use Rattle.core_laws.proofs.Common.{all_of, AllBelow, AllByRecursion, Answers, bit, calls, Calls, Commits, durable, desk_number, device_number, drawn, Draws, Each, journaled, Enters, eq-eqb, eqb_tells, every-front, Fails, fair_before, filled, Flushes, Gives, Happening, has_stopped, HasLists, is_block, is_entry, is_old, Item, ItemOk, journal_number, kept_by, KeptEach, KeptOk, lines, logical_number, Mapping, marks, name_of, new_of, of_address, Pbn, Phase, physical_number, places, RestsAt, Says, sealed, Seals, Session, Remaps, Sets, Sizes, Takes, Token, total, total-append, total-get, Trace, Vio, WasTold, weight, Zone, zone_number, zone_of, ZoneData, ZoneOk, Passes, applied, passed, remappings, Remapping, superblock_stage, Harms}
 use Rattle.core_laws.proofs.lists.Between.{every_between}
 use Rattle.vdo_model.specs.FlushMarks.{successes}
 use Rattle.vdo_model.specs.ZoneOrder.{places_in}
@@ -56,15 +58,44 @@ module _ (sizes : Sizes) where
   still_below (Gives g) t a place off b = record { writes = b.writes; reads = ((λ same. absurd (slot_apart g.at.0 a off same)), b.reads) }
   still_below other t a place off b = record { writes = b.writes; reads = b.reads }
 
+  -- what passes from another block to a ticket is no claim on this one
+  passed_off : (m : Mapping) (to : Option ℕ) (xs : List Pbn) (y : Pbn) → leads_to y m ≡ 0 → total (is_block y) (passed_on (block_in m) to ++ xs) ≡ total (is_block y) xs
+  passed_off (At x) (Some k) xs y none = omega (arith, none)
+  passed_off (At x) None xs y none = refl
+  passed_off Unmapped to xs y none = refl
+  passed_off Zero to xs y none = refl
+
   -- of a block what was claimed, let go, added and removed stays over what happens where another block is counted
   uses_same : (h : Happening) (t : Trace) (y : Pbn) → zone_number sizes (counts_in sizes y) ≢ happens_in sizes h
       → (total (is_block y) (claimed (h ∷ t)) ≡ total (is_block y) (claimed t)) × (total (is_block y) (unclaimed (h ∷ t)) ≡ total (is_block y) (unclaimed t))
       × (total (is_entry y) (added (h ∷ t)) ≡ total (is_entry y) (added t)) × (total (is_old y) (removed (h ∷ t)) ≡ total (is_old y) (removed t))
   uses_same (Takes w page x) t y off = let none : leads_to y (At x) ≡ 0 = leads_elsewhere sizes (At x) y off in (omega (arith, none), refl, refl, refl)
-  uses_same (Drops w x) t y off = let none : leads_to y (At x) ≡ 0 = leads_elsewhere sizes (At x) y off in (refl, omega (arith, none), refl, refl)
+  uses_same (Drops w x to) t y off =
+      let none : leads_to y (At x) ≡ 0 = leads_elsewhere sizes (At x) y off in (passed_off (At x) to (claimed t) y none, omega (arith, none), refl, refl)
   uses_same (Adds e) t y off = let none = leads_elsewhere sizes (new_of e) y off in (refl, refl, omega (arith, none), refl)
-  uses_same (Removes e) t y off = let none = leads_elsewhere sizes e.old y off in (refl, refl, refl, omega (arith, none))
+  uses_same (Removes e to) t y off = let none = leads_elsewhere sizes e.old y off in (passed_off e.old to (claimed t) y none, refl, refl, omega (arith, none))
   uses_same other t y off = (refl, refl, refl, refl)
+
+  -- what is known of a zone's tickets stays over what happens in another zone
+  ticket_apart : (a b : ℕ) → physical_number sizes b ≢ physical_number sizes a → nat_eq a b ≡ false
+  ticket_apart a b off = elim (eqb_tells a b) [ inl same ↦ absurd (off (ap (physical_number sizes) (sym same.1))) | inr other ↦ other.0 ]
+
+  given_same : (m : Mapping) (to : Option ℕ) (zone number : ℕ) (earlier : Option (Option Pbn)) → physical_number sizes zone ≢ counting_number sizes m → given_at sizes (block_in m) to zone number earlier ≡ earlier
+  given_same (At x) (Some k) zone number earlier off = rw (ticket_apart (physical_zone_of sizes x) zone off) refl
+  given_same (At x) None zone number earlier off = refl
+  given_same Unmapped to zone number earlier off = refl
+  given_same Zero to zone number earlier off = refl
+
+  tickets_same : (h : Happening) (t : Trace) (zone number : ℕ) → physical_number sizes zone ≢ happens_in sizes h → ticket_at sizes (h ∷ t) zone number ≡ ticket_at sizes t zone number
+  tickets_same (Asks w k) t zone number off = rw (ticket_apart k.zone zone off) refl
+  tickets_same (Withdraws w k got) t zone number off = rw (ticket_apart k.zone zone off) refl
+  tickets_same (Drops w x to) t zone number off = given_same (At x) to zone number (ticket_at sizes t zone number) off
+  tickets_same (Removes e to) t zone number off = given_same e.old to zone number (ticket_at sizes t zone number) off
+  tickets_same other t zone number off = refl
+
+  issued_same : (h : Happening) (t : Trace) (zone : ℕ) → physical_number sizes zone ≢ happens_in sizes h → issued (h ∷ t) zone ≡ issued t zone
+  issued_same (Asks w k) t zone off = let none = ap bit (ticket_apart k.zone zone off) in omega (arith, none)
+  issued_same other t zone off = refl
 
   strays_same : (h : Happening) (t : Trace) (zone : ℕ) → physical_number sizes zone ≢ happens_in sizes h → replaced_in sizes zone (strayed (h ∷ t)) ≡ replaced_in sizes zone (strayed t)
   strays_same (Strays e) t zone off = rw (not_counted sizes zone e.old off) refl
@@ -106,6 +137,8 @@ module _ (s : Session) (h : Happening) (t : Trace) where
     counters = λ x mine. let same = stays x mine in let before = k.counters x mine in omega (arith, before, same.2, same.3);
     uses = λ x mine. let same = stays x mine in let before = k.uses x mine in omega (arith, before, same.0, same.1, same.3);
     strays_are = k.strays_are ∙ sym (strays_same s.sizes h t p.counts.zone off);
+    tickets_are = λ number. k.tickets_are number ∙ sym (tickets_same s.sizes h t p.counts.zone number off);
+    issued_is = k.issued_is ∙ sym (issued_same s.sizes h t p.counts.zone off);
   }
     where
       stays : (x : Pbn) → IsOfZone p.counts x

@@ -1,6 +1,8 @@
 -- The keys that facts are on: a request, an address, a data block, a page of the block map, the journal. Whoever weighs for a key has facts on it,
 -- and of each key at most one is held in the whole core. Each happening is about some keys, and spares the others.
 use Rattle.std.proofs.Common.{◌≡◌, ◌⊎◌, ℕ, ◌≤◌, ◌==◌, ◌%◌, ◌&&◌, Bool, true, false, not, Option, None, Some, is_some, refl, ap, subst, inl, inr, arith}
+use Rattle.core_model.specs.Trace.{Asks, Withdraws}
+use Rattle.blk_base.specs.declared.place.ZoneId.TheVariants as id
 use Rattle.core_laws.proofs.Common.{Aborts, Adds, Calls, Commits, Draws, Drops, Enters, Fails, Flushes, Gives, Logged, Makes, Happening, Hears, Removes, Says, Seals, Session, Remaps, Sets, Sizes, Strays, Takes, Token, Trace, Vio, Writer, ZoneData, bit, cases_Bool, claim_token, desk_number, device_number, eqb_tells, holder_weight, holds, IsFair, journal_token, journal_number, logical_number, of_vio, new_of, request_token, same_self, same_tells, zone_number, zone_of, Pbn, Passes, Harms}
 use Rattle.data_vio.specs.Zones.{counts_in}
 use Rattle.core_laws.proofs.lists.CountedIn.{counting_number}
@@ -15,7 +17,6 @@ use Rattle.core_model.specs.Tokens.{is_same}
 use Rattle.core_model.proofs.TreeLinks.{page_is, page_itself}
 use Rattle.core_laws.proofs.kept.Spared.{OffRequest, OffNumber, OffPage, about, SparesRequest, SparesAddress, SparesPage}
 use Rattle.core_laws.proofs.kept.StandsOn.{SparesBlock, SparesJournal, SparesJournaled, SparesSealed}
-use Rattle.blk_base.specs.declared.place.Mapping.TheVariants.{At}
 
 pub data Key : Type 0 where
   OfRequest : Writer → Key
@@ -111,9 +112,11 @@ happens_in sizes (Sets e) = logical_number (zone_in sizes.zones e)
 happens_in sizes (Passes e) = logical_number (zone_of sizes.zones e.at.0)
 happens_in sizes (Gives g) = logical_number (zone_of sizes.zones g.at.0)
 happens_in sizes (Takes w page x) = zone_number sizes (counts_in sizes x)
-happens_in sizes (Drops w x) = zone_number sizes (counts_in sizes x)
+happens_in sizes (Asks w k) = zone_number sizes (id.Physical k.zone)
+happens_in sizes (Withdraws w k got) = zone_number sizes (id.Physical k.zone)
+happens_in sizes (Drops w x to) = zone_number sizes (counts_in sizes x)
 happens_in sizes (Adds e) = counting_number sizes (new_of e)
-happens_in sizes (Removes e) = counting_number sizes e.old
+happens_in sizes (Removes e to) = counting_number sizes e.old
 happens_in sizes (Strays e) = counting_number sizes e.old
 happens_in sizes (Hears damage) = device_number sizes
 happens_in sizes (Aborts e) = logical_number (zone_in sizes.zones e)

@@ -1,6 +1,6 @@
 -- Of each key at most one is held in a legal core; so whoever has it in hand has it alone.
-use Rattle.std.proofs.Common.{◌≡◌, ◌≢◌, ℕ, zero, suc, ◌+◌, ◌≤◌, ◌==◌, ◌%◌, ◌&&◌, ◌++◌, Bool, true, false, not, is_some, List, [], ◌∷◌, Some, slice_get, refl, sym, ◌∙◌, ap, subst, inl, inr, arith}
-use Rattle.core_laws.proofs.Common.{Balanced, DataOk, Each, Item, Logged, Session, Trace, Writer, Zone, ZoneData, ZoneOk, begins_of, begun, bit, cases_Bool, eqb_tells, given, in_log, kept_by, lease_token, lines, lock_weight, locks_at, nobody_else, request_token, Sizes, total, total-append, total-get, total_zero, weight, zone_of}
+use Rattle.std.proofs.Common.{◌≡◌, ℕ, zero, suc, ◌+◌, ◌≤◌, ◌==◌, ◌%◌, ◌&&◌, ◌++◌, Bool, true, false, not, is_some, List, [], ◌∷◌, Some, slice_get, refl, ap, inl, inr, arith}
+use Rattle.core_laws.proofs.Common.{Balanced, DataOk, Each, Item, Session, Trace, Writer, Zone, ZoneData, ZoneOk, begins_of, begun, bit, cases_Bool, eqb_tells, given, in_log, kept_by, lease_token, lines, lock_weight, locks_at, nobody_else, request_token, Sizes, total, total-append, total-get, total_zero, weight, zone_of}
 use Rattle.core_model.specs.declared.zones.ZoneData.TheVariants as at
 use Rattle.core_model.specs.Legal.{Legal}
 use Rattle.blk_base.specs.declared.place.PageId.{PageId}

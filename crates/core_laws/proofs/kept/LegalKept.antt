@@ -1,6 +1,10 @@
 -- Each step and each move keeps a core legal, and so does each list of events.
 use Rattle.std.proofs.Common.{◌≡◌, ℕ, zero, suc, ◌+◌, ◌<◌, ◌≤◌, Bool, true, false, not, is_some, Option, None, Some, List, [], ◌∷◌, ◌++◌, length, nat_eq, slice_get, slice_set, refl, ap, sym, ◌∙◌, subst, inl, inr, arith}
-use Rattle.core_laws.proofs.Common.{AllByRecursion, Balanced, Carries, DataOk, KeptOk, Mapping, Remapping, bit, remapping, remappings, Each, Each-put_other, GivesRight, IsFair, IsSession, Item, ItemOk, Post, RightTrace, Session, Token, Trace, Vio, Writer, Zone, ZoneData, ZoneOk, entry_token, eq-eqb, eqb-true, every-append, every-map, holder_token, idle_at, is_sealed, journal_token, lease_token, length-put, made_by, notice_token, request_token, room_token, same_Some, total, zone_number}
+use Rattle.core_laws.proofs.Common.{AllByRecursion, Balanced, Carries, DataOk, KeptOk, Mapping, Remapping, bit, remapping, remappings, Each, Each-put_other, GivesRight, IsFair, IsSession, Item, ItemOk, Post, RightTrace, Session, Token, Trace, Vio, Writer, Zone, ZoneData, ZoneOk, entry_token, eq-eqb, eqb-true, every-append, every-map, holder_token, idle_at, is_sealed, journal_token, lease_token, length-put, made_by, notice_token, request_token, room_token, same_Some, total, zone_number, Phase}
+use Rattle.core_model.specs.Facts.{zone_at}
+use Rattle.core_model.specs.Tokens.{ticket_token}
+use Rattle.data_vio.specs.Vios.{ticket_zone}
+use Rattle.slab_counts.specs.declared.tickets.Ticket.{Ticket}
 use Rattle.core_model.specs.Sessions.{opened_uses}
 use Rattle.core_model.specs.Tokens.{block_token, claim_token, damage_token, report_token, waiter_token}
 use Rattle.core_model.specs.Arrivals.{arrivals_at}
@@ -31,7 +35,7 @@ use Rattle.core_laws.proofs.tokens.PageOwners.{made_front}
 use Rattle.data_vio.specs.declared.items.Phase.TheVariants as phase
 use Rattle.core_laws.proofs.tokens.Known as tokens
 use Rattle.core_laws.proofs.tokens.Lift.{Within, Conserves, balance_step, at_most_step}
-use Rattle.core_laws.proofs.tokens.TokenLaws.{requests_law, room_law, notices_law, journal_law, blocks_law, leases_law, holders_law, entries_law, making_law, page_entries_law, claims_law, reports_law, waiters_law, damage_law}
+use Rattle.core_laws.proofs.tokens.TokenLaws.{requests_law, room_law, notices_law, journal_law, blocks_law, leases_law, holders_law, entries_law, making_law, page_entries_law, claims_law, reports_law, tickets_law, waiters_law, damage_law}
 use Rattle.core_laws.proofs.lists.CoreLists.{length-posted}
 
 -- What a zone has stays while posts are delivered that carry what they must.
@@ -184,14 +188,20 @@ module _ (s : Session) (session : IsSession s) (old new : Core) (legal : Legal s
       | inr replies ↦ (bare_of s old.trace v phase.Reply (λ page no. no) (carries_at s old.trace v phase.Reply replies (front_carries v is))).0
     ];
     counted = λ v is at. counts s old.trace v at (front_carries v is);
-    claims = λ v is. (subst (λ (items : List Item). AllByRecursion (ItemOk s old.trace st.number) items) is here.front_ok).0.3.claim_is;
+    claims = λ v is. let k = (subst (λ (items : List Item). AllByRecursion (ItemOk s old.trace st.number) items) is here.front_ok).0.3 in (k.claim_is, k.no_ticket);
     ready = λ b is. each_ready s old.trace b.vios (subst (λ (items : List Item). AllByRecursion (ItemOk s old.trace st.number) items) is here.front_ok).0.0.0;
     replaces = λ e is. replaces_by (subst (λ (items : List Item). AllByRecursion (ItemOk s old.trace st.number) items) is here.front_ok).0.0;
     reports = λ l keeps. let k : DataOk s old.trace st.number (at.Logical l) = subst (λ (d : ZoneData). DataOk s old.trace st.number d) keeps zone_ok.own in (
       every-map {P = ReportOk s old.trace l.zone} {Q = tokens.Replaces} (λ e ok. replaces_by ok.0) l.reported k.lists.reports_are,
       every-map {P = AwaitsReport l.zone l.reported} {Q = λ (v : Vio). (v.page ≡ None) × tokens.Replaces (remapping v)} (λ v waits. (waits.own, to_block v.old waits.replaces)) l.settling k.sound.reports,
     );
-    zone = λ p keeps. let k : DataOk s old.trace st.number (at.Physical p) = subst (λ (d : ZoneData). DataOk s old.trace st.number d) keeps zone_ok.own in (k.sound.is_zone, k.sound.no_ticket);
+    zone = λ p keeps. let k : DataOk s old.trace st.number (at.Physical p) = subst (λ (d : ZoneData). DataOk s old.trace st.number d) keeps zone_ok.own in k.sound.is_zone;
+    ticket = λ p v k others keeps is back has. (
+        let own : DataOk s old.trace st.number (at.Physical p) = subst (λ (d : ZoneData). DataOk s old.trace st.number d) keeps zone_ok.own in
+        let ok = (subst (λ (items : List Item). AllByRecursion (ItemOk s old.trace st.number) items) is here.front_ok).0 in
+        let to : st.number ≡ zone_number s.sizes (ticket_zone (k ∷ others)) = ok.2 ∙ ap (λ (q : Phase). zone_at s.sizes v q) back ∙ ap (λ (tickets : List Ticket). zone_number s.sizes (ticket_zone tickets)) has in
+        let number = own.number_is in
+        omega (arith, to, number));
     settling_leased = here.settling_leased;
   }
 
@@ -213,6 +223,7 @@ module _ (s : Session) (session : IsSession s) (old new : Core) (legal : Legal s
     dropped = at_most_step page_entry_token s.sizes old new st lanes_there the_row (page_entries_law s.sizes the_row.row) legal.dropped;
     blocks = λ x. balanced (block_token (opened_uses s) x) (blocks_law s.sizes (opened_uses s) x the_row.row) (legal.blocks x);
     claims = λ x. at_most_step (claim_token x) s.sizes old new st lanes_there the_row (claims_law s.sizes x the_row.row) (legal.claims x);
+    tickets = λ zone test. balanced (ticket_token zone test) (tickets_law s.sizes zone test the_row.row) (legal.tickets zone test);
     reports = λ w. balanced (report_token w) (reports_law s.sizes w the_row.row) (legal.reports w);
     waiters = λ w. balanced (waiter_token w) (waiters_law s.sizes w the_row.row) (legal.waiters w);
     damage = at_most_step damage_token s.sizes old new st lanes_there the_row (damage_law s.sizes the_row.row) legal.damage;

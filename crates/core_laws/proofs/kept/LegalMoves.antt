@@ -1,6 +1,7 @@
 -- A move keeps a core legal, and so does each list of events.
 use Rattle.std.proofs.Common.{◌≡◌, ◌++◌, length, slice_set, ap, sym, ◌∙◌, subst, arith}
 use Rattle.core_laws.proofs.Common.{AllByRecursion, Each, Each-put, GivesRight, IsFair, IsSession, ItemOk, RightTrace, Session, Trace, Writer, Zone, ZoneOk, block_token, entry_token, every-append, every-front, get-put_other, holder_token, journal_token, lease_token, length-put, notice_token, request_token, room_token}
+use Rattle.core_model.specs.Tokens.{ticket_token}
 use Rattle.core_model.specs.Sessions.{opened_uses}
 use Rattle.core_model.specs.Tokens.{claim_token, damage_token, report_token, waiter_token}
 use Rattle.core_model.specs.Arrivals.{arrivals_at}
@@ -76,6 +77,7 @@ module _ (s : Session) (old new : Core) (m : MoveOf old new) (legal : Legal s ol
     dropped = at_most_move page_entry_token old new m legal.dropped;
     blocks = λ x. balance_move (block_token (opened_uses s) x) old new m (legal.blocks x);
     claims = λ x. at_most_move (claim_token x) old new m (legal.claims x);
+    tickets = λ zone test. balance_move (ticket_token zone test) old new m (legal.tickets zone test);
     reports = λ w. balance_move (report_token w) old new m (legal.reports w);
     waiters = λ w. balance_move (waiter_token w) old new m (legal.waiters w);
     damage = at_most_move damage_token old new m legal.damage;

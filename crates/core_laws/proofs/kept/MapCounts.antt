@@ -1,11 +1,11 @@
 -- The committed entries of a fair session map a block as often as they add to it, over the opened image, and take away.
-use Rattle.std.proofs.Common.{ℕ, ◌⊎◌, ◌+◌, ◌≡◌, ◌≢◌, ◌<◌, ◌++◌, ◌==◌, true, false, Bool, Option, None, Some, List, [], ◌∷◌, map, refl, sym, ◌∙◌, ap, subst, inl, inr, arith, if◌then◌else◌, Contains}
+use Rattle.std.proofs.Common.{ℕ, ◌+◌, ◌≡◌, ◌≢◌, ◌<◌, ◌==◌, true, false, Bool, Option, None, Some, List, [], ◌∷◌, refl, sym, ◌∙◌, ap, subst, inl, inr, arith, if◌then◌else◌, Contains}
 use Rattle.blk_base.specs.declared.journal_entry.CommittedEntry.{CommittedEntry}
 use Rattle.blk_base.specs.declared.place.Mapping.{Mapping}
 use Rattle.blk_base.specs.declared.place.Mapping.TheVariants.{Unmapped, Zero, At}
 use Rattle.blk_base.specs.declared.place.PageId.{PageId}
 use Rattle.blk_base.specs.declared.place.Pbn.{Pbn}
-use Rattle.core_laws.proofs.Common.{IsAsOpened, IsFair, IsSession, Logged, Makes, NewPage, OnBlock, Remapping, Remaps, RightTrace, Session, Trace, bit, cases_Bool, durable, entry_of, journaled, mapping_by, new_of, not_both, none_of, opened_image, remappings, same_Some, total}
+use Rattle.core_laws.proofs.Common.{IsAsOpened, IsFair, IsSession, Logged, Makes, NewPage, OnBlock, Remaps, RightTrace, Session, Trace, bit, cases_Bool, durable, mapping_by, opened_image, remappings, total}
 use Rattle.core_laws.proofs.kept.SoleWriter.{AreMapped}
 use Rattle.core_laws.proofs.trace.DeskOfTrace.{durable_part}
 use Rattle.core_laws.proofs.trace.EntriesInTurn.{AreOrdered, are_pointed, in_turn, older_ordered, ordered, pointed, pointed_said, unmade}

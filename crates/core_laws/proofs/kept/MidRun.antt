@@ -1,6 +1,6 @@
 -- A core in the middle of a run: a write has its place, the lock of its address and the page that it makes; the read behind it waits
 -- for the lock. It is legal, since events lead to it from the core at its start.
-use Rattle.std.proofs.Common.{◌≡◌, ◌≢◌, ℕ, ◌+◌, ◌/◌, ◌%◌, ◌<◌, Bool, true, false, Option, None, Some, is_some, if◌then◌else◌, List, [], ◌∷◌, ◌++◌, nat_eq, slice_get, slice_set, refl, ap, sym, ◌∙◌, subst, arith}
+use Rattle.std.proofs.Common.{◌≡◌, ℕ, ◌+◌, ◌/◌, ◌%◌, ◌<◌, Bool, true, false, Option, None, Some, is_some, if◌then◌else◌, List, [], ◌∷◌, ◌++◌, nat_eq, slice_get, slice_set, refl, ap, sym, ◌∙◌, subst, arith}
 use Rattle.core_laws.proofs.Common.{Draws, Item, LogicalZone, Pbn, Post, Says, Trace, Vio, Writer, Zone, ZoneData, ZoneOk, begun_vio, turned}
 use Rattle.blk_base.specs.Sectors.{zero_block}
 use Rattle.blk_base.specs.declared.place.Lba.{Lba}
@@ -9,7 +9,7 @@ use Rattle.blk_base.specs.declared.place.ZoneId.TheVariants as id
 use Rattle.blk_base.specs.declared.request.Request.TheVariants as request
 use Rattle.block_map_tree.specs.Pages.{IsTreeOf}
 use Rattle.block_map_tree.specs.Tree.{IsLinkable}
-use Rattle.core_laws.proofs.kept.FirstCore.{empty_zone, logical, script, sizes, small_core, small_desk, small_legal, small_physical, small_served, small_session}
+use Rattle.core_laws.proofs.kept.FirstCore.{empty_zone, logical, sizes, small_core, small_desk, small_legal, small_physical, small_served, small_session}
 use Rattle.core_laws.proofs.kept.LegalMoves.{legal_leads}
 use Rattle.core_laws.proofs.logical.BareTrees.{bare, bare_is}
 use Rattle.core_model.specs.DeskData.{Desk}

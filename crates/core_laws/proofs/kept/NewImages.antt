@@ -1,10 +1,9 @@
 -- A session over an empty image, of which nothing was written since, is as it was opened: so it is fair when it begins, on every
 -- device that has this image, and so long as its reads are honest.
-use Rattle.std.proofs.Common.{◌≡◌, ◌+◌, ◌*◌, ◌<◌, ◌≤◌, ℕ, Bool, true, false, if◌then◌else◌, slice_index, Option, None, Some, List, [], ◌∷◌, Contains, length, refl, sym, ◌∙◌, ap, subst, inl, inr, arith}
+use Rattle.std.proofs.Common.{◌≡◌, ◌+◌, ◌*◌, ◌<◌, ◌≤◌, ℕ, Bool, true, false, if◌then◌else◌, slice_index, Option, None, Some, [], ◌∷◌, length, refl, sym, ◌∙◌, ap, subst, inl, arith}
 use Rattle.core_laws.proofs.Common.{Calls, Geometry, IsAsOpened, IsFair, IsSession, Pbn, Session, opened_image}
 use Rattle.blk_base.specs.Regions.{JournalSlot, Root, block_of, needed_blocks}
-use Rattle.blk_base.specs.Sectors.{zero_block}
-use Rattle.blk_base.specs.declared.place.Mapping.TheVariants.{At, Unmapped}
+use Rattle.blk_base.specs.declared.place.Mapping.TheVariants.{Unmapped}
 use Rattle.blk_base.specs.declared.place.PageId.{PageId}
 use Rattle.blk_base.specs.declared.sizes.TheConstants.{TREES}
 use Rattle.disk_model.specs.Log.{block_at}

@@ -1,6 +1,6 @@
 -- What a zone does with an item, and the desk with none, is fixed, and at the device by how it answered: two acts on the
 -- same keep, make and post the same.
-use Rattle.std.proofs.Common.{ℕ, ◌+◌, ◌≡◌, Bool, true, false, not, ◌&&◌, Option, None, Some, List, [], ◌∷◌, ◌++◌, slice_index_or, refl, sym, ap, ◌∙◌, subst, inl, inr, arith, ◌<◌}
+use Rattle.std.proofs.Common.{ℕ, ◌+◌, ◌≡◌, Bool, true, false, not, ◌&&◌, Option, None, Some, List, [], ◌∷◌, ◌++◌, slice_index_or, refl, sym, ap, ◌∙◌, subst, inl, inr, arith}
 use Rattle.core_laws.proofs.Common.{Aborts, Answer, Calls, Commits, Desk, DeviceZone, Draws, Enters, Flushes, Gives, Item, JournalZone, LogicalZone, Passes, Pbn, Phase, PhysicalZone, Post, Says, Request, SealedBlock, Seals, Sets, Sizes, Stage, Takes, Trace, Vio, Writer, ZoneData, ended, gift, logged, notified, request_at, staged, turned, Call, Fails, SuperblockStage, Harms}
 use Rattle.blk_base.specs.declared.place.ZoneId.TheVariants as id
 use Rattle.blk_base.specs.declared.request.Answer.TheVariants as reply
@@ -13,13 +13,21 @@ use Rattle.core_model.specs.declared.zones.ZoneData.TheVariants as at
 use Rattle.core_model.specs.DeskRules.{BeginsNext, DeskBegins, DeskServes, parks, answers, marks, at_once, first_zone, vio_of, is_notified, is_stopped, is_marked, mark_of_vio}
 use Rattle.core_model.specs.DeviceRules.{Announces, DeviceHears, DeviceServes, DeviceWorks, IsReady, counted, halted, harmed, notices_after, stop_notices, next_stage, next_superblock, next_zone, superblock_call}
 use Rattle.core_model.specs.declared.zones.SuperblockStage.TheVariants.{AsOpened, Written, Durable}
-use Rattle.core_model.specs.PhysicalRules.{PhysicalServes, PhysicalTakes, no_block, spent_for, tells, with_counts}
+use Rattle.core_model.specs.PhysicalRules.{BeginsNext as BeginsStep, PhysicalServes, PhysicalTakes, asks_on, served, spent_for, tells, with_counts}
+use Rattle.core_model.specs.Trace.{Asks as AsksIn, Withdraws}
+use Rattle.slab_counts.specs.declared.tickets.Receipt.{Receipt}
+use Rattle.slab_counts.specs.declared.tickets.Ticket.{Ticket}
+use Rattle.slab_tickets.specs.declared.forms.Withdrawn.TheVariants.{Block, Nothing}
+use Rattle.slab_tickets.specs.declared.forms.Withdrawn.{Withdrawn}
+use Rattle.zone_counts.specs.ByBlock.{served_ticket}
+use Rattle.zone_counts.specs.declared.forms.Asked.TheVariants as asked_by
+use Rattle.zone_counts.proofs.TicketLaws.{begun_slabs}
 use Rattle.blk_base.specs.declared.point.Half.TheVariants as half
 use Rattle.core_laws.proofs.Common.{Adds, Drops, Remapping, Removes, Strays, same_Some}
 use Rattle.slab_counts.specs.Counts.{Counts, IsStray, Takes as Fits, unclaimed}
 use Rattle.vdo_model.specs.declared.report.Damage.{Damage}
-use Rattle.zone_counts.proofs.OneAnswer.{one_applied, one_changed, one_lowest}
-use Rattle.zone_counts.specs.Asking.{GivesBlock}
+use Rattle.zone_counts.proofs.OneAnswer.{one_applied, one_asked, one_begun, one_changed, one_lowest, one_passed, one_ticket, one_worth}
+use Rattle.zone_counts.specs.Asking.{GivesBlock, GivesTicket, WithdrawsFrom}
 use Rattle.zone_counts.specs.Zone.{Changes, NoneFree, slab_of}
 use Rattle.zone_counts.specs.Zone.{Zone as Counting}
 use Rattle.core_model.specs.JournalRules.{JournalServes, JournalEnds, is_closed, has_block, has_room, next_block, refused, all_refused, all_again, all_dropped, entered_by, committed_by, sealed_by, hands_out}
@@ -97,58 +105,156 @@ begin_is : (sizes : Sizes) (desk new : Desk) (made : Trace) (posts : List Post) 
 begin_is sizes desk new made posts (DeskBegins.answers w r v a next asked served once n m q) = (w, next, rw (n, m, q, asked, served, once) refl)
 begin_is sizes desk new made posts (DeskBegins.sends w r v next asked served once n m q) = (w, next, rw (n, m, q, asked, served, once) refl)
 
--- The physical zone, by what its counts answer: the block that it is about, and the counts then; or none.
-abbrev Answered : Type 0
-Answered = Option (Pbn × Counting)
+-- The physical zone, by what its counts answer: the block that it is about, the counts then, and the ticket to which a block passed; a
+-- ticket that is given; one that is withdrawn, with a block, with one that passes on, or with none; or nothing.
+data Answered : Type 0 where
+  Nought : Answered
+  OfBlock : Pbn → Counting → Option ℕ → Answered
+  Given : Ticket → Counting → Answered
+  Taken : Ticket → List Ticket → Pbn → Counting → Answered
+  Dropped : Ticket → List Ticket → Pbn → Counting → Option ℕ → Answered
+  InVain : Ticket → List Ticket → Receipt → Counting → Answered
+
+-- a ticket is withdrawn in a step that begins
+record IsBack (p : PhysicalZone) (v : Vio) (k : Ticket) (others : List Ticket) (z : Counting) (worth : Withdrawn) : Type 0 where
+  begun : Counting
+  has : v.tickets ≡ k ∷ others
+  begins : BeginsStep p.counts begun
+  from : WithdrawsFrom begun z k worth
+
+-- a claim is dropped, and its block may pass to a ticket
+record IsPassed (old z : Counting) (x : Pbn) (to : Option ℕ) : Type 0 where
+  change : Changes old z x (unclaimed (slab_of old x) x)
+  to_is : to ≡ served_ticket change.serves
+
+-- and so is the block of a ticket that is withdrawn
+record IsSpared (p : PhysicalZone) (v : Vio) (k : Ticket) (others : List Ticket) (x : Pbn) (z : Counting) (to : Option ℕ) : Type 0 where
+  own : Pbn
+  claimed : v.claim ≡ Some own
+  between : Counting
+  back : IsBack p v k others between (Block x)
+  passed : IsPassed between z x to
 
 abbrev IsAnswer : PhysicalZone → Vio → Phase → Answered → Type 0
-IsAnswer p v phase.Claim None = NoneFree p.counts.slabs
-IsAnswer p v phase.Claim (Some (x, z)) = GivesBlock p.counts z x
-IsAnswer p v phase.Count (Some (x, z)) = (v.claim ≡ Some x) × ((slab : Counts) × Fits half.Increment (slab_of (spent_for v.page p.counts x) x) slab x × Changes (spent_for v.page p.counts x) z x slab)
-IsAnswer p v phase.AbortClaim None = v.claim ≡ None
-IsAnswer p v phase.AbortClaim (Some (x, z)) = (v.claim ≡ Some x) × Changes p.counts z x (unclaimed (slab_of p.counts x) x)
-IsAnswer p v phase.AbortEnteredClaim None = Unit {0}
+IsAnswer p v phase.Claim (OfBlock x z to) = GivesBlock p.counts z x × (to ≡ None)
+IsAnswer p v phase.Claim (Given k z) = (b : Counting) × BeginsStep p.counts b × GivesTicket b z v.request k
+IsAnswer p v phase.Withdraw (Taken k others x z) = IsBack p v k others z (Block x) × (v.claim ≡ None)
+IsAnswer p v phase.Withdraw (Dropped k others x z to) = IsSpared p v k others x z to
+IsAnswer p v phase.Withdraw (InVain k others r z) = IsBack p v k others z (Nothing r)
+IsAnswer p v phase.Count (OfBlock x z to) = (v.claim ≡ Some x) × ((slab : Counts) × Fits half.Increment (slab_of (spent_for v.page p.counts x) x) slab x × Changes (spent_for v.page p.counts x) z x slab) × (to ≡ None)
+IsAnswer p v phase.AbortClaim Nought = v.claim ≡ None
+IsAnswer p v phase.AbortClaim (OfBlock x z to) = (v.claim ≡ Some x) × IsPassed p.counts z x to
+IsAnswer p v phase.AbortEnteredClaim Nought = Unit {0}
 IsAnswer p v other answer = ⊥
 
 -- it has one
-both_are : (x y : Pbn) (z w : Counting) → x ≡ y → z ≡ w → ◌≡◌ {A = Answered} (Some (x, z)) (Some (y, w))
-both_are x y z w p q = rw (p, q) refl
+both_are : (x y : Pbn) (z w : Counting) (to to' : Option ℕ) → x ≡ y → z ≡ w → to ≡ to' → ◌≡◌ {A = Answered} (OfBlock x z to) (OfBlock y w to')
+both_are x y z w to to' p q r = rw (p, q, r) refl
 
 not_free : (p : PhysicalZone) (x : Pbn) (z : Counting) → NoneFree p.counts.slabs → GivesBlock p.counts z x → ⊥
 not_free p x z none gives = none gives.claims.place gives.claims.inside x gives.claims.claims.of_slab gives.claims.claims.free
 
+not_given : (p : PhysicalZone) (v : Vio) (x : Pbn) (z w : Counting) (k : Ticket) → GivesBlock p.counts z x → (b : Counting) × BeginsStep p.counts b × GivesTicket b w v.request k → ⊥
+not_given p v x z w k gives (b, begins, given) = not_free p x z (subst NoneFree (begun_slabs p.counts b _ begins) given.none_free) gives
+
+-- a ticket that is given
+one_given : (p : PhysicalZone) (v : Vio) (k j : Ticket) (z w : Counting) → (b : Counting) × BeginsStep p.counts b × GivesTicket b z v.request k → (b : Counting) × BeginsStep p.counts b × GivesTicket b w v.request j → (k ≡ j) × (z ≡ w)
+one_given p v k j z w (b, begins, given) (c, begins', given') =
+    let same : c ≡ b = one_begun p.counts c b _ begins' begins in
+    let there : GivesTicket b w v.request j = subst (λ (d : Counting). GivesTicket d w v.request j) same given' in
+    let both = one_asked b z w v.request (asked_by.Ticket k) (asked_by.Ticket j) given there in
+    (let answers = both.1 in cc, both.0)
+
+-- one that is withdrawn
+one_back : (p : PhysicalZone) (v : Vio) (k j : Ticket) (others others' : List Ticket) (z w : Counting) (worth worth' : Withdrawn) → IsBack p v k others z worth → IsBack p v j others' w worth'
+    → (k ≡ j) × (others ≡ others') × (z ≡ w) × (worth ≡ worth')
+one_back p v k j others others' z w worth worth' one two =
+    let lists : k ∷ others ≡ j ∷ others' = sym one.has ∙ two.has in
+    let same : k ≡ j = cc in
+    let rest : others ≡ others' = cc in
+    let step : two.begun ≡ one.begun = one_begun p.counts two.begun one.begun _ two.begins one.begins in
+    let there : WithdrawsFrom one.begun w j worth' = subst (λ (d : Counting). WithdrawsFrom d w j worth') step two.from in
+    let here : WithdrawsFrom one.begun w k worth' = subst (λ (q : Ticket). WithdrawsFrom one.begun w q worth') (sym same) there in
+    let both = one_worth one.begun z w k worth worth' one.from here in
+    (same, rest, both.0, both.1)
+
+-- a drop, by what passes
+one_dropped : (old z w : Counting) (x : Pbn) (to to' : Option ℕ) → IsPassed old z x to → IsPassed old w x to' → (z ≡ w) × (to ≡ to')
+one_dropped old z w x to to' one two = (
+  one_changed old z w x (unclaimed (slab_of old x) x) one.change two.change,
+  one.to_is ∙ one_ticket _ _ z.slabs w.slabs old.desk z.desk w.desk refl one.change.serves two.change.serves ∙ sym two.to_is,
+)
+
+one_spared : (p : PhysicalZone) (v : Vio) (k j : Ticket) (others others' : List Ticket) (x y : Pbn) (z w : Counting) (to to' : Option ℕ) → IsSpared p v k others x z to → IsSpared p v j others' y w to'
+    → ◌≡◌ {A = Answered} (Dropped k others x z to) (Dropped j others' y w to')
+one_spared p v k j others others' x y z w to to' one two =
+    let back = one_back p v k j others others' one.between two.between (Block x) (Block y) one.back two.back in
+    let worth : Block x ≡ Block y = back.3 in
+    let block : x ≡ y = cc in
+    let there : IsPassed one.between w x to' = subst (λ (b : Pbn). IsPassed one.between w b to') (sym block) (subst (λ (m : Counting). IsPassed m w y to') (sym back.2) two.passed) in
+    let both = one_dropped one.between z w x to to' one.passed there in
+    rw (back.0, back.1, block, both.0, both.1) refl
+
+taken_are : (k j : Ticket) (others others' : List Ticket) (x y : Pbn) (z w : Counting) → (k ≡ j) × (others ≡ others') × (z ≡ w) × (Block x ≡ Block y) → ◌≡◌ {A = Answered} (Taken k others x z) (Taken j others' y w)
+taken_are k j others others' x y z w same = let worth = same.3 in let block : x ≡ y = cc in rw (same.0, same.1, same.2, block) refl
+
+vain_are : (k j : Ticket) (others others' : List Ticket) (r q : Receipt) (z w : Counting) → (k ≡ j) × (others ≡ others') × (z ≡ w) × (Nothing r ≡ Nothing q) → ◌≡◌ {A = Answered} (InVain k others r z) (InVain j others' q w)
+vain_are k j others others' r q z w same = let worth = same.3 in let receipt : r ≡ q = cc in rw (same.0, same.1, same.2, receipt) refl
+
+given_are : (k j : Ticket) (z w : Counting) → (k ≡ j) × (z ≡ w) → ◌≡◌ {A = Answered} (Given k z) (Given j w)
+given_are k j z w same = rw (same.0, same.1) refl
+
+apart : (x : Pbn) (r : Receipt) → Block x ≡ Nothing r → ⊥
+apart x r same = cc
+
 one_answer : (p : PhysicalZone) (v : Vio) (q : Phase) (a b : Answered) → IsAnswer p v q a → IsAnswer p v q b → a ≡ b
-one_answer p v phase.Claim None None one two = refl
-one_answer p v phase.Claim None (Some (x, z)) one two = absurd (not_free p x z one two)
-one_answer p v phase.Claim (Some (x, z)) None one two = absurd (not_free p x z two one)
-one_answer p v phase.Claim (Some (x, z)) (Some (y, w)) one two =
-    let lowest = one_lowest p.counts.slabs z.slabs w.slabs x y one.claims two.claims in
-    both_are x y z w lowest.0 (one.same ∙ ap (λ (slabs : List Counts). record p.counts { slabs = slabs }) lowest.1 ∙ sym two.same)
-one_answer p v phase.Count None b one two = absurd one
-one_answer p v phase.Count (Some (x, z)) None one two = absurd two
-one_answer p v phase.Count (Some (x, z)) (Some (y, w)) (claim, (slab, takes, change)) two =
+one_answer p v phase.Claim (Given k z) (Given j w) one two = given_are k j z w (one_given p v k j z w one two)
+one_answer p v phase.Claim (Given k z) (OfBlock x w to) one two = absurd (not_given p v x w z k two.0 one)
+one_answer p v phase.Claim (OfBlock x z to) (Given k w) one two = absurd (not_given p v x z w k one.0 two)
+one_answer p v phase.Claim (OfBlock x z to) (OfBlock y w to') one two =
+    let lowest = one_lowest p.counts.slabs z.slabs w.slabs x y one.0.claims two.0.claims in
+    both_are x y z w to to' lowest.0 (one.0.same ∙ ap (λ (slabs : List Counts). record p.counts { slabs = slabs }) lowest.1 ∙ sym two.0.same) (one.1 ∙ sym two.1)
+one_answer p v phase.Withdraw (Taken k others x z) (Taken j others' y w) one two = taken_are k j others others' x y z w (one_back p v k j others others' z w (Block x) (Block y) one.0 two.0)
+one_answer p v phase.Withdraw (Taken k others x z) (Dropped j others' y w to) one two = absurd (let both : None ≡ Some two.own = sym one.1 ∙ two.claimed in cc)
+one_answer p v phase.Withdraw (Taken k others x z) (InVain j others' r w) one two = absurd (apart x r (one_back p v k j others others' z w (Block x) (Nothing r) one.0 two).3)
+one_answer p v phase.Withdraw (Dropped k others x z to) (Taken j others' y w) one two = absurd (let both : None ≡ Some one.own = sym two.1 ∙ one.claimed in cc)
+one_answer p v phase.Withdraw (Dropped k others x z to) (Dropped j others' y w to') one two = one_spared p v k j others others' x y z w to to' one two
+one_answer p v phase.Withdraw (Dropped k others x z to) (InVain j others' r w) one two = absurd (apart x r (one_back p v k j others others' one.between w (Block x) (Nothing r) one.back two).3)
+one_answer p v phase.Withdraw (InVain k others r z) (Taken j others' y w) one two = absurd (apart y r (sym (one_back p v k j others others' z w (Nothing r) (Block y) one two.0).3))
+one_answer p v phase.Withdraw (InVain k others r z) (Dropped j others' y w to) one two = absurd (apart y r (sym (one_back p v k j others others' z two.between (Nothing r) (Block y) one two.back).3))
+one_answer p v phase.Withdraw (InVain k others r z) (InVain j others' q w) one two = vain_are k j others others' r q z w (one_back p v k j others others' z w (Nothing r) (Nothing q) one two)
+one_answer p v phase.Count (OfBlock x z to) (OfBlock y w to') (claim, (slab, takes, change), none) two =
     let same : y ≡ x = same_Some _ _ (sym two.0 ∙ claim) in
     let others = subst (λ (b : Pbn). (slab : Counts) × Fits half.Increment (slab_of (spent_for v.page p.counts b) b) slab b × Changes (spent_for v.page p.counts b) w b slab) same two.1 in
-    both_are x y z w (sym same) (one_applied half.Increment (spent_for v.page p.counts x) z w x slab others.0 takes change others.1 others.2)
-one_answer p v phase.AbortClaim None None one two = refl
-one_answer p v phase.AbortClaim None (Some (x, z)) one two = absurd (let both : None ≡ Some x = sym one ∙ two.0 in cc)
-one_answer p v phase.AbortClaim (Some (x, z)) None one two = absurd (let both : None ≡ Some x = sym two ∙ one.0 in cc)
-one_answer p v phase.AbortClaim (Some (x, z)) (Some (y, w)) one two =
+    both_are x y z w to to' (sym same) (one_applied half.Increment (spent_for v.page p.counts x) z w x slab others.0 takes change others.1 others.2) (none ∙ sym two.2)
+one_answer p v phase.AbortClaim Nought Nought one two = refl
+one_answer p v phase.AbortClaim Nought (OfBlock x z to) one two = absurd (let both : None ≡ Some x = sym one ∙ two.0 in cc)
+one_answer p v phase.AbortClaim (OfBlock x z to) Nought one two = absurd (let both : None ≡ Some x = sym two ∙ one.0 in cc)
+one_answer p v phase.AbortClaim (OfBlock x z to) (OfBlock y w to') one two =
     let same : y ≡ x = same_Some _ _ (sym two.0 ∙ one.0) in
-    let others = subst (λ (b : Pbn). Changes p.counts w b (unclaimed (slab_of p.counts b) b)) same two.1 in
-    both_are x y z w (sym same) (one_changed p.counts z w x (unclaimed (slab_of p.counts x) x) one.1 others)
-one_answer p v phase.AbortEnteredClaim None None one two = refl
-one_answer p v phase.AbortEnteredClaim None (Some (x, z)) one two = absurd two
-one_answer p v phase.AbortEnteredClaim (Some (x, z)) b one two = absurd one
-one_answer p v other None b one two = absurd one
-one_answer p v other (Some (x, z)) b one two = absurd one
+    let both = one_dropped p.counts z w x to to' one.1 (subst (λ (b : Pbn). IsPassed p.counts w b to') same two.1) in
+    both_are x y z w to to' (sym same) both.0 both.1
+one_answer p v phase.AbortEnteredClaim Nought Nought one two = refl
+one_answer p v phase.Claim (Given k z) b one two = absurd two
+one_answer p v phase.Claim (OfBlock x z to) b one two = absurd two
+one_answer p v phase.Withdraw (Taken k others x z) b one two = absurd two
+one_answer p v phase.Withdraw (Dropped k others x z to) b one two = absurd two
+one_answer p v phase.Withdraw (InVain k others r z) b one two = absurd two
+one_answer p v phase.Count (OfBlock x z to) b one two = absurd two
+one_answer p v phase.AbortClaim Nought b one two = absurd two
+one_answer p v phase.AbortClaim (OfBlock x z to) b one two = absurd two
+one_answer p v phase.AbortEnteredClaim Nought b one two = absurd two
+one_answer p v q a b one two = absurd one
 
 abbrev physical_at : Sizes → PhysicalZone → Vio → Phase → Answered → Result PhysicalZone
-physical_at sizes p v phase.Claim None = (p, [], (v.home, item.Request (ended phase.Abort (no_block sizes) v)) ∷ [])
-physical_at sizes p v phase.Claim (Some (x, z)) = (with_counts z p, Takes v.request v.page x ∷ [], (id.Device, item.Request (vios.claiming x v)) ∷ [])
-physical_at sizes p v phase.Count (Some (x, z)) = (with_counts z p, Adds (logged v) ∷ [], (v.home, item.Request (vios.unclaiming phase.Settle v)) ∷ [])
-physical_at sizes p v phase.AbortClaim None = (p, [], (v.home, item.Request (turned phase.Abort v)) ∷ [])
-physical_at sizes p v phase.AbortClaim (Some (x, z)) = (with_counts z p, Drops v.request x ∷ [], (v.home, item.Request (vios.unclaiming phase.Abort v)) ∷ [])
+physical_at sizes p v phase.Claim (Given k z) = (with_counts z p, AsksIn v.request k ∷ [], asks_on sizes (vios.holding k v) ∷ [])
+physical_at sizes p v phase.Claim (OfBlock x z to) = (with_counts z p, Takes v.request v.page x ∷ [], served (vios.claiming x v) ∷ [])
+physical_at sizes p v phase.Withdraw (Taken k others x z) = (with_counts z p, Withdraws v.request k (Some x) ∷ [], served (vios.claiming x (vios.with_tickets others v)) ∷ [])
+physical_at sizes p v phase.Withdraw (Dropped k others x z to) = (with_counts z p, Drops v.request x to ∷ Withdraws v.request k (Some x) ∷ [], served (vios.with_tickets others v) ∷ [])
+physical_at sizes p v phase.Withdraw (InVain k others r z) = (with_counts z p, Withdraws v.request k None ∷ [], served (vios.refused r (vios.with_tickets others v)) ∷ [])
+physical_at sizes p v phase.Count (OfBlock x z to) = (with_counts z p, Adds (logged v) ∷ [], (v.home, item.Request (vios.unclaiming phase.Settle v)) ∷ [])
+physical_at sizes p v phase.AbortClaim Nought = (p, [], (v.home, item.Request (turned phase.Abort v)) ∷ [])
+physical_at sizes p v phase.AbortClaim (OfBlock x z to) = (with_counts z p, Drops v.request x to ∷ [], (v.home, item.Request (vios.unclaiming phase.Abort v)) ∷ [])
 physical_at sizes p v phase.AbortEnteredClaim answer = (p, [], (v.home, item.Request (vios.unclaiming phase.AbortEntered v)) ∷ [])
 physical_at sizes p v other answer = (p, [], [])
 
@@ -157,33 +263,50 @@ abbrev IsBy : Sizes → PhysicalZone → Vio → Phase → Result PhysicalZone �
 IsBy sizes p v q result = (answer : Answered) × IsAnswer p v q answer × (result ≡ physical_at sizes p v q answer)
 
 physical_is : (sizes : Sizes) (p : PhysicalZone) (v : Vio) (new : PhysicalZone) (made : Trace) (posts : List Post) → PhysicalServes sizes p v new made posts → IsBy sizes p v v.phase (new, made, posts)
-physical_is sizes p v new made posts (PhysicalServes.claims x z is gives n m q) = subst (λ (h : Phase). IsBy sizes p v h (new, made, posts)) (sym is) (Some (x, z), gives, three new _ made _ posts _ n m q)
-physical_is sizes p v new made posts (PhysicalServes.has_no_space is none n m q) = subst (λ (h : Phase). IsBy sizes p v h (new, made, posts)) (sym is) (None, none, three new _ made _ posts _ n m q)
-physical_is sizes p v new made posts (PhysicalServes.counts x slab z is claim own takes change n m q) = subst (λ (h : Phase). IsBy sizes p v h (new, made, posts)) (sym is) (Some (x, z), (claim, (slab, takes, change)), three new _ made _ posts _ n m q)
-physical_is sizes p v new made posts (PhysicalServes.drops x z is claim own change n m q) = subst (λ (h : Phase). IsBy sizes p v h (new, made, posts)) (sym is) (Some (x, z), (claim, change), three new _ made _ posts _ n m q)
-physical_is sizes p v new made posts (PhysicalServes.drops_none is none n m q) = subst (λ (h : Phase). IsBy sizes p v h (new, made, posts)) (sym is) (None, none, three new _ made _ posts _ n m q)
-physical_is sizes p v new made posts (PhysicalServes.spends is n m q) = subst (λ (h : Phase). IsBy sizes p v h (new, made, posts)) (sym is) (None, tt, three new _ made _ posts _ n m q)
+physical_is sizes p v new made posts (PhysicalServes.claims x z is gives n m q) = subst (λ (h : Phase). IsBy sizes p v h (new, made, posts)) (sym is) (OfBlock x z None, (gives, refl), three new _ made _ posts _ n m q)
+physical_is sizes p v new made posts (PhysicalServes.asks k b z is fewer begins gives n m q) = subst (λ (h : Phase). IsBy sizes p v h (new, made, posts)) (sym is) (Given k z, (b, begins, gives), three new _ made _ posts _ n m q)
+physical_is sizes p v new made posts (PhysicalServes.takes_block k others x b z is has none begins from n m q) =
+    subst (λ (h : Phase). IsBy sizes p v h (new, made, posts)) (sym is) (Taken k others x z, (record { begun = b; has = has; begins = begins; from = from }, none), three new _ made _ posts _ n m q)
+physical_is sizes p v new made posts (PhysicalServes.drops_block k others x y b between z is has some begins from claim change n m q) =
+    subst (λ (h : Phase). IsBy sizes p v h (new, made, posts)) (sym is) (
+      Dropped k others x z (served_ticket change.serves),
+      record { own = y; claimed = some; between = between; back = record { begun = b; has = has; begins = begins; from = from }; passed = record { change = change; to_is = refl } },
+      three new _ made _ posts _ n m q,
+    )
+physical_is sizes p v new made posts (PhysicalServes.has_none k others r b z is has begins from n m q) =
+    subst (λ (h : Phase). IsBy sizes p v h (new, made, posts)) (sym is) (InVain k others r z, record { begun = b; has = has; begins = begins; from = from }, three new _ made _ posts _ n m q)
+physical_is sizes p v new made posts (PhysicalServes.counts x slab z is claim own takes change n m q) =
+    subst (λ (h : Phase). IsBy sizes p v h (new, made, posts)) (sym is) (OfBlock x z None, (claim, (slab, takes, change), refl), three new _ made _ posts _ n m q)
+physical_is sizes p v new made posts (PhysicalServes.drops x z is claim own change n m q) =
+    subst (λ (h : Phase). IsBy sizes p v h (new, made, posts)) (sym is) (OfBlock x z (served_ticket change.serves), (claim, record { change = change; to_is = refl }), three new _ made _ posts _ n m q)
+physical_is sizes p v new made posts (PhysicalServes.drops_none is none n m q) = subst (λ (h : Phase). IsBy sizes p v h (new, made, posts)) (sym is) (Nought, none, three new _ made _ posts _ n m q)
+physical_is sizes p v new made posts (PhysicalServes.spends is n m q) = subst (λ (h : Phase). IsBy sizes p v h (new, made, posts)) (sym is) (Nought, tt, three new _ made _ posts _ n m q)
 
 -- a decrement
-abbrev IsUpdated : PhysicalZone → Remapping → Pbn → Option Counting → Type 0
-IsUpdated p e x (Some z) = (slab : Counts) × Fits half.Decrement (slab_of p.counts x) slab x × Changes p.counts z x slab
+abbrev IsUpdated : PhysicalZone → Remapping → Pbn → Option (Counting × Option ℕ) → Type 0
+IsUpdated p e x (Some (z, to)) = (slab : Counts) × Fits half.Decrement (slab_of p.counts x) slab x × ((change : Changes p.counts z x slab) × (to ≡ served_ticket change.serves))
 IsUpdated p e x None = IsStray half.Decrement (slab_of p.counts x) x
 
-abbrev updated_at : Sizes → PhysicalZone → Remapping → Pbn → Option Counting → Result PhysicalZone
-updated_at sizes p e x (Some z) = (with_counts z p, Removes e ∷ [], (vios.home_of sizes e, item.Report e) ∷ [])
+abbrev updated_at : Sizes → PhysicalZone → Remapping → Pbn → Option (Counting × Option ℕ) → Result PhysicalZone
+updated_at sizes p e x (Some (z, to)) = (with_counts z p, Removes e to ∷ [], (vios.home_of sizes e, item.Report e) ∷ [])
 updated_at sizes p e x None = (record p { strays = e ∷ p.strays }, Strays e ∷ [], (vios.home_of sizes e, item.Report e) ∷ tells p.strays x)
 
-one_update : (p : PhysicalZone) (e : Remapping) (x : Pbn) (a b : Option Counting) → IsUpdated p e x a → IsUpdated p e x b → a ≡ b
+both_counts : (z w : Counting) (to to' : Option ℕ) → z ≡ w → to ≡ to' → ◌≡◌ {A = Option (Counting × Option ℕ)} (Some (z, to)) (Some (w, to'))
+both_counts z w to to' zs tos = rw (zs, tos) refl
+
+one_update : (p : PhysicalZone) (e : Remapping) (x : Pbn) (a b : Option (Counting × Option ℕ)) → IsUpdated p e x a → IsUpdated p e x b → a ≡ b
 one_update p e x None None one two = refl
-one_update p e x None (Some z) one (slab, takes, change) = let some = takes.0 in absurd (omega (arith, some, one))
-one_update p e x (Some z) None (slab, takes, change) two = let some = takes.0 in absurd (omega (arith, some, two))
-one_update p e x (Some z) (Some w) (slab, takes, change) (slab', takes', change') = ap (λ (c : Counting). Some c) (one_applied half.Decrement p.counts z w x slab slab' takes change takes' change')
+one_update p e x None (Some (z, to)) one (slab, takes, change) = let some = takes.0 in absurd (omega (arith, some, one))
+one_update p e x (Some (z, to)) None (slab, takes, change) two = let some = takes.0 in absurd (omega (arith, some, two))
+one_update p e x (Some (z, to)) (Some (w, to')) (slab, takes, change) (slab', takes', change') =
+    both_counts z w to to' (one_applied half.Decrement p.counts z w x slab slab' takes change.0 takes' change'.0)
+    (change.1 ∙ one_passed half.Decrement p.counts z w x slab slab' takes change.0 takes' change'.0 ∙ sym change'.1)
 
 abbrev IsUpdate : Sizes → PhysicalZone → Remapping → Result PhysicalZone → Type 0
-IsUpdate sizes p e result = (x : Pbn) × (e.old ≡ At x) × ((answer : Option Counting) × IsUpdated p e x answer × (result ≡ updated_at sizes p e x answer))
+IsUpdate sizes p e result = (x : Pbn) × (e.old ≡ At x) × ((answer : Option (Counting × Option ℕ)) × IsUpdated p e x answer × (result ≡ updated_at sizes p e x answer))
 
 update_is : (sizes : Sizes) (p : PhysicalZone) (e : Remapping) (new : PhysicalZone) (made : Trace) (posts : List Post) → PhysicalTakes sizes p e new made posts → IsUpdate sizes p e (new, made, posts)
-update_is sizes p e new made posts (PhysicalTakes.removes x slab z from own takes change n m q) = (x, from, (Some z, (slab, takes, change), three new _ made _ posts _ n m q))
+update_is sizes p e new made posts (PhysicalTakes.removes x slab z from own takes change n m q) = (x, from, (Some (z, served_ticket change.serves), (slab, takes, (change, refl)), three new _ made _ posts _ n m q))
 update_is sizes p e new made posts (PhysicalTakes.is_stray x from own stray n m q) = (x, from, (None, stray, three new _ made _ posts _ n m q))
 
 -- a logical zone
@@ -470,7 +593,7 @@ update_one sizes p e new new' made made' posts posts' a b =
     let one = update_is sizes p e new made posts a in
     let two = update_is sizes p e new' made' posts' b in
     let block : two.0 ≡ one.0 = same_At two.0 one.0 (sym two.1 ∙ one.1) in
-    let others = subst (λ (x : Pbn). (answer : Option Counting) × IsUpdated p e x answer × ((new', made', posts') ≡ updated_at sizes p e x answer)) block two.2 in
+    let others = subst (λ (x : Pbn). (answer : Option (Counting × Option ℕ)) × IsUpdated p e x answer × ((new', made', posts') ≡ updated_at sizes p e x answer)) block two.2 in
     same at.Physical new new' made made' posts posts' (updated_at sizes p e one.0 one.2.0) one.2.2 (others.2 ∙ ap (updated_at sizes p e one.0) (one_update p e one.0 others.0 one.2.0 others.1 one.2.1))
   where
     same_At : (x y : Pbn) → At x ≡ At y → x ≡ y

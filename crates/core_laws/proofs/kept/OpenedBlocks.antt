@@ -1,10 +1,10 @@
 -- What the opened image has, where it is as it was opened: the slots of its pages, and the blocks that its addresses are mapped to.
-use Rattle.std.proofs.Common.{◌≡◌, ℕ, zero, suc, ◌+◌, ◌-◌, ◌<◌, ◌≤◌, Bool, true, false, nat_lt, if◌then◌else◌, Option, None, Some, IsSome, List, [], ◌∷◌, refl, sym, ◌∙◌, subst, inl, inr, arith, ap, ◌==◌}
+use Rattle.std.proofs.Common.{◌≡◌, ℕ, zero, suc, ◌+◌, ◌-◌, ◌<◌, Bool, true, false, nat_lt, if◌then◌else◌, Option, None, Some, List, [], ◌∷◌, refl, sym, ◌∙◌, subst, inl, inr, arith, ap, ◌==◌}
 use Rattle.std.proofs.Math.Nat.{mod-lt}
-use Rattle.core_laws.proofs.Common.{IsAsOpened, Logged, Makes, Mapping, Pbn, Remaps, Session, cases_Bool, lt-ltb, opened_at, opened_image, IsSession, eqb_tells, same_Some}
+use Rattle.core_laws.proofs.Common.{IsAsOpened, Logged, Makes, Pbn, Remaps, Session, cases_Bool, lt-ltb, opened_at, opened_image, IsSession, eqb_tells, same_Some}
 use Rattle.blk_base.proofs.RegionLaws.{data_block_high, data_block_inside}
 use Rattle.blk_base.specs.Regions.{IsDataBlock, Root, block_of}
-use Rattle.blk_base.specs.declared.place.Mapping.TheVariants.{Unmapped, Zero, At}
+use Rattle.blk_base.specs.declared.place.Mapping.TheVariants.{Unmapped, At}
 use Rattle.blk_base.specs.declared.place.PageId.{PageId}
 use Rattle.blk_base.specs.Pages.{above}
 use Rattle.blk_base.specs.declared.sizes.TheConstants.{PAGE_SLOTS, TREES}

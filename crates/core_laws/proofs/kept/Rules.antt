@@ -1,8 +1,8 @@
 -- In a legal core a rule applies to the item in front of each inbox, and each post of a rule has a lane.
-use Rattle.std.proofs.Common.{◌⊎◌, ◌≡◌, ℕ, ◌<◌, ◌≤◌, true, false, None, Some, Option, List, [], ◌∷◌, ◌++◌, length, slice_get, refl, ap, sym, ◌∙◌, subst, inl, inr, arith}
+use Rattle.std.proofs.Common.{◌⊎◌, ◌+◌, ◌==◌, ◌≡◌, ℕ, ◌<◌, ◌≤◌, true, false, None, Some, Option, List, [], ◌∷◌, ◌++◌, length, slice_get, refl, ap, sym, ◌∙◌, subst, inl, inr, arith}
 use Rattle.std.proofs.lemmas.Option.{slice_get_within}
 use Rattle.core_laws.proofs.journal.LogLaws.{has_next, is_sealable}
-use Rattle.core_laws.proofs.Common.{HasAddress, all_logged, all_of, AllByRecursion, Answer, Asks, Call, cases_Bool, cases_lt, DataOk, Desk, desk_number, device_number, DeviceZone, IsForBlock, IsServed, IsSession, IsToBlock, IsToInside, OnBlock, RightTrace, claim_token, journaled, logged, total, total-get, weight, Item, ItemOk, journal_number, JournalLists, JournalZone, logical_number, LogicalZone, Mapping, MayReply, notified_zones, option_cases, Pbn, Phase, physical_number, PhysicalZone, Post, Request, request_at, Script, sealed, SealedBlock, Session, some_of, Stage, StandsAt, Trace, Vio, VioOk, Writer, Zone, zone_at, zone_count, zone_number, zone_of, zone_of_stage, ZoneData, applied, durable, SuperblockStage, Remapping}
+use Rattle.core_laws.proofs.Common.{HasAddress, all_logged, all_of, AllByRecursion, Answer, Asks, Call, cases_Bool, cases_lt, DataOk, Desk, desk_number, device_number, DeviceZone, IsForBlock, IsServed, IsSession, IsToBlock, IsToInside, OnBlock, RightTrace, claim_token, journaled, logged, total, total-get, weight, Item, ItemOk, journal_number, JournalLists, JournalZone, logical_number, LogicalZone, Mapping, MayReply, notified_zones, option_cases, Pbn, Phase, physical_number, PhysicalZone, Post, Request, request_at, Script, sealed, SealedBlock, Session, some_of, Stage, StandsAt, Trace, Vio, VioOk, Writer, Zone, zone_at, zone_count, zone_number, zone_of, zone_of_stage, ZoneData, applied, durable, SuperblockStage, Remapping, eq-eqb}
 use Rattle.blk_base.specs.Regions.{journal_slot_of}
 use Rattle.blk_base.specs.declared.request.Answer.TheVariants as reply
 use Rattle.blk_base.specs.declared.request.Request.TheVariants as request
@@ -12,6 +12,22 @@ use Rattle.data_vio.specs.declared.items.Asks.TheVariants.{Read, Write, Discard,
 use Rattle.data_vio.specs.declared.items.Item.TheVariants as item
 use Rattle.data_vio.specs.declared.items.Phase.TheVariants as phase
 use Rattle.data_vio.specs.declared.items.Stage.TheVariants as stage
+use Rattle.core_model.specs.Facts.{AreInTurn, IsWithdrawing}
+use Rattle.core_model.specs.PhysicalRules.{BeginsNext, next_step}
+use Rattle.core_model.specs.Tokens.{out_in, ticket_token, ticket_weight}
+use Rattle.data_vio.specs.Vios.{ticket_zone}
+use Rattle.slab_counts.specs.Calls.{one_of}
+use Rattle.slab_counts.specs.declared.tickets.Ticket.{Ticket}
+use Rattle.slab_tickets.specs.declared.forms.Waiting.{Waiting}
+use Rattle.slab_tickets.specs.declared.forms.Withdrawn.TheVariants.{Block, Nothing}
+use Rattle.slab_tickets.specs.declared.forms.Withdrawn.{Withdrawn}
+use Rattle.zone_counts.specs.Asking.{GivesTicket, WithdrawsFrom}
+use Rattle.zone_counts.specs.Zone.{NoneFree, Zone as Counting}
+use Rattle.zone_counts.proofs.TicketLaws.{begun_counted, begun_is_zone, begun_out, begun_slabs, counted_is_out, withdrawn_is_zone, withdrawn_slabs}
+use Rattle.core_laws.proofs.physical.AskTurns.{first_inside}
+use Rattle.core_laws.proofs.physical.TicketDesks.{back_keeps, now}
+use Rattle.core_laws.proofs.physical.ZoneFacts.{of_zone_kept, one_same}
+use Rattle.core_laws.proofs.tokens.Owners.{held_is_out}
 use Rattle.core_model.specs.declared.zones.ZoneData.TheVariants as at
 use Rattle.core_model.specs.DeskRules.{DeskBegins, DeskServes, at_once, vio_of, is_marked, is_stopped, is_notified}
 use Rattle.blk_base.specs.declared.place.ZoneId.TheVariants as id
@@ -26,13 +42,13 @@ use Rattle.core_laws.proofs.device.LeafReads.{each_of}
 use Rattle.core_laws.proofs.kept.Keys.{claim_one}
 use Rattle.core_laws.proofs.kept.SoleWriter.{held_counted_there}
 use Rattle.core_laws.proofs.trace.DeskOfTrace.{HasBlock, journaled_data}
-use Rattle.core_model.specs.Facts.{ClaimOk, HasClaim, claim_of}
+use Rattle.core_model.specs.Facts.{ClaimFor, ClaimOk, HasClaim, claim_of}
 use Rattle.slab_counts.specs.Counts.{Counts, Takes, unclaimed}
-use Rattle.zone_counts.proofs.BlockLaws.{moved}
+use Rattle.zone_counts.proofs.BlockLaws.{moved, withdraws_out, worth_block}
 use Rattle.zone_counts.proofs.CallLaws.{calls_keep}
 use Rattle.zone_counts.proofs.FitLaws.{add_fits, claimed_is, gives_or_none, none_is_stray, remove_fits}
-use Rattle.zone_counts.proofs.FreeBlocks.{can_change}
-use Rattle.zone_counts.specs.ByBlock.{claims_in, counter_in}
+use Rattle.zone_counts.proofs.FreeBlocks.{can_begin, can_change, can_withdraw}
+use Rattle.zone_counts.specs.ByBlock.{claims_in, counter_in, is_at, out_with, waits_with}
 use Rattle.zone_counts.specs.Calls.{SpendsPage}
 use Rattle.zone_counts.specs.Zone.{IsClaimedIn, IsOfZone, IsZone, slab_of}
 use Rattle.core_model.specs.JournalRules.{JournalServes, JournalEnds, is_closed, has_block, has_room}
@@ -50,7 +66,7 @@ use Rattle.core_laws.proofs.desk.BeginLaws.{begins_some}
 use Rattle.core_laws.proofs.device.DeviceCalls.{request_served}
 use Rattle.core_laws.proofs.kept.LegalKept.{goes}
 use Rattle.core_laws.proofs.kept.ZoneKinds.{Keeps, desk_keeps, logical_keeps, physical_keeps, journal_keeps, device_keeps}
-use Rattle.core_laws.proofs.lists.CountedIn.{of_zone, zone_inside, zone_of_vio}
+use Rattle.core_laws.proofs.lists.CountedIn.{of_zone, zone_inside, zone_is, zone_of_vio}
 use Rattle.core_laws.proofs.physical.PhysicalFacts.{zone_below}
 use Rattle.data_vio.specs.Vios.{counts_for, counts_of}
 use Rattle.data_vio.specs.Zones.{physical_zone_of}
@@ -184,11 +200,55 @@ module _ (s : Session) (session : IsSession s) (t : Trace) (right : RightTrace s
   ]
 
   -- The physical zone.
-  claims : (p : PhysicalZone) (v : Vio) → v.phase ≡ phase.Claim → HasAct s.sizes (at.Physical p) (item.Request v ∷ [])
-  claims p v is = elim (gives_or_none p.counts) [
-    | inl none ↦ (_, _, _, steps.takes (PhysicalServes.has_no_space is none refl refl refl))
+  claims : (p : PhysicalZone) (v : Vio) → v.phase ≡ phase.Claim → length v.tickets < s.sizes.physical → HasAct s.sizes (at.Physical p) (item.Request v ∷ [])
+  claims p v is fewer = elim (gives_or_none p.counts) [
+    | inl none ↦
+        let step = next_step p.counts.desk.step in
+        let (b, begins) = can_begin p.counts step in
+        let k : Ticket = record { zone = b.desk.zone; number = b.desk.issued; asked = step } in
+        let z : Counting = record b { desk = record b.desk { issued = b.desk.issued + 1; out = b.desk.out ++ record { number = k.number; asked = k.asked; writer = v.request; block = None } ∷ [] } } in
+        let gives : GivesTicket b z v.request k = record {
+          none_free = subst NoneFree (sym (begun_slabs p.counts b step begins)) none;
+          issues = record { now = now p.counts b begins; zone = refl; number = refl; after = refl };
+          same = refl;
+        } in
+        (_, _, _, steps.takes (PhysicalServes.asks k b z is fewer begins gives refl refl refl))
     | inr (x, z, gives) ↦ (_, _, _, steps.takes (PhysicalServes.claims x z is gives refl refl refl))
   ]
+
+  -- A ticket that is out is withdrawn, and what it is worth is its own, or dropped.
+  module _ (n : ℕ) (p : PhysicalZone) (own : DataOk s t n (at.Physical p)) (v : Vio) (is : v.phase ≡ phase.Withdraw) (k : Ticket) (others : List Ticket) (has : v.tickets ≡ k ∷ others)
+      (is_out : 1 ≤ out_in (λ number. number == k.number) p.counts) (claimed : (x : Pbn) → IsOfZone p.counts x → 0 < out_with x p.counts.desk → 0 < claims_in x p.counts.slabs) where
+    drops_it_at_once : (b m : Counting) (x y : Pbn) → BeginsNext p.counts b → WithdrawsFrom b m k (Block x) → v.claim ≡ Some y → HasAct s.sizes (at.Physical p) (item.Request v ∷ [])
+    drops_it_at_once b m x y begins from some =
+        let kept = back_keeps p.counts b begins m k (Block x) from in
+        let less = withdraws_out b.desk m.desk k (Block x) x from.withdraws in
+        let got : is_at x from.withdraws.waiting.block ≡ one_of x x = ap (is_at x) (worth_block b.desk m.desk k x from.withdraws) in
+        let one = one_same x x refl in
+        let was = ap (λ (out : List Waiting). total (waits_with x) out) (begun_out p.counts b _ begins) in
+        let mine : IsOfZone p.counts x = own.sound.passed x (omega (arith, less, got, one, was)) in
+        let slabs : m.slabs ≡ p.counts.slabs = withdrawn_slabs b m k (Block x) from ∙ begun_slabs p.counts b _ begins in
+        let there : 0 < claims_in x m.slabs = subst (λ (l : List Counts). 0 < claims_in x l) (sym slabs) (claimed x mine (omega (arith, less, got, one, was))) in
+        let is_m = withdrawn_is_zone b m k (Block x) (begun_is_zone p.counts b _ own.sound.is_zone begins) from in
+        let claim = (claimed_is m x is_m (of_zone_kept p.counts m x kept mine)).1 there in
+        let (z, change) = can_change m x (unclaimed (slab_of m x) x) in
+        (_, _, _, steps.takes (PhysicalServes.drops_block k others x y b m z is has some begins from claim change refl refl refl))
+
+    withdraws_by : (b m : Counting) (worth : Withdrawn) → BeginsNext p.counts b → WithdrawsFrom b m k worth → HasAct s.sizes (at.Physical p) (item.Request v ∷ [])
+    withdraws_by b m (Nothing r) begins from = (_, _, _, steps.takes (PhysicalServes.has_none k others r b m is has begins from refl refl refl))
+    withdraws_by b m (Block x) begins from = elim (option_cases v.claim) [
+      | inl none ↦ (_, _, _, steps.takes (PhysicalServes.takes_block k others x b m is has none begins from refl refl refl))
+      | inr (y, some) ↦ drops_it_at_once b m x y begins from some
+    ]
+
+    withdraws_it : HasAct s.sizes (at.Physical p) (item.Request v ∷ [])
+    withdraws_it =
+        let step = next_step p.counts.desk.step in
+        let (b, begins) = can_begin p.counts step in
+        let same = begun_counted (λ number. number == k.number) p.counts b step begins in
+        let (place, out) = counted_is_out b.desk k (omega (arith, is_out, same)) in
+        let (worth, m, from) = can_withdraw b k place step (now p.counts b begins) out in
+        withdraws_by b m worth begins from
 
   -- an increment fits for which there is a claim, also where the block becomes that of a page before
   module _ (n : ℕ) (p : PhysicalZone) (own : DataOk s t n (at.Physical p)) (x : Pbn) (is_data : IsDataBlock s.sizes.geometry x.0) (here : physical_zone_of s.sizes x ≡ p.counts.zone) where
@@ -341,9 +401,15 @@ module _ (s : Session) (session : IsSession s) (t : Trace) (right : RightTrace s
     in_desk : (it : Item) → n ≡ desk_number → ((desk : Desk) → HasAct s.sizes (at.Desk desk) (it ∷ [])) → Has it
     in_desk it is rule = in_kind at.Desk desk_number it is (desk_keeps s t) (λ desk here. rule desk)
 
-    -- a claim that an item has is counted
+    -- a claim that an item has, or a ticket of the zone, is counted; and a ticket that it has is out
+    abbrev AreClaimed : Item → Type 0
+    AreClaimed it = (p : PhysicalZone) → d ≡ at.Physical p → (x : Pbn) → physical_zone_of s.sizes x ≡ p.counts.zone → 1 ≤ (claim_token x).item it + out_with x p.counts.desk → 0 < claims_in x p.counts.slabs
+
+    abbrev AreOut : Item → Type 0
+    AreOut it = (p : PhysicalZone) → d ≡ at.Physical p → (number : ℕ) → 1 ≤ (ticket_token p.counts.zone (λ other. other == number)).item it → 1 ≤ out_in (λ other. other == number) p.counts
+
     abbrev AreCounted : Item → Type 0
-    AreCounted it = (p : PhysicalZone) → d ≡ at.Physical p → (x : Pbn) → physical_zone_of s.sizes x ≡ p.counts.zone → 1 ≤ (claim_token x).item it → 0 < claims_in x p.counts.slabs
+    AreCounted it = AreClaimed it × AreOut it
 
     in_physical : (it : Item) (zone : ℕ) → zone < s.sizes.physical → n ≡ physical_number s.sizes zone
         → ((p : PhysicalZone) → d ≡ at.Physical p → p.counts.zone ≡ zone → DataOk s t n (at.Physical p) → HasAct s.sizes (at.Physical p) (it ∷ [])) → Has it
@@ -362,30 +428,49 @@ module _ (s : Session) (session : IsSession s) (t : Trace) (right : RightTrace s
     claiming : (v : Vio) (x : Pbn) → v.claim ≡ Some x → n ≡ zone_number s.sizes (counts_of s.sizes v)
         → ((p : PhysicalZone) → d ≡ at.Physical p → physical_zone_of s.sizes x ≡ p.counts.zone → DataOk s t n (at.Physical p) → HasAct s.sizes (at.Physical p) (item.Request v ∷ [])) → Has (item.Request v)
     claiming v x claim to rule =
-        in_physical (item.Request v) (physical_zone_of s.sizes x) (zone_inside s.sizes x session.zones.1) (to ∙ ap (λ (o : Option Pbn). zone_number s.sizes (counts_for s.sizes v.place o)) claim)
+        in_physical (item.Request v) (physical_zone_of s.sizes x) (zone_inside s.sizes x session.zones.1) (to ∙ ap (λ (o : Option Pbn). zone_number s.sizes (counts_for s.sizes (length v.tickets + v.place) o)) claim)
         (λ p keeps same ok. rule p keeps (sym same) ok)
 
     -- what the claim of a request is, in a phase that has one
-    counts_by : (v : Vio) → v.phase ≡ phase.Count → IsToBlock v.new → HasClaim s true v.claim v.new → AreCounted (item.Request v) → n ≡ zone_number s.sizes (counts_of s.sizes v) → Has (item.Request v)
+    counts_by : (v : Vio) → v.phase ≡ phase.Count → IsToBlock v.new → HasClaim s true false v.claim v.new v.tickets → AreCounted (item.Request v) → n ≡ zone_number s.sizes (counts_of s.sizes v) → Has (item.Request v)
     counts_by v is block claim held to =
         let x = block_at v.new block in
         let claimed : v.claim ≡ Some x.0 = claim.claim_is ∙ ap (claim_of true) x.1 in
         let is_data : IsDataBlock s.sizes.geometry x.0.0 = subst (OnBlock (λ y. IsDataBlock s.sizes.geometry y.0)) x.1 (claim.on_data refl) in
-        claiming v x.0 claimed to (λ p keeps here ok. counts_it n p ok x.0 is_data here v is claimed (held p keeps x.0 here (let one = claim_one v x.0 claimed in omega (arith, one))))
+        claiming v x.0 claimed to (λ p keeps here ok. counts_it n p ok x.0 is_data here v is claimed (held.0 p keeps x.0 here (let one = claim_one v x.0 claimed in omega (arith, one))))
 
-    drops_by : (v : Vio) → v.phase ≡ phase.AbortClaim → HasClaim s true v.claim v.new → AreCounted (item.Request v) → n ≡ zone_number s.sizes (counts_of s.sizes v) → Has (item.Request v)
+    drops_by : (v : Vio) → v.phase ≡ phase.AbortClaim → HasClaim s true false v.claim v.new v.tickets → AreCounted (item.Request v) → n ≡ zone_number s.sizes (counts_of s.sizes v) → Has (item.Request v)
     drops_by v is claim held to = elim (option_cases v.claim) [
       | inl none ↦ asking v to (λ p keeps ok. (_, _, _, steps.takes (PhysicalServes.drops_none is none refl refl refl)))
       | inr (x, some) ↦
           let leads : v.new ≡ At x = leads_by v.new x (sym claim.claim_is ∙ some) in
           let is_data : IsDataBlock s.sizes.geometry x.0 = subst (OnBlock (λ y. IsDataBlock s.sizes.geometry y.0)) leads (claim.on_data refl) in
-          claiming v x some to (λ p keeps here ok. drops_it n p ok x is_data here v is some (held p keeps x here (let one = claim_one v x some in omega (arith, one))))
+          claiming v x some to (λ p keeps here ok. drops_it n p ok x is_data here v is some (held.0 p keeps x here (let one = claim_one v x some in omega (arith, one))))
     ]
       where
         leads_by : (m : Mapping) (x : Pbn) → claim_of true m ≡ Some x → m ≡ At x
         leads_by (At y) x same = cc
         leads_by Unmapped x same = absurd cc
         leads_by Zero x same = absurd cc
+
+    -- one that withdraws its oldest ticket
+    withdraws_at : (v : Vio) → v.phase ≡ phase.Withdraw → IsWithdrawing s t v.request v.claim v.tickets → AreCounted (item.Request v) → n ≡ zone_number s.sizes (ticket_zone v.tickets) → Has (item.Request v)
+    withdraws_at v is back held to = by v.tickets refl
+      where
+        one_held : (k : Ticket) (others : List Ticket) (zone : ℕ) → v.tickets ≡ k ∷ others → k.zone ≡ zone → 1 ≤ total (ticket_weight zone (λ other. other == k.number)) v.tickets
+        one_held k others zone has here =
+            let all = ap (total (ticket_weight zone (λ other. other == k.number))) has in
+            let same : ticket_weight zone (λ other. other == k.number) k ≡ 1 = rw (eq-eqb k.zone zone here, eq-eqb k.number k.number refl) refl in
+            omega (arith, all, same)
+
+        by : (tickets : List Ticket) → v.tickets ≡ tickets → Has (item.Request v)
+        by [] has = absurd (let some = back.some in let none = ap length has in omega (arith, some, none))
+        by (k ∷ others) has =
+            let below = first_inside s.sizes back.turn k others session.zones.1 (subst (AreInTurn s.sizes back.turn) has back.in_turn) in
+            let there = ap (λ (tickets : List Ticket). zone_number s.sizes (ticket_zone tickets)) has in
+            in_physical (item.Request v) k.zone below (to ∙ there) (λ p keeps same ok.
+            withdraws_it n p ok v is k others has (held.1 p keeps k.number (one_held k others p.counts.zone has (sym same)))
+            (λ x mine some. held.0 p keeps x (zone_is s p ok.sound x mine) (omega (arith, some))))
 
     in_journal : (it : Item) → n ≡ journal_number s.sizes → ((j : JournalZone) → JournalLists s t j → HasAct s.sizes (at.Journal j) (it ∷ [])) → Has it
     in_journal it is rule = in_kind at.Journal (journal_number s.sizes) it is (journal_keeps s t) (λ j here. rule j here.lists)
@@ -401,12 +486,13 @@ module _ (s : Session) (session : IsSession s) (t : Trace) (right : RightTrace s
         in_kind at.Logical (logical_number zone) (item.Request v) (is ∙ ap (zone_number s.sizes) ok.home) (logical_keeps s t zone (zone_below s.sizes.zones v.at.0 session.zones.0)) rule
 
     -- a request, by its phase; one that waits is in no lane
-    by_phase : (v : Vio) (q : Phase) → v.phase ≡ q → v.page ≡ None → VioOk s t v → CarriesOwn s t v q → n ≡ zone_at s.sizes v q → HasClaim s (row q).claims v.claim v.new → AreCounted (item.Request v) → Has (item.Request v)
+    by_phase : (v : Vio) (q : Phase) → v.phase ≡ q → v.page ≡ None → VioOk s t v → CarriesOwn s t v q → n ≡ zone_at s.sizes v q → ClaimFor s v q → AreCounted (item.Request v) → Has (item.Request v)
     by_phase v phase.Arrive is bare ok carries to claim held = in_home v ok to (λ l here. arrives l v is)
     by_phase v phase.Look is bare ok carries to claim held = in_home v ok to (λ l here. looks l v is carries.0.is_placed.for_block (path_of l v ok carries.0.is_placed.for_block here))
     by_phase v phase.LoadLeaf is bare ok carries to claim held = in_device _ to (λ dev. loads_leaf dev v carries.2.at is carries.2.block_is carries.2.inside)
     by_phase v phase.LoadedLeaf is bare ok carries to claim held = in_home v ok to (λ l here. let goes = goes_some v carries.0.held.turn.is_placed.for_block in (_, _, _, steps.serves (LogicalServes.leafed goes.0 is goes.1 refl refl refl)))
-    by_phase v phase.Claim is bare ok carries to claim held = asking v to (λ p keeps ok. claims p v is)
+    by_phase v phase.Claim is bare ok carries to claim held = asking v to (λ p keeps ok. claims p v is carries.4.fewer)
+    by_phase v phase.Withdraw is bare ok carries to claim held = withdraws_at v is carries.3 held to
     by_phase v phase.Store is bare ok carries to claim held = in_device _ to (λ dev. stores_by dev v v.new is refl carries.2 (claim.on_data refl))
     by_phase v phase.Enter is bare ok carries to claim held = in_journal _ to (λ j lists. enters j v is)
     by_phase v phase.Count is bare ok carries to claim held = counts_by v is carries.3 claim held to
@@ -422,9 +508,10 @@ module _ (s : Session) (session : IsSession s) (t : Trace) (right : RightTrace s
     by_phase v other is bare ok carries to claim held = absurd (omega (arith, to, there))
 
     -- one that makes a page
-    by_page : (v : Vio) (page : PageId) (q : Phase) → v.phase ≡ q → v.page ≡ Some page → VioOk s t v → CarriesPage s t v page q → n ≡ zone_at s.sizes v q → HasClaim s (row q).claims v.claim v.new → AreCounted (item.Request v)
+    by_page : (v : Vio) (page : PageId) (q : Phase) → v.phase ≡ q → v.page ≡ Some page → VioOk s t v → CarriesPage s t v page q → n ≡ zone_at s.sizes v q → ClaimFor s v q → AreCounted (item.Request v)
         → Has (item.Request v)
-    by_page v page phase.Claim is some ok carries to claim held = asking v to (λ p keeps ok. claims p v is)
+    by_page v page phase.Claim is some ok carries to claim held = asking v to (λ p keeps ok. claims p v is carries.2.fewer)
+    by_page v page phase.Withdraw is some ok carries to claim held = withdraws_at v is carries.2 held to
     by_page v page phase.Store is some ok carries to claim held = in_device _ to (λ dev. stores_by dev v v.new is refl carries.2 (claim.on_data refl))
     by_page v page phase.Enter is some ok carries to claim held = in_journal _ to (λ j lists. enters j v is)
     by_page v page phase.Count is some ok carries to claim held = counts_by v is carries.1 claim held to
@@ -473,14 +560,22 @@ module _ (s : Session) (session : IsSession s) (core : Core) (legal : Legal s co
   has_rule front rest taken =
       let ok = legal.each n z had in
       item_rule s session core.trace legal.right n z.keeps ok.own (subst (λ (k : ℕ). n < k) legal.count (slice_get_within core.zones n z had)) front
-      (subst (λ (items : List Item). AllByRecursion (ItemOk s core.trace n) items) taken ok.inbox).0 held
+      (subst (λ (items : List Item). AllByRecursion (ItemOk s core.trace n) items) taken ok.inbox).0 (held, out)
     where
-      -- its claim is counted in the zone that counts
-      held : (p : PhysicalZone) → z.keeps ≡ at.Physical p → (x : Pbn) → physical_zone_of s.sizes x ≡ p.counts.zone → 1 ≤ (claim_token x).item front → 0 < claims_in x p.counts.slabs
+      -- its claim is counted in the zone that counts, and its ticket is out there
+      held : (p : PhysicalZone) → z.keeps ≡ at.Physical p → (x : Pbn) → physical_zone_of s.sizes x ≡ p.counts.zone → 1 ≤ (claim_token x).item front + out_with x p.counts.desk → 0 < claims_in x p.counts.slabs
       held p keeps x home some =
           let here = total-get (weight (claim_token x)) core.zones n z had in
           let inbox = ap (total (claim_token x).item) taken in
-          held_counted_there s core legal x n z p had keeps home (omega (arith, some, here, inbox))
+          let passed = ap (claim_token x).own keeps in
+          held_counted_there s core legal x n z p had keeps home (omega (arith, some, here, inbox, passed))
+
+      out : (p : PhysicalZone) → z.keeps ≡ at.Physical p → (number : ℕ) → 1 ≤ (ticket_token p.counts.zone (λ other. other == number)).item front → 1 ≤ out_in (λ other. other == number) p.counts
+      out p keeps number some =
+          let token = ticket_token p.counts.zone (λ other. other == number) in
+          let here = total-get (weight token) core.zones n z had in
+          let inbox = ap (total token.item) taken in
+          held_is_out s core legal n z p had keeps (λ other. other == number) (omega (arith, some, here, inbox))
 
   pub has_begin : MayBegin s.sizes z.keeps → HasAct s.sizes z.keeps []
   has_begin may = by_kind z.keeps (legal.each n z had).own may

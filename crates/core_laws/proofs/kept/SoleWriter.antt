@@ -1,7 +1,7 @@
 -- Who has the claim on a block, and hands in its entry yet, is the only one who may write it: nobody maps it. This follows from the
 -- balances of its block and its claims, and from the count law.
-use Rattle.std.proofs.Common.{◌≡◌, ◌≢◌, Contains, inl, inr, ℕ, zero, suc, ◌+◌, ◌<◌, ◌≤◌, List, [], ◌∷◌, ◌++◌, Some, slice_get, refl, ap, sym, ◌∙◌, subst, arith, if◌then◌else◌, true, false, Bool}
-use Rattle.core_laws.proofs.Common.{DataOk, Each, Item, Logged, Makes, Mapping, NewPage, OnBlock, Pbn, PhysicalZone, RightTrace, Session, Token, Trace, Vio, Zone, ZoneData, durable, eqb_tells, given, journal_number, journaled, kept_by, mapping_by, new_of, of_vio, physical_number, remappings, total, total-append, total-get, total_alone, weight}
+use Rattle.std.proofs.Common.{◌≡◌, ◌≢◌, Contains, inl, inr, ℕ, zero, suc, ◌+◌, ◌<◌, ◌≤◌, List, [], ◌∷◌, Some, slice_get, refl, ap, sym, ◌∙◌, subst, arith, if◌then◌else◌, true, false, Bool}
+use Rattle.core_laws.proofs.Common.{DataOk, Item, Logged, Makes, Mapping, NewPage, OnBlock, Pbn, PhysicalZone, RightTrace, Session, Token, Trace, Vio, Zone, ZoneData, durable, eqb_tells, given, journal_number, journaled, kept_by, mapping_by, new_of, of_vio, physical_number, remappings, total, total-append, total-get, total_alone, weight}
 use Rattle.blk_base.specs.declared.place.Mapping.TheVariants.{Unmapped, Zero, At}
 use Rattle.blk_base.specs.declared.place.PageId.{PageId}
 use Rattle.data_vio.specs.declared.items.Item.TheVariants as item

@@ -1,15 +1,17 @@
 -- Facts on the trace stay where the next happening is about something else.
-use Rattle.std.proofs.Common.{◌≡◌, ◌≢◌, ◌⊎◌, ℕ, zero, suc, ◌+◌, ◌<◌, ◌==◌, Bool, true, false, not, ◌&&◌, ◌||◌, if◌then◌else◌, Option, None, Some, IsSome, List, [], ◌∷◌, ◌≤◌, length, Contains, refl, ap, sym, ◌∙◌, inl, inr, arith}
+use Rattle.std.proofs.Common.{◌≡◌, ◌≢◌, ◌⊎◌, ℕ, zero, suc, ◌+◌, ◌<◌, ◌==◌, Bool, true, false, not, ◌&&◌, ◌||◌, if◌then◌else◌, Option, None, Some, IsSome, List, [], ◌∷◌, ◌≤◌, Contains, refl, ap, sym, ◌∙◌, subst, inl, inr, arith}
 use Rattle.disk_model.specs.declared.call.Call.TheVariants.{Read}
-use Rattle.core_laws.proofs.Common.{Aborts, AllBelow, Calls, Adds, Commits, DeskLine, Draws, Drops, Enters, Fails, Flushes, FlushMark, Gives, Happening, Hears, HasBelow, IsCommitted, HasFullJournal, IsOpen, IsPending, Logged, Makes, Pbn, Remapping, Remaps, Removes, Strays, NeedsBlock, Quiet, Says, Seals, Session, Sets, Takes, Trace, Writer, aborted, begun, committed, done, dropped, entered, eqb_tells, gift_of, gifts, has_read_fault, has_stopped, has_taken, is_read, lines, logged_of, moments, newest, of_address, place_of, places, remappings, request_in, same_self, same_writer, value_at, Passes, applied, durable, journaled, passed, mapped_or, mapping_by, opened_at, Harms, is_harmed}
+use Rattle.core_laws.proofs.Common.{Aborts, AllBelow, AllByRecursion, Calls, Adds, Commits, DeskLine, Draws, Drops, Enters, Fails, Flushes, FlushMark, Gives, Happening, Hears, HasBelow, IsCommitted, HasFullJournal, IsOpen, IsPending, Logged, Makes, Mapping, Pbn, Remapping, Remaps, Removes, Strays, NeedsBlock, Quiet, Says, Seals, Session, Sets, Takes, Trace, Writer, aborted, begun, committed, done, dropped, entered, eqb_tells, gift_of, gifts, has_read_fault, has_stopped, has_taken, is_read, lines, logged_of, moments, newest, of_address, place_of, places, remappings, request_in, same_self, same_writer, value_at, Passes, applied, durable, journaled, passed, mapped_or, mapping_by, opened_at, Harms, is_harmed}
 use Rattle.core_laws.proofs.lists.Between.{address_between, every_between, logged_between}
 use Rattle.blk_base.specs.declared.request.Answer.TheVariants as reply
 use Rattle.vdo_model.specs.FlushMarks.{Moment, Desk, Device, IsMark}
 use Rattle.vdo_model.specs.declared.report.DeskLine.TheVariants.{Begin, Answer}
 use Rattle.blk_base.specs.declared.place.PageId.{PageId}
 use Rattle.image_model.specs.Pages.{is_page, leaf_of}
-use Rattle.core_model.specs.RightTraces.{HadNoFree, HadNoFreeNear, HearingMayFollow, IsLeafy, IsLinkedAt, IsReported}
-use Rattle.core_model.specs.Trace.{added, removed, strayed}
+use Rattle.core_model.specs.RightTraces.{HadNoFree, HearingMayFollow, WasRefused, IsLeafy, IsLinkedAt, IsReported}
+use Rattle.core_model.specs.Trace.{Asks, Withdraws, added, removed, strayed}
+use Rattle.core_model.specs.Facts.{HasClaim, IsAsking, IsWithdrawing, LacksBlock}
+use Rattle.slab_counts.specs.declared.tickets.Ticket.{Ticket}
 use Rattle.vdo_model.specs.declared.report.Damage.{Damage}
 use Rattle.core_model.specs.PageLinks.{IsThere, page_in}
 
@@ -49,7 +51,9 @@ about (Gives g) = about_both g.request g.at.0
 about (Aborts e) = record { request = Some (request_in e); address = None; page = page_named e }
 about (Passes e) = about_both e.request e.at.0
 about (Takes w page x) = about_request w
-about (Drops w x) = about_request w
+about (Asks w k) = about_request w
+about (Withdraws w k got) = about_request w
+about (Drops w x to) = about_request w
 about other = record { request = None; address = None; page = None }
 
 abbrev pub OffRequest : Option Writer → Writer → Type 0
@@ -261,12 +265,54 @@ pub journal_full_kept : (s : Session) (h : Happening) (t : Trace) → HasFullJou
 journal_full_kept s Seals t full = omega (arith, full)
 journal_full_kept s other t full = full
 
+-- a ticket that was withdrawn is so from then on
+pub refused_kept : (h : Happening) (newer older : Trace) (w : Writer) (zone : ℕ) → WasRefused newer older w zone → WasRefused (h ∷ newer) older w zone
+refused_kept h newer older w zone k = record { ticket = k.ticket; zone_is = k.zone_is; asked = k.asked; withdrawn = contains_more h newer (Withdraws w k.ticket None) k.withdrawn }
+
 -- and that no data block was free at one moment
 pub no_free_kept : (s : Session) (h : Happening) (t : Trace) (w : Writer) → HadNoFree s t w → HadNoFree s (h ∷ t) w
-no_free_kept s h t w k = record { newer = h ∷ k.newer; older = k.older; moment = ap (λ (u : Trace). h ∷ u) k.moment; placed = k.placed; none_free = k.none_free }
+no_free_kept s h t w k = record {
+  newer = h ∷ k.newer;
+  older = k.older;
+  moment = ap (λ (u : Trace). h ∷ u) k.moment;
+  placed = k.placed;
+  none_free = k.none_free;
+  refused = λ zone inside. refused_kept h k.newer k.older w zone (k.refused zone inside);
+}
 
-pub no_free_near_kept : (s : Session) (h : Happening) (t : Trace) (w : Writer) → HadNoFreeNear s t w → HadNoFreeNear s (h ∷ t) w
-no_free_near_kept s h t w k = record { several = k.several; newer = h ∷ k.newer; older = k.older; moment = ap (λ (u : Trace). h ∷ u) k.moment; placed = k.placed; place_is = k.place_is; none_free = k.none_free }
+-- and what it has of tickets, over everything
+pub asked_kept : (h : Happening) (t : Trace) (w : Writer) (tickets : List Ticket) → AllByRecursion (λ k. Contains t (Asks w k)) tickets → AllByRecursion (λ k. Contains (h ∷ t) (Asks w k)) tickets
+asked_kept h t w [] all = tt
+asked_kept h t w (k ∷ others) all = (contains_more h t (Asks w k) all.0, asked_kept h t w others all.1)
+
+pub asking_kept : (s : Session) (h : Happening) (t : Trace) (w : Writer) (place : ℕ) (tickets : List Ticket) → IsAsking s t w place tickets → IsAsking s (h ∷ t) w place tickets
+asking_kept s h t w place tickets k = record { in_turn = k.in_turn; fewer = k.fewer; asked = asked_kept h t w tickets k.asked }
+
+-- one that begins to ask has no ticket yet
+pub asks_none : (s : Session) (t : Trace) (w : Writer) (place : ℕ) (tickets : List Ticket) → 1 ≤ s.sizes.physical → tickets ≡ [] → IsAsking s t w place tickets
+asks_none s t w place tickets some none = subst (IsAsking s t w place) (sym none) (record { in_turn = tt; fewer = some; asked = tt })
+
+pub may_ask : {s : Session} {claim : Option Pbn} {new : Mapping} {tickets : List Ticket} → HasClaim s false false claim new tickets → HasClaim s false true claim new tickets
+may_ask k = record { claim_is = k.claim_is; on_data = k.on_data; no_ticket = λ asks. absurd cc }
+
+pub lacking_kept : (s : Session) (h : Happening) (t : Trace) (w : Writer) (tickets : List Ticket) → LacksBlock s t w tickets → LacksBlock s (h ∷ t) w tickets
+lacking_kept s h t w tickets k = record {
+  newer = h ∷ k.newer;
+  older = k.older;
+  moment = ap (λ (u : Trace). h ∷ u) k.moment;
+  placed = k.placed;
+  each = λ zone inside. elim (k.each zone inside) [ inl was ↦ inl (refused_kept h k.newer k.older w zone was) | inr held ↦ inr held ];
+}
+
+pub withdrawing_kept : (s : Session) (h : Happening) (t : Trace) (w : Writer) (claim : Option Pbn) (tickets : List Ticket) → IsWithdrawing s t w claim tickets → IsWithdrawing s (h ∷ t) w claim tickets
+withdrawing_kept s h t w claim tickets k = record {
+  turn = k.turn;
+  in_turn = k.in_turn;
+  few = k.few;
+  some = k.some;
+  asked = asked_kept h t w tickets k.asked;
+  lacks = λ none. lacking_kept s h t w tickets (k.lacks none);
+}
 
 -- what was counted is so from then on
 pub added_has : (h : Happening) (t : Trace) (e : Logged) → Contains (added t) e → Contains (added (h ∷ t)) e
@@ -274,7 +320,7 @@ added_has (Adds f) t e has = contains_more f (added t) e has
 added_has other t e has = has
 
 pub reported_kept : (h : Happening) (t : Trace) (e : Remapping) → IsReported t e → IsReported (h ∷ t) e
-reported_kept (Removes f) t e (inl has) = inl (contains_more f (removed t) e has)
+reported_kept (Removes f to) t e (inl has) = inl (contains_more f (removed t) e has)
 reported_kept (Strays f) t e (inr has) = inr (contains_more f (strayed t) e has)
 reported_kept other t e (inl has) = inl has
 reported_kept other t e (inr has) = inr has

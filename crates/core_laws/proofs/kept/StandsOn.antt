@@ -1,5 +1,5 @@
 -- What stands on the device goes on over each call that misses it.
-use Rattle.std.proofs.Common.{◌≡◌, ◌≢◌, ◌⊎◌, ℕ, ◌<◌, Contains, Bool, true, false, List, [], ◌∷◌, ◌++◌, refl, inl, inr, subst, sym, ap, ◌∙◌, append_assoc, arith}
+use Rattle.std.proofs.Common.{◌≡◌, ◌≢◌, ◌⊎◌, ℕ, Contains, Bool, true, false, List, [], ◌∷◌, ◌++◌, refl, inl, inr, subst, sym, ap, ◌∙◌, append_assoc, arith}
 use Rattle.core_laws.proofs.Common.{AllByRecursion, AreAllThere, AtRest, Call, Calls, ComesLast, Enters, Fails, Happening, HasBlocks, Logged, Makes, MapStands, Mapping, NewPage, NewReads, NewStands, OnBlock, OnItsWay, PagesStand, Pbn, ReadsAs, ReadsBlock, Remaps, Seals, Session, Stands, Trace, Writer, all_of, durable, journaled, eqb_tells, filled, log, new_of, sealed, SuperblockStage, superblock_bytes, superblock_stage, Harms, KeptStands, mapping_by}
 pub use Rattle.core_model.specs.RightTraces.{AreElsewhere}
 use Rattle.std.proofs.lemmas.List.{append_cancel_right}

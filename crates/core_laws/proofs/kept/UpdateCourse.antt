@@ -1,11 +1,9 @@
 -- What each act owes of the updates of counters: the journal alone sends them, in the order of its entries, and the physical zone takes them.
-use Rattle.std.proofs.Common.{◌∙◌, ◌≡◌, ◌<◌, ◌≤◌, ℕ, ◌⊎◌, Bool, true, false, cond, Option, None, Some, IsSome, List, [], ◌∷◌, ◌++◌, nat_eq, refl, sym, subst, ap, inl, inr, arith}
-use Rattle.core_laws.proofs.Common.{AllByRecursion, Answer, Asks, Carries, DataOk, Desk, DeviceZone, Happening, HasAddress, HasCause, IsEarned, Item, ItemOk, JournalZone, LogicalZone, Mapping, MayFollow, MayReply, Phase, PhysicalZone, Placed, Post, Request, RightTrace, Says, SealedBlock, Session, Sizes, Trace, Vio, VioOk, Writer, ZoneData, ZoneId, append-nil, arrival, arriving, asked, begun, desk_number, device_number, eqb_tells, every-append, every-front, every-map, lines, logical_number, none_of, notified, place_of, places, request_at, request_of, same_Some, same_tells, some_of, zone_number, zone_of, Pbn, Remapping, remapping}
+use Rattle.std.proofs.Common.{if◌then◌else◌, ◌+◌, nat_lt, length, ◌∙◌, ◌≡◌, ◌<◌, ℕ, ◌⊎◌, Bool, true, false, cond, Option, None, Some, List, [], ◌∷◌, ◌++◌, nat_eq, refl, sym, subst, ap, inl, inr, arith}
+use Rattle.core_laws.proofs.Common.{AllByRecursion, Answer, Carries, DataOk, Desk, DeviceZone, Item, ItemOk, JournalZone, LogicalZone, Mapping, Phase, PhysicalZone, Post, Request, SealedBlock, Session, Sizes, Trace, Vio, Writer, ZoneData, ZoneId, append-nil, eqb_tells, every-append, notified, same_Some, zone_number, Pbn, Remapping, remapping}
 use Rattle.blk_base.specs.declared.place.Mapping.TheVariants.{Unmapped, Zero, At}
 use Rattle.blk_base.specs.declared.place.ZoneId.TheVariants as id
 use Rattle.blk_base.specs.declared.request.Request.TheVariants as request
-use Rattle.vdo_model.specs.declared.report.DeskLine.TheVariants as line
-use Rattle.data_vio.specs.declared.items.Asks.TheVariants.{Read, Write, Discard, Flush}
 use Rattle.data_vio.specs.declared.items.Item.TheVariants as item
 use Rattle.data_vio.specs.declared.items.Phase.TheVariants as phase
 use Rattle.core_model.specs.declared.zones.ZoneData.TheVariants as at
@@ -33,6 +31,8 @@ use Rattle.core_laws.proofs.kept.ZoneKinds.{physical_below}
 use Rattle.core_laws.proofs.lists.CountedIn.{AreElsewhere, counted_here, counted_part, none_in, number_counted, updates_both}
 use Rattle.core_model.specs.PageLinks.{block_in}
 use Rattle.data_vio.specs.Vios.{counts_for}
+use Rattle.data_vio.specs.Vios as vios
+use Rattle.slab_counts.specs.declared.tickets.Ticket.{Ticket}
 use Rattle.data_vio.specs.Zones.{counts_in, physical_zone_of}
 use Rattle.core_model.specs.CountUpdates.{CountUpdate, Decrement, Increment, decrement_of, increment_of, is_counted_in, mapping_of, updates_by, updates_in, updates_of, updates_taken}
 use Rattle.core_model.specs.Facts.{CarriesFor, IsToBlock, claim_of}
@@ -180,7 +180,7 @@ module _ (sizes : Sizes) (zone : ℕ) where
   hands_counted v (At x) ps is claim leads =
       comes sizes zone (physical_number sizes zone) (journal.hands_to sizes v (At x)) ps
       (elim (sent_home sizes zone x (Increment (logged v)) leads) [
-        | inl there ↦ inl (ap (λ (o : Option Pbn). zone_number sizes (counts_for sizes v.place o)) claim ∙ there)
+        | inl there ↦ inl (ap (λ (o : Option Pbn). zone_number sizes (counts_for sizes (length v.tickets + v.place) o)) claim ∙ there)
         | inr none ↦ inr none
       ])
   hands_counted v Unmapped ps is claim leads = silent sizes zone (physical_number sizes zone) (journal.hands_to sizes v Unmapped) ps refl
@@ -258,9 +258,26 @@ module _ (s : Session) (t : Trace) where
   logical_course old v new made posts kept (logical.drops page p some n m q) =
       still (past v p) (rw q (refl, every-append Still (logical.granted v.at.0 old) (logical.all_again old.lacking) (passes_still (first_for v.at.0 old.waiting)) (looks_still old.lacking kept.1))) (rw m refl) (rw m refl)
 
+  -- one that asks for a block has no entry yet
+  served_still : (u : Vio) (tickets : List Ticket) (claim : Option Pbn) → Still (physical.goes_on u tickets claim)
+  served_still u (k ∷ others) claim = refl
+  served_still u [] (Some x) = refl
+  served_still u [] None = refl
+
+  asks_still : (k : Ticket) (v : Vio) → v.phase ≡ phase.Claim → Still (physical.asks_on s.sizes (vios.holding k v))
+  asks_still k v is = by (nat_lt (length (v.tickets ++ k ∷ [])) s.sizes.physical)
+    where
+      by : (b : Bool)
+          → Still (if b then (vios.counts_of s.sizes (vios.holding k v), item.Request (vios.holding k v)) else (vios.ticket_zone (v.tickets ++ k ∷ []), item.Request (vios.withdrawing (vios.holding k v))))
+      by true = ap (λ (q : Phase). counting q (logged v)) is
+      by false = refl
+
   physical_course : (old : PhysicalZone) (v : Vio) (new : PhysicalZone) (made : Trace) (posts : List Post) → PhysicalServes s.sizes old v new made posts → Course s t (at.Physical old) (item.Request v ∷ []) made posts
-  physical_course old v new made posts (physical.claims x z p f n m q) = still (past v p) (rw q (refl, tt)) (rw m refl) (rw m refl)
-  physical_course old v new made posts (PhysicalServes.has_no_space p f n m q) = still (past v p) (rw q (refl, tt)) (rw m refl) (rw m refl)
+  physical_course old v new made posts (physical.claims x z p f n m q) = still (past v p) (rw q (served_still (vios.claiming x v) v.tickets (Some x), tt)) (rw m refl) (rw m refl)
+  physical_course old v new made posts (physical.asks k b z p fewer begins gives n m q) = still (past v p) (rw q (asks_still k v p, tt)) (rw m refl) (rw m refl)
+  physical_course old v new made posts (physical.takes_block k others x b z p has none begins from n m q) = still (past v p) (rw q (served_still (vios.claiming x (vios.with_tickets others v)) others (Some x), tt)) (rw m refl) (rw m refl)
+  physical_course old v new made posts (physical.drops_block k others x y b between z p has some begins from claim change n m q) = still (past v p) (rw q (served_still (vios.with_tickets others v) others v.claim, tt)) (rw m refl) (rw m refl)
+  physical_course old v new made posts (physical.has_none k others r b z p has begins from n m q) = still (past v p) (rw q (served_still (vios.refused r (vios.with_tickets others v)) others v.claim, tt)) (rw m refl) (rw m refl)
   physical_course old v new made posts (PhysicalServes.counts x slab z p claim own fits change n m q) =
       takes old refl (rw q (refl, tt)) (rw m (ap (λ (us : List CountUpdate). updates_taken t ++ us) (sym (past v p)))) (rw m refl)
   physical_course old v new made posts (PhysicalServes.drops x z p claim own change n m q) = still (past v p) (rw q (refl, tt)) (rw m refl) (rw m refl)
@@ -388,7 +405,7 @@ module _ (s : Session) (t : Trace) (n zone : ℕ) (number : n ≡ physical_numbe
       counts : (m : Mapping) → v.new ≡ m → IsToBlock m → v.phase ≡ phase.Count → is_counted_in s.sizes zone (new_of (logged v)) ≡ true
       counts (At x) to block is =
           let claim : v.claim ≡ Some x = (claim_at s v phase.Count is ok.3).claim_is ∙ ap (claim_of true) to in
-          let there : n ≡ zone_number s.sizes (counts_in s.sizes x) = ok.2 ∙ ap (λ (q : Phase). zone_at s.sizes v q) is ∙ ap (λ (o : Option Pbn). zone_number s.sizes (counts_for s.sizes v.place o)) claim in
+          let there : n ≡ zone_number s.sizes (counts_in s.sizes x) = ok.2 ∙ ap (λ (q : Phase). zone_at s.sizes v q) is ∙ ap (λ (o : Option Pbn). zone_number s.sizes (counts_for s.sizes (length v.tickets + v.place) o)) claim in
           of_block x there (new_of (logged v)) (leads_new v v.page (At x) refl to (λ page some. tt))
       counts Unmapped to block is = absurd block
       counts Zero to block is = absurd block

@@ -1,5 +1,5 @@
 -- Which physical zone counts a block: by its test, by its number among the zones, and in lists of updates.
-use Rattle.std.proofs.Common.{◌≡◌, ◌≢◌, ℕ, ◌%◌, ◌<◌, ◌≤◌, Bool, true, false, Option, None, Some, List, [], ◌∷◌, ◌++◌, filter, refl, ap, sym, ◌∙◌, inl, inr, arith}
+use Rattle.std.proofs.Common.{◌≡◌, ◌≢◌, ℕ, ◌+◌, ◌%◌, length, ◌<◌, ◌≤◌, Bool, true, false, Option, None, Some, List, [], ◌∷◌, ◌++◌, filter, refl, ap, sym, ◌∙◌, inl, inr, arith}
 use Rattle.std.proofs.Math.Nat.{mod-lt}
 use Rattle.std.proofs.lemmas.List.Elements.{filter-append}
 use Rattle.blk_base.specs.declared.place.Mapping.TheVariants.{Unmapped, Zero, At}
@@ -30,8 +30,11 @@ zone_inside sizes x some = mod-lt (slab_number sizes.geometry x) (omega (arith, 
 pub zone_of_vio : (sizes : Sizes) (v : Vio) → 1 ≤ sizes.physical → (zone : ℕ) × (zone < sizes.physical) × (counts_of sizes v ≡ id.Physical zone)
 zone_of_vio sizes v some = by v.claim
   where
-    by : (claim : Option Pbn) → (zone : ℕ) × (zone < sizes.physical) × (counts_for sizes v.place claim ≡ id.Physical zone)
-    by None = (v.place % sizes.physical, mod-lt v.place (omega (arith, some)), refl)
+    turn : ℕ
+    turn = length v.tickets + v.place
+
+    by : (claim : Option Pbn) → (zone : ℕ) × (zone < sizes.physical) × (counts_for sizes turn claim ≡ id.Physical zone)
+    by None = (turn % sizes.physical, mod-lt turn (omega (arith, some)), refl)
     by (Some x) = (physical_zone_of sizes x, zone_inside sizes x some, refl)
 
 pub counts_within : (sizes : Sizes) (v : Vio) → 1 ≤ sizes.physical → zone_number sizes (counts_of sizes v) < zone_count sizes

@@ -1,9 +1,8 @@
 -- The report of a decrement comes to a logical zone: it is kept, or the slot of the request that waits for it is set.
-use Rattle.std.proofs.Common.{◌≡◌, ◌⊎◌, ℕ, ◌+◌, ◌<◌, ◌≤◌, Bool, true, false, if◌then◌else◌, Contains, Option, None, Some, is_some, List, [], ◌∷◌, ◌++◌, refl, sym, ◌∙◌, ap, subst, inl, inr, arith}
+use Rattle.std.proofs.Common.{◌≡◌, ◌⊎◌, ℕ, ◌+◌, ◌<◌, Bool, true, false, if◌then◌else◌, Contains, None, Some, is_some, List, [], ◌∷◌, ◌++◌, refl, sym, ◌∙◌, ap, subst, inl, inr, arith}
 use Rattle.std.specs.List.{find}
-use Rattle.core_laws.proofs.Common.{AllBelow, AllByRecursion, DataOk, IsCommitted, IsEntered, IsSession, IsToData, KeptEach, KeptOk, LogicalZone, OnBlock, Post, Quiet, Remapping, Remaps, RightTrace, Session, Sets, Trace, Vio, VioOk, Writer, done, ended, eqb_tells, every-append, fair_before, kept_by, logged, logical_number, remapping, same_self, same_tells, same_writer, some_is, total, total-append, total-get, zone_of}
+use Rattle.core_laws.proofs.Common.{AllBelow, AllByRecursion, DataOk, IsCommitted, IsEntered, KeptOk, LogicalZone, OnBlock, Post, Quiet, Remapping, Remaps, RightTrace, Session, Sets, Trace, Vio, Writer, done, ended, eqb_tells, every-append, fair_before, kept_by, logged, logical_number, remapping, same_self, same_tells, same_writer, some_is, total-append, zone_of}
 use Rattle.blk_base.specs.Regions.{IsDataBlock}
-use Rattle.blk_base.specs.declared.place.ZoneId.TheVariants as id
 use Rattle.blk_base.specs.declared.request.Answer.TheVariants as reply
 use Rattle.data_vio.specs.declared.items.Item.TheVariants as item
 use Rattle.data_vio.specs.declared.items.Phase.TheVariants as phase

@@ -1,7 +1,7 @@
 -- What the acts of a logical zone owe: a request draws its place, and is done with its lock.
-use Rattle.std.proofs.Common.{◌≡◌, Contains, ℕ, ◌+◌, ◌==◌, ◌≢◌, ◌⊎◌, ◌&&◌, Bool, true, false, not, if◌then◌else◌, Option, None, Some, is_some, length, length-append, IsNone, List, [], ◌∷◌, ◌++◌, refl, ap, sym, ◌∙◌, inl, inr, arith, ◌<◌, IsSome, subst}
+use Rattle.std.proofs.Common.{◌≡◌, Contains, ℕ, ◌+◌, ◌==◌, ◌⊎◌, ◌&&◌, Bool, true, false, not, if◌then◌else◌, Option, None, Some, is_some, length, length-append, IsNone, List, [], ◌∷◌, ◌++◌, refl, ap, sym, ◌∙◌, inl, inr, arith, ◌<◌, IsSome, subst}
 use Rattle.std.proofs.lemmas.Bool.{and_parts, cases_Bool}
-use Rattle.core_laws.proofs.Common.{Aborts, Entry, IsInTurn, Mapping, Passes, applied, durable, has_taken, journaled, newest, of_address, option_cases, passed, remappings, AllBelow, AllByRecursion, Asks, DataOk, DeskLine, Draws, FlushMark, Follows, Gives, GivesRight, Happening, HasAddress, HasEarned, IsChange, IsCommitted, IsEntered, IsFair, IsForBlock, IsOfZone, IsPlaced, IsUndrawn, KeptEach, KeptOk, Lba, Lock, LocksOk, Remapping, LogicalZone, Looks, MayReply, OnBlock, Pbn, Phase, Placed, PlaceMayFollow, Post, Quiet, RightTrace, Session, Sets, Trace, Vio, VioOk, Writer, aborted, answer_of, asked, before_begin, done, ended, eq-eqb, eqb_tells, every-append, every-map, fair_before, gift, gift_of, gifts, has_stopped, holds, lines, logged_of, logical_number, places, request_at, same_self, same_writer, some_is, turned, value_at, zone_number, zone_of, Remaps, remapping, mapped_or, mapping_by, opened_at, IsToData, zone_count, same_Some, Holds, each_both}
+use Rattle.core_laws.proofs.Common.{Aborts, IsInTurn, Mapping, Passes, applied, durable, has_taken, journaled, newest, of_address, option_cases, passed, remappings, AllBelow, AllByRecursion, Asks, DataOk, DeskLine, Draws, FlushMark, Follows, Gives, GivesRight, Happening, HasAddress, HasEarned, IsChange, IsCommitted, IsEntered, IsFair, IsForBlock, IsOfZone, IsPlaced, IsUndrawn, KeptEach, KeptOk, Lba, Lock, LocksOk, Remapping, LogicalZone, Looks, MayReply, OnBlock, Pbn, Phase, Placed, PlaceMayFollow, Post, Quiet, RightTrace, Session, Sets, Trace, Vio, VioOk, Writer, aborted, answer_of, asked, before_begin, done, ended, eq-eqb, eqb_tells, every-append, every-map, fair_before, gift, gift_of, gifts, has_stopped, holds, lines, logged_of, logical_number, places, request_at, same_self, same_writer, some_is, turned, value_at, zone_number, zone_of, Remaps, remapping, mapped_or, mapping_by, opened_at, IsToData, zone_count, same_Some, Holds}
 use Rattle.data_vio.specs.declared.items.Asks.TheVariants.{Read, Write, Discard, Flush}
 use Rattle.core_model.specs.Legal.{ComesAfter}
 use Rattle.core_model.specs.LogicalRules.{is_among, is_held, lock_of, placed, place_of_vio, drawn_by, goes_on, is_discard, known_at, known_by, lacks, latest_at, looked, pass_of, passes_by, looks_up, released, granted, retire, all_stopped, all_for, with_slot}
@@ -71,7 +71,7 @@ module _ {s : Session} {t : Trace} {n : ℕ} {l : LogicalZone} {v : Vio} (known 
   pub zone_is : zone_of s.sizes.zones v.at.0 ≡ l.zone
   zone_is =
       let number = known.own.number_is in
-      let here = at_home s.sizes n l.zone v.home v.place v.claim (row v.phase).zone number known.own.sound.among known.front_ok.0.2 in
+      let here = at_home s.sizes n l.zone v.home (length v.tickets + v.place) v.claim v.tickets (row v.phase).zone number known.own.sound.among known.front_ok.0.2 in
       let name = ap (zone_number s.sizes) front_ok.home in
       omega (arith, here, name, number)
 

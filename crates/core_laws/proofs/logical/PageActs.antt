@@ -18,6 +18,7 @@ use Rattle.data_vio.specs.Vios as vios
 use Rattle.data_vio.specs.Vios.{gives_up, makes}
 use Rattle.core_model.specs.declared.zones.ZoneData.TheVariants as at
 use Rattle.core_model.specs.Facts.{Awaits, HasPageEntry, IsUnmade, MakesPage, PagesOk, HasClaim}
+use Rattle.slab_counts.specs.declared.tickets.Ticket.{Ticket}
 use Rattle.core_model.specs.LogicalRules.{IsLinked, all_again, first_for, granted, lacks, lacks_for, passed_to, released, unmade, woken}
 use Rattle.core_model.specs.LogicalRules as logical
 use Rattle.core_model.specs.PageLinks.{MayLack}
@@ -31,6 +32,7 @@ use Rattle.core_laws.proofs.kept.Frame.{reports_on}
 use Rattle.core_laws.proofs.kept.Carried.{reply_said}
 use Rattle.core_laws.proofs.kept.Frame.{told_kept}
 use Rattle.core_laws.proofs.kept.Keys.{Clears}
+use Rattle.core_laws.proofs.kept.Spared.{asks_none, may_ask}
 use Rattle.core_laws.proofs.kept.Spared.{below_kept, quiet_kept}
 use Rattle.core_laws.proofs.logical.LogicalFacts.{After, home, home_is, leased, own_clears}
 use Rattle.core_laws.proofs.logical.PageFacts.{lacked_path, lacking_page}
@@ -56,8 +58,8 @@ same_forest old new page same linkable = record {
 }
 
 -- whoever has no claim has none, whatever it maps its address to
-none_left : {s : Session} {claim : Option Pbn} {new : Mapping} → claim ≡ None → HasClaim s false claim new
-none_left none = record { claim_is = none; on_data = λ holds. absurd cc }
+none_left : {s : Session} {claim : Option Pbn} {new : Mapping} {tickets : List Ticket} → claim ≡ None → tickets ≡ [] → HasClaim s false false claim new tickets
+none_left none bare = record { claim_is = none; on_data = λ holds. absurd cc; no_ticket = λ asks. bare }
 
 -- those that waited for a page come again
 again_ok : (s : Session) (t : Trace) (zone : ℕ) (vs : List Vio) → zone < s.sizes.zones → AllByRecursion (KeptOk s t phase.Look) vs → AllByRecursion (λ (v : Vio). v.home ≡ id.Logical zone) vs
@@ -168,7 +170,7 @@ module _ {s : Session} {t : Trace} {n : ℕ} {l : LogicalZone} {v : Vio} (known 
           kept = k.kept;
           answers = (k.answers.0, λ p linkable unlinked unmade yet. k.answers.1 p linkable unlinked (listed_cut p page l.making unmade).0 yet);
           told = k.told;
-        }) ((counts_within s.sizes v known.session.zones.1, (vio_ok known, (making, k.answers.1 page lacking.linkable lacking.unlinked unmade_yet may_yet), refl, claim_in known phase.Look is)), tt)
+        }) ((counts_within s.sizes v known.session.zones.1, (vio_ok known, (making, k.answers.1 page lacking.linkable lacking.unlinked unmade_yet may_yet, asks_none s t v.request v.place v.tickets known.session.zones.1 ((claim_in known phase.Look is).no_ticket refl)), refl, may_ask (claim_in known phase.Look is))), tt)
       where
         one_more : (p : PageId) → times p (l.making ++ page ∷ []) ≤ 1
         one_more p =
@@ -277,7 +279,7 @@ module _ {s : Session} {t : Trace} {n : ℕ} {l : LogicalZone} {v : Vio} (known 
               facts.0.none_taken,
             ),
             refl,
-            none_left (claim_in known phase.Settle is).claim_is,
+            none_left (claim_in known phase.Settle is).claim_is ((claim_in known phase.Settle is).no_ticket refl),
           ),
         )
 
@@ -315,7 +317,7 @@ module _ {s : Session} {t : Trace} {n : ℕ} {l : LogicalZone} {v : Vio} (known 
         let turn = unmaking.0.turn in
         let both = release_ok s t n (woken (unmade page l)) known.session known.right unmade_ok v (leased known phase.Abort is refl) (home known) turn.quiet (below_more t v.at.0 v.place (v.place + 1) (omega arith) turn.below) in
         act_none known (subst (λ (z : LogicalZone). DataOk s t n (at.Logical z)) (sym (release_after page v.at.0 l)) both.0)
-        ((omega arith, (vio_ok known, unmaking.2, refl, none_left (claim_in known phase.Abort is).claim_is)), every-append (PostOk s t) (granted v.at.0 l) (all_again l.lacking) both.1 (again_ok s t l.zone l.lacking known.own.sound.among known.own.kept.1 known.own.sound.pages.at_home))
+        ((omega arith, (vio_ok known, unmaking.2, refl, none_left (claim_in known phase.Abort is).claim_is ((claim_in known phase.Abort is).no_ticket refl))), every-append (PostOk s t) (granted v.at.0 l) (all_again l.lacking) both.1 (again_ok s t l.zone l.lacking known.own.sound.among known.own.kept.1 known.own.sound.pages.at_home))
 
   -- .. or with its entry handed in: it is never linked.
   module _ (is : v.phase ≡ phase.AbortEntered) (page : PageId) (x : Pbn) (some : v.page ≡ Some page) (to : v.new ≡ At x) where
@@ -362,6 +364,6 @@ module _ {s : Session} {t : Trace} {n : ℕ} {l : LogicalZone} {v : Vio} (known 
         let again = again_ok s (drop ∷ t) l.zone l.lacking known.own.sound.among (line_kept known drop t clears_drop known.own.kept).1 known.own.sound.pages.at_home in
         act_one known drop clears_drop (λ gives fair. gives (fair_before s drop t fair)) right_drop
         (subst (λ (z : LogicalZone). DataOk s (drop ∷ t) n (at.Logical z)) (sym (release_dropped page v.at.0 l)) both.0) (
-          (omega arith, (vio_over s drop t v refl (vio_ok known), reply_said s drop t v v.answer (record { of_place = refl; of_entry = refl; of_slot = refl; of_gift = refl; of_take = refl }) dropping.3, refl, none_left (claim_in known phase.AbortEntered is).claim_is)),
+          (omega arith, (vio_over s drop t v refl (vio_ok known), reply_said s drop t v v.answer (record { of_place = refl; of_entry = refl; of_slot = refl; of_gift = refl; of_take = refl }) dropping.3, refl, none_left (claim_in known phase.AbortEntered is).claim_is ((claim_in known phase.AbortEntered is).no_ticket refl))),
           every-append (PostOk s (drop ∷ t)) (granted v.at.0 l) (all_again l.lacking) both.1 again,
         )

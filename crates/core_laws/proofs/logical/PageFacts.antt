@@ -1,5 +1,5 @@
 -- The trees of a logical zone: a page that isn't linked there isn't there.
-use Rattle.std.proofs.Common.{ℕ, zero, suc, ◌+◌, ◌-◌, ◌<◌, ◌≡◌, ◌≢◌, ◌/◌, ◌%◌, ◌^◌, ◌⊎◌, true, false, Option, None, Some, IsSome, is_some, List, ◌∷◌, refl, ap, sym, ◌∙◌, subst, inl, inr, arith}
+use Rattle.std.proofs.Common.{ℕ, zero, suc, ◌+◌, ◌-◌, ◌<◌, ◌≡◌, ◌≢◌, ◌/◌, ◌%◌, ◌⊎◌, true, false, Option, None, Some, IsSome, is_some, List, ◌∷◌, refl, ap, sym, ◌∙◌, subst, inl, inr, arith}
 use Rattle.std.proofs.lemmas.Bool.{cases_Bool}
 use Rattle.core_laws.proofs.logical.PagePaths.{above_path}
 use Rattle.data_vio.specs.declared.items.Asks.TheVariants.{Write}

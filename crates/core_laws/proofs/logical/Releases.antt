@@ -16,6 +16,7 @@ use Rattle.core_model.specs.PageLinks.{block_in}
 use Rattle.core_model.specs.Facts.{CarriesOwn, HasClaim, IsChange}
 use Rattle.core_model.specs.RightTraces.{IsLeafy}
 use Rattle.core_model.specs.LogicalRules.{are_zeros, is_among, is_held, without, first_for, all_for, none_for, looks_up, passes_on, read_next, goes_on, passed_to, released, granted, retire, all_stopped}
+use Rattle.core_laws.proofs.kept.Spared.{asks_none, may_ask}
 use Rattle.core_laws.proofs.kept.ActKept.{PostOk, bare_of, carries_at, claim_at, carries_own, unentered_slot}
 use Rattle.core_laws.proofs.logical.LockLaws.{place_drawn, waits_behind, one_back, one_passed, one_retired}
 use Rattle.core_laws.proofs.tokens.Known.{Leased}
@@ -41,14 +42,14 @@ pub asked_read : (asks : Asks) (v : Vio) (bytes : List ℕ) → asks ≡ Read �
 asked_read asks v bytes is = rw is refl
 
 -- whoever gets a lock may look up what is mapped there
-pub looks_ok : (s : Session) (t : Trace) (zone : ℕ) → zone < s.sizes.zones → (u : Vio) → VioOk s t u → u.home ≡ id.Logical zone → u.page ≡ None → IsInTurn s t u → has_taken t u.request ≡ false → HasClaim s false u.claim u.new → PostOk s t (looks_up u)
+pub looks_ok : (s : Session) (t : Trace) (zone : ℕ) → zone < s.sizes.zones → (u : Vio) → VioOk s t u → u.home ≡ id.Logical zone → u.page ≡ None → IsInTurn s t u → has_taken t u.request ≡ false → HasClaim s false false u.claim u.new u.tickets → PostOk s t (looks_up u)
 looks_ok s t zone among u ok home bare turn none_taken claim =
     let here = ap (zone_number s.sizes) home in
     (omega (arith, among, here), (record { asked = ok.asked; is_open = ok.is_open; address = ok.address; home = ok.home }, carries_own s t (turned phase.Look u) phase.Look bare (turn, none_taken), refl, claim))
 
 -- Whoever knows what its address is mapped to goes where that says.
 module _ (s : Session) (t : Trace) (session : IsSession s) (right : RightTrace s t) (u : Vio) (ok : VioOk s t u) (bare : u.page ≡ None) (none_taken : has_taken t u.request ≡ false) (held : Holds s t u)
-    (latest_is : u.latest ≡ newest (of_address u.at.0 (remappings (applied t)))) (leafy : IsChange u.asks → IsLeafy s t u.at.0) (within : zone_number s.sizes u.home < zone_count s.sizes) (claim : HasClaim s false u.claim u.new) where
+    (latest_is : u.latest ≡ newest (of_address u.at.0 (remappings (applied t)))) (leafy : IsChange u.asks → IsLeafy s t u.at.0) (within : zone_number s.sizes u.home < zone_count s.sizes) (claim : HasClaim s false false u.claim u.new u.tickets) where
   -- a read of zeros: what was done there last maps the address to no block, or the opened image does
   zeros : (m : Mapping) → ((x : Pbn) → m ≢ At x) → value_with s.image m ≡ zero_block → u.old ≡ m → IsFair s t → zero_block ≡ value_at s t u.at.0
   zeros m off zero is fair =
@@ -93,13 +94,13 @@ module _ (s : Session) (t : Trace) (session : IsSession s) (right : RightTrace s
   discard_mapped q is = rw is tt
 
   -- one that maps its address to no block has no claim
-  none_claimed : (m : Mapping) → block_in m ≡ None → OnBlock (λ x. IsDataBlock s.sizes.geometry x.0) m → HasClaim s true u.claim m
-  none_claimed m none all = record { claim_is = claim.claim_is ∙ sym none; on_data = λ holds. all }
+  none_claimed : (m : Mapping) → block_in m ≡ None → OnBlock (λ x. IsDataBlock s.sizes.geometry x.0) m → HasClaim s true false u.claim m u.tickets
+  none_claimed m none all = record { claim_is = claim.claim_is ∙ sym none; on_data = λ holds. all; no_ticket = claim.no_ticket }
 
   pub goes_ok : (post : Post) → goes_on s.sizes u ≡ Some post → PostOk s t post
   goes_ok post goes = goes_by (PostOk s t) s.sizes u post goes (λ reads. read_ok reads u.old refl)
       (λ writes zero. (omega arith, (ok, carries_own s t (record u { phase = phase.Enter; new = Zero }) phase.Enter bare (held, zeros_mapped u.asks writes (zero_bytes u.asks writes ok.asked zero), (λ fair. tt), leafy (rw writes tt)), refl, none_claimed Zero refl tt)))
-      (λ writes others. (counts_within s.sizes u session.zones.1, (ok, carries_own s t (turned phase.Claim u) phase.Claim bare (held, writes, record { not_zeros = others_are u.bytes others; none_taken = none_taken }, leafy (rw writes tt)), refl, claim)))
+      (λ writes others. (counts_within s.sizes u session.zones.1, (ok, carries_own s t (turned phase.Claim u) phase.Claim bare (held, writes, record { not_zeros = others_are u.bytes others; none_taken = none_taken }, leafy (rw writes tt), asks_none s t u.request u.place u.tickets session.zones.1 (claim.no_ticket refl)), refl, may_ask claim)))
       (λ discards. (omega arith, (ok, carries_own s t (record u { phase = phase.Enter; new = Unmapped }) phase.Enter bare (held, discard_mapped u.asks discards, (λ fair. tt), leafy (rw discards tt)), refl, none_claimed Unmapped refl tt)))
 
 -- A greater place has a lower one still.
@@ -120,7 +121,7 @@ stopped_cause s t v Write right stopped behind block place = (stopped, some_is _
 stopped_cause s t v Discard right stopped behind block place = (stopped, some_is _ _ place.placed, unentered_slot s t v.request right place.not_entered)
 stopped_cause s t v Flush right stopped behind block place = absurd block
 
-pub stopped_ok : (s : Session) (t : Trace) (v : Vio) → RightTrace s t → has_stopped t ≡ true → HasBelow v.at.0 v.place (aborted t) → VioOk s t v → v.page ≡ None → IsPlaced s t v → HasClaim s false v.claim v.new → PostOk s t (id.Desk, item.Request (ended phase.Reply reply.Stopped v))
+pub stopped_ok : (s : Session) (t : Trace) (v : Vio) → RightTrace s t → has_stopped t ≡ true → HasBelow v.at.0 v.place (aborted t) → VioOk s t v → v.page ≡ None → IsPlaced s t v → HasClaim s false false v.claim v.new v.tickets → PostOk s t (id.Desk, item.Request (ended phase.Reply reply.Stopped v))
 stopped_ok s t v right stopped behind ok bare place claim = (omega arith, (ok, carries_own s t (ended phase.Reply reply.Stopped v) phase.Reply bare (stopped_cause s t v v.asks right stopped behind place.for_block place), refl, claim))
 
 pub all_stopped_ok : (s : Session) (t : Trace) (vs : List Vio) → RightTrace s t → has_stopped t ≡ true → AllByRecursion (λ v. KeptOk s t phase.Wait v × HasBelow v.at.0 v.place (aborted t)) vs

@@ -6,12 +6,14 @@ use Rattle.blk_base.specs.declared.request.Answer.TheVariants as reply
 use Rattle.vdo_model.specs.declared.report.DeskLine.TheVariants as line
 use Rattle.data_vio.specs.declared.items.Item.TheVariants.{Request, Block, Decrement, Report, StopNotice}
 use Rattle.data_vio.specs.declared.items.Item.TheVariants as item
-use Rattle.data_vio.specs.Vios.{claiming, unclaiming}
+use Rattle.data_vio.specs.Vios.{unclaiming}
+use Rattle.slab_counts.specs.declared.tickets.Receipt.{Receipt}
+use Rattle.slab_counts.specs.declared.tickets.Ticket.{Ticket}
 use Rattle.core_model.specs.PageLinks.{block_in}
 use Rattle.core_model.specs.PhysicalRules.{with_counts}
 use Rattle.slab_counts.specs.Calls.{one_of}
 use Rattle.zone_counts.specs.Zone.{Zone}
-use Rattle.core_laws.proofs.tokens.Moves.{Moves, no_block}
+use Rattle.core_laws.proofs.tokens.Moves.{AsksIn, Moves, Passes, no_block}
 use Rattle.data_vio.specs.declared.items.Phase.TheVariants as phase
 use Rattle.data_vio.specs.declared.items.Stage.TheVariants as stage
 use Rattle.core_model.specs.declared.zones.ZoneData.TheVariants as at
@@ -61,6 +63,26 @@ pub record Onward : Type 0 where
 abbrev pub onward : Onward → Vio → Vio
 onward on v = record v { phase = on.phase; leaf = on.leaf; old = on.old; latest = on.latest; new = on.new; bytes = on.bytes }
 
+-- A phase in which a request has the lock of its address, and no entry of it was handed in.
+pub record IsEarly (q : Phase) : Type 0 where
+  pub locks : holds q ≡ true
+  pub unowed : owes q ≡ false
+  pub unentered : has_entry q ≡ false
+  pub uncommitted : is_committed q ≡ false
+
+-- how a request goes on that asked for a block, or withdrew a ticket
+pub record Further : Type 0 where
+  pub phase : Phase
+  pub new : Mapping
+  pub claim : Option Pbn
+  pub tickets : List Ticket
+  pub receipt : Option Receipt
+  pub answer : Option Answer
+  pub early : IsEarly phase
+
+abbrev pub further : Further → Vio → Vio
+further on v = record v { phase = on.phase; new = on.new; claim = on.claim; tickets = on.tickets; receipt = on.receipt; answer = on.answer }
+
 -- a request with its answer
 abbrev pub replied : Option Answer → Vio → Vio
 replied answer v = record v { phase = phase.Reply; answer = answer }
@@ -100,13 +122,13 @@ pub data IsDecrementOf (v : Vio) : Sum → Type 0 where
 pub data Row (sizes : Sizes) : ZoneData → ZoneData → Sum → Sum → Type 0 where
   -- the desk
   says : (d : Desk) (w : Writer) (a : Answer) → Row sizes (at.Desk d) (at.Desk (record d { log = line.Answer w a ∷ line.Begin w ∷ d.log })) (all_in phase.Reply d.parked) (all_in phase.Reply d.parked)
-  begins : (d : Desk) (v : Vio) → v.page ≡ None → v.claim ≡ None
+  begins : (d : Desk) (v : Vio) → v.page ≡ None → v.claim ≡ None → v.tickets ≡ []
       → Row sizes (at.Desk d) (at.Desk (record d { log = line.Begin v.request ∷ d.log })) (all_in phase.Reply d.parked) (λ f. f (Request (turned phase.Arrive v)) + all_in phase.Reply d.parked f)
-  begins_flush : (d : Desk) (v : Vio) → v.page ≡ None → v.claim ≡ None
+  begins_flush : (d : Desk) (v : Vio) → v.page ≡ None → v.claim ≡ None → v.tickets ≡ []
       → Row sizes (at.Desk d) (at.Desk (record d { log = line.Begin v.request ∷ d.log })) (all_in phase.Reply d.parked) (λ f. f (Request (turned phase.Flush v)) + all_in phase.Reply d.parked f)
   parks : (d : Desk) (v : Vio) (parked : List Vio)
       → Row sizes (at.Desk d) (at.Desk (record d { parked = parked })) (λ f. f (Request (turned phase.Reply v)) + all_in phase.Reply d.parked f) (λ f. f (Request (turned phase.Reply v)) + all_in phase.Reply d.parked f)
-  answers : (d : Desk) (v : Vio) (a : Answer) (marks : List FlushMark) → v.page ≡ None → v.claim ≡ None
+  answers : (d : Desk) (v : Vio) (a : Answer) (marks : List FlushMark) → v.page ≡ None → v.claim ≡ None → v.tickets ≡ []
       → Row sizes (at.Desk d) (at.Desk (record d { log = line.Answer v.request a ∷ d.log; marks = marks })) (λ f. f (Request (turned phase.Reply v)) + all_in phase.Reply d.parked f) (all_in phase.Reply d.parked)
   hears : (d : Desk) → Row sizes (at.Desk d) (at.Desk (with_notice d)) (λ f. f StopNotice + all_in phase.Reply d.parked f) (all_in phase.Reply d.parked)
   -- a logical zone
@@ -146,16 +168,15 @@ pub data Row (sizes : Sizes) : ZoneData → ZoneData → Sum → Sum → Type 0 
       → Row sizes (at.Logical l) (at.Logical (record l { settling = settling; reported = l.reported ++ e ∷ [] })) (λ f. f (Report e) + others f) others
   tells_logical : (l : LogicalZone) → Row sizes (at.Logical l) (at.Logical (record l { notified = true })) (λ f. f StopNotice + all_in phase.Wait l.waiting f) (λ f. f StopNotice + all_in phase.Wait l.waiting f)
   -- the physical zone
-  claims_block : (p : PhysicalZone) (z : Zone) (v : Vio) (x : Pbn) → v.claim ≡ None → Moves p.counts z (one_of x) no_block no_block
-      → Row sizes (at.Physical p) (at.Physical (with_counts z p)) (λ f. f (Request (turned phase.Claim v))) (λ f. f (Request (claiming x v)))
-  finds_none : (p : PhysicalZone) (v : Vio) (a : Answer) → Row sizes (at.Physical p) (at.Physical p) (λ f. f (Request (turned phase.Claim v))) (λ f. f (Request (ended phase.Abort a v)))
-  counts_block : (p : PhysicalZone) (z : Zone) (v : Vio) (x : Pbn) → v.claim ≡ Some x → Moves p.counts z no_block no_block (one_of x)
+  asks_on : (p : PhysicalZone) (z : Zone) (v : Vio) (q : Phase) (on : Further) → IsEarly q → AsksIn p.counts z v on.claim on.tickets
+      → Row sizes (at.Physical p) (at.Physical (with_counts z p)) (λ f. f (Request (turned q v))) (λ f. f (Request (further on v)))
+  counts_block : (p : PhysicalZone) (z : Zone) (v : Vio) (x : Pbn) → v.claim ≡ Some x → Moves p.counts z no_block no_block (one_of x) → Passes p.counts z no_block no_block
       → Row sizes (at.Physical p) (at.Physical (with_counts z p)) (λ f. f (Request (turned phase.Count v))) (λ f. f (Request (unclaiming phase.Settle v)))
-  drops_claim : (p : PhysicalZone) (z : Zone) (v : Vio) (x : Pbn) → v.claim ≡ Some x → Moves p.counts z no_block (one_of x) (one_of x)
+  drops_claim : (p : PhysicalZone) (z : Zone) (v : Vio) (x : Pbn) (given : Pbn → ℕ) → v.claim ≡ Some x → Moves p.counts z given (one_of x) (one_of x) → Passes p.counts z given no_block
       → Row sizes (at.Physical p) (at.Physical (with_counts z p)) (λ f. f (Request (turned phase.AbortClaim v))) (λ f. f (Request (unclaiming phase.Abort v)))
   drops_none : (p : PhysicalZone) (v : Vio) → Row sizes (at.Physical p) (at.Physical p) (λ f. f (Request (turned phase.AbortClaim v))) (λ f. f (Request (turned phase.Abort v)))
   spends_claim : (p : PhysicalZone) (v : Vio) → Row sizes (at.Physical p) (at.Physical p) (λ f. f (Request (turned phase.AbortEnteredClaim v))) (λ f. f (Request (unclaiming phase.AbortEntered v)))
-  removes : (p : PhysicalZone) (z : Zone) (e : Remapping) (x : Pbn) → e.old ≡ At x → Moves p.counts z no_block (one_of x) no_block
+  removes : (p : PhysicalZone) (z : Zone) (e : Remapping) (x : Pbn) (given : Pbn → ℕ) → e.old ≡ At x → Moves p.counts z given (one_of x) no_block → Passes p.counts z given no_block
       → Row sizes (at.Physical p) (at.Physical (with_counts z p)) (λ f. f (Decrement e)) (λ f. f (Report e))
   strays : (p : PhysicalZone) (e : Remapping) (damage : Damage) → Row sizes (at.Physical (record p { strays = [] })) (at.Physical (record p { strays = e ∷ [] })) (λ f. f (Decrement e)) (λ f. f (Report e) + f (item.Damage damage))
   strays_again : (p : PhysicalZone) (e first : Remapping) (strays : List Remapping)

@@ -1,5 +1,5 @@
 -- Each act is one of the rows that the tokens see.
-use Rattle.std.proofs.Common.{◌≡◌, ℕ, suc, ◌+◌, ◌*◌, true, false, not, Option, None, Some, is_some, List, [], ◌∷◌, ◌++◌, length, length-append, map, slice_index_or, refl, ap, sym, ◌∙◌, subst, inl, inr, arith, ◌&&◌, if◌then◌else◌}
+use Rattle.std.proofs.Common.{◌≡◌, ℕ, suc, ◌+◌, ◌*◌, true, false, not, Option, None, Some, is_some, List, [], ◌∷◌, ◌++◌, length, length-append, map, slice_index_or, refl, ap, sym, ◌∙◌, subst, inl, inr, arith, ◌&&◌, if◌then◌else◌, nat_lt}
 use Rattle.core_laws.proofs.Common.{AllByRecursion, Answer, Desk, DeviceZone, Item, JournalZone, Remapping, LogicalZone, Mapping, Pbn, Phase, PhysicalZone, Post, SealedBlock, Sizes, Trace, Vio, ZoneData, ZoneId, as_items, bit, eqb_tells, every-map, has_entry, holds, notified, notified_zones, queued, same_Some, same_tells, same_writer, total, total-append, turned, Writer, cases_Bool, ended, has_old, is_committed, is_old, logged, owes, remapping, remappings, waiter_weight}
 use Rattle.std.proofs.Common.{Bool}
 use Rattle.blk_base.specs.Sectors.{zero_block}
@@ -22,8 +22,15 @@ use Rattle.core_model.specs.JournalRules as journal
 use Rattle.core_model.specs.PhysicalRules as physical
 use Rattle.core_model.specs.PhysicalRules.{PhysicalServes, PhysicalTakes, tells}
 use Rattle.core_model.specs.PageLinks.{block_in}
-use Rattle.zone_counts.specs.Zone.{IsZone}
-use Rattle.core_laws.proofs.tokens.Moves.{counted_moves, dropped_moves, given_moves, removed_moves}
+use Rattle.zone_counts.specs.Zone.{IsZone, Zone}
+use Rattle.core_laws.proofs.tokens.AskMoves.{asks_block, asks_ticket, drops_block, has_none, takes_block}
+use Rattle.core_laws.proofs.tokens.Moves.{AsksIn, counted_moves, counted_passes, dropped_moves, dropped_passes, passes, removed_moves, removed_passes}
+use Rattle.core_model.specs.PhysicalRules.{BeginsNext, with_counts}
+use Rattle.slab_counts.specs.declared.tickets.Receipt.{Receipt}
+use Rattle.slab_counts.specs.declared.tickets.Ticket.{Ticket}
+use Rattle.zone_counts.specs.Asking.{GivesTicket}
+use Rattle.core_laws.proofs.physical.TicketDesks.{begun_keeps}
+use Rattle.zone_counts.proofs.TicketLaws.{begun_is_zone, withdrawn_is_zone}
 use Rattle.core_model.specs.JournalRules.{JournalServes, JournalEnds, all_again, all_dropped, all_refused, decrement_for, hands_to}
 use Rattle.core_model.specs.LogicalRules as logical
 use Rattle.core_model.specs.LogicalRules.{IsLinked, LogicalHears, LogicalServes, awaits_report, is_reported, reports_left, settling_of, without_report, without_settling, placed, with_slot, first_for, but_first_for, all_for, none_for, looked, read_next, goes_on, granted, passed_to, passes_on, released, all_stopped}
@@ -35,9 +42,9 @@ use Rattle.core_model.specs.Steps.{Act}
 use Rattle.core_laws.proofs.lists.CoreLists.{every_but_first, every_none_for}
 use Rattle.core_laws.proofs.lists.ZoneNames.{notified_count}
 use Rattle.core_laws.proofs.tokens.ActRows as row
-use Rattle.core_laws.proofs.tokens.ActRows.{Row, Sum, all_in, all_ended, all_there, Onward, onward, replied, IsDecrementOf, IsDroppedBy, IsHandedOut, IsSetBy, of_block, of_none, of_page, to_count, to_slot, unmaking, without_page}
-use Rattle.core_laws.proofs.tokens.Known.{AreReports, Claims, CountsIn, IsCounted, IsIn, IsReady, KeptIn, Known, Leased, MadeIn, MakesNone, Replaces, claim_in}
-use Rattle.core_laws.proofs.tokens.Posts.{begun_claim, begun_page, begun_request, begun_phase, goes_by}
+use Rattle.core_laws.proofs.tokens.ActRows.{Row, Sum, all_in, all_ended, all_there, Further, IsEarly, Onward, further, onward, replied, IsDecrementOf, IsDroppedBy, IsHandedOut, IsSetBy, of_block, of_none, of_page, to_count, to_slot, unmaking, without_page}
+use Rattle.core_laws.proofs.tokens.Known.{AreReports, Claims, CountsIn, IsCounted, IsIn, IsReady, KeptIn, Known, Leased, MadeIn, MakesNone, Replaces, claim_in, tickets_in}
+use Rattle.core_laws.proofs.tokens.Posts.{begun_claim, begun_tickets, begun_page, begun_request, begun_phase, goes_by}
 
 -- what the posts have together
 abbrev pub posts_sum : List Post → Sum
@@ -132,8 +139,8 @@ module _ (sizes : Sizes) where
   begin_row old new made posts kept (desk.answers w r v a next asks served once n m q) = rw (n, q) (is_row (row.says old w a) (λ f. omega (arith, all_are f phase.Reply old.parked kept)) (λ f. omega (arith, all_are f phase.Reply old.parked kept)))
   begin_row old new made posts kept (desk.sends w r v next asks served once n m q) =
       rw (n, q, ← begun_request sizes w r v served) (elim (begun_phase sizes w r v served) [
-        | inl is ↦ is_row (row.begins old v (begun_page sizes w r v served) (begun_claim sizes w r v served)) (λ f. omega (arith, all_are f phase.Reply old.parked kept)) (λ f. omega (arith, in_phase f v phase.Arrive is, all_are f phase.Reply old.parked kept))
-        | inr is ↦ is_row (row.begins_flush old v (begun_page sizes w r v served) (begun_claim sizes w r v served)) (λ f. omega (arith, all_are f phase.Reply old.parked kept)) (λ f. omega (arith, in_phase f v phase.Flush is, all_are f phase.Reply old.parked kept))
+        | inl is ↦ is_row (row.begins old v (begun_page sizes w r v served) (begun_claim sizes w r v served) (begun_tickets sizes w r v served)) (λ f. omega (arith, all_are f phase.Reply old.parked kept)) (λ f. omega (arith, in_phase f v phase.Arrive is, all_are f phase.Reply old.parked kept))
+        | inr is ↦ is_row (row.begins_flush old v (begun_page sizes w r v served) (begun_claim sizes w r v served) (begun_tickets sizes w r v served)) (λ f. omega (arith, all_are f phase.Reply old.parked kept)) (λ f. omega (arith, in_phase f v phase.Flush is, all_are f phase.Reply old.parked kept))
       ])
 
   desk_row : (old : Desk) (v : Vio) (new : Desk) (made : Trace) (posts : List Post) → KeptIn (at.Desk old) → MakesNone (Request v ∷ []) → Claims v → DeskServes sizes old v new made posts → IsRow sizes (at.Desk old) (Request v ∷ []) (at.Desk new) posts
@@ -141,9 +148,9 @@ module _ (sizes : Sizes) where
       rw (n, q) (is_row (row.parks old v (old.parked ++ v ∷ [])) (λ f. omega (arith, in_phase f v phase.Reply p, all_are f phase.Reply old.parked kept))
       (λ f. omega (arith, in_phase f v phase.Reply p, items_more f old.parked v, all_are f phase.Reply old.parked kept)))
   desk_row old v new made posts kept none claims (desk.answers a p has notified marked n m q) =
-      rw (n, q) (is_row (row.answers old v a old.marks (none v refl (inr p)) (claim_in v phase.Reply p claims)) (λ f. omega (arith, in_phase f v phase.Reply p, all_are f phase.Reply old.parked kept)) (λ f. omega (arith, all_are f phase.Reply old.parked kept)))
+      rw (n, q) (is_row (row.answers old v a old.marks (none v refl (inr p)) (claim_in v phase.Reply p claims) (tickets_in v phase.Reply p claims refl)) (λ f. omega (arith, in_phase f v phase.Reply p, all_are f phase.Reply old.parked kept)) (λ f. omega (arith, all_are f phase.Reply old.parked kept)))
   desk_row old v new made posts kept none claims (desk.marks p asks has n m q) =
-      rw (n, q) (is_row (row.answers old v reply.Ok _ (none v refl (inr p)) (claim_in v phase.Reply p claims)) (λ f. omega (arith, in_phase f v phase.Reply p, all_are f phase.Reply old.parked kept)) (λ f. omega (arith, all_are f phase.Reply old.parked kept)))
+      rw (n, q) (is_row (row.answers old v reply.Ok _ (none v refl (inr p)) (claim_in v phase.Reply p claims) (tickets_in v phase.Reply p claims refl)) (λ f. omega (arith, in_phase f v phase.Reply p, all_are f phase.Reply old.parked kept)) (λ f. omega (arith, all_are f phase.Reply old.parked kept)))
 
   -- a logical zone: who goes on with a lock, and who gets it
   abbrev goes_to : (v : Vio) (q : Phase) (new : Mapping) → List ℕ → holds q ≡ true → owes q ≡ false → has_entry q ≡ false → is_committed q ≡ false → Onward
@@ -423,23 +430,97 @@ module _ (sizes : Sizes) where
         rw (n, q) (beside (λ f. 0) (row.keeps_report old e old.settling (λ f. queued f (at.Logical old))) (λ f. omega arith) (λ f. omega arith))
     hears_row new happened posts (logical.LogicalHears.settles v found n m q) = rw (n, q) (by v found (first_for v.at.0 old.waiting) refl)
 
-  -- the physical zone
-  physical_row : (old : PhysicalZone) (v : Vio) (new : PhysicalZone) (made : Trace) (posts : List Post) → Claims v → IsZone old.counts × (old.counts.desk.out ≡ []) → PhysicalServes sizes old v new made posts
-      → IsRow sizes (at.Physical old) (Request v ∷ []) (at.Physical new) posts
-  physical_row old v new made posts claims zone (physical.PhysicalServes.claims x z p gives n m q) =
-      rw (n, q) (is_row (row.claims_block old z v x (claim_in v phase.Claim p claims) (given_moves old.counts z x zone.0 gives)) (λ f. omega (arith, in_phase f v phase.Claim p)) (λ f. omega arith))
-  physical_row old v new made posts claims zone (physical.PhysicalServes.has_no_space p none n m q) = rw (n, q) (is_row (row.finds_none old v (physical.no_block sizes)) (λ f. omega (arith, in_phase f v phase.Claim p)) (λ f. omega arith))
-  physical_row old v new made posts claims zone (physical.PhysicalServes.counts x slab z p some claim takes change n m q) =
-      rw (n, q) (is_row (row.counts_block old z v x some (counted_moves v.page old.counts z x slab zone.0 claim takes change)) (λ f. omega (arith, in_phase f v phase.Count p)) (λ f. omega arith))
-  physical_row old v new made posts claims zone (physical.PhysicalServes.drops x z p some claim change n m q) =
-      rw (n, q) (is_row (row.drops_claim old z v x some (dropped_moves old.counts z x zone.0 zone.1 claim change)) (λ f. omega (arith, in_phase f v phase.AbortClaim p)) (λ f. omega arith))
-  physical_row old v new made posts claims zone (physical.PhysicalServes.drops_none p none n m q) = rw (n, q) (is_row (row.drops_none old v) (λ f. omega (arith, in_phase f v phase.AbortClaim p)) (λ f. omega arith))
-  physical_row old v new made posts claims zone (physical.PhysicalServes.spends p n m q) = rw (n, q) (is_row (row.spends_claim old v) (λ f. omega (arith, in_phase f v phase.AbortEnteredClaim p)) (λ f. omega arith))
+  -- the physical zone: how one goes on that asks no more
+  abbrev served_phase : List Ticket → Option Pbn → Phase
+  served_phase (k ∷ others) claim = phase.Withdraw
+  served_phase [] (Some x) = phase.Store
+  served_phase [] None = phase.Abort
 
-  update_row : (old : PhysicalZone) (e : Remapping) (new : PhysicalZone) (made : Trace) (posts : List Post) → IsZone old.counts × (old.counts.desk.out ≡ []) → PhysicalTakes sizes old e new made posts
+  abbrev served_answer : List Ticket → Option Pbn → Option Answer → Option Answer
+  served_answer [] None answer = Some reply.NoSpace
+  served_answer (k ∷ others) claim answer = answer
+  served_answer [] (Some x) answer = answer
+
+  early_served : (tickets : List Ticket) (claim : Option Pbn) → IsEarly (served_phase tickets claim)
+  early_served (k ∷ others) claim = record { locks = refl; unowed = refl; unentered = refl; uncommitted = refl }
+  early_served [] (Some x) = record { locks = refl; unowed = refl; unentered = refl; uncommitted = refl }
+  early_served [] None = record { locks = refl; unowed = refl; unentered = refl; uncommitted = refl }
+
+  served_is : (f : Item → ℕ) (u : Vio) (tickets : List Ticket) (claim : Option Pbn)
+      → f (physical.goes_on u tickets claim).1 ≡ f (Request (record u { phase = served_phase tickets claim; answer = served_answer tickets claim u.answer }))
+  served_is f u (k ∷ others) claim = refl
+  served_is f u [] (Some x) = refl
+  served_is f u [] None = refl
+
+  -- it maps its address to this now, and has this claim, these tickets and this receipt
+  abbrev onward_served : Vio → Mapping → Option Pbn → List Ticket → Option Receipt → Further
+  onward_served v new claim tickets receipt = record {
+    phase = served_phase tickets claim;
+    new = new;
+    claim = claim;
+    tickets = tickets;
+    receipt = receipt;
+    answer = served_answer tickets claim v.answer;
+    early = early_served tickets claim;
+  }
+
+  early_in : (v : Vio) (q : Phase) → IsEarly q → v.phase ≡ q → IsEarly v.phase
+  early_in v q early is = subst IsEarly (sym is) early
+
+  module _ (old : PhysicalZone) (v : Vio) (claims : Claims v) (zone : IsZone old.counts) where
+    -- a row of it, by what it posts
+    served_row : (z : Zone) (q : Phase) (u : Vio) (new : Mapping) (claim : Option Pbn) (tickets : List Ticket) (receipt : Option Receipt) → v.phase ≡ q → IsEarly q → AsksIn old.counts z v claim tickets
+        → ((f : Item → ℕ) → f (physical.served u).1 ≡ f (Request (further (onward_served v new claim tickets receipt) v))) → IsRow sizes (at.Physical old) (Request v ∷ []) (at.Physical (with_counts z old)) (physical.served u ∷ [])
+    served_row z q u new claim tickets receipt is early asks posted =
+        is_row (row.asks_on old z v q (onward_served v new claim tickets receipt) early asks) (λ f. omega (arith, in_phase f v q is)) (λ f. omega (arith, posted f))
+
+    asked_row : (z : Zone) (k : Ticket) → v.phase ≡ phase.Claim → AsksIn old.counts z v v.claim (v.tickets ++ k ∷ []) → IsRow sizes (at.Physical old) (Request v ∷ []) (at.Physical (with_counts z old)) (physical.asks_on sizes (vios.holding k v) ∷ [])
+    asked_row z k is asks = by (nat_lt (length (v.tickets ++ k ∷ [])) sizes.physical)
+      where
+        on : Further
+        on = record { phase = v.phase; new = v.new; claim = v.claim; tickets = v.tickets ++ k ∷ []; receipt = v.receipt; answer = v.answer; early = early_in v phase.Claim (record { locks = refl; unowed = refl; unentered = refl; uncommitted = refl }) is }
+
+        back : Further
+        back = record { phase = phase.Withdraw; new = Unmapped; claim = v.claim; tickets = v.tickets ++ k ∷ []; receipt = v.receipt; answer = v.answer; early = record { locks = refl; unowed = refl; unentered = refl; uncommitted = refl } }
+
+        by : (b : Bool)
+            → IsRow sizes (at.Physical old) (Request v ∷ []) (at.Physical (with_counts z old))
+            ((if b then (vios.counts_of sizes (vios.holding k v), Request (vios.holding k v)) else (vios.ticket_zone (v.tickets ++ k ∷ []), Request (vios.withdrawing (vios.holding k v)))) ∷ [])
+        by true = is_row (row.asks_on old z v phase.Claim on (record { locks = refl; unowed = refl; unentered = refl; uncommitted = refl }) asks) (λ f. omega (arith, in_phase f v phase.Claim is)) (λ f. omega arith)
+        by false = is_row (row.asks_on old z v phase.Claim back (record { locks = refl; unowed = refl; unentered = refl; uncommitted = refl }) asks) (λ f. omega (arith, in_phase f v phase.Claim is)) (λ f. omega arith)
+
+  physical_row : (old : PhysicalZone) (v : Vio) (new : PhysicalZone) (made : Trace) (posts : List Post) → Claims v → IsZone old.counts
+      → ((k : Ticket) (others : List Ticket) → v.phase ≡ phase.Withdraw → v.tickets ≡ k ∷ others → k.zone ≡ old.counts.zone) → PhysicalServes sizes old v new made posts
+      → IsRow sizes (at.Physical old) (Request v ∷ []) (at.Physical new) posts
+  physical_row old v new made posts claims zone here (physical.PhysicalServes.claims x z p gives n m q) =
+      rw (n, q) (served_row old v claims zone z phase.Claim (vios.claiming x v) (At x) (Some x) v.tickets v.receipt p (record { locks = refl; unowed = refl; unentered = refl; uncommitted = refl })
+      (asks_block old.counts v z x zone gives (claim_in v phase.Claim p claims)) (λ f. served_is f (vios.claiming x v) v.tickets (Some x)))
+  physical_row old v new made posts claims zone here (physical.PhysicalServes.asks k b z p fewer begins gives n m q) =
+      rw (n, q) (asked_row old v claims zone z k p (asks_ticket old.counts v b begins z k gives (asked_here k b z begins gives)))
+    where
+      asked_here : (k : Ticket) (b z : Zone) → BeginsNext old.counts b → GivesTicket b z v.request k → k.zone ≡ old.counts.zone
+      asked_here k b z begins gives = gives.issues.zone ∙ (begun_keeps old.counts b begins).desk_zone ∙ zone.desk
+  physical_row old v new made posts claims zone here (physical.PhysicalServes.takes_block k others x b z p has none begins from n m q) =
+      rw (n, q) (served_row old v claims zone z phase.Withdraw (vios.claiming x (vios.with_tickets others v)) (At x) (Some x) others v.receipt p (record { locks = refl; unowed = refl; unentered = refl; uncommitted = refl })
+      (takes_block old.counts v b z k others x begins from has (here k others p has) none) (λ f. served_is f (vios.claiming x (vios.with_tickets others v)) others (Some x)))
+  physical_row old v new made posts claims zone here (physical.PhysicalServes.drops_block k others x y b between z p has some begins from claim change n m q) =
+      let is_zone = withdrawn_is_zone b between k _ (begun_is_zone old.counts b _ zone begins) from in
+      rw (n, q) (served_row old v claims zone z phase.Withdraw (vios.with_tickets others v) v.new v.claim others v.receipt p (record { locks = refl; unowed = refl; unentered = refl; uncommitted = refl })
+      (drops_block old.counts v b between z k others x begins from is_zone claim change has (here k others p has)) (λ f. served_is f (vios.with_tickets others v) others v.claim))
+  physical_row old v new made posts claims zone here (physical.PhysicalServes.has_none k others r b z p has begins from n m q) =
+      rw (n, q) (served_row old v claims zone z phase.Withdraw (vios.refused r (vios.with_tickets others v)) v.new v.claim others (Some r) p (record { locks = refl; unowed = refl; unentered = refl; uncommitted = refl })
+      (has_none old.counts v b z k others r begins from has (here k others p has)) (λ f. served_is f (vios.refused r (vios.with_tickets others v)) others v.claim))
+  physical_row old v new made posts claims zone here (physical.PhysicalServes.counts x slab z p some claim takes change n m q) =
+      rw (n, q) (is_row (row.counts_block old z v x some (counted_moves v.page old.counts z x slab zone claim takes change) (counted_passes v.page old.counts z x slab zone claim takes change)) (λ f. omega (arith, in_phase f v phase.Count p)) (λ f. omega arith))
+  physical_row old v new made posts claims zone here (physical.PhysicalServes.drops x z p some claim change n m q) =
+      rw (n, q) (is_row (row.drops_claim old z v x (passes change.serves) some (dropped_moves old.counts z x zone claim change) (dropped_passes old.counts z x zone claim change)) (λ f. omega (arith, in_phase f v phase.AbortClaim p)) (λ f. omega arith))
+  physical_row old v new made posts claims zone here (physical.PhysicalServes.drops_none p none n m q) = rw (n, q) (is_row (row.drops_none old v) (λ f. omega (arith, in_phase f v phase.AbortClaim p)) (λ f. omega arith))
+  physical_row old v new made posts claims zone here (physical.PhysicalServes.spends p n m q) = rw (n, q) (is_row (row.spends_claim old v) (λ f. omega (arith, in_phase f v phase.AbortEnteredClaim p)) (λ f. omega arith))
+
+  update_row : (old : PhysicalZone) (e : Remapping) (new : PhysicalZone) (made : Trace) (posts : List Post) → IsZone old.counts → PhysicalTakes sizes old e new made posts
       → IsRow sizes (at.Physical old) (Decrement e ∷ []) (at.Physical new) posts
   update_row old e new made posts zone (physical.PhysicalTakes.removes x slab z from own takes change n m q) =
-      rw (n, q) (is_row (row.removes old z e x from (removed_moves old.counts z x slab zone.0 zone.1 own takes change)) (λ f. omega arith) (λ f. omega arith))
+      rw (n, q) (is_row (row.removes old z e x (passes change.serves) from (removed_moves old.counts z x slab zone own takes change) (removed_passes old.counts z x slab zone own takes change)) (λ f. omega arith) (λ f. omega arith))
   update_row old e new made posts zone (physical.PhysicalTakes.is_stray x from own stray n m q) = rw (n, q) (by old.strays refl)
     where
       by : (strays : List Remapping) → old.strays ≡ strays → IsRow sizes (at.Physical old) (Decrement e ∷ []) (at.Physical (record old { strays = e ∷ old.strays })) ((home_of sizes e, Report e) ∷ tells old.strays x)
@@ -602,7 +683,7 @@ module _ (sizes : Sizes) where
   act_row old front new made posts (steps.settles act) known = hears_row _ _ known.kept (known.settling_leased _ _ refl refl) known.reports (known.replaces _ refl) _ _ _ act
   act_row old front new made posts (steps.serves_notice {old = l}) known =
       beside (others_of l) (row.tells_logical l) (λ f. omega (arith, logical_kept l known.kept f)) (λ f. omega (arith, logical_kept l known.kept f))
-  act_row old front new made posts (steps.takes act) known = physical_row _ _ _ _ _ (known.claims _ refl) (known.zone _ refl) act
+  act_row old front new made posts (steps.takes act) known = physical_row _ _ _ _ _ (known.claims _ refl) (known.zone _ refl) (λ k others is has. known.ticket _ _ k others refl refl is has) act
   act_row old front new made posts (steps.updates act) known = update_row _ _ _ _ _ (known.zone _ refl) act
   act_row old front new made posts (steps.takes_notice {old = p}) known = is_row (row.tells_physical p) (λ f. omega arith) (λ f. omega arith)
   act_row old front new made posts (steps.enters act) known = journal_row _ _ _ _ _ known.counted (known.claims _ refl) act

@@ -1,6 +1,6 @@
 -- What a legal core knows of a zone that acts, beside its tokens: the phases of the requests that it keeps, and, of the item at
 -- the front, that its lock is held, its page is being made, and its block is under way.
-use Rattle.std.proofs.Common.{◌≡◌, ◌⊎◌, ℕ, Bool, true, not, Option, None, Some, is_some, List, [], ◌∷◌, length, refl, subst}
+use Rattle.std.proofs.Common.{◌≡◌, ◌⊎◌, ℕ, Bool, true, false, not, Option, None, Some, is_some, List, [], ◌∷◌, length, refl, ap, ◌∙◌, subst}
 use Rattle.core_laws.proofs.Common.{AllByRecursion, Carries, IsToBlock, Item, JournalZone, LogicalZone, Mapping, Phase, PhysicalZone, Remapping, SealedBlock, Vio, ZoneData, KeptEach, KeptOk, Session, Trace, bit, every-map, holds, lock_weight, logged, remapping, remappings, total}
 use Rattle.blk_base.specs.declared.place.Mapping.TheVariants.{Unmapped, Zero, At}
 use Rattle.blk_base.specs.declared.place.PageId.{PageId}
@@ -9,6 +9,7 @@ use Rattle.core_model.specs.LogicalRules.{settling_of}
 use Rattle.core_model.specs.PageLinks.{block_in}
 use Rattle.data_vio.specs.Phases.{row}
 use Rattle.zone_counts.specs.Zone.{IsZone}
+use Rattle.slab_counts.specs.declared.tickets.Ticket.{Ticket}
 use Rattle.data_vio.specs.Vios.{logged_for}
 use Rattle.core_laws.proofs.logical.PageLists.{times}
 use Rattle.data_vio.specs.declared.items.Item.TheVariants as item
@@ -82,9 +83,9 @@ counts s t v is k = by v.page v.new (λ page made. to_fresh v.page page made (su
     by (Some page) Unmapped fresh = absurd (fresh page refl)
     by (Some page) Zero fresh = absurd (fresh page refl)
 
--- the claim of a request is that of its phase, on its own block
+-- the claim of a request is that of its phase, on its own block, and it has tickets in those alone in which it asks for one
 abbrev pub Claims : Vio → Type 0
-Claims v = v.claim ≡ claim_of (row v.phase).claims v.new
+Claims v = (v.claim ≡ claim_of (row v.phase).claims v.new) × ((row v.phase).asks ≡ false → v.tickets ≡ [])
 
 abbrev pub ClaimsIn : List Item → Type 0
 ClaimsIn front = (v : Vio) → front ≡ item.Request v ∷ [] → Claims v
@@ -106,13 +107,21 @@ ReplacesIn front = (e : Remapping) → front ≡ item.Report e ∷ [] → Replac
 abbrev pub AreReports : ZoneData → Type 0
 AreReports old = (l : LogicalZone) → old ≡ at.Logical l → AllByRecursion Replaces l.reported × AllByRecursion (λ v. (v.page ≡ None) × Replaces (remapping v)) l.settling
 
--- the counts of a physical zone are as they must be, and no ticket is out
+-- the counts of a physical zone are as they must be
 abbrev pub HasZone : ZoneData → Type 0
-HasZone old = (p : PhysicalZone) → old ≡ at.Physical p → IsZone p.counts × (p.counts.desk.out ≡ [])
+HasZone old = (p : PhysicalZone) → old ≡ at.Physical p → IsZone p.counts
+
+-- the oldest ticket of a request that withdraws it is of the zone where it is served
+abbrev pub TicketIn : ZoneData → List Item → Type 0
+TicketIn old front = (p : PhysicalZone) (v : Vio) (k : Ticket) (others : List Ticket) → old ≡ at.Physical p → front ≡ item.Request v ∷ [] → v.phase ≡ phase.Withdraw → v.tickets ≡ k ∷ others → k.zone ≡ p.counts.zone
 
 -- a request in a phase has the claim that this has
 pub claim_in : (v : Vio) (q : Phase) → v.phase ≡ q → Claims v → v.claim ≡ claim_of (row q).claims v.new
-claim_in v q is claims = subst (λ (p : Phase). v.claim ≡ claim_of (row p).claims v.new) is claims
+claim_in v q is claims = subst (λ (p : Phase). v.claim ≡ claim_of (row p).claims v.new) is claims.0
+
+-- and no ticket, where it asks for no block
+pub tickets_in : (v : Vio) (q : Phase) → v.phase ≡ q → Claims v → (row q).asks ≡ false → v.tickets ≡ []
+tickets_in v q is claims asks = claims.1 (ap (λ (p : Phase). (row p).asks) is ∙ asks)
 
 -- who waits for a report has the lock of its address there
 abbrev pub SettlingLeased : ZoneData → List Item → Type 0
@@ -131,4 +140,5 @@ pub record Known (old : ZoneData) (front : List Item) : Type 0 where
   pub replaces : ReplacesIn front
   pub reports : AreReports old
   pub zone : HasZone old
+  pub ticket : TicketIn old front
   pub settling_leased : SettlingLeased old front

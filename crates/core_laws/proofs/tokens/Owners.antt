@@ -1,16 +1,21 @@
 -- Who holds a request, and the lock of an address, holds it alone.
-use Rattle.std.proofs.Common.{Option, None, ◌≡◌, ℕ, ◌+◌, ◌≤◌, List, [], ◌∷◌, refl, ap, inl, inr, arith, ◌<◌, Bool, true, false, not, ◌&&◌, ◌==◌, Some, slice_get, sym, ◌∙◌, subst}
-use Rattle.core_laws.proofs.Common.{Pbn, AllByRecursion, Balanced, as_items, kept_by, VioOk, DataOk, DeskLine, Each, IsDeskLog, Item, ItemOk, Lock, LockOk, LogicalZone, RightTrace, Script, Session, Sizes, Trace, Vio, Writer, Zone, ZoneData, ZoneId, ZoneOk, begins_of, begun, bit, desk_number, eqb_tells, every-map, given, holder_weight, holds, in_log, lease_token, lines, lock_weight, locks_at, logical_number, of_vio, request_token, same_tells, total, total-get, total_alone, weight, zone_number, zone_of}
+use Rattle.std.proofs.Common.{Option, if◌then◌else◌, None, ◌≡◌, ℕ, ◌+◌, ◌≤◌, length, List, [], ◌∷◌, refl, ap, inl, inr, arith, ◌<◌, Bool, true, false, not, ◌&&◌, ◌==◌, Some, slice_get, sym, ◌∙◌, subst}
+use Rattle.core_laws.proofs.Common.{Pbn, AllByRecursion, Balanced, as_items, kept_by, VioOk, DataOk, DeskLine, Each, IsDeskLog, Item, ItemOk, Lock, LockOk, LogicalZone, RightTrace, Script, Session, Sizes, Trace, Vio, Writer, Zone, ZoneData, ZoneId, ZoneOk, begins_of, begun, bit, desk_number, eqb_tells, every-map, given, holder_weight, holds, in_log, lease_token, lines, lock_weight, locks_at, logical_number, of_vio, request_token, same_tells, total, total-get, total_alone, weight, zone_number, zone_of, physical_number, eq-eqb}
 use Rattle.vdo_model.specs.declared.report.DeskLine.TheVariants.{Begin, Answer}
 use Rattle.core_laws.proofs.trace.DeskOfTrace.{desk_log_right}
 use Rattle.core_laws.proofs.trace.Growth.{begun_more}
 use Rattle.core_laws.proofs.kept.ZoneKinds.{total_once}
-use Rattle.data_vio.specs.Phases.{Where, AtDesk, AtHome, AtPhysical, AtJournal, AtDevice, InNoLane, row, number_at}
+use Rattle.data_vio.specs.Phases.{Where, AtDesk, AtHome, AtPhysical, AtTicket, AtJournal, AtDevice, InNoLane, row, number_at}
 use Rattle.core_laws.proofs.tokens.Known.{Leased}
+use Rattle.core_model.specs.Legal.{Legal}
+use Rattle.core_model.specs.Steps.{Core}
+use Rattle.core_model.specs.Tokens.{out_at, out_in, ticket_token}
+use Rattle.core_model.specs.declared.zones.PhysicalZone.{PhysicalZone}
 use Rattle.core_model.specs.declared.zones.ZoneData.TheVariants as at
 use Rattle.data_vio.specs.declared.items.Item.TheVariants as item
 use Rattle.blk_base.specs.declared.place.ZoneId.TheVariants as id
-use Rattle.data_vio.specs.Vios.{counts_for}
+use Rattle.data_vio.specs.Vios.{counts_for, ticket_zone}
+use Rattle.slab_counts.specs.declared.tickets.Ticket.{Ticket}
 
 -- A request is begun once, and under way in one place.
 
@@ -90,15 +95,17 @@ module _ (s : Session) (t : Trace) (a : ℕ) where
     given_at_home test n z had home = total_alone (given (lease_token a test)) zones n z had (λ j y k ne. locks_elsewhere test j y.keeps (each j y k).own (λ q. ne (q ∙ sym home)))
 
 -- A request served at a logical zone is served at its home.
-pub at_home : (sizes : Sizes) (n zone : ℕ) (home : ZoneId) (place : ℕ) (claim : Option Pbn) (q : Where) → n ≡ logical_number zone → zone < sizes.zones → n ≡ number_at sizes home (counts_for sizes place claim) q
-    → n ≡ zone_number sizes home
-at_home sizes n zone home place claim AtHome is below to = to
-at_home sizes n zone home place claim AtDesk is below to = absurd (omega (arith, is, below, to))
-at_home sizes n zone home place None AtPhysical is below to = absurd (omega (arith, is, below, to))
-at_home sizes n zone home place (Some x) AtPhysical is below to = absurd (omega (arith, is, below, to))
-at_home sizes n zone home place claim AtJournal is below to = absurd (omega (arith, is, below, to))
-at_home sizes n zone home place claim AtDevice is below to = absurd (omega (arith, is, below, to))
-at_home sizes n zone home place claim InNoLane is below to = absurd (omega (arith, is, below, to))
+pub at_home : (sizes : Sizes) (n zone : ℕ) (home : ZoneId) (turn : ℕ) (claim : Option Pbn) (tickets : List Ticket) (q : Where) → n ≡ logical_number zone → zone < sizes.zones
+    → n ≡ number_at sizes home (counts_for sizes turn claim) (ticket_zone tickets) q → n ≡ zone_number sizes home
+at_home sizes n zone home turn claim tickets AtHome is below to = to
+at_home sizes n zone home turn claim tickets AtDesk is below to = absurd (omega (arith, is, below, to))
+at_home sizes n zone home turn None tickets AtPhysical is below to = absurd (omega (arith, is, below, to))
+at_home sizes n zone home turn (Some x) tickets AtPhysical is below to = absurd (omega (arith, is, below, to))
+at_home sizes n zone home turn claim [] AtTicket is below to = absurd (omega (arith, is, below, to))
+at_home sizes n zone home turn claim (k ∷ others) AtTicket is below to = absurd (omega (arith, is, below, to))
+at_home sizes n zone home turn claim tickets AtJournal is below to = absurd (omega (arith, is, below, to))
+at_home sizes n zone home turn claim tickets AtDevice is below to = absurd (omega (arith, is, below, to))
+at_home sizes n zone home turn claim tickets InNoLane is below to = absurd (omega (arith, is, below, to))
 
 -- its weight
 front_weight : (test : ℕ → Bool) (v : Vio) → holds v.phase ≡ true → holder_weight v.at.0 test v ≡ bit (test v.place)
@@ -140,7 +147,7 @@ leased_front s t zones n z l v rest each balance had front keeps h =
     let ok = each n z had in
     let own = subst (λ (d : ZoneData). DataOk s t n d) keeps ok.own in
     let first = (subst (λ (items : List Item). AllByRecursion (ItemOk s t n) items) front ok.inbox).0 in
-    let home : n ≡ home_of s v.at.0 = at_home s.sizes n l.zone v.home v.place v.claim (row v.phase).zone own.number_is own.sound.among first.2 ∙ ap (zone_number s.sizes) first.0.home in
+    let home : n ≡ home_of s v.at.0 = at_home s.sizes n l.zone v.home (length v.tickets + v.place) v.claim v.tickets (row v.phase).zone own.number_is own.sound.among first.2 ∙ ap (zone_number s.sizes) first.0.home in
     leased_with s t zones n z l v each balance had keeps home (λ test.
     let one = front_weight test v h in
     let inbox = ap (total (of_vio (holder_weight v.at.0 test))) front in
@@ -165,3 +172,22 @@ leased_kept s t zones n z l v each balance had keeps at_zone ok h among =
     queued_total : (f : Vio → ℕ) (vs : List Vio) → total (of_vio f) (as_items vs) ≡ total f vs
     queued_total f [] = refl
     queued_total f (u ∷ us) = omega (arith, queued_total f us)
+
+-- A ticket that somebody holds is out in its zone.
+module _ (s : Session) (core : Core) (legal : Legal s core) where
+  out_elsewhere : (zone : ℕ) (test : ℕ → Bool) (j : ℕ) (d : ZoneData) → DataOk s core.trace j d → (j ≡ physical_number s.sizes zone → ⊥) → out_at zone test d ≡ 0
+  out_elsewhere zone test j (at.Physical p) own ne = elim (eqb_tells p.counts.zone zone) [
+    | inl same ↦ absurd (ne (own.number_is ∙ ap (physical_number s.sizes) same.1))
+    | inr other ↦ rw other.0 refl
+  ]
+  out_elsewhere zone test j other own ne = refl
+
+  pub held_is_out : (n : ℕ) (z : Zone) (p : PhysicalZone) → slice_get core.zones n ≡ Some z → z.keeps ≡ at.Physical p → (test : ℕ → Bool) → 1 ≤ total (weight (ticket_token p.counts.zone test)) core.zones → 1 ≤ out_in test p.counts
+  held_is_out n z p had keeps test some =
+      let token = ticket_token p.counts.zone test in
+      let number = (subst (λ (d : ZoneData). DataOk s core.trace n d) keeps (legal.each n z had).own).number_is in
+      let alone : total (given token) core.zones ≡ out_at p.counts.zone test (at.Physical p)
+      = total_alone (given token) core.zones n z had (λ j y there ne. out_elsewhere p.counts.zone test j y.keeps (legal.each j y there).own (λ is. ne (is ∙ sym number))) ∙ ap token.gave keeps in
+      let here : out_at p.counts.zone test (at.Physical p) ≡ out_in test p.counts = ap (λ (b : Bool). if b then out_in test p.counts else 0) (eq-eqb p.counts.zone p.counts.zone refl) in
+      let balanced = legal.tickets p.counts.zone test in
+      omega (arith, some, balanced, alone, here)

@@ -1,8 +1,7 @@
 -- What is posted for a request that is begun, and for one that gets the lock of its address.
-use Rattle.std.proofs.Common.{◌≡◌, ◌⊎◌, true, false, None, Some, inl, inr, refl, ap, sym, subst}
+use Rattle.std.proofs.Common.{◌≡◌, ◌⊎◌, true, false, None, Some, [], inl, inr, refl, ap, sym, subst}
 use Rattle.core_laws.proofs.Common.{Asks, Post, Request, Sizes, Vio, Writer, cases_Bool, same_Some, turned}
 use Rattle.blk_base.specs.declared.place.Mapping.TheVariants.{Unmapped, Zero}
-use Rattle.blk_base.specs.declared.place.ZoneId.TheVariants as id
 use Rattle.blk_base.specs.declared.request.Request.TheVariants as request
 use Rattle.data_vio.specs.declared.items.Asks.TheVariants.{Read, Write, Discard, Flush}
 use Rattle.data_vio.specs.declared.items.Item.TheVariants as item
@@ -41,6 +40,14 @@ begun_claim sizes w (request.Write at bytes false) v is = ap (λ (u : Vio). u.cl
 begun_claim sizes w (request.Discard at) v is = ap (λ (u : Vio). u.claim) (sym (same_Some _ _ is))
 begun_claim sizes w request.Flush v is = ap (λ (u : Vio). u.claim) (sym (same_Some _ _ is))
 begun_claim sizes w other v is = absurd cc
+
+-- nor a ticket
+pub begun_tickets : (sizes : Sizes) (w : Writer) (r : Request) (v : Vio) → vio_of sizes w r ≡ Some v → v.tickets ≡ []
+begun_tickets sizes w (request.Read at) v is = ap (λ (u : Vio). u.tickets) (sym (same_Some _ _ is))
+begun_tickets sizes w (request.Write at bytes false) v is = ap (λ (u : Vio). u.tickets) (sym (same_Some _ _ is))
+begun_tickets sizes w (request.Discard at) v is = ap (λ (u : Vio). u.tickets) (sym (same_Some _ _ is))
+begun_tickets sizes w request.Flush v is = ap (λ (u : Vio). u.tickets) (sym (same_Some _ _ is))
+begun_tickets sizes w other v is = absurd cc
 
 -- what is posted for a request that goes on with the lock of its address, by a fact of each post that it may be
 pub goes_by : (P : Post → Type 0) (sizes : Sizes) (v : Vio) (post : Post) → goes_on sizes v ≡ Some post → (v.asks ≡ Read → P (read_next v v.old)) → (v.asks ≡ Write → are_zeros v.bytes ≡ true → P (enters_with Zero v))

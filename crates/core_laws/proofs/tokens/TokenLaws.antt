@@ -1,17 +1,18 @@
 -- What each row does to each kind of token. A row that doesn't touch a token stands in its last clause.
-use Rattle.std.proofs.Common.{◌≡◌, ℕ, ◌+◌, ◌==◌, Bool, true, false, ◌&&◌, not, Option, None, Some, is_some, List, [], ◌∷◌, length, map, refl, ap, ◌∙◌, if◌then◌else◌, arith}
+use Rattle.std.proofs.Common.{◌≡◌, ℕ, ◌+◌, ◌==◌, Bool, true, false, ◌&&◌, not, Option, None, Some, is_some, List, [], ◌∷◌, length, map, refl, ap, ◌∙◌, if◌then◌else◌, nat_eq, arith}
 use Rattle.core_laws.proofs.Common.{Logged, Makes, Mapping, Phase, Remapping, Remaps, Sizes, Vio, Writer, ZoneData, bit, block_token, claim_token, claim_weight, damage_token, entry_token, has_entry, holder_token, holder_weight, holds, journal_token, lease_token, has_old, is_committed, is_old, leads_to, logged, new_of, new_pages, notice_token, owes, remapping, remappings, report_token, request_token, room_token, same_writer, total, total-append, turned, waiter_token, waiter_weight, Pbn}
 use Rattle.blk_base.specs.declared.place.Mapping.TheVariants.{Unmapped, Zero, At}
 use Rattle.blk_base.specs.declared.place.PageId.{PageId}
-use Rattle.core_model.specs.Tokens.{is_same, making_token, page_entry_token, unowed_weight}
+use Rattle.core_model.specs.Tokens.{is_same, making_token, out_in, page_entry_token, ticket_token, ticket_weight, unowed_weight}
+use Rattle.core_laws.proofs.tokens.Moves.{Passes}
+use Rattle.zone_counts.specs.Zone.{Zone}
 use Rattle.core_model.specs.PageLinks.{block_in}
 use Rattle.slab_counts.specs.Calls.{one_of}
 use Rattle.zone_counts.specs.ByBlock.{is_at}
 use Rattle.data_vio.specs.Vios.{logged_for}
 use Rattle.data_vio.specs.declared.items.Phase.TheVariants as phase
-use Rattle.data_vio.specs.declared.items.Item.TheVariants.{Request}
 use Rattle.core_laws.proofs.tokens.ActRows as row
-use Rattle.core_laws.proofs.tokens.ActRows.{Row, Sum, onward, to_count, to_slot, of_block, of_none, of_page}
+use Rattle.core_laws.proofs.tokens.ActRows.{Row, Sum, further, onward, to_count, to_slot, of_block, of_none, of_page}
 use Rattle.core_laws.proofs.tokens.LeaseTokens.{freed, one_freed}
 use Rattle.core_laws.proofs.tokens.Lift.{Conserves, Shrinks}
 use Rattle.core_laws.proofs.tokens.PageTokens.{taken_out}
@@ -115,6 +116,13 @@ own_entry v none = ap (λ (o : Option PageId). bit (not (is_some o))) none
 is_page_of : (page : PageId) (v : Vio) (o : Option PageId) → v.page ≡ o → bit (is_same page v.page) ≡ bit (is_same page o)
 is_page_of page v o is = ap (λ (p : Option PageId). bit (is_same page p)) is
 
+-- the tickets that are out, where the zone is the same one, and none is given nor withdrawn
+same_out : (zone : ℕ) (test : ℕ → Bool) (p z : Zone) → z.zone ≡ p.zone → (n : ℕ) → (if nat_eq z.zone zone then n else 0) ≡ (if nat_eq p.zone zone then n else 0)
+same_out zone test p z same n = ap (λ (m : ℕ). if nat_eq m zone then n else 0) same
+
+out_kept : (zone : ℕ) (test : ℕ → Bool) (p z : Zone) {given taken : Pbn → ℕ} → Passes p z given taken → (if nat_eq z.zone zone then out_in test z else 0) ≡ (if nat_eq p.zone zone then out_in test p else 0)
+out_kept zone test p z passes = same_out zone test p z passes.zone (out_in test z) ∙ ap (λ (n : ℕ). if nat_eq p.zone zone then n else 0) (passes.numbers test)
+
 module _ (sizes : Sizes) where
   -- the requests are begun and answered at the desk
   pub requests_law : (w : Writer) → {old new : ZoneData} {before after : Sum} → Row sizes old new before after → Conserves (request_token w) old new before after
@@ -169,18 +177,18 @@ module _ (sizes : Sizes) where
   -- counted; a mapping goes by its decrement.
   pub blocks_law : (opened : Pbn → ℕ) (x : Pbn) → {old new : ZoneData} {before after : Sum} → Row sizes old new before after → Conserves (block_token opened x) old new before after
   blocks_law opened x (row.both first same second) = omega (arith, blocks_law opened x first, same (block_token opened x).item, blocks_law opened x second)
-  blocks_law opened x (row.begins d v pageless claimless) = omega (arith, claim_none x v claimless)
-  blocks_law opened x (row.begins_flush d v pageless claimless) = omega (arith, claim_none x v claimless)
-  blocks_law opened x (row.answers d v answer marks pageless claimless) = omega (arith, claim_none x v claimless)
+  blocks_law opened x (row.begins d v pageless claimless ticketless) = omega (arith, claim_none x v claimless)
+  blocks_law opened x (row.begins_flush d v pageless claimless ticketless) = omega (arith, claim_none x v claimless)
+  blocks_law opened x (row.answers d v answer marks pageless claimless ticketless) = omega (arith, claim_none x v claimless)
   blocks_law opened x (row.looks l v on) = omega (arith, unowed_is x (owes on.phase) v on.unowed)
   blocks_law opened x (row.leafed l v on) = omega (arith, unowed_is x (owes on.phase) v on.unowed)
   blocks_law opened x (row.leaves l slots reported v q answer locks is_set leased) = omega (arith, unowed_is x (owes q) v is_set.unowed)
   blocks_law opened x (row.hands_on l slots reported v q answer w others locks is_set leased) = omega (arith, unowed_is x (owes q) v is_set.unowed)
   blocks_law opened x (row.forgets l unlinkable v q page locks is_dropped is_page made) = omega (arith, unowed_is x (owes q) v is_dropped.unowed)
-  blocks_law opened x (row.claims_block p z v y none moves) = omega (arith, claim_none x v none, moves.uses x)
-  blocks_law opened x (row.counts_block p z v y some moves) = omega (arith, moves.uses x)
-  blocks_law opened x (row.drops_claim p z v y some moves) = omega (arith, claim_some x y v some, moves.uses x)
-  blocks_law opened x (row.removes p z e y from moves) = omega (arith, ap (leads_to x) from, moves.uses x)
+  blocks_law opened x (row.asks_on p z v q on early asks) = omega (arith, unowed_is x (owes q) v early.unowed, unowed_is x (owes on.phase) (further on v) on.early.unowed, asks.uses x, asks.held x)
+  blocks_law opened x (row.counts_block p z v y some moves passes) = omega (arith, moves.uses x, passes.out x)
+  blocks_law opened x (row.drops_claim p z v y given some moves passes) = omega (arith, claim_some x y v some, moves.uses x, passes.out x)
+  blocks_law opened x (row.removes p z e y given from moves passes) = omega (arith, ap (leads_to x) from, moves.uses x, passes.out x)
   blocks_law opened x (row.enters j v counted claimed) = omega (arith, entry_leads x v, claim_is_entry x v claimed)
   blocks_law opened x (row.enters_first j v counted claimed) = omega (arith, nothing, entry_leads x v, claim_is_entry x v claimed)
   blocks_law opened x (row.commits j b v vs q more (to_count) (of_block none)) = omega (arith, old_more (is_old x) (logged v) j.committed, own_old (is_old x) v none)
@@ -195,12 +203,12 @@ module _ (sizes : Sizes) where
   -- each claim of a request is counted, until it is spent or dropped
   pub claims_law : (x : Pbn) → {old new : ZoneData} {before after : Sum} → Row sizes old new before after → Shrinks (claim_token x) old new before after
   claims_law x (row.both first same second) = omega (arith, claims_law x first, same (claim_token x).item, claims_law x second)
-  claims_law x (row.begins d v pageless claimless) = omega (arith, claim_none x v claimless)
-  claims_law x (row.begins_flush d v pageless claimless) = omega (arith, claim_none x v claimless)
-  claims_law x (row.claims_block p z v y none moves) = omega (arith, claim_none x v none, moves.claims x)
-  claims_law x (row.counts_block p z v y some moves) = omega (arith, claim_some x y v some, moves.claims x)
-  claims_law x (row.drops_claim p z v y some moves) = omega (arith, claim_some x y v some, moves.claims x)
-  claims_law x (row.removes p z e y from moves) = omega (arith, moves.claims x)
+  claims_law x (row.begins d v pageless claimless ticketless) = omega (arith, claim_none x v claimless)
+  claims_law x (row.begins_flush d v pageless claimless ticketless) = omega (arith, claim_none x v claimless)
+  claims_law x (row.asks_on p z v q on early asks) = omega (arith, asks.claims x)
+  claims_law x (row.counts_block p z v y some moves passes) = omega (arith, claim_some x y v some, moves.claims x, passes.out x)
+  claims_law x (row.drops_claim p z v y given some moves passes) = omega (arith, claim_some x y v some, moves.claims x, passes.out x)
+  claims_law x (row.removes p z e y given from moves passes) = omega (arith, moves.claims x, passes.out x)
   claims_law x (row.commits j b v vs q more (to_count) (of_block none)) = omega arith
   claims_law x (row.commits j b v vs q more (to_slot claimless) (of_block none)) = omega arith
   claims_law x (row.commits j b v vs q more (to_count) (of_page page is no_old no_report)) = omega arith
@@ -209,6 +217,25 @@ module _ (sizes : Sizes) where
   claims_law x (row.commits j b v vs q more (to_slot claimless) (of_none none unmapped)) = omega arith
   claims_law x (row.fails j b) = omega (arith, nothing, in_block (claim_weight x) phase.Pending b.vios)
   claims_law x other = omega (arith, nothing)
+
+  -- each ticket that is out goes to the request that asked, and comes back with it
+  pub tickets_law : (zone : ℕ) (test : ℕ → Bool) → {old new : ZoneData} {before after : Sum} → Row sizes old new before after → Conserves (ticket_token zone test) old new before after
+  tickets_law zone test (row.both first same second) = omega (arith, tickets_law zone test first, same (ticket_token zone test).item, tickets_law zone test second)
+  tickets_law zone test (row.begins d v pageless claimless ticketless) = omega (arith, ap (total (ticket_weight zone test)) ticketless)
+  tickets_law zone test (row.begins_flush d v pageless claimless ticketless) = omega (arith, ap (total (ticket_weight zone test)) ticketless)
+  tickets_law zone test (row.answers d v answer marks pageless claimless ticketless) = omega (arith, ap (total (ticket_weight zone test)) ticketless)
+  tickets_law zone test (row.asks_on p z v q on early asks) = omega (arith, asks.numbers zone test, same_out zone test p.counts z asks.zone (out_in test z))
+  tickets_law zone test (row.counts_block p z v y some moves passes) = omega (arith, out_kept zone test p.counts z passes)
+  tickets_law zone test (row.drops_claim p z v y given some moves passes) = omega (arith, out_kept zone test p.counts z passes)
+  tickets_law zone test (row.removes p z e y given from moves passes) = omega (arith, out_kept zone test p.counts z passes)
+  tickets_law zone test (row.commits j b v vs q more (to_count) (of_block none)) = omega arith
+  tickets_law zone test (row.commits j b v vs q more (to_slot claimless) (of_block none)) = omega arith
+  tickets_law zone test (row.commits j b v vs q more (to_count) (of_page page is no_old no_report)) = omega arith
+  tickets_law zone test (row.commits j b v vs q more (to_slot claimless) (of_page page is no_old no_report)) = omega arith
+  tickets_law zone test (row.commits j b v vs q more (to_count) (of_none none unmapped)) = omega arith
+  tickets_law zone test (row.commits j b v vs q more (to_slot claimless) (of_none none unmapped)) = omega arith
+  tickets_law zone test (row.fails j b) = omega (arith, nothing, in_block (λ v. total (ticket_weight zone test) v.tickets) phase.Pending b.vios)
+  tickets_law zone test other = omega (arith, nothing)
 
   -- the decrement of an entry goes with its commit to the physical zone, its report from there to its request
   pub reports_law : (w : Writer) → {old new : ZoneData} {before after : Sum} → Row sizes old new before after → Conserves (report_token w) old new before after
@@ -229,6 +256,7 @@ module _ (sizes : Sizes) where
   waiters_law w (row.both first same second) = omega (arith, waiters_law w first, same (waiter_token w).item, waiters_law w second)
   waiters_law w (row.looks l v on) = omega (arith, unwaited w (is_committed on.phase) (onward on v) on.uncommitted)
   waiters_law w (row.leafed l v on) = omega (arith, unwaited w (is_committed on.phase) (onward on v) on.uncommitted)
+  waiters_law w (row.asks_on p z v q on early asks) = omega (arith, unwaited w (is_committed q) v early.uncommitted, unwaited w (is_committed on.phase) (further on v) on.early.uncommitted)
   waiters_law w (row.leaves l slots reported v q answer locks is_set leased) = omega (arith, is_set.waited w)
   waiters_law w (row.hands_on l slots reported v q answer u others locks is_set leased) = omega (arith, is_set.waited w)
   waiters_law w (row.links l tree v page is_page made) = omega (arith, page_waits w v page is_page)
@@ -258,6 +286,7 @@ module _ (sizes : Sizes) where
   leases_law a test (row.both first same second) = omega (arith, leases_law a test first, same (lease_token a test).item, leases_law a test second)
   leases_law a test (row.looks l v on) = omega (arith, ap (λ b. bit (b && (v.at.0 == a && test v.place))) on.locks)
   leases_law a test (row.leafed l v on) = omega (arith, ap (λ b. bit (b && (v.at.0 == a && test v.place))) on.locks)
+  leases_law a test (row.asks_on p z v q on early asks) = omega (arith, ap (λ b. bit (b && (v.at.0 == a && test v.place))) early.locks, ap (λ b. bit (b && (v.at.0 == a && test v.place))) on.early.locks)
   leases_law a test (row.leaves l slots reported v q answer locks is_set leased) = omega (arith, ap (λ b. bit (b && (v.at.0 == a && test v.place))) locks, freed a test l v leased)
   leases_law a test (row.hands_on l slots reported v q answer w others locks is_set leased) = omega (arith, ap (λ b. bit (b && (v.at.0 == a && test v.place))) locks, freed a test l v leased)
   leases_law a test (row.retires l v pageless leased) = omega (arith, freed a test l v leased)
@@ -276,6 +305,7 @@ module _ (sizes : Sizes) where
   holders_law (row.both first same second) = omega (arith, holders_law first, same holder_token.item, holders_law second)
   holders_law (row.looks l v on) = omega (arith, ap bit on.locks)
   holders_law (row.leafed l v on) = omega (arith, ap bit on.locks)
+  holders_law (row.asks_on p z v q on early asks) = omega (arith, ap bit early.locks, ap bit on.early.locks)
   holders_law (row.leaves l slots reported v q answer locks is_set leased) = omega (arith, ap bit locks, one_freed l v leased)
   holders_law (row.hands_on l slots reported v q answer w others locks is_set leased) = omega (arith, ap bit locks, one_freed l v leased)
   holders_law (row.retires l v pageless leased) = omega (arith, one_freed l v leased)
@@ -294,6 +324,7 @@ module _ (sizes : Sizes) where
   entries_law (row.both first same second) = omega (arith, entries_law first, same entry_token.item, entries_law second)
   entries_law (row.looks l v on) = omega (arith, ap (λ b. bit (b && not (is_some v.page))) on.unentered)
   entries_law (row.leafed l v on) = omega (arith, ap (λ b. bit (b && not (is_some v.page))) on.unentered)
+  entries_law (row.asks_on p z v q on early asks) = omega (arith, ap (λ b. bit (b && not (is_some v.page))) early.unentered, ap (λ b. bit (b && not (is_some v.page))) on.early.unentered)
   entries_law (row.leaves l slots reported v q answer locks is_set leased) = omega (arith, is_set.count)
   entries_law (row.hands_on l slots reported v q answer w others locks is_set leased) = omega (arith, is_set.count)
   entries_law (row.retires l v pageless leased) = omega (arith, nothing, own_entry v pageless)
@@ -315,6 +346,7 @@ module _ (sizes : Sizes) where
   page_entries_law (row.both first same second) = omega (arith, page_entries_law first, same page_entry_token.item, page_entries_law second)
   page_entries_law (row.looks l v on) = omega (arith, ap (λ b. bit (b && is_some v.page)) on.unentered)
   page_entries_law (row.leafed l v on) = omega (arith, ap (λ b. bit (b && is_some v.page)) on.unentered)
+  page_entries_law (row.asks_on p z v q on early asks) = omega (arith, ap (λ b. bit (b && is_some v.page)) early.unentered, ap (λ b. bit (b && is_some v.page)) on.early.unentered)
   page_entries_law (row.forgets l unlinkable v q page locks is_dropped is_page made) = omega (arith, is_dropped.count, with_page (has_entry q) v page is_page)
   page_entries_law (row.enters j v counted claimed) = omega (arith, page_entry (logged v) j.entered, one_kind (logged v), either_bit (is_some v.page), counted)
   page_entries_law (row.enters_first j v counted claimed) = omega (arith, nothing, page_entry (logged v) j.entered, one_kind (logged v), either_bit (is_some v.page), counted)
@@ -330,9 +362,9 @@ module _ (sizes : Sizes) where
   -- a page goes to its maker, and from it when it is linked, or isn't made any more
   pub making_law : (page : PageId) → {old new : ZoneData} {before after : Sum} → Row sizes old new before after → Conserves (making_token page) old new before after
   making_law page (row.both first same second) = omega (arith, making_law page first, same (making_token page).item, making_law page second)
-  making_law page (row.begins d v pageless claimless) = omega (arith, is_page_of page v None pageless)
-  making_law page (row.begins_flush d v pageless claimless) = omega (arith, is_page_of page v None pageless)
-  making_law page (row.answers d v answer marks pageless claimless) = omega (arith, is_page_of page v None pageless)
+  making_law page (row.begins d v pageless claimless ticketless) = omega (arith, is_page_of page v None pageless)
+  making_law page (row.begins_flush d v pageless claimless ticketless) = omega (arith, is_page_of page v None pageless)
+  making_law page (row.answers d v answer marks pageless claimless ticketless) = omega (arith, is_page_of page v None pageless)
   making_law page (row.makes l v p pageless) = omega (arith, is_page_of page v None pageless, times_more page p l.making)
   making_law page (row.links l tree v p is_page made) = omega (arith, is_page_of page v (Some p) is_page, taken_out p page l.making made)
   making_law page (row.forgets l unlinkable v q p locks is_dropped is_page made) = omega (arith, is_page_of page v (Some p) is_page, taken_out p page l.making made)

@@ -1,6 +1,6 @@
 -- Damage in a right trace: an answer that says so has found some, and where the session is fair there is none.
 use Rattle.std.proofs.Common.{◌≡◌, Contains, true, false, Option, None, Some, IsSome, List, [], ◌∷◌, refl, sym, subst, inl, inr}
-use Rattle.core_laws.proofs.Common.{Answer as Reply, Fails, Flushes, Harms, Hears, IsFair, IsSession, MayAnswer, Remapping, Request, RightTrace, Says, Session, Trace, Writer, answer_of, fair_before, is_harmed, lines, option_cases, request_at, same_tells}
+use Rattle.core_laws.proofs.Common.{Answer as Reply, Fails, Flushes, Harms, Hears, IsFair, IsSession, MayAnswer, Remapping, Request, RightTrace, Says, Session, Trace, Writer, answer_of, fair_before, is_harmed, lines, request_at, same_tells}
 use Rattle.blk_base.specs.declared.request.Answer.TheVariants as reply
 use Rattle.blk_base.specs.declared.request.Request.TheVariants as request
 use Rattle.core_laws.proofs.device.LeafReads.{leaf_decodes}

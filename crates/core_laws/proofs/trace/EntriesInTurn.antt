@@ -7,7 +7,7 @@ use Rattle.blk_base.specs.declared.place.Mapping.{Mapping}
 use Rattle.blk_base.specs.declared.place.Mapping.TheVariants.{Unmapped, Zero, At}
 use Rattle.blk_base.specs.declared.place.PageId.{PageId}
 use Rattle.blk_base.specs.declared.place.Pbn.{Pbn}
-use Rattle.core_laws.proofs.Common.{Enters, IsAsOpened, IsFair, IsSession, Logged, Makes, NewPage, OnBlock, Remapping, Remaps, RightTrace, Session, Trace, Writer, cases_Bool, durable, entry_of, eqb_tells, fair_before, journaled, mapping_by, new_of, of_address, opened_image, passed, remappings, same_Some}
+use Rattle.core_laws.proofs.Common.{Enters, IsAsOpened, IsFair, IsSession, Logged, Makes, OnBlock, Remaps, RightTrace, Session, Trace, Writer, cases_Bool, durable, entry_of, eqb_tells, fair_before, journaled, mapping_by, opened_image, passed, remappings, same_Some}
 use Rattle.core_laws.proofs.kept.Spared.{mapping_same}
 use Rattle.core_laws.proofs.trace.EntryMaps.{AreTurned, at_block, leaf_linked, made_block, made_in, mapping_is, pages_said, turned, up_linked}
 use Rattle.core_laws.proofs.trace.PagesOfTrace.{linked_stands}

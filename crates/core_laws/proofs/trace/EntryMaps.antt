@@ -14,7 +14,7 @@ use Rattle.data_vio.specs.declared.items.Asks.{Asks}
 use Rattle.data_vio.specs.declared.items.Asks.TheVariants.{Read, Write, Discard, Flush}
 use Rattle.image_model.specs.Maps.{or_else}
 use Rattle.journal_stops.proofs.OpenedLaws.{all_new, all_new_page, all_old, all_old_page}
-use Rattle.core_laws.proofs.Common.{Enters, IsAsOpened, IsSession, Logged, Makes, Mapping, NewPage, Pbn, Remapping, Remaps, Request, RightTrace, Session, Trace, Writer, address_of, cases_Bool, entry_of, eq-eqb, eqb_tells, journaled, lt-ltb, mapping_by, mapped_or, newest, of_address, opened_at, opened_image, place_of, places, remappings, request_at, same_Some, some_is, some_of}
+use Rattle.core_laws.proofs.Common.{Enters, IsAsOpened, IsSession, Logged, Makes, Mapping, Pbn, Remapping, Remaps, Request, RightTrace, Session, Trace, Writer, address_of, cases_Bool, entry_of, eq-eqb, eqb_tells, journaled, lt-ltb, mapping_by, mapped_or, newest, of_address, opened_at, opened_image, place_of, places, remappings, request_at, same_Some, some_is, some_of}
 use Rattle.blk_base.specs.Pages.{above}
 use Rattle.blk_base.specs.declared.journal_entry.CommittedEntry.{CommittedEntry}
 use Rattle.blk_base.specs.declared.journal_entry.Entry.TheVariants as entry

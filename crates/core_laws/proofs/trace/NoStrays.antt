@@ -1,12 +1,12 @@
 -- In a fair session no decrement finds 0: its updates are taken in the order of its entries, and the count that goes with them fits.
 -- And a counter that has all of them is the number of mappings.
-use Rattle.std.proofs.Common.{ℕ, ◌+◌, ◌*◌, ◌%◌, ◌≡◌, ◌==◌, true, false, Bool, if◌then◌else◌, List, [], ◌∷◌, ◌++◌, length, refl, sym, ◌∙◌, ap, subst, inl, inr, arith}
+use Rattle.std.proofs.Common.{ℕ, ◌+◌, ◌*◌, ◌%◌, ◌≡◌, false, Bool, List, [], ◌∷◌, ◌++◌, length, refl, sym, ◌∙◌, ap, subst, inl, inr, arith}
 use Rattle.blk_base.specs.Counters.{limit_of}
 use Rattle.blk_base.specs.declared.journal_entry.Update.{Update}
 use Rattle.blk_base.specs.declared.place.Mapping.{Mapping}
 use Rattle.blk_base.specs.declared.place.Mapping.TheVariants.{Unmapped, Zero, At}
 use Rattle.blk_base.specs.declared.place.Pbn.{Pbn}
-use Rattle.core_laws.proofs.Common.{Adds, IsFair, IsSession, Logged, Makes, Remapping, Remaps, Removes, RightTrace, Session, Strays, Trace, bit, cases_Bool, durable, entry_of, eqb_tells, fair_before, opened_image, total}
+use Rattle.core_laws.proofs.Common.{Adds, IsFair, IsSession, Logged, Makes, Remapping, Remaps, Removes, RightTrace, Session, Strays, Trace, cases_Bool, durable, entry_of, eqb_tells, fair_before, opened_image, total}
 use Rattle.core_laws.proofs.kept.MapCounts.{durable_running}
 use Rattle.core_laws.proofs.lists.CountedIn.{counted_by, counted_here, leads_not, total_part}
 use Rattle.core_laws.proofs.trace.EntriesInTurn.{pointed}
@@ -22,7 +22,6 @@ use Rattle.count_laws.specs.Points.{points_in, those_of, update_led}
 use Rattle.count_laws.specs.Strays.{FitsCounter}
 use Rattle.count_laws.specs.Turns.{HasMappingsAfter}
 use Rattle.image_model.specs.Counts.{adds_of, takes_of}
-use Rattle.slab_counts.specs.Calls.{one_of}
 
 -- The updates of entries, and those with points.
 
@@ -137,14 +136,14 @@ one_last f (v ∷ us) u = omega (arith, one_last f us u)
 taken_adds : (x : Pbn) (t : Trace) → total (adds_by x) (updates_taken t) ≡ total (is_entry x) (added t)
 taken_adds x [] = refl
 taken_adds x (Adds e ∷ t) = omega (arith, one_last (adds_by x) (updates_taken t) (Increment e), taken_adds x t)
-taken_adds x (Removes e ∷ t) = omega (arith, one_last (adds_by x) (updates_taken t) (Decrement e), taken_adds x t)
+taken_adds x (Removes e to ∷ t) = omega (arith, one_last (adds_by x) (updates_taken t) (Decrement e), taken_adds x t)
 taken_adds x (Strays e ∷ t) = omega (arith, one_last (adds_by x) (updates_taken t) (Decrement e), taken_adds x t)
 taken_adds x (other ∷ t) = taken_adds x t
 
 taken_takes : (x : Pbn) (t : Trace) → total (takes_by x) (updates_taken t) ≡ total (is_old x) (removed t) + total (is_old x) (strayed t)
 taken_takes x [] = refl
 taken_takes x (Adds e ∷ t) = omega (arith, one_last (takes_by x) (updates_taken t) (Increment e), taken_takes x t)
-taken_takes x (Removes e ∷ t) = omega (arith, one_last (takes_by x) (updates_taken t) (Decrement e), taken_takes x t)
+taken_takes x (Removes e to ∷ t) = omega (arith, one_last (takes_by x) (updates_taken t) (Decrement e), taken_takes x t)
 taken_takes x (Strays e ∷ t) = omega (arith, one_last (takes_by x) (updates_taken t) (Decrement e), taken_takes x t)
 taken_takes x (other ∷ t) = taken_takes x t
 

@@ -1,5 +1,5 @@
 -- What a stopped image maps an address to: what the newest of the entries of its window gives it, or what the opened image has.
-use Rattle.std.proofs.Common.{◌≡◌, ◌⊎◌, ℕ, ◌+◌, ◌-◌, ◌*◌, ◌<◌, ◌≤◌, Option, None, Some, List, [], ◌++◌, Contains, map, refl, sym, ◌∙◌, ap, subst, inl, inr, arith, length, replicate}
+use Rattle.std.proofs.Common.{◌≡◌, ◌⊎◌, ℕ, ◌+◌, ◌*◌, ◌<◌, ◌≤◌, Option, None, Some, List, [], ◌++◌, Contains, map, refl, sym, ◌∙◌, ap, subst, inl, inr, arith, length, replicate}
 use Rattle.std.proofs.lemmas.List.{append-nil, drop_all, get_or-replicate}
 use Rattle.blk_base.specs.Regions.{IsDataBlock}
 use Rattle.byte_fields.specs.Fields.{number_at}

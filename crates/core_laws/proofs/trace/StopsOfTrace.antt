@@ -1,6 +1,6 @@
 -- A stop before or after any call of a right trace is right.
-use Rattle.std.proofs.Common.{ℕ, min, drop, length-drop, length-take, ◌+◌, ◌-◌, ◌≡◌, ◌⊎◌, ◌≢◌, ◌<◌, IsTrue, false, List, [], ◌∷◌, ◌++◌, length, refl, ◌∙◌, ap, map, inl, inr, arith, ◌≤◌, Bool, true, sym, subst, append_assoc, IsSome}
-use Rattle.core_laws.proofs.Common.{all_of, AllByRecursion, answer_of, append-nil, AreAllThere, AtRest, begun, Call, calls, Calls, ComesLast, committed, DeskLine, done, each_both, entered, every-append, every-front, every-map, fair_part, filled, FlushMark, HasBlocks, HistoryEntry, IsFair, IsSession, IsWrite, lines, log, Logged, Remapping, Mapping, MapStands, Mark, marks, newest, NewStands, of_address, OnBlock, OnItsWay, PagesStand, places, request_at, RightTrace, RunReport, same_self, sealed, Session, Shown, Stands, Trace, value_from, value_written, Writer, content_of, new_of, journaled, durable, remappings, passed, superblock_bytes, superblock_stage, SuperblockStage, mapping_by, entry_of}
+use Rattle.std.proofs.Common.{ℕ, ◌+◌, ◌-◌, ◌≡◌, ◌⊎◌, ◌≢◌, ◌<◌, IsTrue, false, List, [], ◌∷◌, ◌++◌, length, refl, ◌∙◌, ap, map, inl, inr, arith, ◌≤◌, Bool, true, sym, subst, append_assoc, IsSome}
+use Rattle.core_laws.proofs.Common.{all_of, AllByRecursion, answer_of, append-nil, AreAllThere, AtRest, begun, Call, calls, Calls, ComesLast, committed, DeskLine, done, each_both, entered, every-append, every-front, every-map, fair_part, filled, FlushMark, HistoryEntry, IsFair, IsSession, IsWrite, lines, log, Logged, Remapping, Mapping, MapStands, Mark, marks, newest, NewStands, of_address, OnBlock, OnItsWay, PagesStand, places, request_at, RightTrace, RunReport, same_self, sealed, Session, Shown, Stands, Trace, value_from, value_written, Writer, content_of, new_of, journaled, durable, remappings, passed, superblock_bytes, superblock_stage, SuperblockStage, mapping_by, entry_of}
 use Rattle.core_laws.proofs.trace.PassesOfTrace.{entered_at_both, entered_once, has_either, value_past}
 use Rattle.blk_base.specs.declared.place.Mapping.TheVariants.{Unmapped, Zero, At}
 use Rattle.disk_model.specs.Images.{IsImage}
@@ -31,9 +31,9 @@ use Rattle.core_laws.proofs.trace.ZeroWrites.{zeros_by}
 use Rattle.image_model.specs.Looked.{is_looked_at}
 use Rattle.image_model.specs.Windows.{IsWindow}
 use Rattle.journal_stops.specs.Sealed.{Sealed, next_of, window_of}
-use Rattle.journal_stops.proofs.ShownLaws.{slot_there, window_at_rest, window_under_way}
-use Rattle.stop_laws.specs.Journals.{Surely, block_of_slot}
-use Rattle.blk_base.specs.Sectors.{sector, zero_block}
+use Rattle.journal_stops.proofs.ShownLaws.{window_at_rest, window_under_way}
+use Rattle.stop_laws.specs.Journals.{Surely}
+use Rattle.blk_base.specs.Sectors.{sector}
 use Rattle.journal_stops.proofs.EntryLaws.{window_of_all}
 use Rattle.core_model.specs.Sessions.{HasSuperblock, IsSuperblock, SuperblockStands, blocks_of, said_by, sealed_with}
 use Rattle.core_laws.proofs.trace.ShownMaps.{shown_mapping}

@@ -1,7 +1,6 @@
 -- Why a request may be answered: for each answer a trace that has its cause, and for each part of the cause one that lacks it.
-use Rattle.std.proofs.Common.{ℕ, ◌≡◌, ◌+◌, ◌*◌, ◌∙◌, sym, true, false, None, Some, List, [], ◌∷◌, refl, ap, replicate, inl, inr, arith}
+use Rattle.std.proofs.Common.{ℕ, zero, suc, ◌≡◌, ◌<◌, true, false, None, Some, List, [], ◌∷◌, refl, ap, inl, inr, arith, subst}
 use Rattle.std.proofs.lemmas.Option.{same_Some}
-use Rattle.blk_base.specs.Sectors.{zero_block}
 use Rattle.blk_base.specs.declared.place.Mapping.TheVariants.{Unmapped}
 use Rattle.blk_base.specs.declared.request.Answer.{Answer}
 use Rattle.blk_base.specs.declared.request.Answer.TheVariants.{Ok, Bytes, Range, Stopped, Full, NoSpace, ReadFault, Damaged}
@@ -11,17 +10,15 @@ use Rattle.blk_base.specs.declared.request.Request.{Request}
 use Rattle.disk_model.specs.declared.call.Call.TheVariants.{Read, Flush}
 use Rattle.vdo_model.specs.declared.report.DeskLine.TheVariants.{Begin}
 use Rattle.data_vio.specs.declared.logged.Logged.TheVariants.{Remaps}
-use Rattle.core_model.specs.Sessions.{Session, opened_uses}
+use Rattle.core_model.specs.Sessions.{Session}
 use Rattle.page_codec.specs.declared.fault.PageFault.TheVariants.{Header}
-use Rattle.core_model.specs.RightTraces.{HadNoFree, HadNoFreeNear, HasCause, MayAnswer}
-use Rattle.core_model.specs.Uses.{NoneFree, NoneFreeIn}
-use Rattle.core_model.specs.Tokens.{is_block, is_old}
-use Rattle.plain_laws.specs.Sums.{total}
+use Rattle.core_model.specs.RightTraces.{HadNoFree, HasCause, MayAnswer, WasRefused}
+use Rattle.core_model.specs.Uses.{NoneFree}
+use Rattle.plain_laws.specs.Sums.{bit, total}
 use Rattle.vdo_model.specs.Places.{place_of}
-use Rattle.zone_counts.proofs.OpenedCounts.{opened_some}
-use Rattle.std.proofs.lemmas.List.{get_or-replicate}
-use Rattle.core_model.specs.Trace.{Gift, Says, Gives, Takes, Aborts, Fails, Harms, Trace, places, removed, unclaimed}
-use Rattle.core_model.proofs.rows.WorkedTraces.{place, address, block, x, y, first, reader, second, other, late, flush, session, sizes, begun, drawn, took, handed_in, lasting, set, stopped, entry, of_first, of_other, given, in_block}
+use Rattle.core_model.specs.Trace.{Gift, Happening, Says, Gives, Takes, Asks, Withdraws, Drops, Aborts, Fails, Harms, Trace, places}
+use Rattle.core_model.proofs.rows.TicketTraces.{all_but_one, are_before, asks_in, before_last, crowded, crowded_two, each_is_mapped, each_of_two_is_mapped, ends_in, ends_with, has_asked, has_ended, none_but_claimed, none_is_free, one_asked, ticket}
+use Rattle.core_model.proofs.rows.WorkedTraces.{address, block, x, y, first, reader, second, other, late, flush, session, begun, drawn, took, handed_in, lasting, set, stopped, entry, of_first, of_other, given, in_block}
 
 -- a read of an address, and a write of it
 abbrev Reads : Trace → Writer → ℕ → Answer → Type 0
@@ -184,30 +181,69 @@ at_once_of_a_write may = may.1.behind
 
 -- It is full where the one block of the journal is sealed.
 full_journal : Writes in_block second 0 Full
-full_journal = (refl, refl, inl (omega arith))
+full_journal = (refl, refl, omega arith)
 
 full_with_a_place : Writes in_block late 0 Full → ⊥
 full_with_a_place may = let placed = may.0 in absurd cc
 
 full_with_room : Writes took second 0 Full → ⊥
-full_with_room may = elim may.2 [ inl journal ↦ absurd (omega (arith, journal)) | inr near ↦ absurd (let several = near.several in omega (arith, several)) ]
+full_with_room may = absurd (omega (arith, may.2))
 
 full_before_it_enters : Writes in_block first 0 Full → ⊥
 full_before_it_enters may = let entered = may.1 in absurd cc
 
--- There is no space where at one moment since it has its place no data block was free: in a session where each is mapped.
-abbrev crowded : Session
-crowded = record session { counters = replicate 64 1 }
+-- There is no space where at one moment since it has its place no data block was free, by then it had asked each zone, and no block went
+-- to a ticket of these. WasRefused: it asked the zone by that moment, and withdrew that ticket since, without a block.
+abbrev withdrawn : Happening
+withdrawn = Withdraws second (ticket 0 0) None
 
-none_is_free : (t : Trace) → unclaimed t ≡ [] → removed t ≡ [] → NoneFree crowded t
-none_is_free t undropped unremoved = λ x is_data free.
-    let mapped : opened_uses crowded x ≡ 1 = opened_some sizes.geometry (replicate 64 1) x is_data ∙ get_or-replicate 64 (is_data.slab * 64 + is_data.offset) 1 0 (let inside = is_data.inside in omega (arith, inside.0, inside.1)) in
-    let none = ap (total (is_block x)) undropped in
-    let none' = ap (total (is_old x)) unremoved in
-    omega (arith, mapped, none, none', free)
+refused : WasRefused (withdrawn ∷ []) (one_asked drawn) second 0
+refused = record { ticket = ticket 0 0; zone_is = refl; asked = (0, omega arith, refl); withdrawn = (0, omega arith, refl) }
 
-no_space : HasCause crowded (Says (Begin flush) ∷ drawn) second (request.Write (address 0) x false) NoSpace
-no_space = (refl, refl, record { newer = Says (Begin flush) ∷ []; older = drawn; moment = refl; placed = refl; none_free = none_is_free drawn refl refl })
+-- in that zone; by the moment, and not since; itself
+refused-where_it_asked : WasRefused (withdrawn ∷ []) (one_asked drawn) second 1 → ⊥
+refused-where_it_asked was = let found = has_asked second 1 (one_asked drawn) was.ticket was.zone_is was.asked in omega (arith, found)
+
+refused-by_then : WasRefused (withdrawn ∷ one_asked []) drawn second 0 → ⊥
+refused-by_then was = let found = has_asked second 0 drawn was.ticket was.zone_is was.asked in omega (arith, found)
+
+refused-itself : WasRefused (Withdraws other (ticket 0 0) None ∷ []) (one_asked drawn) other 0 → ⊥
+refused-itself was = let found = has_asked other 0 (one_asked drawn) was.ticket was.zone_is was.asked in omega (arith, found)
+
+-- since, and not before; and without a block
+refused-not_before : WasRefused [] (withdrawn ∷ one_asked drawn) second 0 → ⊥
+refused-not_before was = let since = was.withdrawn.1 in omega (arith, since)
+
+refused-without_a_block : WasRefused (Withdraws second (ticket 0 0) (Some (block 85)) ∷ []) (one_asked drawn) second 0 → ⊥
+refused-without_a_block was = let found = has_ended second 0 (Withdraws second (ticket 0 0) (Some (block 85)) ∷ []) was.ticket was.zone_is was.withdrawn in omega (arith, found)
+
+no_space : HasCause crowded (withdrawn ∷ one_asked drawn) second (request.Write (address 0) x false) NoSpace
+no_space = (
+  refl,
+  refl,
+  record {
+    newer = withdrawn ∷ [];
+    older = one_asked drawn;
+    moment = refl;
+    placed = refl;
+    none_free = none_is_free crowded (one_asked drawn) each_is_mapped refl refl;
+    refused = λ zone below. let here : 0 ≡ zone = omega (arith, below) in subst (WasRefused (withdrawn ∷ []) (one_asked drawn) second) here refused;
+  },
+)
+
+-- that a block became free since then is no matter
+no_space_then : HadNoFree all_but_one (Drops first (block 85) None ∷ withdrawn ∷ one_asked took) second
+no_space_then = record {
+  newer = Drops first (block 85) None ∷ withdrawn ∷ [];
+  older = one_asked took;
+  moment = refl;
+  placed = refl;
+  none_free = none_but_claimed (one_asked took) refl refl refl;
+  refused = λ zone below.
+      let here : 0 ≡ zone = omega (arith, below) in
+      subst (WasRefused (Drops first (block 85) None ∷ withdrawn ∷ []) (one_asked took) second) here
+      (record { ticket = ticket 0 0; zone_is = refl; asked = (0, omega arith, refl); withdrawn = (1, omega arith, refl) });
+}
 
 no_space_with_a_place : HasCause crowded drawn late (request.Write (address 0) x false) NoSpace → ⊥
 no_space_with_a_place may = let placed = may.0 in absurd cc
@@ -222,25 +258,44 @@ one_is_free none = none (block 90) (record { slab = 0; offset = 11; inside = (om
 no_space_at_a_moment_with_its_place : (s : Session) (t : Trace) (w : Writer) → (h : HadNoFree s t w) → place_of (places h.older) w ≡ None → ⊥
 no_space_at_a_moment_with_its_place s t w h none = absurd (let some = rw none at h.placed in cc)
 
--- A write is full too where no block was free in the zone that it asks, at one moment since it had its place.
-abbrev crowded_near : Session
-crowded_near = record crowded { sizes = record sizes { physical = 2 } }
+-- nor before it has asked each zone
+abbrev asked_both : Trace
+asked_both = Asks second (ticket 1 0) ∷ one_asked drawn
 
-none_near : (t : Trace) (zone : ℕ) → unclaimed t ≡ [] → removed t ≡ [] → NoneFreeIn crowded_near t zone
-none_near t zone undropped unremoved = λ x is_data here free. none_is_free t undropped unremoved x is_data free
+no_space_in_both : HadNoFree crowded_two (Withdraws second (ticket 1 0) None ∷ withdrawn ∷ asked_both) second
+no_space_in_both = record {
+  newer = Withdraws second (ticket 1 0) None ∷ withdrawn ∷ [];
+  older = asked_both;
+  moment = refl;
+  placed = refl;
+  none_free = none_is_free crowded_two asked_both each_of_two_is_mapped refl refl;
+  refused = by;
+}
+  where
+    by : (zone : ℕ) → zone < 2 → WasRefused (Withdraws second (ticket 1 0) None ∷ withdrawn ∷ []) asked_both second zone
+    by zero below = record { ticket = ticket 0 0; zone_is = refl; asked = (1, omega arith, refl); withdrawn = (1, omega arith, refl) }
+    by (suc zero) below = record { ticket = ticket 1 0; zone_is = refl; asked = (0, omega arith, refl); withdrawn = (0, omega arith, refl) }
+    by (suc (suc zone)) below = absurd (omega (arith, below))
 
-full_near : HasCause crowded_near (Says (Begin flush) ∷ drawn) second (request.Write (address 0) x false) Full
-full_near = (refl, refl, inr (record { several = omega arith; newer = Says (Begin flush) ∷ []; older = drawn; moment = refl; placed = place second 0 1; place_is = refl; none_free = none_near drawn 1 refl refl }))
+no_space_before_each_was_asked : HadNoFree crowded_two (withdrawn ∷ one_asked drawn) second → ⊥
+no_space_before_each_was_asked h =
+    let was = h.refused 1 (omega arith) in
+    let asked = has_asked second 1 _ _ was.zone_is was.asked in
+    let all = ap (total (λ g. bit (asks_in second 1 g))) h.moment in
+    omega (arith, asked, all, ends_with (asks_in second 1) h.newer h.older)
 
--- not where there is one zone, nor before it has its place, nor while a block is free in the zone that its place says
-near_of_several : (t : Trace) (w : Writer) → HadNoFreeNear crowded t w → ⊥
-near_of_several t w near = let several = near.several in absurd (omega (arith, several))
+-- nor where it asked one zone after the other, and had no ticket of the first any more when it asked the second
+abbrev one_by_one : Trace
+one_by_one = Withdraws second (ticket 1 0) None ∷ Asks second (ticket 1 0) ∷ withdrawn ∷ one_asked drawn
 
-near_with_its_place : (s : Session) (t : Trace) (w : Writer) (near : HadNoFreeNear s t w) → place_of (places near.older) w ≡ None → ⊥
-near_with_its_place s t w near none = let both = sym none ∙ near.place_is in absurd cc
-
-one_is_free_near : NoneFreeIn (record session { sizes = record sizes { physical = 2 } }) took 0 → ⊥
-one_is_free_near none = none (block 90) (record { slab = 0; offset = 11; inside = (omega arith, omega arith); stands = refl }) refl refl
+no_space_zone_by_zone : HadNoFree crowded_two one_by_one second → ⊥
+no_space_zone_by_zone h =
+    let first_zone = h.refused 0 (omega arith) in
+    let second_zone = h.refused 1 (omega arith) in
+    let ended = has_ended second 0 _ _ first_zone.zone_is first_zone.withdrawn in
+    let asked = has_asked second 1 _ _ second_zone.zone_is second_zone.asked in
+    let none = ap (before_last (ends_in 0) (asks_in second 1)) h.moment in
+    omega (arith, asked, none, are_before (ends_in 0) (asks_in second 1) h.newer h.older ended)
 
 -- A flush is stopped after a stop, and answered Ok with its mark alone.
 flush_stopped : HasCause session (stopped begun) flush request.Flush Stopped

@@ -1,13 +1,14 @@
 -- For each clause of what a zone with its lanes keeps a case that it accepts, and one that breaks it alone: in the middle of
 -- a session, where the first write has its block and is on its way to the device, and another write asks for one.
-use Rattle.std.specs.Prelude.{ℕ, zero, suc, ◌≡◌, ◌≢◌, ◌<◌, ◌≤◌, false, List, [], ◌∷◌, length, slice_set, Some, refl}
+use Rattle.std.specs.Prelude.{ℕ, zero, suc, ◌≡◌, ◌≢◌, ◌≤◌, false, List, [], ◌∷◌, length, slice_set, None, Some, refl}
 use Rattle.std.specs.List.{AllByRecursion}
 use Rattle.std.proofs.Common.{ap, arith, inl, inr, subst, sym}
+use Rattle.std.proofs.lemmas.Bool.Decides.{eqb_tells}
 use Rattle.blk_base.specs.declared.geometry.Geometry.{Geometry}
 use Rattle.blk_base.specs.declared.place.Mapping.TheVariants.{At}
 use Rattle.core_model.specs.declared.zones.PhysicalZone.{PhysicalZone}
 use Rattle.slab_tickets.specs.declared.forms.Waiting.{Waiting}
-use Rattle.zone_counts.specs.Zone.{IsOfZone}
+use Rattle.zone_counts.specs.Zone.{IsOfZone, IsZone}
 use Rattle.blk_base.specs.declared.place.ZoneId.TheVariants as id
 use Rattle.data_vio.specs.declared.logged.Logged.TheVariants.{Remaps}
 use Rattle.data_vio.specs.declared.items.Asks.TheVariants as asks
@@ -17,12 +18,17 @@ use Rattle.data_vio.specs.declared.items.Phase.TheVariants as phase
 use Rattle.data_vio.specs.declared.items.Vio.{Vio}
 use Rattle.core_model.specs.declared.zones.Zone.{Zone}
 use Rattle.core_model.specs.CountUpdates.{replaced_in}
-use Rattle.core_model.specs.Facts.{AreFirstClaims, Carries, ClaimOk, DataOk, IsDecrement, IsInTurn, IsSoundPhysical, ItemOk, PhysicalLists, VioOk, ZoneOk}
+use Rattle.core_model.specs.Facts.{AreFirstClaims, Carries, ClaimOk, DataOk, IsDecrement, IsInTurn, IsSoundPhysical, ItemOk, PhysicalLists, VioOk, ZoneOk, made_by}
+use Rattle.core_model.specs.PhysicalRules.{HasTicketRoom}
 use Rattle.core_model.specs.Sessions.{IsFair}
-use Rattle.core_model.specs.Trace.{Commits, Enters, Gives, Removes, Sets, Trace, strayed}
+use Rattle.core_model.specs.Trace.{Asks, Commits, Enters, Gives, Removes, Sets, Trace, Withdraws, strayed}
+use Rattle.core_model.specs.Uses.{ticket_at}
+use Rattle.slab_tickets.specs.Numbers.{ticket_of}
+use Rattle.core_model.specs.declared.zones.ZoneData.TheVariants as at
 use Rattle.plain_laws.specs.Sums.{Each}
-use Rattle.core_model.proofs.rows.PhaseRows.{device, has_block, nothing, one, physical, seven, slab_with, vio, writes, zone_with}
-use Rattle.core_model.proofs.rows.WorkedTraces.{sizes, address, block, given, of_first, of_second, leafy, other, session, took, two_not_zeros, y}
+use Rattle.core_model.proofs.rows.PhaseRows.{device, has_block, nothing, one, physical, seven, slab_with, stepped, vio, waiting, writes, zone_with}
+use Rattle.core_model.proofs.rows.TicketTraces.{one_asked, one_has, ticket}
+use Rattle.core_model.proofs.rows.WorkedTraces.{sizes, address, block, given, of_first, of_second, leafy, other, second, session, took, two_not_zeros, y}
 
 -- the physical zone with these counters and claims
 abbrev physical_of : List ℕ → List ℕ → PhysicalZone
@@ -83,6 +89,7 @@ may_claim = (
   refl,
   record { not_zeros = two_not_zeros; none_taken = refl },
   inr refl,
+  record { in_turn = tt; fewer = omega arith; asked = tt },
 )
 
 without_a_leaf : ¬ Carries session took claims phase.Claim
@@ -91,8 +98,53 @@ without_a_leaf = λ is. elim is.3 [ inl level ↦ absurd (omega (arith, level)) 
 without_a_place : ¬ Carries leafy [] claims phase.Claim
 without_a_place = λ is. let no = is.0.turn.is_placed.placed in absurd cc
 
+claims_with_a_ticket_of_each_zone : ¬ Carries leafy (one_asked took) (record claims { tickets = ticket 0 0 ∷ [] }) phase.Claim
+claims_with_a_ticket_of_each_zone = λ is. omega (arith, is.4.fewer)
+
 first_has_its_block : ¬ Carries leafy took (writes phase.Claim) phase.Claim
 first_has_its_block = λ is. let no = is.2.none_taken in absurd cc
+
+-- with a ticket of each zone it withdraws them
+abbrev asked : Trace
+asked = Asks other (ticket 0 0) ∷ took
+
+abbrev withdraws : Vio
+withdraws = record claims { phase = phase.Withdraw; tickets = ticket 0 0 ∷ [] }
+
+may_withdraw : Carries leafy asked withdraws phase.Withdraw
+may_withdraw = (
+  record {
+    turn = record {
+      is_placed = record { for_block = tt; placed = refl; not_entered = refl };
+      quiet = record { all_committed = refl; all_done = refl };
+      below = record { writes = tt; reads = tt };
+    };
+    old_data = tt;
+    old_is = λ fair. absurd (unfair _ fair);
+  },
+  refl,
+  inr refl,
+  record {
+    turn = 0;
+    in_turn = (refl, tt);
+    few = omega arith;
+    some = omega arith;
+    asked = ((0, omega arith, refl), tt);
+    lacks = λ none. record {
+      newer = [];
+      older = asked;
+      moment = refl;
+      placed = refl;
+      each = λ zone below. inr (ticket 0 0, (let is : 0 ≡ zone = omega (arith, below) in is), (0, omega arith, refl), (0, omega arith, refl));
+    };
+  },
+)
+
+withdraws_without_a_leaf : ¬ Carries session asked withdraws phase.Withdraw
+withdraws_without_a_leaf = λ is. elim is.2 [ inl level ↦ absurd (omega (arith, level)) | inr some ↦ absurd cc ]
+
+withdraws_without_a_ticket : ¬ Carries leafy asked (record withdraws { tickets = [] }) phase.Withdraw
+withdraws_without_a_ticket = λ is. omega (arith, is.3.some)
 
 -- the first write goes to the device with its block
 may_store : Carries leafy took (writes phase.Store) phase.Store
@@ -113,10 +165,10 @@ may_store = (
 
 -- ClaimOk: its claim is on its block, which is a data block, in the phases in which it has one
 has_its_claim : ClaimOk leafy (has_block phase.Store)
-has_its_claim = record { claim_is = refl; on_data = λ is. record { slab = 0; offset = 6; inside = (omega arith, omega arith); stands = refl } }
+has_its_claim = record { claim_is = refl; on_data = λ is. record { slab = 0; offset = 6; inside = (omega arith, omega arith); stands = refl }; no_ticket = λ is. refl }
 
 has_none_before : ClaimOk leafy claims
-has_none_before = record { claim_is = refl; on_data = λ is. tt }
+has_none_before = record { claim_is = refl; on_data = λ is. tt; no_ticket = λ is. refl }
 
 without_its_claim : ¬ ClaimOk leafy (writes phase.Store)
 without_its_claim = λ is. let no = is.claim_is in absurd cc
@@ -126,6 +178,16 @@ with_a_claim_once_counted = λ is. let no = is.claim_is in absurd cc
 
 with_no_data_block : ¬ ClaimOk leafy (record (has_block phase.Store) { new = At (block 78); claim = Some (block 78) })
 with_no_data_block = λ is. let stands = (is.on_data refl).stands in omega (arith, stands)
+
+-- and it has tickets in those alone in which it asks for a block
+has_a_ticket : ClaimOk leafy (record claims { tickets = ticket 0 0 ∷ [] }) × ClaimOk leafy (record (has_block phase.Withdraw) { tickets = ticket 0 0 ∷ [] })
+has_a_ticket = (
+  record { claim_is = refl; on_data = λ is. tt; no_ticket = λ is. absurd cc },
+  record { claim_is = refl; on_data = λ is. record { slab = 0; offset = 6; inside = (omega arith, omega arith); stands = refl }; no_ticket = λ is. absurd cc },
+)
+
+with_a_ticket_once_it_stores : ¬ ClaimOk leafy (record (has_block phase.Store) { tickets = ticket 0 0 ∷ [] })
+with_a_ticket_once_it_stores = λ is. let no = is.no_ticket refl in cc
 
 -- ItemOk: each comes to the zone where its phase is done
 comes_to_the_blocks : ItemOk leafy took 3 (Request claims)
@@ -158,16 +220,16 @@ decrement_of_a_block = λ is. let no = is.0.old_is in absurd cc
 decrement_elsewhere : ¬ ItemOk leafy replaced 4 (Decrement of_second)
 decrement_elsewhere = λ is. omega (arith, is.1)
 
-report : ItemOk leafy (Removes of_second ∷ replaced) 1 (Report of_second)
+report : ItemOk leafy (Removes of_second None ∷ replaced) 1 (Report of_second)
 report = (record { decrement = decrement_then; reported = inl (0, omega arith, refl) }, refl)
   where
-    decrement_then : IsDecrement leafy (Removes of_second ∷ replaced) of_second
+    decrement_then : IsDecrement leafy (Removes of_second None ∷ replaced) of_second
     decrement_then = record { committed = (0, omega arith, refl); block = block 85; old_is = refl; is_data = record { slab = 0; offset = 6; inside = (omega arith, omega arith); stands = refl } }
 
 report_of_what_was_taken : ¬ ItemOk leafy replaced 1 (Report of_second)
 report_of_what_was_taken = λ is. elim is.0.reported [ inl removed ↦ omega (arith, removed.1) | inr strayed ↦ omega (arith, strayed.1) ]
 
-report_elsewhere : ¬ ItemOk leafy (Removes of_second ∷ replaced) 2 (Report of_second)
+report_elsewhere : ¬ ItemOk leafy (Removes of_second None ∷ replaced) 2 (Report of_second)
 report_elsewhere = λ is. omega (arith, is.1)
 
 -- DataOk of the physical zone, where the one claim is that of the first write: the lists by what holds of each block
@@ -198,7 +260,26 @@ a_counter_too_many = λ lists. let counters = lists.counters (block 85) own in o
 stray_unkept : (t : Trace) → replaced_in sizes 0 (strayed t) ≢ [] → ¬ PhysicalLists leafy t (physical_of nothing one)
 stray_unkept t some = λ lists. some (sym lists.strays_are)
 
--- IsSoundPhysical: the slabs of its number, in as many zones as the session has, without tickets; a block that is claimed is mapped by nobody, and
+-- and what it knows of its tickets is what happened to them: of each number, and how many it gave
+abbrev with_tickets : ℕ → ℕ → List Waiting → PhysicalZone
+with_tickets step issued out = record { notified = false; strays = []; counts = stepped (zone_with (slab_with nothing nothing)) step issued out }
+
+as_it_was_asked : (number : ℕ) → ticket_of (with_tickets 0 1 (waiting second 0 None ∷ [])).counts.desk.out number ≡ ticket_at sizes (one_asked took) 0 number
+as_it_was_asked number = elim (eqb_tells 0 number) [ inl same ↦ rw same.0 refl | inr differs ↦ rw differs.0 refl ]
+
+a_ticket_too_few : ¬ PhysicalLists leafy (one_asked took) (with_tickets 0 1 [])
+a_ticket_too_few = λ lists. let no = lists.tickets_are 0 in cc
+
+a_ticket_too_many : ¬ PhysicalLists leafy (Withdraws second (ticket 0 0) None ∷ one_asked took) (with_tickets 0 1 (waiting second 0 None ∷ []))
+a_ticket_too_many = λ lists. let no = lists.tickets_are 0 in cc
+
+a_ticket_without_its_block : ¬ PhysicalLists leafy (one_has (one_asked took)) (with_tickets 0 1 (waiting second 0 None ∷ []))
+a_ticket_without_its_block = λ lists. let no = lists.tickets_are 0 in cc
+
+issued_anew : ¬ PhysicalLists leafy (Withdraws second (ticket 0 0) None ∷ one_asked took) (with_tickets 0 0 [])
+issued_anew = λ lists. omega (arith, lists.issued_is)
+
+-- IsSoundPhysical: the slabs of its number, in as many zones as the session has; a block that is claimed is mapped by nobody, and
 -- claimed once
 claimed_and_mapped : ¬ AreFirstClaims (zone_with (slab_with seven one))
 claimed_and_mapped = λ are. let both = (are (block 85) (omega arith)).0 in omega (arith, both)
@@ -212,8 +293,34 @@ of_other_sizes p two = λ is. let same = ap (λ (g : Geometry). g.slabs) is.geom
 of_two_zones : (p : PhysicalZone) → p.counts.zones ≡ 2 → ¬ IsSoundPhysical leafy p
 of_two_zones p two = λ is. let one_zone = is.zones in omega (arith, two, one_zone)
 
-with_a_ticket : (p : PhysicalZone) → 0 < length p.counts.desk.out → ¬ IsSoundPhysical leafy p
-with_a_ticket p some = λ is. let none = ap (λ (out : List Waiting). length out) is.no_ticket in omega (arith, some, none)
+-- its tickets have numbers of their own, each was issued in a step of its own, and there is room for all that may be out
+abbrev two_wait : List Waiting
+two_wait = waiting second 0 None ∷ waiting other 1 None ∷ []
+
+two_are_out : IsZone (with_tickets 1 2 two_wait).counts → AreFirstClaims (with_tickets 1 2 two_wait).counts → IsSoundPhysical leafy (with_tickets 1 2 two_wait)
+two_are_out is first = record { is_zone = is; geometry = refl; zones = refl; numbered = (omega arith, (omega arith, omega arith)); few = omega arith; room = (omega arith, omega arith); passed = λ x some. absurd (omega (arith, some)); first_claims = first }
+
+numbered_alike : ¬ IsSoundPhysical leafy (with_tickets 1 2 (waiting second 1 None ∷ waiting other 1 None ∷ []))
+numbered_alike = λ is. omega (arith, is.numbered.1.0)
+
+numbered_ahead : ¬ IsSoundPhysical leafy (with_tickets 1 2 (waiting second 0 None ∷ waiting other 2 None ∷ []))
+numbered_ahead = λ is. omega (arith, is.numbered.1.1)
+
+issued_in_one_step : ¬ IsSoundPhysical leafy (with_tickets 0 2 two_wait)
+issued_in_one_step = λ is. omega (arith, is.few)
+
+went_to_one : ¬ IsSoundPhysical leafy (with_tickets 1 1 (waiting second 0 (Some (block 1)) ∷ []))
+went_to_one = λ is. let own = is.passed (block 1) (omega arith) in let place = own.data_block.stands in omega (arith, place)
+
+with_less_room : (p : PhysicalZone) → p.counts.desk.room ≡ 63 → ¬ IsSoundPhysical leafy p
+with_less_room p less = λ is. omega (arith, less, is.room.1)
+
+-- HasTicketRoom: for twice as many as may be under way in sixteen streams, and for 32 at least
+has_room : HasTicketRoom sizes 64 × HasTicketRoom (record sizes { depth = 0 }) 32
+has_room = ((omega arith, omega arith), (omega arith, omega arith))
+
+has_less_room : (¬ HasTicketRoom sizes 63) × (¬ HasTicketRoom (record sizes { depth = 0 }) 31)
+has_less_room = (λ room. omega (arith, room.1), λ room. omega (arith, room.0))
 
 -- ZoneOk: the zone of the blocks, of which the lists and the rest hold
 abbrev lanes_with : List Item → List (List Item)
@@ -278,6 +385,13 @@ posts_to_itself = λ is. let no = is.to_itself (Request claims ∷ []) refl in a
 
 hands_a_block_out_unclaimed : ¬ ZoneOk leafy took 3 (record of_blocks { keeps = physical nothing nothing })
 hands_a_block_out_unclaimed = λ is. a_claim_too_few is.own.lists
+
+-- more steps with tickets than steps
+with_its_steps : made_by (at.Physical (with_tickets 3 1 [])) ≡ of_blocks.steps
+with_its_steps = refl
+
+more_tickets_than_steps : ¬ ZoneOk leafy took 3 (record of_blocks { keeps = at.Physical (with_tickets 4 1 []) })
+more_tickets_than_steps = λ is. omega (arith, is.counted)
 
 -- more calls of the device than steps
 more_calls_than_steps : (z : Zone) → z.steps ≡ 4 → z.keeps ≡ device false 5 → ¬ ZoneOk leafy took 5 z

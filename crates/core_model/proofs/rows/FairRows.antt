@@ -1,6 +1,6 @@
 -- Rows that pin what is owed of any device and what of a fair session alone: for each clause a case that it accepts, and one
 -- that breaks it alone. A session that is fair when it begins, over a new image, stands in core_laws.
-use Rattle.std.proofs.Common.{None, Some, sym, ◌∙◌, zero, suc, ℕ, ap, ◌≡◌, ◌≢◌, ◌⊎◌, ◌<◌, ◌+◌, true, false, List, [], ◌∷◌, ◌++◌, length, refl, replicate, inl, inr, arith, IsTrue}
+use Rattle.std.proofs.Common.{None, Some, sym, ◌∙◌, ℕ, ◌≡◌, ◌≢◌, ◌⊎◌, ◌<◌, ◌+◌, true, false, List, [], ◌∷◌, ◌++◌, length, refl, replicate, inl, inr, arith, IsTrue}
 use Rattle.std.specs.Prelude.{slice_index}
 use Rattle.blk_base.specs.Regions.{needed_blocks}
 use Rattle.blk_base.specs.Sectors.{sector}

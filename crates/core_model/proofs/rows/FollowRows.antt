@@ -23,7 +23,7 @@ use Rattle.core_model.specs.PageLinks.{MayLack, page_in}
 use Rattle.core_model.specs.RightTraces.{AreElsewhere, IsLeafFor, IsLeafy, IsLinkedAt, IsUnused, MapsTo, MayAnswer, MayFollow, NeedsPage, StopsAtFailure}
 use Rattle.core_model.specs.Sessions.{IsFair, OnBlock, Session, opened_at}
 use Rattle.core_model.specs.CountUpdates.{CountUpdate, Increment, Decrement}
-use Rattle.core_model.specs.Uses.{gained, lost, uncounted}
+use Rattle.core_model.specs.Uses.{Waits, gained, lost, uncounted}
 use Rattle.core_model.specs.Uses as Uses
 use Rattle.vdo_model.specs.declared.report.Damage.{Damage}
 use Rattle.vdo_model.specs.declared.report.Damage.TheVariants.{Stray}
@@ -47,7 +47,7 @@ bare = record roomy { links = λ page. None }
 abbrev session_of : Request → Session
 session_of asked = record roomy { script = (asked ∷ []) ∷ [] }
 
-abbrev May : Happening → Trace → Type 0
+abbrev pub May : Happening → Trace → Type 0
 May h t = MayFollow roomy h t
 
 abbrev first_new : List Logged → Mapping
@@ -207,7 +207,7 @@ takes_a_data_block may = let stands = may.is_data.stands in absurd (omega (arith
 takes_no_mapped_one : MayFollow (record roomy { counters = replicate 64 1 }) (Takes second None (block 86)) took → ⊥
 takes_no_mapped_one may = let free = may.is_free in absurd (omega (arith, free))
 
-takes_a_dropped_one : May (Takes second None (block 85)) (Drops first (block 85) ∷ took)
+takes_a_dropped_one : May (Takes second None (block 85)) (Drops first (block 85) None ∷ took)
 takes_a_dropped_one = record {
   is_open = record { is_begun = omega arith; unanswered = refl };
   asked = (address 0, y, refl, record { not_zeros = two_not_zeros; none_taken = refl });
@@ -216,16 +216,16 @@ takes_a_dropped_one = record {
 }
 
 -- A claim is dropped that somebody has, of an open request.
-drops : May (Drops first (block 85)) took
-drops = (record { is_begun = omega arith; unanswered = refl }, record { is_data = record { slab = 0; offset = 5; inside = (omega arith, omega arith); stands = refl }; some = omega arith })
+drops : May (Drops first (block 85) None) took
+drops = (record { is_begun = omega arith; unanswered = refl }, record { is_data = record { slab = 0; offset = 5; inside = (omega arith, omega arith); stands = refl }; some = omega arith; passes = λ free number waits. cc })
 
-drops_while_open : May (Drops first (block 85)) (Says (Answer first Stopped) ∷ took) → ⊥
+drops_while_open : May (Drops first (block 85) None) (Says (Answer first Stopped) ∷ took) → ⊥
 drops_while_open may = let no = may.0.unanswered in absurd cc
 
-drops_what_is_claimed : May (Drops second (block 86)) took → ⊥
+drops_what_is_claimed : May (Drops second (block 86) None) took → ⊥
 drops_what_is_claimed may = let some = may.1.some in absurd (omega (arith, some))
 
-drops_a_data_block : May (Drops first (block 78)) took → ⊥
+drops_a_data_block : May (Drops first (block 78) None) took → ⊥
 drops_a_data_block may = let stands = may.1.is_data.stands in absurd (omega (arith, stands))
 
 -- An increment is taken once it is committed, of an open request, in the order of updates.
@@ -245,27 +245,30 @@ adds_once may = let all = ap length (in_first_zone roomy.sizes _ _ _ (block 85) 
 abbrev both_last : Trace
 both_last = Commits (Remaps of_second) ∷ Seals ∷ Enters (Remaps of_second) ∷ Takes second None (block 86) ∷ set
 
-abbrev both : Trace
+abbrev pub both : Trace
 both = Adds (Remaps of_second) ∷ both_last
 
 -- A decrement is taken behind the increment of its entry, where a mapping of its block was counted.
-removes : May (Removes of_second) both
+removes : May (Removes of_second None) both
 removes = record {
   next = record { zone = 0; own = refl; rest = []; next = refl };
   block = block 85;
   old_is = refl;
-  loss = record { is_data = record { slab = 0; offset = 5; inside = (omega arith, omega arith); stands = refl }; some = omega arith };
+  loss = record { is_data = record { slab = 0; offset = 5; inside = (omega arith, omega arith); stands = refl }; some = omega arith; passes = λ free number waits. cc };
 }
+
+pub same_block : (x y : Pbn) → At x ≡ At y → x ≡ y
+same_block x y is = cc
 
 abbrev second_kind : List CountUpdate → ℕ
 second_kind (u ∷ Increment e ∷ us) = 0
 second_kind (u ∷ Decrement e ∷ us) = 1
 second_kind us = 2
 
-removes_behind_its_increment : May (Removes of_second) both_last → ⊥
+removes_behind_its_increment : May (Removes of_second None) both_last → ⊥
 removes_behind_its_increment may = let kind : 0 ≡ 1 = ap second_kind (in_first_zone roomy.sizes _ _ _ (block 85) refl refl may.next).1 in absurd (omega (arith, kind))
 
-removes_from_a_block : May (Removes of_first) set → ⊥
+removes_from_a_block : May (Removes of_first None) set → ⊥
 removes_from_a_block may = let old = may.old_is in absurd cc
 
 -- or it finds 0
@@ -278,10 +281,7 @@ astray = Adds (Remaps of_stray) ∷ Commits (Remaps of_stray) ∷ Seals ∷ Ente
 strays : May (Strays of_stray) astray
 strays = record { next = record { zone = 0; own = refl; rest = []; next = refl }; block = block 90; old_is = refl; none_counted = refl }
 
-same_block : (x y : Pbn) → At x ≡ At y → x ≡ y
-same_block x y is = cc
-
-removes_what_is_counted : May (Removes of_stray) astray → ⊥
+removes_what_is_counted : May (Removes of_stray None) astray → ⊥
 removes_what_is_counted may =
     let some = subst (λ (b : Pbn). lost astray b < gained roomy astray b) (sym (same_block (block 90) may.block may.old_is)) may.loss.some in absurd (omega (arith, some))
 
@@ -529,7 +529,7 @@ sets = record {
 sets_what_is_counted : May (Sets (Remaps of_first)) lasting → ⊥
 sets_what_is_counted may = omega (arith, may.counted.1)
 
-sets_once_removed : May (Sets (Remaps of_second)) (Removes of_second ∷ both)
+sets_once_removed : May (Sets (Remaps of_second)) (Removes of_second None ∷ both)
 sets_once_removed = record {
   is_open = record { is_begun = omega arith; unanswered = refl };
   is_committed = record { all_committed = refl; last = refl };

@@ -1,6 +1,6 @@
 -- For each clause of a legal core, and of what its journal may hand out and seal, a case that breaks it; a core that is legal
 -- stands in `core_laws` (`proofs/kept/FirstCore`), which has the law that one is at its start.
-use Rattle.std.specs.Prelude.{ℕ, ◌≡◌, ◌==◌, true, false, List, [], ◌∷◌, length, replicate, refl}
+use Rattle.std.specs.Prelude.{ℕ, ◌≡◌, ◌==◌, true, false, Option, None, Some, List, [], ◌∷◌, length, replicate, refl}
 use Rattle.std.proofs.Common.{ap, arith}
 use Rattle.blk_base.specs.declared.request.Answer.TheVariants as reply
 use Rattle.blk_base.specs.declared.request.Writer.{Writer}
@@ -17,12 +17,14 @@ use Rattle.core_model.specs.Legal.{ComesAfter, Legal, share}
 use Rattle.core_model.specs.Steps.{Core}
 use Rattle.core_model.specs.Trace.{Says, Trace}
 use Rattle.blk_base.specs.declared.place.PageId.{PageId}
+use Rattle.blk_base.specs.declared.place.Pbn.{Pbn}
 use Rattle.core_model.specs.CountUpdates.{CountUpdate}
 use Rattle.core_model.specs.RightTraces.{GivesRight}
 use Rattle.core_model.specs.Sessions.{IsFair}
 use Rattle.core_model.specs.declared.zones.ZoneData.TheVariants as at
 use Rattle.core_model.proofs.rows.PageActRows.{leaf}
-use Rattle.core_model.proofs.rows.PhaseRows.{leafy, device, desk, empty_log, has_block, journal, nothing, one, seven, lock, log_with, logical, of_write, physical, vio}
+use Rattle.core_model.proofs.rows.PhaseRows.{leafy, device, desk, empty_log, has_block, journal, nothing, one, seven, lock, log_with, logical, of_write, physical, slab_with, stepped, vio, waiting, zone_with}
+use Rattle.core_model.proofs.rows.TicketTraces.{ticket}
 use Rattle.core_model.proofs.rows.WorkedTraces.{lasting, begun, block, first, of_first, of_second, place, reader, second, session}
 use Rattle.recovery_journal.specs.Log.{placed}
 
@@ -99,7 +101,17 @@ held_by_another = λ legal. omega (arith, legal.leases 0 (λ n. n == 0))
 entry_lost : ¬ Legal session (core (zone 4 (journal false empty_log [] [] (of_first ∷ []) []) ∷ []) [])
 entry_lost = λ legal. omega (arith, legal.entries)
 
--- blocks: a counter is of no mapping, or a claim is of nobody; or a claim isn't counted
+-- one ticket is out in the physical zone, to which this block went; and a request that holds the ticket of this number
+abbrev one_out : Option Pbn → List Item → Core
+one_out got items =
+    core
+    (record (zone 3 (at.Physical (record { notified = false; strays = []; counts = stepped (zone_with (slab_with nothing nothing)) 0 1 (waiting second 0 got ∷ []) }))) { ports = record { inbox = items; outboxes = [] } } ∷ [])
+    []
+
+abbrev holder : ℕ → Item
+holder number = Request (record (vio second asks.Write phase.Withdraw 1) { tickets = ticket 0 number ∷ [] })
+
+-- blocks, claims: a counter is of no mapping, or a claim is of nobody; or a claim isn't counted, or that of a ticket
 mapping_of_nothing : ¬ Legal session (core (zone 3 (physical seven nothing) ∷ []) [])
 mapping_of_nothing = λ legal. omega (arith, legal.blocks (block 85))
 
@@ -108,6 +120,22 @@ claim_lost = λ legal. omega (arith, legal.blocks (block 85))
 
 claim_uncounted : ¬ Legal session (core (record (zone 3 (physical nothing nothing)) { ports = record { inbox = Request (has_block phase.AbortClaim) ∷ []; outboxes = [] } } ∷ []) [])
 claim_uncounted = λ legal. omega (arith, legal.claims (block 85))
+
+block_of_a_ticket_uncounted : ¬ Legal session (one_out (Some (block 85)) (holder 0 ∷ []))
+block_of_a_ticket_uncounted = λ legal. omega (arith, legal.claims (block 85))
+
+-- tickets: one that is out is held by nobody, by two, or with another number; and one is held that isn't out
+ticket_lost : ¬ Legal session (one_out None [])
+ticket_lost = λ legal. omega (arith, legal.tickets 0 (λ n. n == 0))
+
+ticket_held_twice : ¬ Legal session (one_out None (holder 0 ∷ holder 0 ∷ []))
+ticket_held_twice = λ legal. omega (arith, legal.tickets 0 (λ n. n == 0))
+
+ticket_with_another_number : ¬ Legal session (one_out None (holder 1 ∷ []))
+ticket_with_another_number = λ legal. omega (arith, legal.tickets 0 (λ n. n == 0))
+
+ticket_of_nothing : ¬ Legal session (core (record (zone 3 (physical nothing nothing)) { ports = record { inbox = holder 0 ∷ []; outboxes = [] } } ∷ []) [])
+ticket_of_nothing = λ legal. omega (arith, legal.tickets 0 (λ n. n == 0))
 
 -- reports, waiters: a committed entry replaces a block, and its decrement is nowhere; or that is, and its request is nowhere
 abbrev replaced : List Item → Core

@@ -1,20 +1,26 @@
 -- What is known of a page that is being made: for each clause a case that it accepts, and one that breaks it alone.
-use Rattle.std.proofs.Common.{◌≡◌, ◌≤◌, Bool, true, false, None, [], ◌∷◌, refl, ap, arith, inl, inr}
+use Rattle.std.proofs.Common.{◌≡◌, ◌≤◌, Bool, true, false, None, Some, List, [], ◌∷◌, refl, ap, arith, inl, inr}
 use Rattle.image_model.specs.Pages.{is_page}
 use Rattle.plain_laws.specs.Sums.{bit}
 use Rattle.blk_base.specs.declared.place.PageId.{PageId}
 use Rattle.block_map_tree.specs.Pages.{IsRoot}
 use Rattle.block_map_tree.specs.Tree.{Tree, IsLinkable}
+use Rattle.blk_base.specs.declared.place.Mapping.TheVariants.{At}
+use Rattle.data_vio.specs.declared.items.Phase.{Phase}
+use Rattle.data_vio.specs.declared.items.Phase.TheVariants as phase
+use Rattle.data_vio.specs.declared.items.Vio.{Vio}
+use Rattle.slab_counts.specs.declared.tickets.Ticket.{Ticket}
 use Rattle.data_vio.specs.declared.items.Asks.{Asks}
 use Rattle.data_vio.specs.declared.items.Asks.TheVariants as asks
 use Rattle.data_vio.specs.declared.logged.Logged.{Logged}
 use Rattle.data_vio.specs.declared.logged.Logged.TheVariants.{Makes}
-use Rattle.core_model.specs.Facts.{AreUnmade, Awaits, HasPageEntry, HasTurn, IsMaking, PagesOk}
+use Rattle.core_model.specs.Facts.{AreUnmade, Awaits, Carries, HasPageEntry, HasTurn, IsMaking, PagesOk}
 use Rattle.core_model.specs.PageTrees.{link_at}
 use Rattle.core_model.specs.Sessions.{Session}
-use Rattle.core_model.specs.Trace.{Aborts, Enters, Sets, Trace}
+use Rattle.core_model.specs.Trace.{Aborts, Asks as AsksIn, Enters, Sets, Trace}
 use Rattle.core_model.proofs.rows.PageActRows.{leaf, looker}
-use Rattle.core_model.proofs.rows.PhaseRows.{leafy, tree_with}
+use Rattle.core_model.proofs.rows.PhaseRows.{leafy, tree_with, vio}
+use Rattle.core_model.proofs.rows.TicketTraces.{ticket}
 use Rattle.core_model.proofs.rows.WorkedTraces.{address, block, drawn, first, session, sizes, took, x}
 
 -- another leaf, the root above the first, and trees of three levels
@@ -51,6 +57,38 @@ makes_what_it_lacks = λ is. let tree : 1 ≡ 0 = ap (λ (p : PageId). p.tree) i
 
 makes_below_what_is_there : ¬ Makes_it tall drawn asks.Write leaf
 makes_below_what_is_there = λ is. elim is.up [ inl level ↦ absurd (omega (arith, level)) | inr some ↦ absurd cc ]
+
+-- CarriesPage: while it asks for the block of the page, and while it withdraws its tickets, no entry puts that page anywhere
+abbrev maker : Phase → List Ticket → Vio
+maker now tickets = record (vio first asks.Write now 0) { page = Some leaf; tickets = tickets }
+
+abbrev asked : Trace
+asked = AsksIn first (ticket 0 0) ∷ drawn
+
+claims_for_it : Carries session drawn (maker phase.Claim []) phase.Claim
+claims_for_it = (makes, refl, record { in_turn = tt; fewer = omega arith; asked = tt })
+
+claims_with_a_ticket_of_each_zone : ¬ Carries session asked (maker phase.Claim (ticket 0 0 ∷ [])) phase.Claim
+claims_with_a_ticket_of_each_zone = λ is. omega (arith, is.2.fewer)
+
+claims_what_is_unmade : ¬ Carries session (Enters (Makes (record { request = first; page = leaf; at = block 85 })) ∷ drawn) (maker phase.Claim []) phase.Claim
+claims_what_is_unmade = λ is. let no = is.1 in absurd cc
+
+withdraws_for_it : Carries session asked (record (maker phase.Withdraw (ticket 0 0 ∷ [])) { claim = Some (block 85); new = At (block 85) }) phase.Withdraw
+withdraws_for_it = (
+  record {
+    turn = record { is_placed = record { for_block = tt; placed = refl; not_entered = refl }; quiet = record { all_committed = refl; all_done = refl }; below = record { writes = tt; reads = tt } };
+    is_write = refl;
+    none_taken = refl;
+    lacked = (refl, omega arith);
+    up = inl refl;
+  },
+  refl,
+  record { turn = 0; in_turn = (refl, tt); few = omega arith; some = omega arith; asked = ((0, omega arith, refl), tt); lacks = λ is. absurd cc },
+)
+
+withdraws_without_a_ticket : ¬ Carries session asked (record (maker phase.Withdraw []) { claim = Some (block 85); new = At (block 85) }) phase.Withdraw
+withdraws_without_a_ticket = λ is. omega (arith, is.2.some)
 
 -- HasPageEntry: its entry was handed in, the page isn't linked, and it isn't dropped
 abbrev made : Logged

@@ -1,5 +1,5 @@
 -- Each row of the table of phases at a small zone: what the zone keeps, what happens, and what it posts.
-use Rattle.std.proofs.Common.{ℕ, ◌≡◌, ◌+◌, ◌-◌, ◌<◌, ◌++◌, ◌∙◌, Option, length, Bool, true, false, None, Some, List, [], ◌∷◌, refl, ap, subst, replicate, inl, inr, arith}
+use Rattle.std.proofs.Common.{ℕ, ◌≡◌, ◌-◌, ◌<◌, ◌++◌, ◌∙◌, Option, length, Bool, true, false, None, Some, List, [], ◌∷◌, refl, ap, subst, replicate, inl, inr, arith}
 use Rattle.std.specs.Prelude.{slice_index, slice_set}
 use Rattle.std.proofs.lemmas.List.{get_or-replicate, get_or_append_left}
 use Rattle.blk_base.specs.Sectors.{zero_block}
@@ -48,6 +48,7 @@ use Rattle.core_model.specs.PhysicalRules.{PhysicalServes, PhysicalTakes}
 use Rattle.blk_base.specs.declared.point.Half.TheVariants as half
 use Rattle.slab_counts.specs.Counts.{Counts, ClaimsFree, HasNoFree, Takes as Fits}
 use Rattle.slab_tickets.specs.Tickets.{empty_desk}
+use Rattle.slab_tickets.specs.declared.forms.Waiting.{Waiting}
 use Rattle.zone_counts.specs.Asking.{GivesBlock}
 use Rattle.zone_counts.specs.Zone.{Zone, IsClaimedIn, NoneFree, slab_at}
 use Rattle.core_model.specs.JournalRules.{JournalServes, JournalEnds, hands_out}
@@ -56,7 +57,7 @@ use Rattle.core_model.specs.Steps.{Act, begins, answers, hears, serves, serves_n
 use Rattle.core_model.specs.Steps as step
 use Rattle.core_model.specs.PageLinks.{leaf_head}
 use Rattle.core_model.specs.PageTrees.{HasPath, leaf_at}
-use Rattle.core_model.specs.Trace.{Says, Flushes, Draws, Enters, Passes, Seals, Commits, Sets, Gives, Takes, Drops, Adds, Removes, Strays, Hears, Aborts, Calls, Fails, Harms, Trace, entry_of}
+use Rattle.core_model.specs.Trace.{Says, Flushes, Draws, Enters, Passes, Seals, Commits, Sets, Gives, Takes, Asks as AsksIn, Drops, Adds, Removes, Strays, Hears, Aborts, Calls, Fails, Harms, Trace, entry_of}
 use Rattle.page_codec.proofs.HeldLaws.{held_unmapped}
 use Rattle.page_codec.proofs.ReadLaws.{no_page_fault}
 use Rattle.page_codec.proofs.SpellingLaws.{length-head}
@@ -69,6 +70,7 @@ use Rattle.vdo_model.specs.declared.report.Damage.TheVariants.{Page, Stray}
 use Rattle.data_vio.specs.Vios.{Post, logged}
 use Rattle.recovery_journal.specs.Log.{Log, placed, point_at}
 use Rattle.core_model.proofs.rows.BeginRows.{one_busy, two_busy, past_one, past_two}
+use Rattle.core_model.proofs.rows.TicketTraces.{ticket}
 use Rattle.core_model.proofs.rows.WorkedTraces.{address, block, x, y, script, first, reader, other, flush, sizes, place, of_first, of_second, given}
 
 abbrev pub Acts : ZoneData → List Item → ZoneData → Trace → List Post → Type 0
@@ -77,7 +79,7 @@ Acts = Act sizes
 -- a request of address 0, which is in logical zone 0
 abbrev pub vio : Writer → Asks → Phase → ℕ → Vio
 vio w what now n =
-    record { request = w; asks = what; at = address 0; home = id.Logical 0; phase = now; page = None; leaf = None; bytes = x; place = n; old = Unmapped; latest = None; new = Unmapped; claim = None; answer = None; calls = 0 }
+    record { request = w; asks = what; at = address 0; home = id.Logical 0; phase = now; page = None; leaf = None; bytes = x; place = n; old = Unmapped; latest = None; new = Unmapped; claim = None; tickets = []; receipt = None; answer = None; calls = 0 }
 
 -- the first write, once it has its block; the reader, and as it is once it knows that block
 abbrev pub writes : Phase → Vio
@@ -355,7 +357,7 @@ goes_to_enter = serves (LogicalServes.leafed _ refl refl refl refl refl)
 flush_goes_nowhere : goes_on sizes (vio flush asks.Flush phase.LoadedLeaf 0) ≡ None
 flush_goes_nowhere = refl
 
--- Claim: the lowest free block, or none is free
+-- Claim: the lowest free block, or none is free, and it is given a ticket
 abbrev pub has_block : Phase → Vio
 has_block now = record (writes now) { claim = Some (block 85) }
 
@@ -382,8 +384,18 @@ all_used at here free = let is : slice_index all (at.0 - 79) ≡ 1 = get_or-repl
 pub none_free : NoneFree (zone_with (slab_with all nothing)).slabs
 none_free k below = let first_one : 0 ≡ k = omega (arith, below) in subst (λ (n : ℕ). HasNoFree (slab_at ((slab_with all nothing) ∷ []) n)) first_one all_used
 
-claims_none : Acts (physical all nothing) (Request (vio first asks.Write phase.Claim 0) ∷ []) (physical all nothing) [] ((id.Logical 0, Request (answered reply.NoSpace (vio first asks.Write phase.Abort 0))) ∷ [])
-claims_none = takes (PhysicalServes.has_no_space refl none_free refl refl refl)
+-- the zone in this step, with so many tickets issued and these out
+abbrev pub stepped : Zone → ℕ → ℕ → List Waiting → Zone
+stepped z step issued out = record z { desk = record z.desk { step = Some step; issued = issued; out = out } }
+
+abbrev pub waiting : Writer → ℕ → Option Pbn → Waiting
+waiting w number block = record { number = number; asked = 0; writer = w; block = block }
+
+asks_for_a_block : Acts (physical all nothing) (Request (vio first asks.Write phase.Claim 0) ∷ []) (at.Physical (record { notified = false; strays = []; counts = stepped (zone_with (slab_with all nothing)) 0 1 (waiting first 0 None ∷ []) })) (AsksIn first (ticket 0 0) ∷ [])
+    ((id.Physical 0, Request (record (vio first asks.Write phase.Withdraw 0) { tickets = ticket 0 0 ∷ [] })) ∷ [])
+asks_for_a_block = takes (PhysicalServes.asks (ticket 0 0) (stepped (zone_with (slab_with all nothing)) 0 0 []) (stepped (zone_with (slab_with all nothing)) 0 1 (waiting first 0 None ∷ [])) refl (omega arith)
+    (false, record { some = λ is. cc; none = λ is. none_free; after = refl })
+    (record { none_free = none_free; issues = record { now = refl; zone = refl; number = refl; after = refl }; same = refl }) refl refl refl)
 
 claims_though_none_is_free : (x : Pbn) (z : Zone) → ¬ GivesBlock (zone_with (slab_with all nothing)) z x
 claims_though_none_is_free x z = λ gives. none_free gives.claims.place gives.claims.inside x gives.claims.claims.of_slab gives.claims.claims.free
@@ -402,7 +414,7 @@ abbrev pub with_page_at : ℕ → Counts → Counts
 with_page_at k slab = record slab { pages = slice_set slab.pages k true }
 
 -- Decrement: it is taken, and reported; where its block's counter is 0 it is reported too, and the device's zone is told, once
-removes : Acts (physical seven nothing) (Decrement of_second ∷ []) (physical six nothing) (Removes of_second ∷ []) ((id.Logical 0, Report of_second) ∷ [])
+removes : Acts (physical seven nothing) (Decrement of_second ∷ []) (physical six nothing) (Removes of_second None ∷ []) ((id.Logical 0, Report of_second) ∷ [])
 removes = updates (PhysicalTakes.removes (block 85) (slab_with six nothing) (zone_with (slab_with six nothing)) refl claimed_85.own (omega arith, refl) (record { serves = inl (inl refl, refl, refl); same = refl }) refl refl refl)
 
 abbrev with_strays : List Remapping → ZoneData
@@ -662,7 +674,7 @@ gives : Acts (logical 3 [] (lock 2 ∷ []) [] [] []) (Request (reads phase.Loade
 gives = serves (LogicalServes.gives refl refl refl refl)
 
 -- AbortClaim: its claim is dropped, where it has one; AbortEnteredClaim: its claim stays counted
-aborts_claim : Acts (physical six one) (Request (answered reply.Full (has_block phase.AbortClaim)) ∷ []) (physical six nothing) (Drops first (block 85) ∷ []) ((id.Logical 0, Request (answered reply.Full (writes phase.Abort))) ∷ [])
+aborts_claim : Acts (physical six one) (Request (answered reply.Full (has_block phase.AbortClaim)) ∷ []) (physical six nothing) (Drops first (block 85) None ∷ []) ((id.Logical 0, Request (answered reply.Full (writes phase.Abort))) ∷ [])
 aborts_claim = takes (PhysicalServes.drops (block 85) (zone_with (slab_with six nothing)) refl refl claimed_85 (record { serves = inl (inl refl, refl, refl); same = refl }) refl refl refl)
 
 aborts_no_claim : Acts (physical six nothing) (Request (answered reply.Full (writes phase.AbortClaim)) ∷ []) (physical six nothing) [] ((id.Logical 0, Request (answered reply.Full (writes phase.Abort))) ∷ [])

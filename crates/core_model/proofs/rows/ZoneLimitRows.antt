@@ -1,5 +1,5 @@
 -- How long the lists of the other zones get, and the lanes of a zone: each clause at its limit, and one past it.
-use Rattle.std.proofs.Common.{None, ℕ, ◌≡◌, ◌-◌, ◌^◌, length, false, List, [], ◌∷◌, replicate, arith}
+use Rattle.std.proofs.Common.{None, Some, ℕ, ◌≡◌, ◌-◌, ◌^◌, false, List, [], ◌∷◌, replicate, refl, arith}
 use Rattle.std.proofs.lemmas.List.{length-replicate}
 use Rattle.vdo_model.specs.declared.report.Placed.{Placed}
 use Rattle.data_vio.specs.declared.logged.Logged.TheVariants.{Remaps}
@@ -16,8 +16,9 @@ use Rattle.core_model.specs.LogicalData.{Lock, LogicalZone}
 use Rattle.core_model.specs.declared.zones.Zone.{Zone}
 use Rattle.core_model.specs.declared.zones.ZoneData.TheVariants as at
 use Rattle.core_model.specs.Limits.{IsJournalWithin, IsLogicalWithin, IsPhysicalWithin, IsWithin}
+use Rattle.core_model.specs.PhysicalRules.{next_step}
 use Rattle.core_model.specs.declared.zones.PhysicalZone.{PhysicalZone}
-use Rattle.core_model.proofs.rows.PhaseRows.{empty_log, writes}
+use Rattle.core_model.proofs.rows.PhaseRows.{empty_log, slab_with, stepped, waiting, writes, zone_with}
 use Rattle.core_model.proofs.rows.WorkedTraces.{address, first, of_first, place, sizes}
 
 abbrev waits : Vio
@@ -176,9 +177,26 @@ zone_outbox is = absurd (omega (arith, is.outboxes.1.0, length-replicate 527 Sto
 zone_calls : IsWithin (zone 526 526 526 10) → ⊥
 zone_calls is = absurd (omega (arith, is.own))
 
--- the physical zone: as many decrements that found 0 as requests
-physical_full : (p : PhysicalZone) → length p.strays ≡ 65536 → IsPhysicalWithin p
-physical_full p all = omega (arith, all)
+-- a physical zone with so many decrements that found 0, so many tickets out and so many issued, in this step
+abbrev physical : (strays out issued step : ℕ) → PhysicalZone
+physical strays out issued step = record { notified = false; strays = replicate strays of_first; counts = stepped (zone_with (slab_with [] [])) step issued (replicate out (waiting first 0 None)) }
 
-physical_strays : (p : PhysicalZone) → length p.strays ≡ 65537 → IsPhysicalWithin p → ⊥
-physical_strays p more is = omega (arith, more, is)
+-- as many decrements that found 0 as requests, room for one more ticket, and as many steps with tickets as steps
+physical_full : IsPhysicalWithin 9 (physical 65536 63 9 8)
+physical_full = record { strays = omega (arith, length-replicate 65536 of_first); tickets = omega (arith, length-replicate 63 (waiting first 0 None)); issued = omega arith; begun = omega arith }
+
+physical_strays : IsPhysicalWithin 9 (physical 65537 63 9 8) → ⊥
+physical_strays is = absurd (omega (arith, is.strays, length-replicate 65537 of_first))
+
+physical_tickets : IsPhysicalWithin 9 (physical 65536 64 9 8) → ⊥
+physical_tickets is = absurd (omega (arith, is.tickets, length-replicate 64 (waiting first 0 None)))
+
+physical_issued : IsPhysicalWithin 9 (physical 65536 63 10 8) → ⊥
+physical_issued is = absurd (omega (arith, is.issued))
+
+physical_begun : IsPhysicalWithin 9 (physical 65536 63 9 9) → ⊥
+physical_begun is = absurd (omega (arith, is.begun))
+
+-- next_step: the first one is 0
+steps_on : (next_step None ≡ 0) × (next_step (Some 8) ≡ 9)
+steps_on = (refl, refl)

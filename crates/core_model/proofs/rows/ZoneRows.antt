@@ -13,16 +13,16 @@ use Rattle.core_model.specs.declared.zones.Zone.{Zone}
 use Rattle.core_model.specs.declared.zones.ZoneData.{ZoneData}
 use Rattle.core_model.specs.declared.zones.ZoneData.TheVariants as at
 use Rattle.core_model.specs.Facts.{zone_at, zone_of_stage, arriving}
-use Rattle.data_vio.specs.Phases.{row, stage_row}
+use Rattle.data_vio.specs.Phases.{AtDesk, AtDevice, AtHome, AtJournal, AtPhysical, AtTicket, InNoLane, Where, number_at, row, stage_row}
 use Rattle.core_model.specs.Steps.{ZoneStep, IsIdle, takes_notice}
 use Rattle.core_model.specs.Tokens.{holds, owes, has_entry, kept_items}
 use Rattle.blk_base.specs.Regions.{first_slab_of, slab_stride_of}
 use Rattle.blk_base.specs.declared.place.Pbn.{Pbn}
-use Rattle.data_vio.specs.Vios.{counts_of}
+use Rattle.data_vio.specs.Vios.{counts_of, ticket_zone}
 use Rattle.data_vio.specs.Zones.{IsZone, counts_in, physical_zone_of, zone_number, zone_count, notified, notified_zones}
 use Rattle.data_vio.specs.declared.items.Vio.{Vio}
-use Rattle.data_vio.specs.declared.sizes.Sizes.{Sizes}
 use Rattle.core_model.proofs.rows.PhaseRows.{writes, reads, desk, empty_log, logical, nothing, one, physical, slab_with, zone_with, journal, device}
+use Rattle.core_model.proofs.rows.TicketTraces.{ticket, two}
 use Rattle.core_model.proofs.rows.WorkedTraces.{block, first, sizes}
 
 -- the desk, two logical zones, one physical zone, the journal and the device are there, and have the numbers from 0 to 5
@@ -52,9 +52,6 @@ are_notified : (notified sizes ≡ id.Journal ∷ id.Physical 0 ∷ id.Logical 1
 are_notified = (refl, refl)
 
 -- where there are two physical zones, these have the numbers behind the logical ones, and both are notified
-abbrev two : Sizes
-two = record sizes { geometry = record sizes.geometry { slabs = 2 }; physical = 2 }
-
 are_two : IsZone two (id.Physical 0) × IsZone two (id.Physical 1) × (IsZone two (id.Physical 2) → ⊥) × (zone_number two (id.Physical 0) ≡ 3) × (zone_number two (id.Physical 1) ≡ 4) × (zone_number two id.Journal ≡ 5) × (zone_number two id.Device ≡ 6)
     × (zone_count two ≡ 7)
 are_two = (omega arith, omega arith, λ is. absurd (omega (arith, is)), refl, refl, refl, refl, refl)
@@ -69,76 +66,97 @@ of_slab_1 = block (first_slab_of two.geometry + slab_stride_of two.geometry)
 go_round : (physical_zone_of two (block 85) ≡ 0) × (physical_zone_of two of_slab_1 ≡ 1) × (physical_zone_of (record two { physical = 1 }) of_slab_1 ≡ 0) × (counts_in two of_slab_1 ≡ id.Physical 1)
 go_round = (refl, refl, refl, refl)
 
--- a request asks the zone that its place says; once it has a claim, that is the zone of the block
+-- a request asks the zone that its place says, and with each ticket the next one; once it has a claim, that is the zone of the block
 ask_in_turn : (counts_of two (record (writes phase.Look) { place = 1 }) ≡ id.Physical 1) × (counts_of two (record (writes phase.Look) { place = 2 }) ≡ id.Physical 0)
     × (counts_of two (record (writes phase.Count) { place = 1; claim = Some (block 85) }) ≡ id.Physical 0) × (counts_of two (record (writes phase.Count) { place = 0; claim = Some of_slab_1 }) ≡ id.Physical 1)
 ask_in_turn = (refl, refl, refl, refl)
 
+ask_on : (counts_of two (record (writes phase.Claim) { place = 1; tickets = ticket 1 0 ∷ [] }) ≡ id.Physical 0) × (counts_of two (record (writes phase.Claim) { place = 2; tickets = ticket 0 4 ∷ [] }) ≡ id.Physical 1)
+ask_on = (refl, refl)
+
+-- what it holds is withdrawn in the zone of its oldest ticket
+of_the_oldest : (ticket_zone (ticket 1 0 ∷ ticket 0 2 ∷ []) ≡ id.Physical 1) × (ticket_zone (ticket 0 2 ∷ []) ≡ id.Physical 0) × (ticket_zone [] ≡ id.Desk)
+of_the_oldest = (refl, refl, refl)
+
+abbrev Places : Where → ℕ → Type 0
+Places place number = number_at two (id.Logical 1) (id.Physical 0) (id.Physical 1) place ≡ number
+
+are_placed : Places AtTicket 4 × Places AtPhysical 3 × Places AtHome 2 × Places AtDesk 0 × Places AtJournal 5 × Places AtDevice 6 × Places InNoLane 7
+are_placed = (refl, refl, refl, refl, refl, refl, refl)
+
+withdraws_at_its_zone : (zone_at two (record (writes phase.Withdraw) { tickets = ticket 1 0 ∷ ticket 0 2 ∷ []; claim = Some (block 85) }) phase.Withdraw ≡ 4)
+    × (zone_at two (record (writes phase.Claim) { tickets = ticket 1 0 ∷ []; place = 1 }) phase.Claim ≡ 3)
+withdraws_at_its_zone = (refl, refl)
+
 abbrev of_zone_1 : Vio
-of_zone_1 = record (writes phase.Look) { home = id.Logical 1 }
+of_zone_1 = record (writes phase.Look) { home = id.Logical 1; tickets = ticket 0 0 ∷ [] }
 
--- A line of the table of phases, of a request of logical zone 1: the number of the zone where it is done (the count of the
--- zones is none), and whether it has the lock, has a claim, owes an increment, has yet to arrive, and has an entry.
-abbrev IsRow : Phase → ℕ → Bool → Bool → Bool → List Writer → Bool → Type 0
-IsRow now number locks claims owing arrives entered =
-    (zone_at sizes of_zone_1 now ≡ number) × (holds now ≡ locks) × ((row now).claims ≡ claims) × (owes now ≡ owing) × (arriving now first ≡ arrives) × (has_entry now ≡ entered)
+-- A line of the table of phases, of a request of logical zone 1 with a ticket of the physical zone: the number of the zone where it is
+-- done (the count of the zones is none), and whether it has the lock, has a claim, may have tickets, owes an increment, has yet to
+-- arrive, and has an entry.
+abbrev IsRow : Phase → ℕ → Bool → Bool → Bool → Bool → List Writer → Bool → Type 0
+IsRow now number locks claims asking owing arrives entered =
+    (zone_at sizes of_zone_1 now ≡ number) × (holds now ≡ locks) × ((row now).claims ≡ claims) × ((row now).asks ≡ asking) × (owes now ≡ owing) × (arriving now first ≡ arrives) × (has_entry now ≡ entered)
 
-row_arrive : IsRow phase.Arrive 2 false false false (first ∷ []) false
-row_arrive = (refl, refl, refl, refl, refl, refl)
+row_arrive : IsRow phase.Arrive 2 false false false false (first ∷ []) false
+row_arrive = (refl, refl, refl, refl, refl, refl, refl)
 
-row_wait : IsRow phase.Wait (zone_count sizes) false false false [] false
-row_wait = (refl, refl, refl, refl, refl, refl)
+row_wait : IsRow phase.Wait (zone_count sizes) false false false false [] false
+row_wait = (refl, refl, refl, refl, refl, refl, refl)
 
-row_look : IsRow phase.Look 2 true false false [] false
-row_look = (refl, refl, refl, refl, refl, refl)
+row_look : IsRow phase.Look 2 true false false false [] false
+row_look = (refl, refl, refl, refl, refl, refl, refl)
 
-row_load_leaf : IsRow phase.LoadLeaf 5 true false false [] false
-row_load_leaf = (refl, refl, refl, refl, refl, refl)
+row_load_leaf : IsRow phase.LoadLeaf 5 true false false false [] false
+row_load_leaf = (refl, refl, refl, refl, refl, refl, refl)
 
-row_loaded_leaf : IsRow phase.LoadedLeaf 2 true false false [] false
-row_loaded_leaf = (refl, refl, refl, refl, refl, refl)
+row_loaded_leaf : IsRow phase.LoadedLeaf 2 true false false false [] false
+row_loaded_leaf = (refl, refl, refl, refl, refl, refl, refl)
 
-row_claim : IsRow phase.Claim 3 true false false [] false
-row_claim = (refl, refl, refl, refl, refl, refl)
+row_claim : IsRow phase.Claim 3 true false true false [] false
+row_claim = (refl, refl, refl, refl, refl, refl, refl)
 
-row_store : IsRow phase.Store 5 true true false [] false
-row_store = (refl, refl, refl, refl, refl, refl)
+row_withdraw : IsRow phase.Withdraw 3 true true true false [] false
+row_withdraw = (refl, refl, refl, refl, refl, refl, refl)
 
-row_enter : IsRow phase.Enter 4 true true false [] false
-row_enter = (refl, refl, refl, refl, refl, refl)
+row_store : IsRow phase.Store 5 true true false false [] false
+row_store = (refl, refl, refl, refl, refl, refl, refl)
 
-row_pending : IsRow phase.Pending (zone_count sizes) true true true [] true
-row_pending = (refl, refl, refl, refl, refl, refl)
+row_enter : IsRow phase.Enter 4 true true false false [] false
+row_enter = (refl, refl, refl, refl, refl, refl, refl)
 
-row_count : IsRow phase.Count 3 true true true [] true
-row_count = (refl, refl, refl, refl, refl, refl)
+row_pending : IsRow phase.Pending (zone_count sizes) true true false true [] true
+row_pending = (refl, refl, refl, refl, refl, refl, refl)
 
-row_settle : IsRow phase.Settle 2 true false false [] true
-row_settle = (refl, refl, refl, refl, refl, refl)
+row_count : IsRow phase.Count 3 true true false true [] true
+row_count = (refl, refl, refl, refl, refl, refl, refl)
 
-row_load : IsRow phase.Load 5 true false false [] false
-row_load = (refl, refl, refl, refl, refl, refl)
+row_settle : IsRow phase.Settle 2 true false false false [] true
+row_settle = (refl, refl, refl, refl, refl, refl, refl)
 
-row_loaded : IsRow phase.Loaded 2 true false false [] false
-row_loaded = (refl, refl, refl, refl, refl, refl)
+row_load : IsRow phase.Load 5 true false false false [] false
+row_load = (refl, refl, refl, refl, refl, refl, refl)
 
-row_abort_claim : IsRow phase.AbortClaim 3 true true false [] false
-row_abort_claim = (refl, refl, refl, refl, refl, refl)
+row_loaded : IsRow phase.Loaded 2 true false false false [] false
+row_loaded = (refl, refl, refl, refl, refl, refl, refl)
 
-row_abort : IsRow phase.Abort 2 true false false [] false
-row_abort = (refl, refl, refl, refl, refl, refl)
+row_abort_claim : IsRow phase.AbortClaim 3 true true false false [] false
+row_abort_claim = (refl, refl, refl, refl, refl, refl, refl)
 
-row_abort_entered_claim : IsRow phase.AbortEnteredClaim 3 true true true [] true
-row_abort_entered_claim = (refl, refl, refl, refl, refl, refl)
+row_abort : IsRow phase.Abort 2 true false false false [] false
+row_abort = (refl, refl, refl, refl, refl, refl, refl)
 
-row_abort_entered : IsRow phase.AbortEntered 2 true false false [] true
-row_abort_entered = (refl, refl, refl, refl, refl, refl)
+row_abort_entered_claim : IsRow phase.AbortEnteredClaim 3 true true false true [] true
+row_abort_entered_claim = (refl, refl, refl, refl, refl, refl, refl)
 
-row_flush : IsRow phase.Flush 5 false false false [] false
-row_flush = (refl, refl, refl, refl, refl, refl)
+row_abort_entered : IsRow phase.AbortEntered 2 true false false false [] true
+row_abort_entered = (refl, refl, refl, refl, refl, refl, refl)
 
-row_reply : IsRow phase.Reply 0 false false false [] false
-row_reply = (refl, refl, refl, refl, refl, refl)
+row_flush : IsRow phase.Flush 5 false false false false [] false
+row_flush = (refl, refl, refl, refl, refl, refl, refl)
+
+row_reply : IsRow phase.Reply 0 false false false false [] false
+row_reply = (refl, refl, refl, refl, refl, refl, refl)
 
 -- a line of the table of stages: the number of the zone where it is done, and the stage behind it
 abbrev IsStageRow : Stage → ℕ → Stage → Type 0

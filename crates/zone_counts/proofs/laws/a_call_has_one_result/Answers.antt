@@ -1,4 +1,4 @@
-use Rattle.zone_counts.proofs.OneAnswer.{one_begun, one_asked, one_worth, one_shared, shared_not_refused, one_cause, one_changed, one_applied}
+use Rattle.zone_counts.proofs.OneAnswer.{one_begun, one_asked, one_worth, one_shared, shared_not_refused, one_cause, one_changed, one_applied, one_passed}
 use Rattle.zone_counts.proofs.laws.a_call_has_one_result.Goals as goal
 
 pub returns-clause-begun : goal.returns-clause-begun
@@ -24,3 +24,6 @@ returns-clause-changed c = one_changed
 
 pub returns-clause-applied : goal.returns-clause-applied
 returns-clause-applied c = one_applied
+
+pub returns-clause-passed : goal.returns-clause-passed
+returns-clause-passed c = one_passed
