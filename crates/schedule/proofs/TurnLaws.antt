@@ -1,6 +1,8 @@
 -- Turns: which event each takes, and what they play.
-use Rattle.std.proofs.Common.{ℕ, zero, suc, ◌≡◌, ◌<◌, ◌≤◌, ◌+◌, ◌%◌, Bool, List, [], ◌∷◌, ◌++◌, length, drop, get_or, slice_get, refl, sym, ◌∙◌, ap, append_assoc, subst, inl, inr, arith}
+use Rattle.std.proofs.Common.{ℕ, zero, suc, ◌≡◌, ◌<◌, ◌≤◌, ◌+◌, ◌-◌, ◌*◌, ◌%◌, Bool, false, ltb, le-ltb, List, [], ◌∷◌, ◌++◌, length, drop, get_or, slice_get, refl, sym, ◌∙◌, ap, append_assoc, subst, inl, inr, arith}
+use Rattle.std.proofs.Math.Nat.{mod-eq_of_lt, mul-add-mod_self_right}
 use Rattle.std.proofs.Math.Seq.{drop-cons}
+use Rattle.std.proofs.lemmas.Nat.{div-mul-add}
 use Rattle.std.proofs.lemmas.List.{append-nil, drop_all}
 use Rattle.std.proofs.lemmas.Option.{same_Some}
 use Rattle.disk_model.specs.Picks.{next_state, number_in}
@@ -11,8 +13,16 @@ use Rattle.core_model.specs.Trace.{Trace}
 use Rattle.vdo_core.specs.Done.{IsDone}
 use Rattle.vdo_core.specs.Plays.{Plays, PlaysOne}
 use Rattle.vdo_core.specs.declared.events.Event.{Event}
+use Rattle.vdo_core.specs.declared.events.Event.TheVariants as event
 use Rattle.vdo_core.proofs.PlayLaws.{LeadsBy, plays_lead}
 use Rattle.schedule.specs.Turns.{AreReady, Drives, IsTurn, PlaysUntilDone, event_count, event_of}
+
+-- the number of a move, behind those of the steps
+pub move_is : (count from to : ℕ) → to < count → event_of count (count + from * count + to) ≡ event.Move from to
+move_is count from to inside =
+    let behind : ltb (count + from * count + to) count ≡ false = le-ltb (count + from * count + to) count (omega arith) in
+    let rest : count + from * count + to - count ≡ from * count + to = omega arith in
+    rw (behind, rest, div-mul-add from count to inside, mul-add-mod_self_right from count to ∙ mod-eq_of_lt inside) refl
 
 module _ (sizes : Sizes) (zones : List Zone) where
   -- the list of the events for which there is work is one

@@ -1,4 +1,4 @@
-ghost use Rattle.std.specs.Prelude.{◌≡◌, ◌≤◌, ◌<◌, [], List, MatchOption, length, map};
+ghost use Rattle.std.specs.Prelude.{◌≡◌, ◌≤◌, ◌<◌, ◌+◌, ◌*◌, [], List, MatchOption, length, map};
 ghost use Rattle.disk_model.specs.Picks.{next_state, number_in};
 ghost use Rattle.disk_model.specs.Seen.{Stays};
 ghost use Rattle.core_model.specs.Trace.{Trace};
@@ -88,30 +88,57 @@ fn event_of(zones: u32, k: u32) -> Event
     Event::Move(place / zones, place % zones)
 }
 
-// How many events a core of so many zones has.
-fn event_count(zones: u32) -> u32
-    requires { zones ≤ 11 }
-    ensures count { result ≡ event_count zones }
-    ensures few { result ≤ 132 }
+// The number of an event, behind those before it, where there is work for it.
+fn add_ready(core: &Core, event: Event, k: u32, ready: &mut ArrayVec<u8, MOST_EVENTS>)
+    requires event { event ≡ event_of (length core.now.zones) k }
+    requires few { k < 132 }
+    requires room { length ready.old.items ≤ k }
+    requires ready { AreReady core.now.sizes core.now.zones k
+        (map (event_of (length core.now.zones)) ready.old.items) }
+    ensures room { length ready.new.items ≤ k + 1 }
+    ensures ready { AreReady core.now.sizes core.now.zones (k + 1)
+        (map (event_of (length core.now.zones)) ready.new.items) }
 {
-    zones + zones * zones
+    if core.ready(event) {
+        ready.push(k as u8);
+    }
 }
 
-// The numbers of the events for which there is work, in their order.
+// Those of the moves from one zone, behind the steps and the moves from the zones before it.
+fn add_moves(core: &Core, from: u32, ready: &mut ArrayVec<u8, MOST_EVENTS>)
+    requires there { from < length core.now.zones }
+    requires room { length ready.old.items ≤ length core.now.zones + from * length core.now.zones }
+    requires ready { AreReady core.now.sizes core.now.zones
+        (length core.now.zones + from * length core.now.zones)
+        (map (event_of (length core.now.zones)) ready.old.items) }
+    ensures room { length ready.new.items
+        ≤ length core.now.zones + (from + 1) * length core.now.zones }
+    ensures ready { AreReady core.now.sizes core.now.zones
+        (length core.now.zones + (from + 1) * length core.now.zones)
+        (map (event_of (length core.now.zones)) ready.new.items) }
+{
+    let zones = core.zone_count();
+    let first = zones + from * zones;
+    for to in 0..zones {
+        add_ready(core, Event::Move(from, to), first + to, ready);
+    }
+}
+
+// The numbers of the events for which there is work, in their order, in an empty list.
 // Listed anew each turn, so that no list has to follow what steps and moves change. A core of eleven zones has 132
 // events.
-fn list_ready(core: &Core) -> ArrayVec<u32, MOST_EVENTS>
+fn list_ready(core: &Core, ready: &mut ArrayVec<u8, MOST_EVENTS>)
+    requires none { ready.old.items ≡ [] }
     ensures { AreReady core.now.sizes core.now.zones (event_count (length core.now.zones))
-        (map (event_of (length core.now.zones)) result.items) }
+        (map (event_of (length core.now.zones)) ready.new.items) }
 {
-    let mut ready = ArrayVec::new();
     let zones = core.zone_count();
-    for k in 0..event_count(zones) {
-        if core.ready(event_of(zones, k)) {
-            ready.push(k);
-        }
+    for zone in 0..zones {
+        add_ready(core, Event::Step(zone), zone, ready);
     }
-    ready
+    for from in 0..zones {
+        add_moves(core, from, ready);
+    }
 }
 
 // The event that a turn takes, if there is work for any.
@@ -120,12 +147,13 @@ fn choose(core: &Core, state: u64) -> Option<Event>
         (AreReady core.now.sizes core.now.zones (event_count (length core.now.zones)) []) (λ event.
         IsTurn core.now.sizes core.now.zones state event) }
 {
-    let ready = list_ready(core);
+    let mut ready = ArrayVec::new();
+    list_ready(core, &mut ready);
     let count = ready.len() as u64;
     if count == 0 {
         return None;
     }
     let place = number_in(next_state(state)) % count;
     let k = ready.as_slice()[place as usize];
-    Some(event_of(core.zone_count(), k))
+    Some(event_of(core.zone_count(), u32::from(k)))
 }
