@@ -1,7 +1,10 @@
 //! Images with few data blocks: a block that nothing is mapped to any more is used again, and where none is free a write says so.
-use crate::runs::{puts, sized};
+use crate::runs::{Ran, puts, run_on, sized};
 use blk_base::Geometry;
+use std::alloc::{AllocError, Global};
+use std::sync::Wait;
 use std::test::Fail;
+use std::thread::Threads;
 
 /// 16 data blocks, of which a leaf takes one, and a journal that takes more entries than are made.
 const SMALL: Geometry = Geometry {
@@ -32,5 +35,86 @@ fn blocks_that_are_used_up(rt: HostRuntime) -> Result<(), Fail> {
     let device = sized(alloc, &SMALL)?;
     let full = puts(&rt, alloc, device, FULL, FULL_ANSWERS, 1)?;
     let _left = puts(&rt, alloc, full, DISCARD, DISCARD_ANSWERS, 1)?;
+    Ok(())
+}
+
+/// 64 data blocks, and such a journal.
+const LONG: Geometry = Geometry {
+    journal: 128,
+    ..Geometry::DEFAULT
+};
+
+/// So many writes and their leaf take all of them.
+const WRITES: u32 = 63;
+
+/// What is asked behind these writes, and what is put. A block that is there already would need no other one: equal blocks aren't
+/// shared yet, and no line asks it.
+const BEHIND: [(&[u8], &[u8]); 3] = [
+    // A new address finds no block, until another one has none any more.
+    (
+        b"0 flush\n0 write 63 4096*40\n0 discard 1 1\n0 flush\n0 write 70 4096*41\n",
+        b"0 63 flush ok\n0 64 write 63 no space z0:63\n0 65 discard 1 ok z0:64\n0 66 flush ok\n0 67 write 70 ok z0:65\nused 64 of 64\n",
+    ),
+    // Nor does one that has a block, and it keeps that.
+    (
+        b"0 flush\n0 write 0 4096*41\n0 read 0\n",
+        b"0 63 flush ok\n0 64 write 0 no space z0:63\n0 65 read 0 4096*01 z0:64\nused 64 of 64\n",
+    ),
+    // One without a leaf finds no block for that. The block of a discard becomes the leaf, and there is none for the data; the
+    // next one has the data.
+    (
+        b"0 flush\n0 write 900 4096*41\n0 discard 1 1\n0 write 900 4096*42\n0 read 900\n0 discard 2 1\n0 write 900 4096*43\n0 read 900\n",
+        b"0 63 flush ok\n0 64 write 900 no space z0:63\n0 65 discard 1 ok z0:64\n0 66 write 900 no space z0:65\n0 67 read 900 4096*00 z0:66\n0 68 discard 2 ok z0:67\n0 69 write 900 ok z0:68\n0 70 read 900 4096*43 z0:69\nused 64 of 64\n",
+    ),
+];
+
+/// The last digit of a byte.
+const DIGITS: [&str; 16] = [
+    "0", "1", "2", "3", "4", "5", "6", "7", "8", "9", "a", "b", "c", "d", "e", "f",
+];
+
+// The writes, each of the byte behind its address, and these lines.
+fn script(alloc: Global, behind: &[u8]) -> Result<Vec<u8>, AllocError> {
+    let mut script = Vec::new(alloc);
+    for at in 0..WRITES {
+        let high = (at + 1) / 16;
+        let low = DIGITS[((at + 1) % 16) as usize];
+        let line = format!(in alloc; "0 write {at} 4096*{high}{low}\n")?;
+        script.extend_from_slice(line.as_bytes())?;
+    }
+    script.extend_from_slice(behind)?;
+    Ok(script)
+}
+
+// What is put for the writes, and this.
+fn text(alloc: Global, behind: &[u8]) -> Result<Vec<u8>, AllocError> {
+    let mut text = Vec::new(alloc);
+    for at in 0..WRITES {
+        let line = format!(in alloc; "0 {at} write {at} ok z0:{at}\n")?;
+        text.extend_from_slice(line.as_bytes())?;
+    }
+    text.extend_from_slice(behind)?;
+    Ok(text)
+}
+
+// The status of a run of the writes and these lines, and whether its text is as wanted.
+fn end<R: Threads + Wait + Sync>(
+    rt: &R,
+    alloc: Global,
+    (asked, put): (&[u8], &[u8]),
+) -> Result<(u8, bool), AllocError> {
+    let script = script(alloc, asked)?;
+    let ran = run_on(rt, alloc, sized(alloc, &LONG)?, &script, None, 4000)?;
+    let text = text(alloc, put)?;
+    let Ran { status, sink, .. } = ran;
+    Ok((status, sink.bytes() == text.as_slice()))
+}
+
+#[test]
+fn a_write_behind_those_that_take_all_blocks(rt: HostRuntime) -> Result<(), Fail> {
+    for (number, &row) in BEHIND.iter().enumerate() {
+        let end = end(&rt, rt.alloc(), row)?;
+        assert_eq!(rt; (number, end), (number, (1, true)));
+    }
     Ok(())
 }
