@@ -37,11 +37,12 @@ pub(crate) enum Ask {
 }
 
 // An answer, with the first byte of a block.
-#[derive(Clone, Copy, PartialEq, Eq)]
+#[derive(Clone, Copy, Debug, PartialEq, Eq)]
 pub(crate) enum Given {
     Ok,
     Bytes(u8),
     Full,
+    NoSpace,
     Stopped,
     Other,
 }
@@ -85,6 +86,17 @@ pub(crate) fn requests(alloc: Global, asks: &[Ask]) -> Result<Vec<Request>, Allo
 }
 
 pub(crate) fn script(alloc: Global, streams: &[&[Ask]]) -> Result<Requests, AllocError>
+    ensures { IfOk result (AllByRecursion (AllByRecursion IsServed)) }
+{
+    let mut script = Vec::new(alloc);
+    for asks in streams {
+        push(&mut script, requests(alloc, asks)?)?;
+    }
+    Ok(Requests::of_streams(script))
+}
+
+/// The same of streams that are made.
+pub(crate) fn script_of(alloc: Global, streams: &[Vec<Ask>]) -> Result<Requests, AllocError>
     ensures { IfOk result (AllByRecursion (AllByRecursion IsServed)) }
 {
     let mut script = Vec::new(alloc);
@@ -155,11 +167,12 @@ pub(crate) fn played<D: Disk>(
     Ok(core)
 }
 
-fn shown(answer: &Answer) -> Given {
+pub(crate) fn shown(answer: &Answer) -> Given {
     match answer {
         Answer::Ok => Given::Ok,
         Answer::Bytes(block) => Given::Bytes(block.bytes[0]),
         Answer::Full => Given::Full,
+        Answer::NoSpace => Given::NoSpace,
         Answer::Stopped => Given::Stopped,
         _ => Given::Other,
     }

@@ -1,6 +1,6 @@
 //! Tests of the core and of the schedules of its events: what requests are answered with, by events in several orders, by
-//! one stream and by many, with calls that fail, and where blocks are let go and used again; and what stops leave, opened
-//! again, and by the map and the counts of its image.
+//! one stream and by many, with calls that fail, where blocks are let go and used again, and where none is free; and what
+//! stops leave, opened again, and by the map and the counts of its image.
 #![tactic(auto)]
 
 #[cfg(test)]
@@ -11,6 +11,8 @@ mod full_blocks;
 mod judging;
 #[cfg(test)]
 mod maps;
+#[cfg(test)]
+mod no_space;
 #[cfg(test)]
 mod one_stream;
 #[cfg(test)]

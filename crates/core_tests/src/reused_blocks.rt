@@ -1,13 +1,12 @@
 ghost use Rattle.std.specs.Prelude.{IfOk};
 ghost use Rattle.std.specs.List.{AllByRecursion};
-ghost use Rattle.blk_base.specs.Limits.{IsGeometry};
 ghost use Rattle.core_model.specs.Sessions.{IsServed};
 
 use crate::cores::{Ask, Unplayed, push, requests};
 use crate::judging::{Met, judge, last_byte};
 use crate::maps::wrong_in_image;
-use crate::sessions::{Trouble, open_over, troubled_of};
-use blk_base::{Geometry, Lba};
+use crate::sessions::{Trouble, Zones, open_over, troubled_of};
+use blk_base::Lba;
 use disk_model::MemDisk;
 use schedule::{Schedule, drive};
 use std::alloc::{AllocError, Global};
@@ -15,59 +14,7 @@ use std::ops::Range;
 use std::process::Abort;
 use std::sync::Wait;
 use std::test::Fail;
-use vdo_core::Setup;
 use vdo_model::{Requests, RunReport};
-
-/// One slab of 16 data blocks, of which a leaf takes one, and a journal for more entries than a run has.
-const SMALL: Geometry = Geometry {
-    logical: 100,
-    slab_blocks: 16,
-    journal: 128,
-    ..Geometry::DEFAULT
-};
-
-/// How many physical zones there are, each with a slab.
-#[derive(Clone, Copy, Debug, PartialEq, Eq)]
-enum Zones {
-    One,
-    Two,
-    Three,
-    Four,
-}
-
-impl Zones {
-    fn count(self) -> u8 {
-        match self {
-            Zones::One => 1,
-            Zones::Two => 2,
-            Zones::Three => 3,
-            Zones::Four => 4,
-        }
-    }
-
-    fn geometry(self) -> Geometry
-        ensures { IsGeometry result }
-    {
-        match self {
-            Zones::One => SMALL,
-            Zones::Two => Geometry { slabs: 2, ..SMALL },
-            Zones::Three => Geometry { slabs: 3, ..SMALL },
-            Zones::Four => Geometry { slabs: 4, ..SMALL },
-        }
-    }
-
-    fn setup(self) -> Setup {
-        Setup {
-            logical_zones: 1,
-            physical_zones: self.count(),
-            depth: 2,
-        }
-    }
-
-    fn total(self) -> u32 {
-        16 * u32::from(self.count())
-    }
-}
 
 const STREAMS: u32 = 3;
 
@@ -117,7 +64,7 @@ fn all_asks(alloc: Global) -> Result<Requests, AllocError>
 // How many calls are made before a run.
 fn opening_calls(alloc: Global, zones: Zones) -> Result<u64, Unplayed> {
     let mut device = troubled_of(alloc, &zones.geometry(), Trouble::Nothing)?;
-    let _core = open_over(alloc, &zones.setup(), all_asks(alloc)?, &mut device)?;
+    let _core = open_over(alloc, &zones.setup(2), all_asks(alloc)?, &mut device)?;
     Ok(device.calls().len() as u64)
 }
 
@@ -129,7 +76,7 @@ fn report_of<R: Wait>(
     number: u64,
     device: &mut MemDisk,
 ) -> Result<RunReport, Unplayed> {
-    let mut core = open_over(alloc, &zones.setup(), all_asks(alloc)?, device)?;
+    let mut core = open_over(alloc, &zones.setup(2), all_asks(alloc)?, device)?;
     drive(rt, &mut core, &mut Schedule::from_number(number), device);
     Ok(core.report())
 }

@@ -43,6 +43,60 @@ const TALL: Geometry = Geometry {
     ..Geometry::DEFAULT
 };
 
+/// One slab of 16 data blocks, of which each leaf takes one, and a journal for more entries than a run has.
+const SMALL: Geometry = Geometry {
+    logical: 1000,
+    slab_blocks: 16,
+    journal: 128,
+    ..Geometry::DEFAULT
+};
+
+/// How many physical zones there are, each with a slab of 16 data blocks.
+#[derive(Clone, Copy, Debug, PartialEq, Eq)]
+pub(crate) enum Zones {
+    One,
+    Two,
+    Three,
+    Four,
+}
+
+impl Zones {
+    fn count(self) -> u8 {
+        match self {
+            Zones::One => 1,
+            Zones::Two => 2,
+            Zones::Three => 3,
+            Zones::Four => 4,
+        }
+    }
+
+    /// The sizes of the image.
+    pub(crate) fn geometry(self) -> Geometry
+        ensures { IsGeometry result }
+    {
+        match self {
+            Zones::One => SMALL,
+            Zones::Two => Geometry { slabs: 2, ..SMALL },
+            Zones::Three => Geometry { slabs: 3, ..SMALL },
+            Zones::Four => Geometry { slabs: 4, ..SMALL },
+        }
+    }
+
+    /// A core with one logical zone, in which so many requests of a stream are under way at most.
+    pub(crate) fn setup(self, depth: u32) -> Setup {
+        Setup {
+            logical_zones: 1,
+            physical_zones: self.count(),
+            depth,
+        }
+    }
+
+    /// How many data blocks there are.
+    pub(crate) fn total(self) -> u32 {
+        16 * u32::from(self.count())
+    }
+}
+
 /// Requests, and the core that serves them.
 #[derive(Clone, Copy)]
 pub(crate) struct Plan {
