@@ -50,7 +50,8 @@ pub(crate) fn byte_of(block: &Block) -> Option<u8> {
     }
 }
 
-fn request_of(report: &RunReport, request: Writer) -> Option<&Request> {
+/// The request of a name.
+pub(crate) fn request_of(report: &RunReport, request: Writer) -> Option<&Request> {
     report
         .requests
         .stream(request.stream)

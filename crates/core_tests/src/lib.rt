@@ -18,6 +18,8 @@ mod one_stream;
 #[cfg(test)]
 mod reused_blocks;
 #[cfg(test)]
+mod scarce_blocks;
+#[cfg(test)]
 mod sessions;
 #[cfg(test)]
 mod tables;

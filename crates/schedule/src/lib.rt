@@ -9,8 +9,10 @@
 //! four streams over two logical zones, with 1, 2, 3 and 16 requests of a stream under way, which lack the same pages,
 //! also those of trees of height 3, by 20 schedules: without a fault, and, each by two of these, with each call of the
 //! device failing in turn, and stopped at each call, judged by a plain checker of reads and of the values after the
-//! stop, with two of these also by the map and the counts of the image; and 300 writes of sixteen streams in a journal
-//! of 8 blocks: by four schedules, and by one stopped at each thirteenth call, and opened again.
+//! stop, with two of these also by the map and the counts of the image; 300 writes of sixteen streams in a journal of 8
+//! blocks: by four schedules, and by one stopped at each thirteenth call, and opened again; and 1,280 writes and
+//! discards of sixteen streams over four physical zones of 64 data blocks in all: by ten schedules, each write that
+//! finds no block judged by a plain checker.
 //!
 //! Not there: that `drive` returns, and, in a law of this crate, that a core that isn't done has a turn.
 #![tactic(auto)]
