@@ -1,5 +1,5 @@
 -- What a request carries, and what a zone keeps: facts on their own fields and on the trace.
-use Rattle.std.specs.Prelude.{ℕ, suc, ◌+◌, ◌%◌, ◌≡◌, ◌⊎◌, ◌<◌, ◌≤◌, Bool, true, false, Option, None, Some, IsNone, IsSome, IsTrue, List, [], ◌∷◌, ◌++◌, length, map, reverse, slice_get, Contains, if◌then◌else◌}
+use Rattle.std.specs.Prelude.{ℕ, suc, ◌+◌, ◌%◌, ◌≡◌, ◌⊎◌, ◌<◌, ◌≤◌, Bool, true, false, not, Option, None, Some, IsNone, IsSome, IsTrue, List, [], ◌∷◌, ◌++◌, length, map, reverse, slice_get, Contains, if◌then◌else◌}
 use Rattle.std.specs.List.{AllByRecursion}
 use Rattle.blk_base.specs.declared.place.Lba.{Lba}
 use Rattle.blk_base.specs.declared.place.Mapping.{Mapping}
@@ -59,7 +59,7 @@ use Rattle.core_model.specs.PageTrees.{IsMapTree, is_listed, link_at, missing_at
 use Rattle.plain_laws.specs.Sums.{bit, total, Each}
 use Rattle.core_model.specs.Superblocks.{superblock_stage}
 use Rattle.core_model.specs.Tokens.{lock_weight}
-use Rattle.core_model.specs.Trace.{Asks as AsksIn, Trace, all_of, filled, sealed, moments, lines, calls, marks, places, journaled, entered, durable, applied, done, dropped, remappings, aborted, added, strayed, has_taken, has_stopped, of_address, newest, logged_of, entry_of, damage_in}
+use Rattle.core_model.specs.Trace.{Asks as AsksIn, Trace, all_of, filled, sealed, moments, lines, calls, marks, places, journaled, entered, durable, applied, done, dropped, remappings, aborted, added, strayed, has_taken, is_for, has_stopped, of_address, newest, logged_of, entry_of, damage_in}
 use Rattle.data_vio.specs.Vios.{all_logged, asked, counts_of, logged, request_of, remapping, ticket_zone}
 use Rattle.core_model.specs.PhysicalRules.{HasTicketRoom, next_step}
 use Rattle.core_model.specs.Uses.{counted, gained, issued, lost, ticket_at, uncounted}
@@ -123,12 +123,14 @@ pub record IsAsking (s : Session) (t : Trace) (w : Writer) (place : ℕ) (ticket
   pub fewer : length tickets < s.sizes.physical
   pub asked : AllByRecursion (λ k. Contains t (AsksIn w k)) tickets
 
--- It had asked each zone by a moment, and of each it has the ticket yet, or withdrew that, to which no block went.
+-- It claimed no block for its data. It had asked each zone by a moment, and of each it has the ticket yet, or withdrew that, to which no
+-- block went.
 pub record LacksBlock (s : Session) (t : Trace) (w : Writer) (tickets : List Ticket) : Type 0 where
   pub newer : Trace
   pub older : Trace
   pub moment : t ≡ newer ++ older
   pub placed : IsSome (place_of (places older) w)
+  pub none_taken : has_taken t w None ≡ false
   pub each : (zone : ℕ) → zone < s.sizes.physical
       → WasRefused newer older w zone ⊎ ((k : Ticket) × (k.zone ≡ zone) × Contains tickets k × Contains older (AsksIn w k))
 
@@ -152,12 +154,31 @@ IsChange Write = Unit {0}
 IsChange Discard = Unit {0}
 IsChange other = ⊥
 
+-- no entry puts a page anywhere, or one does, or the image that was opened
+abbrev pub IsUnmade : Session → Trace → PageId → Type 0
+IsUnmade s t page = page_in s.links (journaled t) page ≡ None
+
+abbrev pub IsMade : Session → Trace → PageId → Type 0
+IsMade s t page = IsSome (page_in s.links (journaled t) page)
+
+-- it claimed no block, neither for its data nor for a page
+abbrev pub TookNone : Trace → Writer → Type 0
+TookNone t w = (page : Option PageId) → has_taken t w page ≡ false
+
+-- it claimed none for its data, and each page but this one for which it claimed one was handed in
+abbrev pub is_other : Option PageId → PageId → Bool
+is_other own page = not (is_for own (Some page))
+
+pub record HasSpent (s : Session) (t : Trace) (w : Writer) (own : Option PageId) : Type 0 where
+  pub none_taken : has_taken t w None ≡ false
+  pub others : (page : PageId) → is_other own page ≡ true → has_taken t w (Some page) ≡ true → IsMade s t page
+
 -- a request for a block that drew no place yet, and claimed no block
 pub record IsUndrawn (t : Trace) (w : Writer) (asks : Asks) : Type 0 where
   pub for_block : IsForBlock asks
   pub unplaced : IsNone (place_of (places t) w)
   pub not_entered : IsNone (logged_of (entered t) w)
-  pub none_taken : has_taken t w ≡ false
+  pub took_none : TookNone t w
 
 -- one that has its place, and whose entry wasn't handed in
 pub record IsDrawn (s : Session) (t : Trace) (w : Writer) (asks : Asks) (a place : ℕ) : Type 0 where
@@ -259,21 +280,19 @@ abbrev pub IsToInside : Session → Mapping → Type 0
 IsToInside s (At x) = IsInside s.sizes x
 IsToInside s other = ⊥
 
--- a write that makes a page: it has the lock of its address, claimed no block for its data, and lacks the page
+-- a write that makes a page: it has the lock of its address, claimed no block for its data, handed in the pages that it made before, and
+-- lacks this page
 pub record IsMaking (s : Session) (t : Trace) (w : Writer) (asks : Asks) (at : Lba) (bytes : List ℕ) (place : ℕ) (page : PageId) : Type 0 where
   pub turn : HasTurn s t w asks at.0 place
   pub is_write : asks ≡ Write
-  pub none_taken : has_taken t w ≡ false
+  pub spent : HasSpent s t w (Some page)
   pub lacked : MayLack s.sizes.geometry.height (asked asks at bytes) page
   pub up : IsThere s.sizes.geometry.height s.links (applied t) (above page)
 
 abbrev pub MakesPage : Session → Trace → Vio → PageId → Type 0
 MakesPage s t v page = IsMaking s t v.request v.asks v.at v.bytes v.place page
 
--- no entry puts the page anywhere; the one that does is its own, and it isn't linked
-abbrev pub IsUnmade : Session → Trace → PageId → Type 0
-IsUnmade s t page = page_in s.links (journaled t) page ≡ None
-
+-- the entry that puts it somewhere is its own, and it isn't linked
 pub record HasPageEntry (s : Session) (t : Trace) (e : Logged) (page : PageId) : Type 0 where
   pub handed_in : Contains (journaled t) e
   pub unlinked : page_in s.links (applied t) page ≡ None
@@ -281,7 +300,7 @@ pub record HasPageEntry (s : Session) (t : Trace) (e : Logged) (page : PageId) :
 
 -- what a write carries while it makes a page
 abbrev pub CarriesPage : Session → Trace → Vio → PageId → Phase → Type 0
-CarriesPage s t v page phase.Claim = MakesPage s t v page × IsUnmade s t page × IsAsking s t v.request v.place v.tickets
+CarriesPage s t v page phase.Claim = MakesPage s t v page × IsUnmade s t page × IsAsking s t v.request v.place v.tickets × (has_taken t v.request (Some page) ≡ false)
 CarriesPage s t v page phase.Withdraw = MakesPage s t v page × IsUnmade s t page × IsWithdrawing s t v.request v.claim v.tickets
 CarriesPage s t v page phase.Store = MakesPage s t v page × IsUnmade s t page × IsToBlock v.new
 CarriesPage s t v page phase.Enter = MakesPage s t v page × IsUnmade s t page × IsToBlock v.new × (IsFair s t → OnBlock (λ x. ReadsAs s t x.0 (page_at s.sizes page x)) v.new)
@@ -297,10 +316,10 @@ CarriesPage s t v page other = ⊥
 -- What a request carries in each phase, while it is about its own address.
 abbrev pub CarriesOwn : Session → Trace → Vio → Phase → Type 0
 CarriesOwn s t v phase.Arrive = IsUndrawn t v.request v.asks
-CarriesOwn s t v phase.Wait = IsPlaced s t v × (has_taken t v.request ≡ false)
-CarriesOwn s t v phase.Look = IsInTurn s t v × (has_taken t v.request ≡ false)
-CarriesOwn s t v phase.LoadLeaf = IsInTurn s t v × (has_taken t v.request ≡ false) × NeedsLeaf s t v.at.0 v.leaf v.latest
-CarriesOwn s t v phase.LoadedLeaf = HasLeaf s t v.request v.asks v.at.0 v.place v.old v.latest × (has_taken t v.request ≡ false)
+CarriesOwn s t v phase.Wait = IsPlaced s t v × TookNone t v.request
+CarriesOwn s t v phase.Look = IsInTurn s t v × HasSpent s t v.request None
+CarriesOwn s t v phase.LoadLeaf = IsInTurn s t v × (has_taken t v.request None ≡ false) × NeedsLeaf s t v.at.0 v.leaf v.latest
+CarriesOwn s t v phase.LoadedLeaf = HasLeaf s t v.request v.asks v.at.0 v.place v.old v.latest × (has_taken t v.request None ≡ false)
 CarriesOwn s t v phase.Claim = Holds s t v × (v.asks ≡ Write) × NeedsBlock t v.request v.bytes × IsLeafy s t v.at.0 × IsAsking s t v.request v.place v.tickets
 CarriesOwn s t v phase.Withdraw = Holds s t v × (v.asks ≡ Write) × IsLeafy s t v.at.0 × IsWithdrawing s t v.request v.claim v.tickets
 CarriesOwn s t v phase.Store = Holds s t v × (v.asks ≡ Write) × IsToBlock v.new × IsLeafy s t v.at.0

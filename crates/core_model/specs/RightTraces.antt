@@ -105,7 +105,7 @@ HasFullJournal s t = s.sizes.geometry.journal ≤ length (sealed t) + 1
 -- a write of these bytes needs a data block and claimed none
 pub record NeedsBlock (t : Trace) (w : Writer) (bytes : List ℕ) : Type 0 where
   pub not_zeros : bytes ≢ zero_block
-  pub none_taken : has_taken t w ≡ false
+  pub none_taken : has_taken t w None ≡ false
 
 -- a request asked this physical zone for a block by a moment, and since then it withdrew the ticket of that, to which no block went
 pub record WasRefused (newer older : Trace) (w : Writer) (zone : ℕ) : Type 0 where
@@ -139,14 +139,14 @@ HasCause s t w (request.Read at) reply.ReadFault = IsSome (place_of (places t) w
 HasCause s t w (request.Read at) reply.Damaged = IsSome (place_of (places t) w) × (is_harmed t w ≡ true)
 HasCause s t w (request.Read at) other = ⊥
 -- a write: its slot was set; its address isn't below the logical size; the session is stopped, and its slot isn't set; the read of
--- the leaf of its address failed, or that doesn't decode; no data block was free for it, or for a page of its path; no block of the
--- journal is left for it
+-- the leaf of its address failed, or that doesn't decode; it claimed no data block for its data, and none was free for it, or for a page
+-- of its path; no block of the journal is left for it
 HasCause s t w (request.Write at bytes fua) reply.Ok = IsSome (logged_of (done t) w)
 HasCause s t w (request.Write at bytes fua) reply.Range = s.sizes.geometry.logical ≤ at.0
 HasCause s t w (request.Write at bytes fua) reply.Stopped = (has_stopped t ≡ true) × IsSome (place_of (places t) w) × IsNone (logged_of (done t) w)
 HasCause s t w (request.Write at bytes fua) reply.ReadFault = HasNoLeaf t w (has_read_fault t w)
 HasCause s t w (request.Write at bytes fua) reply.Damaged = HasNoLeaf t w (is_harmed t w)
-HasCause s t w (request.Write at bytes fua) reply.NoSpace = IsSome (place_of (places t) w) × IsNone (logged_of (entered t) w) × HadNoFree s t w
+HasCause s t w (request.Write at bytes fua) reply.NoSpace = IsSome (place_of (places t) w) × IsNone (logged_of (entered t) w) × (has_taken t w None ≡ false) × HadNoFree s t w
 HasCause s t w (request.Write at bytes fua) reply.Full = IsSome (place_of (places t) w) × IsNone (logged_of (entered t) w) × HasFullJournal s t
 HasCause s t w (request.Write at bytes fua) other = ⊥
 -- a discard: the same, but that it needs no data block
@@ -300,11 +300,13 @@ pub record AbortMayFollow (s : Session) (e : Remapping) (t : Trace) : Type 0 whe
   pub unset : IsNone (logged_of (done t) e.request)
   pub stopped : has_stopped t ≡ true
 
--- a write needs a data block for its data, or for a page that it lacks, which no entry puts anywhere while the one above it is there
+-- a write needs a data block for its data, or for a page that it lacks and claimed none for, which no entry puts anywhere while the one
+-- above it is there
 pub record NeedsPage (s : Session) (t : Trace) (w : Writer) (page : PageId) : Type 0 where
   pub lacked : (r : Request) × (request_at s.script w ≡ Some r) × MayLack s.sizes.geometry.height r page
   pub up : IsThere s.sizes.geometry.height s.links (applied t) (above page)
   pub unmade : page_in s.links (journaled t) page ≡ None
+  pub none_taken : has_taken t w (Some page) ≡ false
 
 abbrev pub NeedsFor : Session → Trace → Writer → Option PageId → Type 0
 NeedsFor s t w None = (at : Lba) × (bytes : List ℕ) × (request_at s.script w ≡ Some (request.Write at bytes false)) × NeedsBlock t w bytes
@@ -317,10 +319,12 @@ pub record TakeMayFollow (s : Session) (w : Writer) (page : Option PageId) (x : 
   pub is_data : IsDataBlock s.sizes.geometry x.0
   pub is_free : IsFreeAt s t x
 
--- one that has its place may ask a physical zone in which none is free, and is given the next ticket of that
+-- one that needs a data block and has its place may ask a physical zone in which none is free, and is given the next ticket of that
 pub record AskMayFollow (s : Session) (w : Writer) (k : Ticket) (t : Trace) : Type 0 where
   pub is_open : IsOpen t w
   pub placed : IsSome (place_of (places t) w)
+  pub page : Option PageId
+  pub asked : NeedsFor s t w page
   pub inside : k.zone < s.sizes.physical
   pub number : k.number ≡ issued t k.zone
   pub none_free : NoneFreeIn s t k.zone

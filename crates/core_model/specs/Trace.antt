@@ -19,6 +19,7 @@ use Rattle.vdo_model.specs.declared.report.Placed.{Placed}
 use Rattle.vdo_model.specs.FlushMarks.{Moment, Desk, Device, lines_of, calls_of}
 use Rattle.vdo_model.specs.Scripts.{same_writer}
 use Rattle.core_model.specs.PageLinks.{block_in}
+use Rattle.image_model.specs.Pages.{is_page}
 use Rattle.data_vio.specs.declared.logged.Logged.{Logged}
 pub use Rattle.data_vio.specs.Vios.{Gift, entry_of}
 use Rattle.data_vio.specs.declared.logged.Logged.TheVariants.{Remaps, Makes}
@@ -215,11 +216,17 @@ strayed [] = []
 strayed (Strays e ∷ t) = e ∷ strayed t
 strayed (other ∷ t) = strayed t
 
--- whether a write claimed one for its data
-abbrev pub has_taken : Trace → Writer → Bool
-has_taken [] w = false
-has_taken (Takes v None x ∷ t) w = same_writer v w || has_taken t w
-has_taken (other ∷ t) w = has_taken t w
+-- whether what is claimed for one purpose is for another: for the data of a write, or for a page
+abbrev pub is_for : Option PageId → Option PageId → Bool
+is_for None None = true
+is_for (Some page) (Some other) = is_page page other
+is_for one other = false
+
+-- whether a write claimed one for its data, or for this page
+abbrev pub has_taken : Trace → Writer → Option PageId → Bool
+has_taken [] w page = false
+has_taken (Takes v one x ∷ t) w page = (is_for one page && same_writer v w) || has_taken t w page
+has_taken (other ∷ t) w page = has_taken t w page
 
 -- a call of the device that reads, and one that succeeds
 abbrev pub is_read : Call → Bool

@@ -94,7 +94,7 @@ module _ (s : Session) (t : Trace) (w : Writer) (is : IsSession s) (right : Righ
         omega (arith, zone),
         (
           record { asked = asks; is_open = begins_open; address = address q; home = refl },
-          record { for_block = block; unplaced = unborn_place s t w right late; not_entered = unborn_entry s t w right late; none_taken = unborn_take s t w right late },
+          record { for_block = block; unplaced = unborn_place s t w right late; not_entered = unborn_entry s t w right late; took_none = unborn_take s t w right late },
           refl,
           record { claim_is = refl; on_data = λ holds. absurd cc; no_ticket = λ asks. refl },
         ),

@@ -1,7 +1,7 @@
 -- What the acts of the journal owe: entries are handed in, wait, or are refused; a block is sealed, and its entries are
 -- committed, or it failed.
 use Rattle.std.proofs.Common.{◌≡◌, Contains, ◌≢◌, ◌++◌, ◌≤◌, suc, Option, None, append_assoc, length-append, ℕ, ◌<◌, true, Some, IsNone, IsSome, List, [], ◌∷◌, refl, ap, arith, ◌+◌, Bool, false, length, sym, ◌∙◌, inl, inr, subst}
-use Rattle.core_laws.proofs.Common.{all_logged, all_of, AllBelow, AllByRecursion, Answer, asked, Asks, AtRest, bit, BlockOk, Carries, Commits, committed, DataOk, done, each_at, ended, entered, Enters, entry_of, every-append, fair_before, filled, Happening, has_stopped, HasCause, HasFullJournal, HasPendingEntry, HasPlace, holder_weight, IsChange, IsFair, IsOpen, IsPlaced, IsSession, JournalLists, JournalZone, KeptEach, KeptOk, Lba, logged, logged_of, ltb-false, ltb-true, Mapping, MapsTo, MayReply, NewReads, OnBlock, or_parts, Pbn, place_of, places, Post, ReadsAs, Request, RestsAt, RightTrace, same_self, same_tells, same_writer, sealed, SealedBlock, Seals, Session, Shown, some_is, Stage, StandsAt, total, Trace, turned, value_written, Vio, VioOk, Writer, zone_count, zone_number, zone_of, zone_of_stage, applied, durable, remapping, Logged, Remaps, Makes, passed, remappings, IsCommitted}
+use Rattle.core_laws.proofs.Common.{all_logged, all_of, AllBelow, AllByRecursion, Answer, asked, Asks, AtRest, bit, BlockOk, Carries, Commits, committed, DataOk, done, each_at, ended, entered, Enters, entry_of, every-append, fair_before, filled, Happening, has_stopped, HasCause, HasFullJournal, HasPendingEntry, HasPlace, holder_weight, IsChange, IsFair, IsOpen, IsPlaced, IsSession, JournalLists, JournalZone, KeptEach, KeptOk, Lba, logged, logged_of, ltb-false, ltb-true, Mapping, MapsTo, MayReply, NewReads, OnBlock, or_parts, Pbn, place_of, places, Post, ReadsAs, Request, RestsAt, RightTrace, same_self, same_tells, same_writer, sealed, SealedBlock, Seals, Session, Shown, some_is, Stage, StandsAt, total, Trace, turned, value_written, Vio, VioOk, Writer, zone_count, zone_number, zone_of, zone_of_stage, applied, durable, remapping, Logged, Remaps, Makes, passed, remappings, IsCommitted, has_taken}
 use Rattle.core_laws.proofs.trace.PassesOfTrace.{cut_passed}
 use Rattle.std.proofs.Math.Nat.{mod-lt}
 use Rattle.data_vio.specs.declared.items.Asks.TheVariants.{Read, Write, Discard, Flush}
@@ -13,7 +13,7 @@ use Rattle.core_laws.proofs.trace.AbortsOfTrace.{unentered_abort}
 use Rattle.core_laws.proofs.kept.Keys.{Clears, IfAny, Key, OfAddress, OfJournal, OfPage, OfRequest, any, holder_one, idle_none, own_name, token_of}
 use Rattle.core_laws.proofs.journal.LogLaws.{filling_length, log_committed, log_entered, log_sealed}
 use Rattle.core_laws.proofs.journal.SealedBlocks.{logged_length}
-use Rattle.core_laws.proofs.kept.Spared.{OffNumber, below_kept, leafy_kept, mapping_same, of_same, quiet_kept}
+use Rattle.core_laws.proofs.kept.Spared.{OffNumber, below_kept, leafy_kept, mapping_same, of_same, quiet_kept, spent_kept}
 use Rattle.core_laws.proofs.kept.StandsOn.{journal_kept, left_kept, mapped_all, new_reads_kept, on_each, reads_kept, rests_kept, spares_all, superblock_kept}
 use Rattle.core_laws.proofs.kept.Carried.{logged_request, pending_over}
 use Rattle.blk_base.specs.declared.place.Mapping.TheVariants.{At, Unmapped, Zero}
@@ -52,16 +52,16 @@ cause_full s t w Discard at bytes is none some full = (some, none, full)
 cause_full s t w Read at bytes is none some full = absurd is
 cause_full s t w Flush at bytes is none some full = absurd is
 
--- a write, where no data block was free since it had its place
-cause_no_space : (s : Session) (t : Trace) (w : Writer) (q : Asks) (at : Lba) (bytes : List ℕ) → q ≡ Write → IsNone (logged_of (entered t) w) → IsSome (place_of (places t) w) → HadNoFree s t w
-    → HasCause s t w (asked q at bytes) reply.NoSpace
-cause_no_space s t w q at bytes is none some no_free = rw is (some, none, no_free)
+-- a write that claimed none for its data, where no data block was free at a moment since it had its place
+cause_no_space : (s : Session) (t : Trace) (w : Writer) (q : Asks) (at : Lba) (bytes : List ℕ) → q ≡ Write → IsNone (logged_of (entered t) w) → IsSome (place_of (places t) w) → has_taken t w None ≡ false
+    → HadNoFree s t w → HasCause s t w (asked q at bytes) reply.NoSpace
+cause_no_space s t w q at bytes is none some none_taken no_free = rw is (some, none, none_taken, no_free)
 
 pub may_stop : (s : Session) (t : Trace) (v : Vio) → IsChange v.asks → has_stopped t ≡ true → HasPlace s t v.request v.at.0 v.place → IsNone (logged_of (done t) v.request) → MayReply s t v (Some reply.Stopped)
 may_stop s t v is stopped placed none = cause_stopped s t v.request v.asks v.at v.bytes is stopped (some_is _ _ placed) none
 
-pub write_no_space : (s : Session) (t : Trace) (v : Vio) → v.asks ≡ Write → IsPlaced s t v → HadNoFree s t v.request → MayReply s t v (Some reply.NoSpace)
-write_no_space s t v is k no_free = cause_no_space s t v.request v.asks v.at v.bytes is k.not_entered (some_is _ _ k.placed) no_free
+pub write_no_space : (s : Session) (t : Trace) (v : Vio) → v.asks ≡ Write → IsPlaced s t v → has_taken t v.request None ≡ false → HadNoFree s t v.request → MayReply s t v (Some reply.NoSpace)
+write_no_space s t v is k none_taken no_free = cause_no_space s t v.request v.asks v.at v.bytes is k.not_entered (some_is _ _ k.placed) none_taken no_free
 
 pub may_fill : (s : Session) (t : Trace) (v : Vio) → IsChange v.asks → IsPlaced s t v → HasFullJournal s t → MayReply s t v (Some reply.Full)
 may_fill s t v is k full = cause_full s t v.request v.asks v.at v.bytes is k.not_entered (some_is _ _ k.placed) full
@@ -507,7 +507,7 @@ module _ {s : Session} {t : Trace} {n : ℕ} {old : JournalZone} {b : SealedBloc
             below = below_kept (Commits (Makes (record { request = v.request; page = page; at = x }))) t v.at.0 v.place tt turn.below;
           };
           is_write = k.0.is_write;
-          none_taken = k.0.none_taken;
+          spent = spent_kept s (Commits (Makes (record { request = v.request; page = page; at = x }))) t v.request (Some page) (λ p. refl) k.0.spent;
           lacked = k.0.lacked;
           up = k.0.up;
         } in (

@@ -11,7 +11,7 @@ use Rattle.core_model.specs.PageLinks.{empty_page}
 use Rattle.core_model.specs.DeviceRules.{page_at}
 use Rattle.core_laws.proofs.journal.LoggedEntries.{logged_makes}
 use Rattle.core_laws.proofs.kept.ActKept.{carries_page, vio_over}
-use Rattle.core_laws.proofs.kept.Spared.{below_kept, quiet_kept}
+use Rattle.core_laws.proofs.kept.Spared.{below_kept, quiet_kept, spent_kept}
 use Rattle.core_laws.proofs.kept.StandsOn.{SparesJournaled, journal_kept, left_kept, mapped_all, new_reads_kept, reads_kept, spares_all, superblock_kept}
 use Rattle.core_laws.proofs.trace.DeskOfTrace.{shown_of}
 use Rattle.core_laws.proofs.trace.PagesOfTrace.{dropped_entered, put_there, unlinked_still}
@@ -79,7 +79,7 @@ module _ (s : Session) (t : Trace) (v : Vio) (page : PageId) (x : Pbn) (right : 
           below = below_kept enters t v.at.0 v.place tt turn.below;
         };
         is_write = carries.0.is_write;
-        none_taken = carries.0.none_taken;
+        spent = spent_kept s enters t v.request (Some page) (λ p. refl) carries.0.spent;
         lacked = carries.0.lacked;
         up = carries.0.up;
       }

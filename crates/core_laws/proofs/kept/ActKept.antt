@@ -8,7 +8,7 @@ use Rattle.core_model.specs.declared.zones.ZoneData.TheVariants as at
 use Rattle.blk_base.specs.declared.place.PageId.{PageId}
 use Rattle.blk_base.specs.Regions.{IsDataBlock}
 use Rattle.data_vio.specs.Phases.{row}
-use Rattle.core_model.specs.Facts.{CarriesFor, CarriesOwn, CarriesPage, ClaimFor, ClaimOk, claim_of}
+use Rattle.core_model.specs.Facts.{CarriesFor, CarriesOwn, CarriesPage, ClaimFor, ClaimOk, claim_of, TookNone}
 use Rattle.core_model.specs.Legal.{ComesAfter}
 use Rattle.core_model.specs.Sessions.{SuperblockStands}
 use Rattle.core_laws.proofs.trace.DeskOfTrace.{logged_has, entered_writes, done_is_entered}
@@ -16,7 +16,7 @@ use Rattle.core_laws.proofs.trace.PlacesOfTrace.{IsBegun, places_begun}
 use Rattle.core_laws.proofs.trace.Growth.{begun_stays}
 use Rattle.core_laws.proofs.kept.Frame.{kept_each}
 use Rattle.core_laws.proofs.kept.Keys.{Key, OfRequest, OfAddress, OfBlock, OfJournal, OfPage, claim_one, token_of, Spares, happens_in, IfAny, Clears, clears_with, mine_or_spared, own_name, holder_one, maker_one}
-use Rattle.core_laws.proofs.kept.Spared.{about}
+use Rattle.core_laws.proofs.kept.Spared.{about, or_other}
 use Rattle.core_laws.proofs.tokens.Known.{LeasedIn, SettlingLeased}
 use Rattle.core_laws.proofs.kept.StandsOn.{SparesBlock, SparesJournal, SparesJournaled, SparesSealed, filling_spared, journal_kept, kept_spared, left_kept, mapped_all, new_reads_kept, superblock_kept}
 use Rattle.core_model.specs.CountUpdates.{CountUpdate, updates_in, updates_of, updates_taken}
@@ -25,6 +25,7 @@ use Rattle.core_model.specs.Streams.{counted}
 use Rattle.core_model.specs.UpdateStream.{updating}
 use Rattle.core_model.specs.declared.zones.PhysicalZone.{PhysicalZone}
 use Rattle.core_model.specs.Tokens.{owes, unowed_weight}
+use Rattle.core_model.specs.Trace.{is_for}
 
 -- In the hands of an act is what the front of the inbox weighs for, and what the zone's own data does. A request that isn't
 -- begun is in nobody's.
@@ -241,19 +242,18 @@ place_has P (q ∷ ps) w p had all = elim (same_tells q.request w) [
 ]
 
 -- whoever took a block was begun
-taken_begun : (s : Session) (t : Trace) (w : Writer) → RightTrace s t → has_taken t w ≡ true → w.number < begun w.stream (lines t)
-taken_begun s [] w right some = absurd cc
-taken_begun s (Takes v (Some page) x ∷ t) w right some = taken_begun s t w right.2 some
-taken_begun s (Takes v None x ∷ t) w right some = elim (same_tells v w) [
+taken_begun : (s : Session) (t : Trace) (w : Writer) (page : Option PageId) → RightTrace s t → has_taken t w page ≡ true → w.number < begun w.stream (lines t)
+taken_begun s [] w page right some = absurd cc
+taken_begun s (Takes v one x ∷ t) w page right some = elim (same_tells v w) [
   | inl same ↦ subst (λ (u : Writer). u.number < begun u.stream (lines t)) same.1 right.0.is_open.is_begun
-  | inr other ↦ taken_begun s t w right.2 (rw other.0 at some)
+  | inr other ↦ taken_begun s t w page right.2 (sym (or_other (is_for one page) (has_taken t w page)) ∙ rw other.0 at some)
 ]
-taken_begun s (Says line ∷ t) w right some = begun_stays s (Says line) t w right.0 (taken_begun s t w right.2 some)
-taken_begun s (Flushes m ∷ t) w right some = begun_stays s (Flushes m) t w right.0 (taken_begun s t w right.2 some)
-taken_begun s (Calls c ∷ t) w right some = begun_stays s (Calls c) t w right.0 (taken_begun s t w right.2 some)
-taken_begun s (Fails v c kept ∷ t) w right some = begun_stays s (Fails v c kept) t w right.0 (taken_begun s t w right.2 some)
-taken_begun s (Harms v x bytes fault ∷ t) w right some = begun_stays s (Harms v x bytes fault) t w right.0 (taken_begun s t w right.2 some)
-taken_begun s (other ∷ t) w right some = taken_begun s t w right.2 some
+taken_begun s (Says line ∷ t) w page right some = begun_stays s (Says line) t w right.0 (taken_begun s t w page right.2 some)
+taken_begun s (Flushes m ∷ t) w page right some = begun_stays s (Flushes m) t w right.0 (taken_begun s t w page right.2 some)
+taken_begun s (Calls c ∷ t) w page right some = begun_stays s (Calls c) t w right.0 (taken_begun s t w page right.2 some)
+taken_begun s (Fails v c kept ∷ t) w page right some = begun_stays s (Fails v c kept) t w right.0 (taken_begun s t w page right.2 some)
+taken_begun s (Harms v x bytes fault ∷ t) w page right some = begun_stays s (Harms v x bytes fault) t w right.0 (taken_begun s t w page right.2 some)
+taken_begun s (other ∷ t) w page right some = taken_begun s t w page right.2 some
 
 -- A request that isn't begun has no place, took no block, and its entry wasn't handed in nor done.
 module _ (s : Session) (t : Trace) (w : Writer) (right : RightTrace s t) (late : begun w.stream (lines t) ≤ w.number) where
@@ -275,9 +275,9 @@ module _ (s : Session) (t : Trace) (w : Writer) (right : RightTrace s t) (late :
         absurd (no_begin some.0.request has.1 place.0)
   ]
 
-  pub unborn_take : has_taken t w ≡ false
-  unborn_take = elim (cases_Bool (has_taken t w)) [
-    | inl some ↦ absurd (no_begin w refl (taken_begun s t w right some))
+  pub unborn_take : TookNone t w
+  unborn_take page = elim (cases_Bool (has_taken t w page)) [
+    | inl some ↦ absurd (no_begin w refl (taken_begun s t w page right some))
     | inr none ↦ none
   ]
 

@@ -18,7 +18,7 @@ use Rattle.data_vio.specs.declared.logged.Logged.TheVariants.{Remaps}
 use Rattle.core_model.specs.Facts.{CarriesFor, CarriesOwn, CarriesPage, ClaimOk, IsDecrement, ReportOk, claim_of, HasLeaf, HasPageEntry, IsUnmade, MakesPage, NeedsLeaf}
 use Rattle.image_model.specs.Pages.{leaf_of}
 use Rattle.core_laws.proofs.kept.Keys.{Key, OfRequest, OfAddress, OfBlock, OfJournal, OfPage, token_of, Spares, own_name, holder_one, claim_one, maker_one}
-use Rattle.core_laws.proofs.kept.Spared.{applied_at, SparesRequest, SparesAddress, SparesPage, open_kept, durable_has, leafy_kept, journaled_has, link_same, put_same, there_kept, undropped_kept, place_same, entry_same, slot_same, abort_same, gift_same, take_same, stop_kept, fault_kept, harm_kept, linked_at_kept, abort_kept, needs_kept, journal_full_kept, mapping_same, quiet_kept, committed_kept, below_kept, pending_kept, mark_kept, value_same, added_has, hearing_kept, no_free_kept, asking_kept, withdrawing_kept, reported_kept}
+use Rattle.core_laws.proofs.kept.Spared.{applied_at, SparesRequest, SparesAddress, SparesPage, open_kept, durable_has, leafy_kept, journaled_has, link_same, put_same, there_kept, undropped_kept, place_same, entry_same, slot_same, abort_same, gift_same, take_same, stop_kept, fault_kept, harm_kept, linked_at_kept, abort_kept, needs_kept, journal_full_kept, mapping_same, quiet_kept, committed_kept, below_kept, pending_kept, mark_kept, value_same, added_has, hearing_kept, no_free_kept, asking_kept, withdrawing_kept, reported_kept, spent_kept}
 use Rattle.core_laws.proofs.kept.StandsOn.{SparesBlock, SparesJournal, SparesJournaled, SparesMap, SparesSealed, block_reads_kept, comes_stands, last_spared, new_kept, new_reads_kept, on_each, reads_kept, rest_spared, rests_kept, way_kept}
 
 none_weigh : (vs : List Vio) → total (λ v. 0) vs ≡ 0
@@ -55,10 +55,10 @@ pub record SaysSame (h : Happening) (t : Trace) (w : Writer) : Type 0 where
   pub of_entry : logged_of (entered (h ∷ t)) w ≡ logged_of (entered t) w
   pub of_slot : logged_of (done (h ∷ t)) w ≡ logged_of (done t) w
   pub of_gift : gift_of (gifts (h ∷ t)) w ≡ gift_of (gifts t) w
-  pub of_take : has_taken (h ∷ t) w ≡ has_taken t w
+  pub of_take : has_taken (h ∷ t) w None ≡ has_taken t w None
 
 says_same : (h : Happening) (t : Trace) (w : Writer) → SparesRequest h w → SaysSame h t w
-says_same h t w apart = record { of_place = place_same h t w apart; of_entry = entry_same h t w apart; of_slot = slot_same h t w apart; of_gift = gift_same h t w apart; of_take = take_same h t w apart }
+says_same h t w apart = record { of_place = place_same h t w apart; of_entry = entry_same h t w apart; of_slot = slot_same h t w apart; of_gift = gift_same h t w apart; of_take = take_same h t w None apart }
 
 module _ (s : Session) (h : Happening) (t : Trace) where
   pub cause_kept : (w : Writer) (r : Request) (a : Answer) → SaysSame h t w → HasCause s t w r a → HasCause s (h ∷ t) w r a
@@ -72,7 +72,7 @@ module _ (s : Session) (h : Happening) (t : Trace) where
   cause_kept w (request.Write at bytes fua) reply.Ok same k = rw (same.of_slot) k
   cause_kept w (request.Write at bytes fua) reply.Range same k = k
   cause_kept w (request.Write at bytes fua) reply.Stopped same k = (stop_kept h t k.0, rw (same.of_place) k.1, rw (same.of_slot) k.2)
-  cause_kept w (request.Write at bytes fua) reply.NoSpace same k = (rw (same.of_place) k.0, rw (same.of_entry) k.1, no_free_kept s h t w k.2)
+  cause_kept w (request.Write at bytes fua) reply.NoSpace same k = (rw (same.of_place) k.0, rw (same.of_entry) k.1, same.of_take ∙ k.2, no_free_kept s h t w k.3)
   cause_kept w (request.Write at bytes fua) reply.Full same k = (rw (same.of_place) k.0, rw (same.of_entry) k.1, journal_full_kept s h t k.2)
   cause_kept w (request.Write at bytes fua) reply.ReadFault same k = (rw (same.of_place) k.0, rw (same.of_entry) k.1, fault_kept h t w k.2)
   cause_kept w (request.Write at bytes fua) reply.Damaged same k = (rw (same.of_place) k.0, rw (same.of_entry) k.1, harm_kept h t w k.2)
@@ -106,7 +106,7 @@ module _ (s : Session) (h : Happening) (t : Trace) where
     for_block = k.for_block;
     unplaced = rw (place_same h t v.request apart) k.unplaced;
     not_entered = rw (entry_same h t v.request apart) k.not_entered;
-    none_taken = take_same h t v.request apart ∙ k.none_taken;
+    took_none = λ page. take_same h t v.request page apart ∙ k.took_none page;
   }
 
   placed_kept : (v : Vio) → SparesRequest h v.request → IsPlaced s t v → IsPlaced s (h ∷ t) v
@@ -164,12 +164,12 @@ module _ (s : Session) (h : Happening) (t : Trace) where
   by_phase : (v : Vio) (q : Phase) → SparesRequest h v.request → (holds q ≡ true → SparesAddress h v.at.0) → (q ≡ phase.Enter → (x : Pbn) → v.new ≡ At x → SparesBlock h x.0)
       → CarriesOwn s t v q → CarriesOwn s (h ∷ t) v q
   by_phase v phase.Arrive r a b k = unplaced_kept v r k
-  by_phase v phase.Wait r a b k = (placed_kept v r k.0, take_same h t v.request r ∙ k.1)
-  by_phase v phase.Look r a b k = (turn_kept v r (a refl) k.0, take_same h t v.request r ∙ k.1)
-  by_phase v phase.LoadLeaf r a b k = (turn_kept v r (a refl) k.0, take_same h t v.request r ∙ k.1, needs_leaf_kept v (a refl) k.2)
-  by_phase v phase.LoadedLeaf r a b k = (has_leaf_kept v r (a refl) k.0, take_same h t v.request r ∙ k.1)
-  by_phase v phase.Claim r a b k = (holds_kept v r (a refl) k.0, k.1, needs_kept h t v.request v.bytes (take_same h t v.request r) k.2, leafy_kept s h t v.at.0 k.3, asking_kept s h t v.request v.place v.tickets k.4)
-  by_phase v phase.Withdraw r a b k = (holds_kept v r (a refl) k.0, k.1, leafy_kept s h t v.at.0 k.2, withdrawing_kept s h t v.request v.claim v.tickets k.3)
+  by_phase v phase.Wait r a b k = (placed_kept v r k.0, λ page. take_same h t v.request page r ∙ k.1 page)
+  by_phase v phase.Look r a b k = (turn_kept v r (a refl) k.0, spent_kept s h t v.request None (λ page. take_same h t v.request page r) k.1)
+  by_phase v phase.LoadLeaf r a b k = (turn_kept v r (a refl) k.0, take_same h t v.request None r ∙ k.1, needs_leaf_kept v (a refl) k.2)
+  by_phase v phase.LoadedLeaf r a b k = (has_leaf_kept v r (a refl) k.0, take_same h t v.request None r ∙ k.1)
+  by_phase v phase.Claim r a b k = (holds_kept v r (a refl) k.0, k.1, needs_kept h t v.request v.bytes (take_same h t v.request None r) k.2, leafy_kept s h t v.at.0 k.3, asking_kept s h t v.request v.place v.tickets k.4)
+  by_phase v phase.Withdraw r a b k = (holds_kept v r (a refl) k.0, k.1, leafy_kept s h t v.at.0 k.2, withdrawing_kept s h t v.request v.claim v.tickets (take_same h t v.request None r) k.3)
   by_phase v phase.Store r a b k = (holds_kept v r (a refl) k.0, k.1, k.2, leafy_kept s h t v.at.0 k.3)
   by_phase v phase.Enter r a b k = (
     holds_kept v r (a refl) k.0,
@@ -209,7 +209,7 @@ module _ (s : Session) (h : Happening) (t : Trace) where
     making_kept k = record {
       turn = turn_kept v r a k.turn;
       is_write = k.is_write;
-      none_taken = take_same h t v.request r ∙ k.none_taken;
+      spent = spent_kept s h t v.request (Some page) (λ p. take_same h t v.request p r) k.spent;
       lacked = k.lacked;
       up = there_kept s.sizes.geometry.height s.links h t (above page) k.up;
     }
@@ -225,8 +225,8 @@ module _ (s : Session) (h : Happening) (t : Trace) where
     }
 
     by_page : (q : Phase) → (q ≡ phase.Enter → (x : Pbn) → v.new ≡ At x → SparesBlock h x.0) → CarriesPage s t v page q → CarriesPage s (h ∷ t) v page q
-    by_page phase.Claim b k = (making_kept k.0, unmade_kept k.1, asking_kept s h t v.request v.place v.tickets k.2)
-    by_page phase.Withdraw b k = (making_kept k.0, unmade_kept k.1, withdrawing_kept s h t v.request v.claim v.tickets k.2)
+    by_page phase.Claim b k = (making_kept k.0, unmade_kept k.1, asking_kept s h t v.request v.place v.tickets k.2, take_same h t v.request (Some page) r ∙ k.3)
+    by_page phase.Withdraw b k = (making_kept k.0, unmade_kept k.1, withdrawing_kept s h t v.request v.claim v.tickets (take_same h t v.request None r) k.2)
     by_page phase.Store b k = (making_kept k.0, unmade_kept k.1, k.2)
     by_page phase.Enter b k = (
       making_kept k.0,

@@ -9,8 +9,8 @@ use Rattle.vdo_model.specs.declared.report.DeskLine.TheVariants.{Begin, Answer}
 use Rattle.blk_base.specs.declared.place.PageId.{PageId}
 use Rattle.image_model.specs.Pages.{is_page, leaf_of}
 use Rattle.core_model.specs.RightTraces.{HadNoFree, HearingMayFollow, WasRefused, IsLeafy, IsLinkedAt, IsReported}
-use Rattle.core_model.specs.Trace.{Asks, Withdraws, added, removed, strayed}
-use Rattle.core_model.specs.Facts.{HasClaim, IsAsking, IsWithdrawing, LacksBlock}
+use Rattle.core_model.specs.Trace.{Asks, Withdraws, added, removed, strayed, is_for}
+use Rattle.core_model.specs.Facts.{HasClaim, IsAsking, IsWithdrawing, LacksBlock, HasSpent, IsMade, TookNone}
 use Rattle.slab_counts.specs.declared.tickets.Ticket.{Ticket}
 use Rattle.vdo_model.specs.declared.report.Damage.{Damage}
 use Rattle.core_model.specs.PageLinks.{IsThere, page_in}
@@ -112,9 +112,35 @@ pub gift_same : (h : Happening) (t : Trace) (w : Writer) → SparesRequest h w �
 gift_same (Gives g) t w apart = rw apart refl
 gift_same other t w apart = refl
 
-pub take_same : (h : Happening) (t : Trace) (w : Writer) → SparesRequest h w → has_taken (h ∷ t) w ≡ has_taken t w
-take_same (Takes v None x) t w apart = rw apart refl
-take_same other t w apart = refl
+-- what is claimed by another, is claimed by it for nothing
+pub or_other : (b c : Bool) → ((b && false) || c) ≡ c
+or_other true c = refl
+or_other false c = refl
+
+pub take_same : (h : Happening) (t : Trace) (w : Writer) (page : Option PageId) → SparesRequest h w → has_taken (h ∷ t) w page ≡ has_taken t w page
+take_same (Takes v one x) t w page apart = rw apart (or_other (is_for one page) (has_taken t w page))
+take_same other t w page apart = refl
+
+-- a page that was handed in, or that the image has, is made
+pub made_kept : (s : Session) (h : Happening) (t : Trace) (page : PageId) → IsMade s t page → IsMade s (h ∷ t) page
+made_kept s (Enters (Remaps e)) t page made = made
+made_kept s (Enters (Makes p)) t page made = by (is_page p.page page)
+  where
+    by : (b : Bool) → IsSome (if b then Some p.at else page_in s.links (journaled t) page)
+    by true = refl
+    by false = made
+made_kept s other t page made = made
+
+-- and what it claimed for pages but its own was handed in
+pub spent_kept : (s : Session) (h : Happening) (t : Trace) (w : Writer) (own : Option PageId) → ((page : Option PageId) → has_taken (h ∷ t) w page ≡ has_taken t w page) → HasSpent s t w own → HasSpent s (h ∷ t) w own
+spent_kept s h t w own same k = record {
+  none_taken = same None ∙ k.none_taken;
+  others = λ page other taken. made_kept s h t page (k.others page other (sym (same (Some page)) ∙ taken));
+}
+
+-- one that claimed no block has handed in what it claimed for pages
+pub none_spent : (s : Session) (t : Trace) (w : Writer) → TookNone t w → HasSpent s t w None
+none_spent s t w none = record { none_taken = none None; others = λ page other taken. absurd (let both : false ≡ true = sym (none (Some page)) ∙ taken in cc) }
 
 -- what they say of an address
 pub of_other : (e : Remapping) (es : List Remapping) (a : ℕ) → e.at.0 ≢ a → of_address a (e ∷ es) ≡ of_address a es
@@ -295,23 +321,25 @@ asks_none s t w place tickets some none = subst (IsAsking s t w place) (sym none
 pub may_ask : {s : Session} {claim : Option Pbn} {new : Mapping} {tickets : List Ticket} → HasClaim s false false claim new tickets → HasClaim s false true claim new tickets
 may_ask k = record { claim_is = k.claim_is; on_data = k.on_data; no_ticket = λ asks. absurd cc }
 
-pub lacking_kept : (s : Session) (h : Happening) (t : Trace) (w : Writer) (tickets : List Ticket) → LacksBlock s t w tickets → LacksBlock s (h ∷ t) w tickets
-lacking_kept s h t w tickets k = record {
+pub lacking_kept : (s : Session) (h : Happening) (t : Trace) (w : Writer) (tickets : List Ticket) → has_taken (h ∷ t) w None ≡ has_taken t w None → LacksBlock s t w tickets → LacksBlock s (h ∷ t) w tickets
+lacking_kept s h t w tickets same k = record {
   newer = h ∷ k.newer;
   older = k.older;
   moment = ap (λ (u : Trace). h ∷ u) k.moment;
   placed = k.placed;
+  none_taken = same ∙ k.none_taken;
   each = λ zone inside. elim (k.each zone inside) [ inl was ↦ inl (refused_kept h k.newer k.older w zone was) | inr held ↦ inr held ];
 }
 
-pub withdrawing_kept : (s : Session) (h : Happening) (t : Trace) (w : Writer) (claim : Option Pbn) (tickets : List Ticket) → IsWithdrawing s t w claim tickets → IsWithdrawing s (h ∷ t) w claim tickets
-withdrawing_kept s h t w claim tickets k = record {
+pub withdrawing_kept : (s : Session) (h : Happening) (t : Trace) (w : Writer) (claim : Option Pbn) (tickets : List Ticket) → has_taken (h ∷ t) w None ≡ has_taken t w None → IsWithdrawing s t w claim tickets
+    → IsWithdrawing s (h ∷ t) w claim tickets
+withdrawing_kept s h t w claim tickets same k = record {
   turn = k.turn;
   in_turn = k.in_turn;
   few = k.few;
   some = k.some;
   asked = asked_kept h t w tickets k.asked;
-  lacks = λ none. lacking_kept s h t w tickets (k.lacks none);
+  lacks = λ none. lacking_kept s h t w tickets same (k.lacks none);
 }
 
 -- what was counted is so from then on
@@ -333,7 +361,7 @@ hearing_kept h t damage k = record { entry = k.entry; strays = strays h k.strays
     strays other has = has
 
 -- and a write that took none needs one, where it takes none then
-pub needs_kept : (h : Happening) (t : Trace) (w : Writer) (bytes : List ℕ) → has_taken (h ∷ t) w ≡ has_taken t w → NeedsBlock t w bytes → NeedsBlock (h ∷ t) w bytes
+pub needs_kept : (h : Happening) (t : Trace) (w : Writer) (bytes : List ℕ) → has_taken (h ∷ t) w None ≡ has_taken t w None → NeedsBlock t w bytes → NeedsBlock (h ∷ t) w bytes
 needs_kept h t w bytes same needs = record { not_zeros = needs.not_zeros; none_taken = same ∙ needs.none_taken }
 
 -- what an address is mapped to, by the writes of it

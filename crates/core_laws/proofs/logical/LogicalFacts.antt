@@ -1,21 +1,21 @@
 -- What the acts of a logical zone owe: a request draws its place, and is done with its lock.
 use Rattle.std.proofs.Common.{◌≡◌, Contains, ℕ, ◌+◌, ◌==◌, ◌⊎◌, ◌&&◌, Bool, true, false, not, if◌then◌else◌, Option, None, Some, is_some, length, length-append, IsNone, List, [], ◌∷◌, ◌++◌, refl, ap, sym, ◌∙◌, inl, inr, arith, ◌<◌, IsSome, subst}
 use Rattle.std.proofs.lemmas.Bool.{and_parts, cases_Bool}
-use Rattle.core_laws.proofs.Common.{Aborts, IsInTurn, Mapping, Passes, applied, durable, has_taken, journaled, newest, of_address, option_cases, passed, remappings, AllBelow, AllByRecursion, Asks, DataOk, DeskLine, Draws, FlushMark, Follows, Gives, GivesRight, Happening, HasAddress, HasEarned, IsChange, IsCommitted, IsEntered, IsFair, IsForBlock, IsOfZone, IsPlaced, IsUndrawn, KeptEach, KeptOk, Lba, Lock, LocksOk, Remapping, LogicalZone, Looks, MayReply, OnBlock, Pbn, Phase, Placed, PlaceMayFollow, Post, Quiet, RightTrace, Session, Sets, Trace, Vio, VioOk, Writer, aborted, answer_of, asked, before_begin, done, ended, eq-eqb, eqb_tells, every-append, every-map, fair_before, gift, gift_of, gifts, has_stopped, holds, lines, logged_of, logical_number, places, request_at, same_self, same_writer, some_is, turned, value_at, zone_number, zone_of, Remaps, remapping, mapped_or, mapping_by, opened_at, IsToData, zone_count, same_Some, Holds}
+use Rattle.core_laws.proofs.Common.{Aborts, IsInTurn, Mapping, Passes, applied, durable, journaled, newest, of_address, option_cases, passed, remappings, AllBelow, AllByRecursion, Asks, DataOk, DeskLine, Draws, FlushMark, Follows, Gives, GivesRight, Happening, HasAddress, HasEarned, IsChange, IsCommitted, IsEntered, IsFair, IsForBlock, IsOfZone, IsPlaced, IsUndrawn, KeptEach, KeptOk, Lba, Lock, LocksOk, Remapping, LogicalZone, Looks, MayReply, OnBlock, Pbn, Phase, Placed, PlaceMayFollow, Post, Quiet, RightTrace, Session, Sets, Trace, Vio, VioOk, Writer, aborted, answer_of, asked, before_begin, done, ended, eq-eqb, eqb_tells, every-append, every-map, fair_before, gift, gift_of, gifts, has_stopped, holds, lines, logged_of, logical_number, places, request_at, same_self, same_writer, some_is, turned, value_at, zone_number, zone_of, Remaps, remapping, mapped_or, mapping_by, opened_at, IsToData, zone_count, same_Some, Holds}
 use Rattle.data_vio.specs.declared.items.Asks.TheVariants.{Read, Write, Discard, Flush}
 use Rattle.core_model.specs.Legal.{ComesAfter}
 use Rattle.core_model.specs.LogicalRules.{is_among, is_held, lock_of, placed, place_of_vio, drawn_by, goes_on, is_discard, known_at, known_by, lacks, latest_at, looked, pass_of, passes_by, looks_up, released, granted, retire, all_stopped, all_for, with_slot}
 use Rattle.core_laws.proofs.trace.DeskOfTrace.{each_of_address, of_address_append, shown_of}
 use Rattle.core_laws.proofs.kept.ActKept.{Known, Mine, ActKept, act_one, claim_in, own_request, plain_clears, line_kept, shown_plain, vio_over, IsPlain, act_none, own_address, vio_ok, in_bare, in_own, carries_own}
 use Rattle.core_laws.proofs.kept.Keys.{Clears, OfRequest, OfAddress, OfPage, IfAny, happens_in}
-use Rattle.core_laws.proofs.kept.Spared.{quiet_kept, below_kept, about, of_same}
+use Rattle.core_laws.proofs.kept.Spared.{quiet_kept, below_kept, about, none_spent, of_same}
 use Rattle.core_laws.proofs.logical.LockLaws.{more_drawn, one_waits, one_takes}
 use Rattle.core_laws.proofs.tokens.Owners.{at_home}
 use Rattle.data_vio.specs.Phases.{row}
 use Rattle.core_laws.proofs.lists.CoreLists.{newest_has, or_none}
 use Rattle.core_laws.proofs.logical.Releases.{below_more, has_below_more, goes_ok, looks_ok, stopped_ok, release_ok, retire_ok, drawn_before}
 use Rattle.core_model.specs.PageTrees.{HasPath, leaf_at, missing_at}
-use Rattle.core_model.specs.Facts.{NeedsLeaf}
+use Rattle.core_model.specs.Facts.{NeedsLeaf, HasSpent}
 use Rattle.data_vio.specs.Vios.{reads_leaf}
 use Rattle.image_model.specs.Pages.{leaf_of}
 use Rattle.core_laws.proofs.device.LeafReads.{stands_at_data}
@@ -171,7 +171,7 @@ module _ {s : Session} {t : Trace} {n : ℕ} {l : LogicalZone} {v : Vio} (known 
     held_kept held =
         let w : Vio = turned phase.Wait v' in
         act_one known (Draws p) clears gives_same right'
-        (drawn_ok l.held (l.waiting ++ w ∷ []) (one_waits s l.zone l.next l.held l.waiting known.own.sound.locks w home_is refl held) (every-append (KeptOk s t' phase.Wait) l.waiting (w ∷ []) others_wait ((placed_ok, carries_own s t' w phase.Wait bare (is_placed, unplaced.none_taken), refl, claim_in known phase.Arrive arrives), tt)) (λ a free. free)) tt
+        (drawn_ok l.held (l.waiting ++ w ∷ []) (one_waits s l.zone l.next l.held l.waiting known.own.sound.locks w home_is refl held) (every-append (KeptOk s t' phase.Wait) l.waiting (w ∷ []) others_wait ((placed_ok, carries_own s t' w phase.Wait bare (is_placed, unplaced.took_none), refl, claim_in known phase.Arrive arrives), tt)) (λ a free. free)) tt
 
     pub free_kept : is_among v.at.0 l.retired ≡ false → is_held v.at.0 l.held ≡ false
         → ActKept s t n (at.Logical l) (item.Request v ∷ []) (at.Logical (record (drawn_by l v) { held = lock_of v' ∷ l.held })) (Draws p ∷ []) (looks_up v' ∷ [])
@@ -179,7 +179,7 @@ module _ {s : Session} {t : Trace} {n : ℕ} {l : LogicalZone} {v : Vio} (known 
         act_one known (Draws p) clears gives_same right'
         (drawn_ok (lock_of v' ∷ l.held) l.waiting (one_takes s l.zone l.next l.held l.waiting known.own.sound.locks v' zone_is refl free) others_wait (λ a none. (or_none (v.at.0 == a) (is_held a l.held) none).1)) (
           looks_ok s t' l.zone known.own.sound.among v' placed_ok home_is bare
-              (record { is_placed = is_placed; quiet = quiet' v.at.0 zone_is free alive; below = below_kept (Draws p) t v.at.0 l.next tt (known.own.lists.below v.at.0 zone_is) }) unplaced.none_taken (claim_in known phase.Arrive arrives),
+              (record { is_placed = is_placed; quiet = quiet' v.at.0 zone_is free alive; below = below_kept (Draws p) t v.at.0 l.next tt (known.own.lists.below v.at.0 zone_is) }) (none_spent s t' v'.request unplaced.took_none) (claim_in known phase.Arrive arrives),
           tt,
         )
 
@@ -288,7 +288,7 @@ module _ {s : Session} {t : Trace} {n : ℕ} {l : LogicalZone} {v : Vio} (known 
         old_data = known_data (latest_at l v.at.0) (leaf_at l.tree v.at.0) mapping refl knows;
         old_is = known_right (latest_at l v.at.0) (leaf_at l.tree v.at.0) mapping path refl refl knows;
       } in
-      act_none known known.own (goes_ok s t known.session known.right (looked l mapping v) (vio_ok known) carries.0 carries.1.1 held latest_is (λ change. known_leafy v.asks refl change path stays leaf) within (claim_in known phase.Look is) post goes, tt)
+      act_none known known.own (goes_ok s t known.session known.right (looked l mapping v) (vio_ok known) carries.0 carries.1.1.none_taken held latest_is (λ change. known_leafy v.asks refl change path stays leaf) within (claim_in known phase.Look is) post goes, tt)
 
   -- Or its leaf is read first.
   unknown_unset : (o : Option Remapping) (leaf : Option Pbn) → known_by o leaf ≡ None → o ≡ None
@@ -309,7 +309,7 @@ module _ {s : Session} {t : Trace} {n : ℕ} {l : LogicalZone} {v : Vio} (known 
         unset = newest_none _ (sym latest_is ∙ unknown_unset (latest_at l v.at.0) (leaf_at l.tree v.at.0) unknown);
         latest = refl;
       } in
-      act_none known known.own ((omega arith, (vio_ok known, carries_own s t (reads_leaf x v) phase.LoadLeaf carries.0 (carries.1.0, carries.1.1, needs), refl, claim_in known phase.Look is)), tt)
+      act_none known known.own ((omega arith, (vio_ok known, carries_own s t (reads_leaf x v) phase.LoadLeaf carries.0 (carries.1.0, carries.1.1.none_taken, needs), refl, claim_in known phase.Look is)), tt)
 
   -- Its leaf said it.
   pub leafed_kept : v.phase ≡ phase.LoadedLeaf → (post : Post) → goes_on s.sizes v ≡ Some post → After l [] (post ∷ [])
@@ -326,10 +326,10 @@ module _ {s : Session} {t : Trace} {n : ℕ} {l : LogicalZone} {v : Vio} (known 
     abbrev past_t : Trace
     past_t = Passes gap ∷ t
 
-    looking : (v.page ≡ None) × (IsInTurn s t v × (has_taken t v.request ≡ false))
+    looking : (v.page ≡ None) × (IsInTurn s t v × HasSpent s t v.request None)
     looking = in_bare known phase.Look is (λ page no. no)
 
-    turn : IsInTurn s t v × (has_taken t v.request ≡ false)
+    turn : IsInTurn s t v × HasSpent s t v.request None
     turn = looking.1
 
     parts : (is_discard v.asks ≡ true) × (not (is_some (latest_at l v.at.0)) ≡ true) × (is_some (missing_at l.tree v.at.0) ≡ true)

@@ -1,7 +1,7 @@
 -- What the acts of a logical zone on pages owe: a write makes a page that its path lacks, or waits for it, or is stopped; the page
 -- is linked, or isn't made any more.
-use Rattle.std.proofs.Common.{◌≡◌, ℕ, ◌+◌, ◌<◌, ◌≤◌, ◌%◌, true, false, if◌then◌else◌, Option, None, Some, List, [], ◌∷◌, ◌++◌, Contains, refl, ap, sym, ◌∙◌, subst, inl, inr, arith}
-use Rattle.core_laws.proofs.Common.{Aborts, AllByRecursion, Asks, DataOk, Happening, IsInTurn, IsToBlock, KeptOk, Logged, LogicalZone, Makes, MayReply, NewPage, Pbn, RightTrace, Session, Sets, Trace, Vio, applied, asked, bit, cases_Bool, dropped, durable, ended, every-append, every-map, fair_before, has_stopped, has_taken, journaled, logged, logical_number, zone_count, zone_number, Mapping}
+use Rattle.std.proofs.Common.{◌≡◌, ℕ, ◌+◌, ◌<◌, ◌≤◌, ◌%◌, true, false, if◌then◌else◌, Option, None, Some, List, [], ◌∷◌, ◌++◌, Contains, refl, ap, sym, ◌∙◌, subst, inl, inr, arith, ◌⊎◌}
+use Rattle.core_laws.proofs.Common.{Aborts, AllByRecursion, Asks, DataOk, Happening, IsInTurn, IsToBlock, KeptOk, Logged, LogicalZone, Makes, MayReply, NewPage, Pbn, RightTrace, Session, Sets, Trace, Vio, applied, asked, bit, cases_Bool, dropped, durable, ended, every-append, every-map, fair_before, has_stopped, has_taken, journaled, logged, logical_number, zone_count, zone_number, Mapping, option_cases, some_is}
 use Rattle.blk_base.specs.declared.place.Lba.{Lba}
 use Rattle.blk_base.specs.declared.place.Mapping.TheVariants.{At}
 use Rattle.blk_base.specs.declared.place.PageId.{PageId}
@@ -17,7 +17,9 @@ use Rattle.data_vio.specs.declared.items.Phase.TheVariants as phase
 use Rattle.data_vio.specs.Vios as vios
 use Rattle.data_vio.specs.Vios.{gives_up, makes}
 use Rattle.core_model.specs.declared.zones.ZoneData.TheVariants as at
-use Rattle.core_model.specs.Facts.{Awaits, HasPageEntry, IsUnmade, MakesPage, PagesOk, HasClaim}
+use Rattle.core_model.specs.Facts.{Awaits, HasPageEntry, HasSpent, IsMade, IsUnmade, MakesPage, PagesOk, HasClaim}
+use Rattle.core_model.specs.PageLinks.{page_in}
+use Rattle.core_laws.proofs.trace.PagesOfTrace.{put_there}
 use Rattle.slab_counts.specs.declared.tickets.Ticket.{Ticket}
 use Rattle.core_model.specs.LogicalRules.{IsLinked, all_again, first_for, granted, lacks, lacks_for, passed_to, released, unmade, woken}
 use Rattle.core_model.specs.LogicalRules as logical
@@ -99,7 +101,7 @@ module _ {s : Session} {t : Trace} {n : ℕ} {l : LogicalZone} {v : Vio} (known 
 
   -- A write looks, and lacks a page.
   module _ (is : v.phase ≡ phase.Look) (page : PageId) (path : HasPath l.tree v.at.0) (lacks_it : lacks l v ≡ Some page) where
-    carries : (v.page ≡ None) × (IsInTurn s t v × (has_taken t v.request ≡ false))
+    carries : (v.page ≡ None) × (IsInTurn s t v × HasSpent s t v.request None)
     carries = in_bare known phase.Look is (λ other no. no)
 
     missing : (v.asks ≡ Write) × (missing_at l.tree v.at.0 ≡ Some page)
@@ -139,6 +141,13 @@ module _ {s : Session} {t : Trace} {n : ℕ} {l : LogicalZone} {v : Vio} (known 
           told = k.told;
         }) tt
 
+    -- what isn't made, it claimed no block for
+    untaken : (p : PageId) → IsUnmade s t p → has_taken t v.request (Some p) ≡ false
+    untaken p unmade_yet = elim (cases_Bool (has_taken t v.request (Some p))) [
+      | inl taken ↦ absurd (let made = rw unmade_yet at (carries.1.1.others p refl taken) in cc)
+      | inr none ↦ none
+    ]
+
     -- or it makes it
     pub makes_kept : is_listed page l.unlinkable ≡ false → is_listed page l.making ≡ false → After known (record l { making = l.making ++ page ∷ [] }) [] ((counts_of s.sizes v, item.Request (makes page v)) ∷ [])
     makes_kept may_yet unmade_yet =
@@ -148,7 +157,7 @@ module _ {s : Session} {t : Trace} {n : ℕ} {l : LogicalZone} {v : Vio} (known 
         let making : MakesPage s t (makes page v) page = record {
           turn = carries.1.0;
           is_write = missing.0;
-          none_taken = carries.1.1;
+          spent = record { none_taken = carries.1.1.none_taken; others = λ p other taken. carries.1.1.others p refl taken };
           lacked = write_lacks s.sizes.geometry.height v.asks v.at v.bytes page missing.0 lacking.on_path lacking.lower;
           up = lacking.up;
         } in
@@ -170,7 +179,7 @@ module _ {s : Session} {t : Trace} {n : ℕ} {l : LogicalZone} {v : Vio} (known 
           kept = k.kept;
           answers = (k.answers.0, λ p linkable unlinked unmade yet. k.answers.1 p linkable unlinked (listed_cut p page l.making unmade).0 yet);
           told = k.told;
-        }) ((counts_within s.sizes v known.session.zones.1, (vio_ok known, (making, k.answers.1 page lacking.linkable lacking.unlinked unmade_yet may_yet, asks_none s t v.request v.place v.tickets known.session.zones.1 ((claim_in known phase.Look is).no_ticket refl)), refl, may_ask (claim_in known phase.Look is))), tt)
+        }) ((counts_within s.sizes v known.session.zones.1, (vio_ok known, (making, k.answers.1 page lacking.linkable lacking.unlinked unmade_yet may_yet, asks_none s t v.request v.place v.tickets known.session.zones.1 ((claim_in known phase.Look is).no_ticket refl), untaken page (k.answers.1 page lacking.linkable lacking.unlinked unmade_yet may_yet)), refl, may_ask (claim_in known phase.Look is))), tt)
       where
         one_more : (p : PageId) → times p (l.making ++ page ∷ []) ≤ 1
         one_more p =
@@ -264,6 +273,20 @@ module _ {s : Session} {t : Trace} {n : ℕ} {l : LogicalZone} {v : Vio} (known 
           told = told_kept s link t (at.Logical l) k.told;
         }
 
+    -- its own page is made, and so is each other for which it claimed a block
+    own_made : IsMade s t page
+    own_made = elim (option_cases (page_in s.links (journaled t) page)) [
+      | inl none ↦ absurd (put_there s.sizes.geometry.height s.links (journaled t) made (subst (Contains (journaled t)) entry_is facts.2.handed_in) none)
+      | inr some ↦ some_is _ some.0 some.1
+    ]
+
+    all_spent : HasSpent s (link ∷ t) v.request None
+    all_spent = record { none_taken = facts.0.spent.none_taken; others = λ p other taken. by p (cases_Bool (is_page page p)) taken }
+      where
+        by : (p : PageId) → (is_page page p ≡ true) ⊎ (is_page page p ≡ false) → has_taken t v.request (Some p) ≡ true → IsMade s t p
+        by p (inl same) taken = subst (IsMade s t) (page_is page p same) own_made
+        by p (inr apart) taken = facts.0.spent.others p (rw apart refl) taken
+
     made_post : PostOk s (link ∷ t) (v.home, item.Request (vios.made v))
     made_post =
         let turn = facts.0.turn in (
@@ -276,7 +299,7 @@ module _ {s : Session} {t : Trace} {n : ℕ} {l : LogicalZone} {v : Vio} (known 
                 quiet = quiet_kept link t v.at.0 tt turn.quiet;
                 below = below_kept link t v.at.0 v.place tt turn.below;
               },
-              facts.0.none_taken,
+              all_spent,
             ),
             refl,
             none_left (claim_in known phase.Settle is).claim_is ((claim_in known phase.Settle is).no_ticket refl),

@@ -13,10 +13,10 @@ use Rattle.data_vio.specs.declared.items.Phase.TheVariants as phase
 use Rattle.core_model.specs.declared.zones.ZoneData.TheVariants as at
 use Rattle.blk_base.specs.Regions.{IsDataBlock}
 use Rattle.core_model.specs.PageLinks.{block_in}
-use Rattle.core_model.specs.Facts.{CarriesOwn, HasClaim, IsChange}
+use Rattle.core_model.specs.Facts.{CarriesOwn, HasClaim, IsChange, HasSpent}
 use Rattle.core_model.specs.RightTraces.{IsLeafy}
 use Rattle.core_model.specs.LogicalRules.{are_zeros, is_among, is_held, without, first_for, all_for, none_for, looks_up, passes_on, read_next, goes_on, passed_to, released, granted, retire, all_stopped}
-use Rattle.core_laws.proofs.kept.Spared.{asks_none, may_ask}
+use Rattle.core_laws.proofs.kept.Spared.{asks_none, may_ask, none_spent}
 use Rattle.core_laws.proofs.kept.ActKept.{PostOk, bare_of, carries_at, claim_at, carries_own, unentered_slot}
 use Rattle.core_laws.proofs.logical.LockLaws.{place_drawn, waits_behind, one_back, one_passed, one_retired}
 use Rattle.core_laws.proofs.tokens.Known.{Leased}
@@ -42,13 +42,13 @@ pub asked_read : (asks : Asks) (v : Vio) (bytes : List ℕ) → asks ≡ Read �
 asked_read asks v bytes is = rw is refl
 
 -- whoever gets a lock may look up what is mapped there
-pub looks_ok : (s : Session) (t : Trace) (zone : ℕ) → zone < s.sizes.zones → (u : Vio) → VioOk s t u → u.home ≡ id.Logical zone → u.page ≡ None → IsInTurn s t u → has_taken t u.request ≡ false → HasClaim s false false u.claim u.new u.tickets → PostOk s t (looks_up u)
-looks_ok s t zone among u ok home bare turn none_taken claim =
+pub looks_ok : (s : Session) (t : Trace) (zone : ℕ) → zone < s.sizes.zones → (u : Vio) → VioOk s t u → u.home ≡ id.Logical zone → u.page ≡ None → IsInTurn s t u → HasSpent s t u.request None → HasClaim s false false u.claim u.new u.tickets → PostOk s t (looks_up u)
+looks_ok s t zone among u ok home bare turn spent claim =
     let here = ap (zone_number s.sizes) home in
-    (omega (arith, among, here), (record { asked = ok.asked; is_open = ok.is_open; address = ok.address; home = ok.home }, carries_own s t (turned phase.Look u) phase.Look bare (turn, none_taken), refl, claim))
+    (omega (arith, among, here), (record { asked = ok.asked; is_open = ok.is_open; address = ok.address; home = ok.home }, carries_own s t (turned phase.Look u) phase.Look bare (turn, spent), refl, claim))
 
 -- Whoever knows what its address is mapped to goes where that says.
-module _ (s : Session) (t : Trace) (session : IsSession s) (right : RightTrace s t) (u : Vio) (ok : VioOk s t u) (bare : u.page ≡ None) (none_taken : has_taken t u.request ≡ false) (held : Holds s t u)
+module _ (s : Session) (t : Trace) (session : IsSession s) (right : RightTrace s t) (u : Vio) (ok : VioOk s t u) (bare : u.page ≡ None) (none_taken : has_taken t u.request None ≡ false) (held : Holds s t u)
     (latest_is : u.latest ≡ newest (of_address u.at.0 (remappings (applied t)))) (leafy : IsChange u.asks → IsLeafy s t u.at.0) (within : zone_number s.sizes u.home < zone_count s.sizes) (claim : HasClaim s false false u.claim u.new u.tickets) where
   -- a read of zeros: what was done there last maps the address to no block, or the opened image does
   zeros : (m : Mapping) → ((x : Pbn) → m ≢ At x) → value_with s.image m ≡ zero_block → u.old ≡ m → IsFair s t → zero_block ≡ value_at s t u.at.0
@@ -164,7 +164,7 @@ module _ (s : Session) (t : Trace) (n : ℕ) (l : LogicalZone) (session : IsSess
           is_placed = carries.1.0;
           quiet = subst (λ (c : ℕ). Quiet t c) (sym kept.1) quiet;
           below = subst (λ (c : ℕ). AllBelow t c w.place) (sym kept.1) (below_more t v.at.0 (v.place + 1) w.place (omega (arith, above)) below);
-        }) carries.1.1 (claim_at s w phase.Wait kept.0.2 kept.0.3)
+        }) (none_spent s t w.request carries.1.1) (claim_at s w phase.Wait kept.0.2 kept.0.3)
 
     pub release_ok : DataOk s t n (at.Logical (released v.at.0 l)) × AllByRecursion (PostOk s t) (granted v.at.0 l)
     release_ok = by (first_for v.at.0 l.waiting) refl

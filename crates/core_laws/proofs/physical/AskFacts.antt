@@ -1,7 +1,7 @@
 -- What a request owes that asks a physical zone for a block, or withdraws a ticket there.
-use Rattle.std.proofs.Common.{◌≡◌, ℕ, zero, suc, ◌+◌, ◌<◌, ◌≤◌, ◌%◌, ◌==◌, ◌&&◌, if◌then◌else◌, nat_eq, nat_lt, true, false, Bool, Option, None, Some, IsSome, List, [], ◌∷◌, length, length-append, Contains, refl, ap, sym, ◌∙◌, subst, inl, inr, arith}
+use Rattle.std.proofs.Common.{◌≡◌, ℕ, zero, suc, ◌+◌, ◌<◌, ◌≤◌, ◌%◌, ◌==◌, ◌&&◌, if◌then◌else◌, nat_eq, nat_lt, true, false, Bool, Option, None, Some, IsSome, List, [], ◌∷◌, length, length-append, Contains, refl, ap, sym, ◌∙◌, subst, inl, inr, arith, not, ◌||◌}
 use Rattle.std.specs.Bool.{IsTrue}
-use Rattle.core_laws.proofs.Common.{AllByRecursion, Carries, DataOk, Drops, Happening, Holds, IsInTurn, IsPlaced, Mapping, MayReply, OnBlock, Pbn, PhysicalZone, Post, RightTrace, Session, Takes, Trace, Vio, VioOk, asked, ended, eq-eqb, eqb_tells, every-append, fair_before, has_taken, ltb-false, ltb-true, bit, physical_number, place_of, places, some_is, total, turned, zone_count, zone_number}
+use Rattle.core_laws.proofs.Common.{AllByRecursion, Carries, DataOk, Drops, Happening, Holds, IsInTurn, IsPlaced, Mapping, MayReply, OnBlock, Pbn, PhysicalZone, Post, RightTrace, Session, Takes, Trace, Vio, VioOk, asked, ended, eq-eqb, eqb_tells, every-append, fair_before, has_taken, ltb-false, ltb-true, bit, physical_number, place_of, places, some_is, total, turned, zone_count, zone_number, Writer, same_writer}
 use Rattle.blk_base.specs.Regions.{IsDataBlock}
 use Rattle.blk_base.specs.declared.place.Mapping.TheVariants.{Unmapped, Zero, At}
 use Rattle.blk_base.specs.declared.place.PageId.{PageId}
@@ -12,7 +12,7 @@ use Rattle.data_vio.specs.declared.items.Item.TheVariants as item
 use Rattle.data_vio.specs.declared.items.Phase.TheVariants as phase
 use Rattle.data_vio.specs.declared.items.Phase.{Phase}
 use Rattle.core_model.specs.declared.zones.ZoneData.TheVariants as at
-use Rattle.core_model.specs.Facts.{AreFirstClaims, AreInTurn, CarriesFor, ClaimFor, IsAsking, IsUnmade, IsWithdrawing, LacksBlock, MakesPage, zone_at}
+use Rattle.core_model.specs.Facts.{AreFirstClaims, AreInTurn, CarriesFor, ClaimFor, IsAsking, IsUnmade, IsWithdrawing, LacksBlock, MakesPage, zone_at, HasSpent}
 use Rattle.core_model.specs.PageLinks.{block_in}
 use Rattle.core_model.specs.PhysicalRules.{BeginsNext, asks_on, goes_on, served, with_counts}
 use Rattle.core_model.specs.RightTraces.{HadNoFree, IsLeafy, NeedsFor, WasRefused}
@@ -35,7 +35,7 @@ use Rattle.zone_counts.proofs.TicketLaws.{begun_is_zone, begun_next, begun_out, 
 use Rattle.zone_counts.proofs.ZoneLaws.{zone_claimed}
 use Rattle.core_laws.proofs.journal.JournalFacts.{home_within, write_no_space}
 use Rattle.core_laws.proofs.kept.ActKept.{ActKept, Known, PostOk, reaches, act_one, claim_in, in_phase, own_request, plain_clears, shown_plain, vio_ok, vio_over}
-use Rattle.core_laws.proofs.kept.Spared.{asked_kept, below_kept, contains_cut, quiet_kept, refused_kept}
+use Rattle.core_laws.proofs.kept.Spared.{asked_kept, below_kept, contains_cut, made_kept, quiet_kept, refused_kept, spent_kept}
 use Rattle.core_laws.proofs.kept.ZoneKinds.{physical_below}
 use Rattle.core_laws.proofs.lists.CountedIn.{counts_within, of_zone}
 use Rattle.core_laws.proofs.physical.AskTurns.{first_inside, of_each_zone, turn_more}
@@ -44,6 +44,7 @@ use Rattle.core_laws.proofs.physical.ZoneFacts.{KnowsTickets, after_ok, data_of,
 use Rattle.core_laws.proofs.tokens.Moves.{Moves, given_moves, no_block}
 use Rattle.core_laws.proofs.trace.DeskOfTrace.{shown_of}
 use Rattle.core_laws.proofs.trace.TicketsOfTrace.{all_refused_none}
+use Rattle.image_model.specs.Pages.{is_page}
 
 -- what a write holds that asks for a block: the lock of its address, and what it needs the block for
 abbrev pub HoldsFor : Session → Trace → Vio → Option PageId → Type 0
@@ -123,11 +124,22 @@ module _ (s : Session) (t : Trace) (some : 1 ≤ s.sizes.physical) (right : Righ
           (omega arith, (k.ok, store_carries v v.page x to k.holds, refl, record { claim_is = k.claim_is; on_data = λ claims. k.on_data; no_ticket = λ asks. has }))
       by [] None has is =
           let lacks : LacksBlock s t v.request [] = subst (LacksBlock s t v.request) has (k.lacks is) in
-          let may = write_no_space s t v (is_write v v.page k.holds) (is_placed v v.page k.holds) (had_none v lacks) in
+          let may = write_no_space s t v (is_write v v.page k.holds) (is_placed v v.page k.holds) lacks.none_taken (had_none v lacks) in
           (home, (k.ok, abort_carries v v.page k.holds may, refl, record { claim_is = is; on_data = λ claims. absurd (never claims); no_ticket = λ asks. has }))
         where
           never : IsTrue false → ⊥
           never claims = absurd (cc claims)
+
+-- The block that it claims for its page is no other page's.
+own_spent : (s : Session) (t : Trace) (w u : Writer) (page : PageId) (x : Pbn) → HasSpent s t w (Some page) → HasSpent s (Takes u (Some page) x ∷ t) w (Some page)
+own_spent s t w u page x k = record {
+  none_taken = k.none_taken;
+  others = λ other apart taken. made_kept s (Takes u (Some page) x) t other (k.others other apart (by (is_page page other) (has_taken t w (Some other)) apart taken));
+}
+  where
+    by : (b earlier : Bool) → not b ≡ true → ((b && same_writer u w) || earlier) ≡ true → earlier ≡ true
+    by true earlier differs taken = absurd cc
+    by false earlier differs taken = taken
 
 -- Over what it does there it holds what it held.
 abbrev pub IsAskOf : Vio → Happening → Type 0
@@ -172,13 +184,13 @@ module _ (s : Session) (t : Trace) (v : Vio) where
   making_on (Takes w o x) page some is k = record {
     turn = turn_on (Takes w o x) is k.turn;
     is_write = k.is_write;
-    none_taken = subst (λ (p : Option PageId). has_taken (Takes w p x ∷ t) v.request ≡ false) (sym (is ∙ some)) k.none_taken;
+    spent = subst (λ (p : Option PageId). HasSpent s (Takes w p x ∷ t) v.request (Some page)) (sym (is ∙ some)) (own_spent s t v.request w page x k.spent);
     lacked = k.lacked;
     up = k.up;
   }
-  making_on (Asks w j) page some is k = record { turn = turn_on (Asks w j) is k.turn; is_write = k.is_write; none_taken = k.none_taken; lacked = k.lacked; up = k.up }
-  making_on (Withdraws w j got) page some is k = record { turn = turn_on (Withdraws w j got) is k.turn; is_write = k.is_write; none_taken = k.none_taken; lacked = k.lacked; up = k.up }
-  making_on (Drops w x to) page some is k = record { turn = turn_on (Drops w x to) is k.turn; is_write = k.is_write; none_taken = k.none_taken; lacked = k.lacked; up = k.up }
+  making_on (Asks w j) page some is k = record { turn = turn_on (Asks w j) is k.turn; is_write = k.is_write; spent = spent_kept s (Asks w j) t v.request (Some page) (λ p. refl) k.spent; lacked = k.lacked; up = k.up }
+  making_on (Withdraws w j got) page some is k = record { turn = turn_on (Withdraws w j got) is k.turn; is_write = k.is_write; spent = spent_kept s (Withdraws w j got) t v.request (Some page) (λ p. refl) k.spent; lacked = k.lacked; up = k.up }
+  making_on (Drops w x to) page some is k = record { turn = turn_on (Drops w x to) is k.turn; is_write = k.is_write; spent = spent_kept s (Drops w x to) t v.request (Some page) (λ p. refl) k.spent; lacked = k.lacked; up = k.up }
   making_on other page some is k = absurd is
 
   unmade_on : (h : Happening) (page : PageId) → IsAskOf v h → IsUnmade s t page → IsUnmade s (h ∷ t) page
@@ -237,7 +249,7 @@ module _ {s : Session} {t : Trace} {n : ℕ} {old : PhysicalZone} {v : Vio} (kno
 
     needs : (o : Option PageId) → v.page ≡ o → CarriesFor s t v phase.Claim o → NeedsFor s t v.request v.page
     needs None bare k = subst (NeedsFor s t v.request) (sym bare) (v.at, v.bytes, (vio_ok known).asked ∙ ap (λ q. Some (asked q v.at v.bytes)) k.1, k.2)
-    needs (Some page) some k = subst (NeedsFor s t v.request) (sym some) (record { lacked = (asked v.asks v.at v.bytes, (vio_ok known).asked, k.0.lacked); up = k.0.up; unmade = k.1 })
+    needs (Some page) some k = subst (NeedsFor s t v.request) (sym some) (record { lacked = (asked v.asks v.at v.bytes, (vio_ok known).asked, k.0.lacked); up = k.0.up; unmade = k.1; none_taken = k.3 })
 
     module _ (x : Pbn) (z : Zone) (gives : GivesBlock old.counts z x) where
       free : IsOfZone old.counts x × (counter_in x old.counts.slabs ≡ 0) × (claims_in x old.counts.slabs ≡ 0)
@@ -343,6 +355,8 @@ module _ {s : Session} {t : Trace} {n : ℕ} {old : PhysicalZone} {v : Vio} (kno
         record {
           is_open = (vio_ok known).is_open;
           placed = its_place;
+          page = v.page;
+          asked = needs v.page refl (in_phase known phase.Claim is);
           inside = inside;
           number = gives.issues.number ∙ begun_next old.counts b _ begins ∙ known.own.lists.issued_is ∙ ap (issued t) (sym here);
           none_free = none_free;
@@ -407,15 +421,20 @@ module _ {s : Session} {t : Trace} {n : ℕ} {old : PhysicalZone} {v : Vio} (kno
       )
       asking_on less (Some page) some k' =
           let holds = holds_on s t v given tt (Some page) some (k'.0, k'.1) in
-          (holds.0, holds.1, record { in_turn = in_turn; fewer = ltb-true _ _ less; asked = all_asked })
+          (holds.0, holds.1, record { in_turn = in_turn; fewer = ltb-true _ _ less; asked = all_asked }, k'.3)
 
       -- .. or has asked each zone
+      none_taken : (o : Option PageId) → CarriesFor s t v phase.Claim o → has_taken t v.request None ≡ false
+      none_taken None k' = k'.2.none_taken
+      none_taken (Some page) k' = k'.0.spent.none_taken
+
       lacks : nat_lt (length held.tickets) s.sizes.physical ≡ false → LacksBlock s (given ∷ t) v.request held.tickets
       lacks enough = record {
         newer = [];
         older = given ∷ t;
         moment = refl;
         placed = its_place;
+        none_taken = none_taken v.page (in_phase known phase.Claim is);
         each = λ zone inside.
             let (j, has, at) = of_each_zone s.sizes v.place held.tickets in_turn (ltb-false _ _ enough) zone inside in
             inr (j, at, has, each_has (λ i. Contains (given ∷ t) (Asks v.request i)) held.tickets j all_asked has);
@@ -617,6 +636,7 @@ module _ {s : Session} {t : Trace} {n : ℕ} {old : PhysicalZone} {v : Vio} (kno
             older = l.older;
             moment = ap (λ (u : Trace). in_vain ∷ u) l.moment;
             placed = l.placed;
+            none_taken = l.none_taken;
             each = λ zone inside. elim (l.each zone inside) [
               | inl was ↦ inl (refused_kept in_vain l.newer l.older v.request zone was)
               | inr (j, at, here, was) ↦ elim (contains_cut k others j here) [

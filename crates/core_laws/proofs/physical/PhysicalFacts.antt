@@ -26,7 +26,7 @@ use Rattle.core_model.specs.Trace.{added, new_of}
 use Rattle.core_model.specs.UpdateStream.{counting}
 use Rattle.core_laws.proofs.kept.ActKept.{Known, ActKept, PostOk, act_none, act_one, claim_in, plain_clears, own_request, shown_plain, vio_over, vio_ok, in_phase}
 use Rattle.core_laws.proofs.kept.Carried.{SaysSame, by_all, logged_request, reply_said}
-use Rattle.core_laws.proofs.kept.Spared.{below_kept, quiet_kept}
+use Rattle.core_laws.proofs.kept.Spared.{below_kept, quiet_kept, spent_kept}
 use Rattle.core_laws.proofs.trace.DeskOfTrace.{shown_of}
 use Rattle.core_laws.proofs.journal.JournalFacts.{home_within}
 use Rattle.core_laws.proofs.tokens.Moves.{Moves, counted_moves, no_block, passes, removed_moves, removed_passes}
@@ -158,7 +158,7 @@ module _ {s : Session} {t : Trace} {n : ℕ} {old : PhysicalZone} {v : Vio} (kno
     dropped_for : (o : Option PageId) → CarriesFor s t v phase.AbortClaim o → CarriesFor s (drops ∷ t) (unclaiming phase.Abort v) phase.Abort o
     dropped_for None k = (dropped_turn s t v x _ k.0, reply_said s drops t v v.answer said k.1)
     dropped_for (Some page) k = (
-      record { turn = dropped_turn s t v x _ k.0.turn; is_write = k.0.is_write; none_taken = k.0.none_taken; lacked = k.0.lacked; up = k.0.up },
+      record { turn = dropped_turn s t v x _ k.0.turn; is_write = k.0.is_write; spent = spent_kept s drops t v.request (Some page) (λ p. refl) k.0.spent; lacked = k.0.lacked; up = k.0.up },
       k.1,
       reply_said s drops t v v.answer said k.2,
     )

@@ -221,6 +221,7 @@ no_space : HasCause crowded (withdrawn ∷ one_asked drawn) second (request.Writ
 no_space = (
   refl,
   refl,
+  refl,
   record {
     newer = withdrawn ∷ [];
     older = one_asked drawn;
@@ -250,6 +251,10 @@ no_space_with_a_place may = let placed = may.0 in absurd cc
 
 no_space_before_it_enters : HasCause crowded handed_in first (request.Write (address 0) x false) NoSpace → ⊥
 no_space_before_it_enters may = let entered = may.1 in absurd cc
+
+-- nor one that has a block for its data
+no_space_without_a_block : HasCause crowded took first (request.Write (address 0) x false) NoSpace → ⊥
+no_space_without_a_block may = let taken = may.2 in absurd cc
 
 -- not while one is free, nor before it has its place
 one_is_free : NoneFree session took → ⊥

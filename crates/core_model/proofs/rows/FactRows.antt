@@ -21,7 +21,8 @@ use Rattle.core_model.specs.CountUpdates.{replaced_in}
 use Rattle.core_model.specs.Facts.{AreFirstClaims, Carries, ClaimOk, DataOk, IsDecrement, IsInTurn, IsSoundPhysical, ItemOk, PhysicalLists, VioOk, ZoneOk, made_by}
 use Rattle.core_model.specs.PhysicalRules.{HasTicketRoom}
 use Rattle.core_model.specs.Sessions.{IsFair}
-use Rattle.core_model.specs.Trace.{Asks, Commits, Enters, Gives, Removes, Sets, Trace, Withdraws, strayed}
+use Rattle.core_model.specs.Trace.{Asks, Commits, Enters, Gives, Removes, Sets, Takes, Trace, Withdraws, strayed}
+use Rattle.image_model.specs.Pages.{leaf_of}
 use Rattle.core_model.specs.Uses.{ticket_at}
 use Rattle.slab_tickets.specs.Numbers.{ticket_of}
 use Rattle.core_model.specs.declared.zones.ZoneData.TheVariants as at
@@ -64,7 +65,7 @@ in_turn = record {
 }
 
 may_look : Carries leafy took claims phase.Look
-may_look = (in_turn, refl)
+may_look = (in_turn, record { none_taken = refl; others = λ page other taken. absurd cc })
 
 looks_without_a_place : ¬ Carries leafy [] claims phase.Look
 looks_without_a_place = λ is. let no = is.0.is_placed.placed in absurd cc
@@ -80,7 +81,11 @@ not_behind_a_later_read = λ is. let no = is.below.reads.0 refl in omega (arith,
 
 -- and no block was taken for it
 first_may_not_look : ¬ Carries leafy took (writes phase.Look) phase.Look
-first_may_not_look = λ is. let no = is.1 in absurd cc
+first_may_not_look = λ is. let no = is.1.none_taken in absurd cc
+
+-- and each page for which it took one was handed in
+unmade_may_not_look : ¬ Carries leafy (Takes other (Some (leaf_of 1624)) (block 86) ∷ took) claims phase.Look
+unmade_may_not_look = λ is. let made = is.1.others (leaf_of 1624) refl refl in absurd cc
 
 -- it knows what is mapped there, it writes, and it needs a block
 may_claim : Carries leafy took claims phase.Claim
@@ -135,6 +140,7 @@ may_withdraw = (
       older = asked;
       moment = refl;
       placed = refl;
+      none_taken = refl;
       each = λ zone below. inr (ticket 0 0, (let is : 0 ≡ zone = omega (arith, below) in is), (0, omega arith, refl), (0, omega arith, refl));
     };
   },

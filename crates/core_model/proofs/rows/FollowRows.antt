@@ -20,7 +20,7 @@ use Rattle.data_vio.specs.declared.logged.Logged.TheVariants.{Remaps, Makes}
 use Rattle.data_vio.specs.declared.items.Asks.{Asks}
 use Rattle.data_vio.specs.declared.items.Asks.TheVariants as asks
 use Rattle.core_model.specs.PageLinks.{MayLack, page_in}
-use Rattle.core_model.specs.RightTraces.{AreElsewhere, IsLeafFor, IsLeafy, IsLinkedAt, IsUnused, MapsTo, MayAnswer, MayFollow, NeedsPage, StopsAtFailure}
+use Rattle.core_model.specs.RightTraces.{AreElsewhere, IsLeafFor, IsLeafy, IsLinkedAt, IsUnused, MapsTo, MayAnswer, MayFollow, NeedsBlock, NeedsPage, StopsAtFailure}
 use Rattle.core_model.specs.Sessions.{IsFair, OnBlock, Session, opened_at}
 use Rattle.core_model.specs.CountUpdates.{CountUpdate, Increment, Decrement}
 use Rattle.core_model.specs.Uses.{Waits, gained, lost, uncounted}
@@ -168,7 +168,7 @@ abbrev made : Logged
 made = Makes (record { request = first; page = leaf; at = block 85 })
 
 needs_page : NeedsPage bare took second leaf
-needs_page = record { lacked = (request.Write (address 0) y false, refl, (refl, omega arith)); up = inl refl; unmade = refl }
+needs_page = record { lacked = (request.Write (address 0) y false, refl, (refl, omega arith)); up = inl refl; unmade = refl; none_taken = refl }
 
 takes_for_a_page : MayFollow bare (Takes second (Some leaf) (block 86)) took
 takes_for_a_page = record {
@@ -190,6 +190,13 @@ takes_below_what_is_there needs = elim needs.up [ inl level ↦ absurd (omega (a
 
 takes_for_no_page_twice : NeedsPage bare (Enters made ∷ took) second leaf → ⊥
 takes_for_no_page_twice needs = let no = needs.unmade in absurd cc
+
+takes_one_for_a_page : NeedsPage bare (Takes second (Some leaf) (block 86) ∷ took) second leaf → ⊥
+takes_one_for_a_page needs = let no = needs.none_taken in absurd cc
+
+-- that it took one for a page is no matter to its data
+takes_for_its_data_too : NeedsBlock (Takes second (Some leaf) (block 86) ∷ took) second y
+takes_for_its_data_too = record { not_zeros = two_not_zeros; none_taken = refl }
 
 takes_while_open : May (Takes second None (block 86)) (Says (Answer second Stopped) ∷ took) → ⊥
 takes_while_open may = let no = may.is_open.unanswered in absurd cc

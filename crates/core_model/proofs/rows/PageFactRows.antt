@@ -1,5 +1,5 @@
 -- What is known of a page that is being made: for each clause a case that it accepts, and one that breaks it alone.
-use Rattle.std.proofs.Common.{◌≡◌, ◌≤◌, Bool, true, false, None, Some, List, [], ◌∷◌, refl, ap, arith, inl, inr}
+use Rattle.std.proofs.Common.{◌≡◌, ◌≤◌, Bool, true, false, not, ◌&&◌, ◌||◌, None, Some, List, [], ◌∷◌, refl, ap, arith, inl, inr}
 use Rattle.image_model.specs.Pages.{is_page}
 use Rattle.plain_laws.specs.Sums.{bit}
 use Rattle.blk_base.specs.declared.place.PageId.{PageId}
@@ -14,10 +14,10 @@ use Rattle.data_vio.specs.declared.items.Asks.{Asks}
 use Rattle.data_vio.specs.declared.items.Asks.TheVariants as asks
 use Rattle.data_vio.specs.declared.logged.Logged.{Logged}
 use Rattle.data_vio.specs.declared.logged.Logged.TheVariants.{Makes}
-use Rattle.core_model.specs.Facts.{AreUnmade, Awaits, Carries, HasPageEntry, HasTurn, IsMaking, PagesOk}
+use Rattle.core_model.specs.Facts.{AreUnmade, Awaits, Carries, HasPageEntry, HasSpent, HasTurn, IsMaking, PagesOk}
 use Rattle.core_model.specs.PageTrees.{link_at}
 use Rattle.core_model.specs.Sessions.{Session}
-use Rattle.core_model.specs.Trace.{Aborts, Asks as AsksIn, Enters, Sets, Trace}
+use Rattle.core_model.specs.Trace.{Aborts, Asks as AsksIn, Enters, Sets, Takes, Trace}
 use Rattle.core_model.proofs.rows.PageActRows.{leaf, looker}
 use Rattle.core_model.proofs.rows.PhaseRows.{leafy, tree_with, vio}
 use Rattle.core_model.proofs.rows.TicketTraces.{ticket}
@@ -40,8 +40,25 @@ Makes_it s t what page = IsMaking s t first what (address 0) x 0 page
 turn : HasTurn session drawn first asks.Write 0 0
 turn = record { is_placed = record { for_block = tt; placed = refl; not_entered = refl }; quiet = record { all_committed = refl; all_done = refl }; below = record { writes = tt; reads = tt } }
 
+-- HasSpent: it took no block for its data, and what it took for other pages was handed in
+none_spent : HasSpent session drawn first (Some leaf)
+none_spent = record { none_taken = refl; others = λ page other taken. absurd cc }
+
+spent_for_its_page : HasSpent session (Takes first (Some leaf) (block 85) ∷ drawn) first (Some leaf)
+spent_for_its_page = record { none_taken = refl; others = λ page other taken. absurd (one_page (is_page leaf page) other taken) }
+  where
+    one_page : (b : Bool) → not b ≡ true → ((b && true) || false) ≡ true → ⊥
+    one_page true differs taken = absurd cc
+    one_page false differs taken = absurd cc
+
+spent_for_another : ¬ HasSpent session (Takes first (Some other_leaf) (block 85) ∷ drawn) first (Some leaf)
+spent_for_another = λ is. let made = is.others other_leaf refl refl in absurd cc
+
+spent_for_its_data : ¬ HasSpent session took first (Some leaf)
+spent_for_its_data = λ is. let no = is.none_taken in absurd cc
+
 makes : Makes_it session drawn asks.Write leaf
-makes = record { turn = turn; is_write = refl; none_taken = refl; lacked = (refl, omega arith); up = inl refl }
+makes = record { turn = turn; is_write = refl; spent = none_spent; lacked = (refl, omega arith); up = inl refl }
 
 makes_in_turn : ¬ Makes_it session [] asks.Write leaf
 makes_in_turn = λ is. let no = is.turn.is_placed.placed in absurd cc
@@ -50,7 +67,7 @@ makes_as_a_write : ¬ Makes_it session drawn asks.Discard leaf
 makes_as_a_write = λ is. let no = is.is_write in absurd cc
 
 makes_without_a_block : ¬ Makes_it session took asks.Write leaf
-makes_without_a_block = λ is. let no = is.none_taken in absurd cc
+makes_without_a_block = λ is. let no = is.spent.none_taken in absurd cc
 
 makes_what_it_lacks : ¬ Makes_it session drawn asks.Write other_leaf
 makes_what_it_lacks = λ is. let tree : 1 ≡ 0 = ap (λ (p : PageId). p.tree) is.lacked.0 in omega (arith, tree)
@@ -66,7 +83,10 @@ abbrev asked : Trace
 asked = AsksIn first (ticket 0 0) ∷ drawn
 
 claims_for_it : Carries session drawn (maker phase.Claim []) phase.Claim
-claims_for_it = (makes, refl, record { in_turn = tt; fewer = omega arith; asked = tt })
+claims_for_it = (makes, refl, record { in_turn = tt; fewer = omega arith; asked = tt }, refl)
+
+claims_once : ¬ Carries session (Takes first (Some leaf) (block 85) ∷ drawn) (maker phase.Claim []) phase.Claim
+claims_once = λ is. let no = is.3 in absurd cc
 
 claims_with_a_ticket_of_each_zone : ¬ Carries session asked (maker phase.Claim (ticket 0 0 ∷ [])) phase.Claim
 claims_with_a_ticket_of_each_zone = λ is. omega (arith, is.2.fewer)
@@ -79,7 +99,7 @@ withdraws_for_it = (
   record {
     turn = record { is_placed = record { for_block = tt; placed = refl; not_entered = refl }; quiet = record { all_committed = refl; all_done = refl }; below = record { writes = tt; reads = tt } };
     is_write = refl;
-    none_taken = refl;
+    spent = record { none_taken = refl; others = λ page other taken. absurd cc };
     lacked = (refl, omega arith);
     up = inl refl;
   },

@@ -10,7 +10,7 @@ use Rattle.vdo_model.specs.Places.{place_of}
 use Rattle.core_model.specs.Facts.{AreInTurn, IsAsking, IsWithdrawing, LacksBlock}
 use Rattle.core_model.specs.RightTraces.{WasRefused}
 use Rattle.core_model.specs.Sessions.{Session}
-use Rattle.core_model.specs.Trace.{Asks, Trace, Withdraws, places}
+use Rattle.core_model.specs.Trace.{Asks, Takes, Trace, Withdraws, places}
 use Rattle.core_model.proofs.rows.TicketTraces.{are_before, asks_in, before_last, begins_with, crowded, crowded_two, ends_in, ends_with, has_asked, has_ended, one_asked, one_has, ticket}
 use Rattle.core_model.proofs.rows.WorkedTraces.{block, drawn, second, sizes, took}
 
@@ -46,7 +46,7 @@ asks-where_one_is_left = λ is. omega (arith, is.fewer)
 asks-with_what_it_was_given : ¬ IsAsking crowded_two drawn second 1 (ticket 1 0 ∷ [])
 asks-with_what_it_was_given = λ is. let found = has_asked second 1 drawn (ticket 1 0) refl is.asked.0 in omega (arith, found)
 
--- LacksBlock: by a moment since it had its place it had asked each zone, and of each it has the ticket yet, or withdrew that, to which no
+-- LacksBlock: it claimed no block for its data; by a moment since it had its place it had asked each zone, and of each it has the ticket yet, or withdrew that, to which no
 -- block went
 abbrev asked_both : Trace
 asked_both = one_asked asked_1
@@ -55,7 +55,7 @@ abbrev both : List Ticket
 both = ticket 1 0 ∷ ticket 0 0 ∷ []
 
 lacks : LacksBlock crowded_two asked_both second both
-lacks = record { newer = []; older = asked_both; moment = refl; placed = refl; each = by }
+lacks = record { newer = []; older = asked_both; moment = refl; placed = refl; none_taken = refl; each = by }
   where
     by : (zone : ℕ) → zone < 2 → WasRefused [] asked_both second zone ⊎ ((k : Ticket) × (k.zone ≡ zone) × Contains both k × Contains asked_both (Asks second k))
     by zero below = inr (ticket 0 0, refl, (1, omega arith, refl), (0, omega arith, refl))
@@ -66,12 +66,15 @@ abbrev refused_1 : Trace
 refused_1 = Withdraws second (ticket 1 0) None ∷ []
 
 lacks_once_refused : LacksBlock crowded_two (refused_1 ++ asked_both) second (ticket 0 0 ∷ [])
-lacks_once_refused = record { newer = refused_1; older = asked_both; moment = refl; placed = refl; each = by }
+lacks_once_refused = record { newer = refused_1; older = asked_both; moment = refl; placed = refl; none_taken = refl; each = by }
   where
     by : (zone : ℕ) → zone < 2 → WasRefused refused_1 asked_both second zone ⊎ ((k : Ticket) × (k.zone ≡ zone) × Contains (ticket 0 0 ∷ []) k × Contains asked_both (Asks second k))
     by zero below = inr (ticket 0 0, refl, (0, omega arith, refl), (0, omega arith, refl))
     by (suc zero) below = inl (record { ticket = ticket 1 0; zone_is = refl; asked = (1, omega arith, refl); withdrawn = (0, omega arith, refl) })
     by (suc (suc zone)) below = absurd (omega (arith, below))
+
+lacks-without_a_block : ¬ LacksBlock crowded_two (Takes second None (block 85) ∷ asked_both) second both
+lacks-without_a_block = λ h. let no = h.none_taken in absurd cc
 
 lacks-with_its_place : (s : Session) (t : Trace) (w : Writer) (ks : List Ticket) (h : LacksBlock s t w ks) → place_of (places h.older) w ≡ None → ⊥
 lacks-with_its_place s t w ks h none = absurd (let some = rw none at h.placed in cc)

@@ -6,12 +6,16 @@ use Rattle.blk_base.specs.Regions.{IsDataBlock, first_slab_of, slab_stride_of}
 use Rattle.blk_base.specs.declared.request.Answer.TheVariants.{Stopped}
 use Rattle.vdo_model.specs.declared.report.DeskLine.TheVariants.{Answer}
 use Rattle.blk_base.specs.declared.place.Pbn.{Pbn}
-use Rattle.core_model.specs.RightTraces.{MayFollow, PassesOn}
+use Rattle.core_model.specs.RightTraces.{MayFollow, NeedsFor, PassesOn}
+use Rattle.core_model.specs.PageLinks.{MayLack}
+use Rattle.blk_base.specs.declared.place.PageId.{PageId}
+use Rattle.blk_base.specs.declared.request.Request.{Request}
+use Rattle.blk_base.specs.declared.request.Request.TheVariants as request
 use Rattle.core_model.specs.Sessions.{Session}
 use Rattle.core_model.specs.Uses.{Waits}
 use Rattle.core_model.specs.Trace.{Says, Takes, Asks as AsksIn, Withdraws, Drops, Removes, Trace}
 use Rattle.core_model.proofs.rows.TicketTraces.{crowded, each_is_mapped, half_full, has_asked, none_is_free, none_of_first, one_asked, one_has, ticket, two, two_asked}
-use Rattle.core_model.proofs.rows.WorkedTraces.{block, first, second, other, begun, drawn, took, of_second}
+use Rattle.core_model.proofs.rows.WorkedTraces.{address, block, first, reader, second, session, other, begun, drawn, took, two_not_zeros, of_second, y}
 use Rattle.core_model.proofs.rows.FollowRows.{May, both, roomy, same_block}
 
 -- One that has its place asks a physical zone in which no data block is free, and is given the next ticket there.
@@ -19,6 +23,8 @@ asks_where_none_is_free : MayFollow crowded (AsksIn second (ticket 0 0)) drawn
 asks_where_none_is_free = record {
   is_open = record { is_begun = omega arith; unanswered = refl };
   placed = refl;
+  page = None;
+  asked = (address 0, y, refl, record { not_zeros = two_not_zeros; none_taken = refl });
   inside = omega arith;
   number = refl;
   none_free = λ x is_data here free. none_is_free crowded drawn each_is_mapped refl refl x is_data free;
@@ -28,6 +34,8 @@ asks_behind_another : MayFollow crowded (AsksIn other (ticket 0 1)) (one_asked d
 asks_behind_another = record {
   is_open = record { is_begun = omega arith; unanswered = refl };
   placed = refl;
+  page = None;
+  asked = (address 812, y, refl, record { not_zeros = two_not_zeros; none_taken = refl });
   inside = omega arith;
   number = refl;
   none_free = λ x is_data here free. none_is_free crowded (one_asked drawn) each_is_mapped refl refl x is_data free;
@@ -37,6 +45,8 @@ asks_one_zone_of_two : MayFollow half_full (AsksIn other (ticket 0 1)) (one_aske
 asks_one_zone_of_two = record {
   is_open = record { is_begun = omega arith; unanswered = refl };
   placed = refl;
+  page = None;
+  asked = (address 812, y, refl, record { not_zeros = two_not_zeros; none_taken = refl });
   inside = omega arith;
   number = refl;
   none_free = none_of_first (one_asked drawn) refl refl;
@@ -47,6 +57,19 @@ asks_while_open may = let no = may.is_open.unanswered in absurd cc
 
 asks_with_its_place : MayFollow crowded (AsksIn second (ticket 0 0)) begun → ⊥
 asks_with_its_place may = let no = may.placed in absurd cc
+
+-- a block that it needs: no read asks, nor a write that took its block
+asks_as_a_write : MayFollow crowded (AsksIn reader (ticket 0 0)) drawn → ⊥
+asks_as_a_write may = by may.page may.asked
+  where
+    by : (page : Option PageId) → NeedsFor crowded drawn reader page → ⊥
+    by None needs = let asked = needs.2 in absurd cc
+    by (Some page) needs =
+        let asked : request.Read (address 0) ≡ needs.lacked.0 = same_Some _ _ needs.lacked.1 in
+        let lacked = subst (λ (r : Request). MayLack 2 r page) (sym asked) needs.lacked.2 in lacked
+
+asks_for_one_block : NeedsFor session took first None → ⊥
+asks_for_one_block needs = let no = needs.3.none_taken in absurd cc
 
 asks_a_zone_that_is_there : MayFollow crowded (AsksIn second (ticket 1 0)) drawn → ⊥
 asks_a_zone_that_is_there may = omega (arith, may.inside)
