@@ -6,5 +6,6 @@ pub mod kept
 pub mod lists
 pub mod logical
 pub mod physical
+pub mod quiet
 pub mod tokens
 pub mod trace

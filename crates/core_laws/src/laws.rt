@@ -13,6 +13,7 @@ ghost use Rattle.vdo_model.specs.Places.{AreDrawn, IsAnsweredAtOnce, place_of};
 ghost use Rattle.vdo_model.specs.RightReads.{ReadsRight};
 ghost use Rattle.vdo_model.specs.RightRuns.{RunRight};
 ghost use Rattle.vdo_model.specs.Scripts.{address_of, request_at};
+ghost use Rattle.vdo_model.specs.QuietWrites.{QuietRight};
 ghost use Rattle.vdo_model.specs.Stops.{RightAfterStops};
 ghost use Rattle.vdo_model.specs.ZoneOrder.{places_in};
 ghost use Rattle.core_model.specs.declared.zones.ZoneData.TheVariants.{Desk, Device, Journal, Logical};
@@ -31,7 +32,7 @@ ghost use Rattle.core_model.specs.declared.zones.ZoneData.{ZoneData};
 ghost use Rattle.data_vio.specs.declared.items.Item.{Item};
 ghost use Rattle.data_vio.specs.declared.sizes.Sizes.{Sizes};
 ghost use Rattle.core_model.specs.Legal.{Legal};
-ghost use Rattle.core_model.specs.Reports.{ShowsValues, opening_values, progress_of, report_of};
+ghost use Rattle.core_model.specs.Reports.{IsMappedIn, ShowsValues, opening_values, progress_of, report_of};
 ghost use Rattle.core_model.specs.RightTraces.{IsHeldBack, IsUnused, IsWrite, StopsAtFailure};
 ghost use Rattle.core_model.specs.Sessions.{Session, IsFair, IsSession, OnBlock, mapping_by, opened_image, said_by};
 ghost use Rattle.blk_base.specs.declared.journal_entry.CommittedEntry.{CommittedEntry};
@@ -200,6 +201,16 @@ pub fn a_legal_core_is_right_after_a_stop()
         →
         RightAfterStops (ShowsValues s) s.blocks s.before s.sizes.geometry.logical
         (opening_values s) (report_of s core.trace) (calls core.trace) }
+{}
+
+/// A write found no space with nothing else under way, right behind a flush or as the first request of all. Where the session is
+/// fair, all data blocks but a few are mapped by each image that a stop behind that flush could leave, or in which the session
+/// began: at most `height - 1`, which the write may have claimed for the pages of its path.
+pub fn a_quiet_write_finds_no_space_in_a_full_image()
+    ensures { (s : Session) (first last : Core) → IsSession s → IsFirst s first →
+        Leads s.sizes first last → IsFair s last.trace →
+        QuietRight (IsMappedIn s.sizes.geometry s.sizes.start) s.sizes.geometry s.blocks s.before
+        (report_of s last.trace) (calls last.trace) }
 {}
 
 /// Whatever the device does, until the superblock that says that the session isn't closed was written and flushed, a legal

@@ -1,10 +1,12 @@
 -- What a trace says of a session: its report, and what an image shows.
-use Rattle.std.specs.Prelude.{ℕ, ◌≡◌, ◌≢◌, ◌⊎◌, ◌<◌, length, IsTrue, Bool, true, false, Option, None, Some, List}
+use Rattle.std.specs.Prelude.{ℕ, suc, ◌≡◌, ◌≢◌, ◌⊎◌, ◌<◌, length, IsTrue, Bool, true, false, Option, None, Some, List}
 use Rattle.blk_base.specs.Sectors.{sector}
 use Rattle.blk_base.specs.declared.request.Writer.{Writer}
 use Rattle.disk_model.specs.Log.{Blocks, block_at}
 use Rattle.image_layout.specs.Values.{journal_of}
+use Rattle.image_model.specs.Counts.{HasMappings}
 use Rattle.image_model.specs.Maps.{image_with, value_of}
+use Rattle.blk_base.specs.declared.place.Pbn.{Pbn}
 use Rattle.vdo_model.specs.Histories.{Progress, histories_of}
 use Rattle.vdo_model.specs.ZoneOrder.{by_zone}
 use Rattle.vdo_model.specs.declared.report.HistoryEntry.{HistoryEntry}
@@ -61,6 +63,14 @@ pub record GivesValues (g : Geometry) (start : ℕ) (image : Blocks) (values : �
   pub window : List CommittedEntry
   pub is_window : IsWindow g start (journal_of g image) last window
   pub values_are : (a : ℕ) → values a ≡ value_of (image_with g image window) a
+
+-- a block has mappings by the window of an image: so its counter isn't 0, once the image is recovered
+pub record IsMappedIn (g : Geometry) (start : ℕ) (image : Blocks) (x : Pbn) : Type 0 where
+  pub last : ℕ
+  pub window : List CommittedEntry
+  pub is_window : IsWindow g start (journal_of g image) last window
+  pub more : ℕ
+  pub mapped : HasMappings (image_with g image window) x (suc more)
 
 -- nothing was written to an image since it was opened, the index and the other sectors of the superblock's block aside
 pub record IsStillOpened (s : Session) (image : Blocks) : Type 0 where

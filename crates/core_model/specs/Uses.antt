@@ -1,5 +1,5 @@
 -- How often a data block was claimed, mapped and let go, by what happened: which blocks are free at a moment.
-use Rattle.std.specs.Prelude.{ℕ, zero, suc, Bool, ◌&&◌, if◌then◌else◌, ◌+◌, ◌*◌, ◌≡◌, nat_eq, nat_lt, Option, None, Some, [], ◌∷◌}
+use Rattle.std.specs.Prelude.{ℕ, zero, suc, Bool, ◌&&◌, if◌then◌else◌, ◌+◌, ◌*◌, ◌≡◌, ◌<◌, nat_eq, nat_lt, Option, None, Some, [], ◌∷◌}
 use Rattle.blk_base.specs.Regions.{DataBlock, IsDataBlock, block_of}
 use Rattle.blk_base.specs.declared.geometry.Geometry.{Geometry}
 use Rattle.blk_base.specs.declared.place.Pbn.{Pbn}
@@ -53,6 +53,10 @@ Waits sizes t zone number = ticket_at sizes t zone number ≡ Some None
 -- nothing is mapped to it, and nobody has a claim on it
 abbrev pub IsFreeAt : Session → Trace → Pbn → Type 0
 IsFreeAt s t x = gained s t x ≡ lost t x
+
+-- a block is used at a moment: it has a mapping or a claim
+abbrev pub IsUsedAt : Session → Trace → Pbn → Type 0
+IsUsedAt s t x = lost t x < gained s t x
 
 -- no data block of a physical zone is free, and none at all
 abbrev pub NoneFreeIn : Session → Trace → ℕ → Type 0

@@ -9,5 +9,6 @@ pub mod ReadRows
 pub mod MarkRows
 pub mod StopRows
 pub mod AfterStopRows
+pub mod QuietRows
 pub mod RunRows
 pub mod ZoneOrderRows

@@ -6,4 +6,5 @@ pub mod Histories
 pub mod RightReads
 pub mod FlushMarks
 pub mod Stops
+pub mod QuietWrites
 pub mod RightRuns

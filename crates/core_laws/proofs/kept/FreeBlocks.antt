@@ -75,7 +75,7 @@ module _ (opened : Image) where
         ap (by_leaf (λ at. slot_after opened es (leaf_of a) (slot_of_address a))) (page_same (leaf_of a))
         ∙ ap (λ (m : Mapping). by_leaf (λ at. m) (page_after opened fs (leaf_of a))) (slot_same (leaf_of a) (slot_of_address a))
 
-    has_same : (x : Pbn) (count : ℕ) → HasMappingsAfter opened es x count → HasMappingsAfter opened fs x count
+    pub has_same : (x : Pbn) (count : ℕ) → HasMappingsAfter opened es x count → HasMappingsAfter opened fs x count
     has_same x count has = record {
       pages = has.pages;
       one_page = number_of_pages (IsPageAfter opened es x) (IsPageAfter opened fs x) has.pages

@@ -35,12 +35,12 @@ leads_same x (At y) = by (y.0 == x.0)
     by true = refl
     by false = refl
 
-adds_same : (x : Pbn) (es : List Logged) → total (λ (c : CommittedEntry). bit (adds_to c.entry x)) (pointed es) ≡ total (is_entry x) es
+pub adds_same : (x : Pbn) (es : List Logged) → total (λ (c : CommittedEntry). bit (adds_to c.entry x)) (pointed es) ≡ total (is_entry x) es
 adds_same x [] = refl
 adds_same x (Remaps e ∷ es) = let here = leads_same x e.new in let behind = adds_same x es in omega (arith, here, behind)
 adds_same x (Makes p ∷ es) = let here = leads_same x (At p.at) in let behind = adds_same x es in omega (arith, here, behind)
 
-takes_same : (x : Pbn) (es : List Logged) → total (λ (c : CommittedEntry). bit (takes_from c.entry x)) (pointed es) ≡ total (is_old x) (remappings es)
+pub takes_same : (x : Pbn) (es : List Logged) → total (λ (c : CommittedEntry). bit (takes_from c.entry x)) (pointed es) ≡ total (is_old x) (remappings es)
 takes_same x [] = refl
 takes_same x (Remaps e ∷ es) = let here = leads_same x e.old in let behind = takes_same x es in omega (arith, here, behind)
 takes_same x (Makes p ∷ es) = let behind = takes_same x es in omega (arith, behind)

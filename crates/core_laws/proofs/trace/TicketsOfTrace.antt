@@ -43,7 +43,7 @@ module _ (sizes : Sizes) where
   given_said None to zone number earlier waits = waits
 
 -- uses of a block, where another one passes to a ticket
-others_pass : (x y : Pbn) (to : Option ℕ) (xs : List Pbn) → one_of x y ≡ 0 → total (is_block y) (passed_on (Some x) to ++ xs) ≡ total (is_block y) xs
+pub others_pass : (x y : Pbn) (to : Option ℕ) (xs : List Pbn) → one_of x y ≡ 0 → total (is_block y) (passed_on (Some x) to ++ xs) ≡ total (is_block y) xs
 others_pass x y None xs none = refl
 others_pass x y (Some k) xs none = omega (arith, none)
 
@@ -53,7 +53,7 @@ own_passes x k xs one = omega (arith, one)
 same_block : (x y : Pbn) → x.0 ≡ y.0 → x ≡ y
 same_block x y same = ap (λ (n : ℕ). record { 0 = n }) same
 
-one_or : (x y : Pbn) → ((x ≡ y) × (one_of x y ≡ 1)) ⊎ (one_of x y ≡ 0)
+pub one_or : (x y : Pbn) → ((x ≡ y) × (one_of x y ≡ 1)) ⊎ (one_of x y ≡ 0)
 one_or x y = elim (eqb_tells x.0 y.0) [ inl same ↦ inl (same_block x y same.1, rw same.0 refl) | inr other ↦ inr (rw other.0 refl) ]
 
 module _ (s : Session) where

@@ -1,0 +1,5 @@
+pub mod CutRuns
+pub mod FlushImages
+pub mod Quiet
+pub mod StillCore
+pub mod TakenAlone
