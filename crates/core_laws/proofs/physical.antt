@@ -3,3 +3,4 @@ pub mod AskTurns
 pub mod PhysicalFacts
 pub mod TicketDesks
 pub mod ZoneFacts
+pub mod OutTickets

@@ -41,7 +41,7 @@ ghost use Rattle.core_model.specs.Start.{IsFirst};
 ghost use Rattle.core_model.specs.Steps.{Act, CallsDevice, Core, HasAct, Leads, MayBegin, MoveOf, StepOf, ZoneStep};
 ghost use Rattle.core_model.specs.Superblocks.{WritesNoOther, superblock_stage};
 ghost use Rattle.core_model.specs.declared.zones.SuperblockStage.TheVariants.{Durable};
-ghost use Rattle.core_model.specs.Trace.{Enters, Trace, aborted, calls, damage_in, durable, entry_of, is_ok, is_read, journaled, lines, marks, moments, places};
+ghost use Rattle.core_model.specs.Trace.{Enters, Trace, aborted, calls, damage_in, durable, entry_of, is_ok, is_read, journaled, lines, marks, moments, places, receipts};
 ghost use Rattle.core_model.specs.Views.{AreEmptyLanes, PostsBatch, ReceivesBatch, TakesBatch, View, core_of, zones_seen};
 ghost use Rattle.data_vio.specs.Vios.{Post};
 ghost use Rattle.data_vio.specs.Zones.{zone_number};
@@ -91,7 +91,8 @@ pub fn a_legal_core_is_in_order()
         → IsSome (place_of (places core.trace) w) ⊎ IsAnsweredAtOnce (lines core.trace) w Stopped }
     ensures at_desk { (s : Session) (core : Core) (n : ℕ) (z : Zone) (desk : DeskData) →
         Legal s core → slice_get core.zones n ≡ Some z → z.keeps ≡ Desk desk
-        → (desk.log ≡ lines core.trace) × (desk.marks ≡ marks core.trace) }
+        → (desk.log ≡ lines core.trace) × (desk.marks ≡ marks core.trace)
+        × (desk.receipts ≡ receipts core.trace) }
     ensures at_zone { (s : Session) (core : Core) (n : ℕ) (z : Zone) (l : LogicalZone) →
         Legal s core → slice_get core.zones n ≡ Some z → z.keeps ≡ Logical l
         → l.places ≡ places_in l.zone (places core.trace) }

@@ -7,6 +7,8 @@ use Rattle.core_limits.proofs.StreamSums.{Apart, Inside, named, names_few, over,
 use Rattle.core_limits.proofs.Rooms.{all_begun, under_way}
 pub use Rattle.core_limits.proofs.StreamSums.{asked_inside, requests_of}
 use Rattle.core_laws.proofs.trace.Growth.{begun_more}
+use Rattle.core_model.specs.Trace.{receipts}
+use Rattle.blk_base.specs.declared.request.Answer.TheVariants.{NoSpace}
 
 -- no more of a stream are begun than it has
 pub begun_few : (depth : ℕ) (script : Script) (log : List DeskLine) (stream : ℕ) → IsDeskLog depth script log → begun stream log ≤ requests_of script stream
@@ -112,3 +114,12 @@ marks_few (Says line ∷ t) = omega (arith, marks_few t)
 marks_few (Flushes mark ∷ t) = omega (arith, marks_few t)
 marks_few (Fails w c true ∷ t) = marks_few t
 marks_few (other ∷ t) = marks_few t
+
+-- and each receipt
+pub receipts_few : (t : Trace) → length (receipts t) ≤ total is_answer (lines t)
+receipts_few [] = omega arith
+receipts_few (Says (Answer w NoSpace) ∷ t) = omega (arith, receipts_few t)
+receipts_few (Says line ∷ t) = omega (arith, receipts_few t)
+receipts_few (Flushes mark ∷ t) = omega (arith, receipts_few t)
+receipts_few (Fails w c true ∷ t) = receipts_few t
+receipts_few (other ∷ t) = receipts_few t

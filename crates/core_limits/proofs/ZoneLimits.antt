@@ -6,7 +6,7 @@ use Rattle.core_model.specs.declared.zones.ZoneData.TheVariants as at
 use Rattle.core_model.specs.Legal.{Legal, share}
 use Rattle.core_model.specs.Limits.{IsDeskWithin, IsShort, most_depth, most_items, most_notices, most_requests, most_streams, requests_in}
 use Rattle.core_model.specs.Steps.{Core}
-use Rattle.core_limits.proofs.DeskLimits.{answers_few, begins_few, log_few, marks_few}
+use Rattle.core_limits.proofs.DeskLimits.{answers_few, begins_few, log_few, marks_few, receipts_few}
 use Rattle.core_limits.proofs.PlaceLimits.{in_zone_few, places_few}
 use Rattle.core_laws.proofs.tokens.Lift.{items_total}
 use Rattle.core_limits.proofs.Rooms.{few_words, inbox_room, lane_room, one_each, queue_room}
@@ -55,11 +55,13 @@ module _ (s : Session) (core : Core) (session : IsSession s) (legal : Legal s co
         let requests = ap (λ (script : Script). requests_in script) k.sound.requests in
         let log = ap (λ xs. length xs) k.lists.log_is in
         let marked = ap (λ xs. length xs) k.lists.marks_is in
+        let kept = ap (λ xs. length xs) k.lists.receipts_is in
         let parked = ap (λ (d : ZoneData). length (kept_by d)) keeps in
         let heard = ap heard_at keeps in
         record {
           log = omega (arith, log, requests, log_few s.sizes.depth s.script (lines core.trace) right);
           marks = omega (arith, marked, requests, marks_few core.trace, answers_few s.sizes.depth s.script (lines core.trace) right, begins_few s.sizes.depth s.script (lines core.trace) right);
+          receipts = omega (arith, kept, requests, receipts_few core.trace, answers_few s.sizes.depth s.script (lines core.trace) right, begins_few s.sizes.depth s.script (lines core.trace) right);
           parked = omega (arith, parked, waiting_within);
           notices = omega (arith, heard, few_heard);
         }

@@ -26,3 +26,4 @@ mod UseRows
 mod TicketActRows
 mod TicketFollowRows
 mod TicketFactRows
+mod ReceiptRows

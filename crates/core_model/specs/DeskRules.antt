@@ -12,6 +12,8 @@ use Rattle.vdo_model.specs.DeskLog.{IsNextLine}
 use Rattle.vdo_model.specs.Scripts.{request_at}
 use Rattle.vdo_model.specs.declared.report.DeskLine.TheVariants as line
 use Rattle.vdo_model.specs.declared.report.FlushMark.{FlushMark}
+use Rattle.vdo_model.specs.declared.report.NoSpaceReceipt.{NoSpaceReceipt}
+use Rattle.slab_counts.specs.declared.tickets.Receipt.{Receipt}
 use Rattle.data_vio.specs.declared.items.Asks.{Asks}
 use Rattle.data_vio.specs.declared.items.Asks.TheVariants.{Read, Write, Discard, Flush}
 use Rattle.data_vio.specs.declared.items.Item.TheVariants as item
@@ -87,16 +89,32 @@ is_stopped other = false
 abbrev pub mark_of_vio : Vio → FlushMark
 mark_of_vio v = record { request = v.request; calls = v.calls }
 
+-- whether an answer is that no block is free
+abbrev pub is_no_space : Answer → Bool
+is_no_space reply.NoSpace = true
+is_no_space other = false
+
+-- the receipt of a request: the step is that of the ticket that it withdrew last, and 0 where it withdrew none
+abbrev pub receipt_step : Option Receipt → ℕ
+receipt_step None = 0
+receipt_step (Some receipt) = receipt.asked
+
+abbrev pub receipt_of_vio : Vio → NoSpaceReceipt
+receipt_of_vio v = record { request = v.request; step = receipt_step v.receipt }
+
 -- A request that comes back is answered, or waits until the stop notice of every zone has come.
 pub data DeskServes (sizes : Sizes) (old : Desk) (v : Vio) (new : Desk) (made : Trace) (posts : List Post) : Type 0 where
   parks : (a : Answer) → v.phase ≡ phase.Reply → v.answer ≡ Some a → is_stopped a ≡ true → is_notified sizes old ≡ false
       → new ≡ record old { parked = old.parked ++ v ∷ [] } → made ≡ [] → posts ≡ []
       → DeskServes sizes old v new made posts
-  answers : (a : Answer) → v.phase ≡ phase.Reply → v.answer ≡ Some a → (is_stopped a ≡ true → is_notified sizes old ≡ true) → is_marked v.asks a ≡ false
+  answers : (a : Answer) → v.phase ≡ phase.Reply → v.answer ≡ Some a → (is_stopped a ≡ true → is_notified sizes old ≡ true) → is_marked v.asks a ≡ false → is_no_space a ≡ false
       → new ≡ record old { log = line.Answer v.request a ∷ old.log } → made ≡ Says (line.Answer v.request a) ∷ [] → posts ≡ []
       → DeskServes sizes old v new made posts
   marks : v.phase ≡ phase.Reply → v.asks ≡ Flush → v.answer ≡ Some reply.Ok
       → new ≡ record old { log = line.Answer v.request reply.Ok ∷ old.log; marks = mark_of_vio v ∷ old.marks } → made ≡ Flushes (mark_of_vio v) ∷ [] → posts ≡ []
+      → DeskServes sizes old v new made posts
+  lacks : v.phase ≡ phase.Reply → v.answer ≡ Some reply.NoSpace
+      → new ≡ record old { log = line.Answer v.request reply.NoSpace ∷ old.log; receipts = receipt_of_vio v ∷ old.receipts } → made ≡ Says (line.Answer v.request reply.NoSpace) ∷ [] → posts ≡ []
       → DeskServes sizes old v new made posts
 
 -- The stop notice of a zone comes: those that wait for it look again.

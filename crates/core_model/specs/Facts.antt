@@ -1,5 +1,5 @@
 -- What a request carries, and what a zone keeps: facts on their own fields and on the trace.
-use Rattle.std.specs.Prelude.{ℕ, suc, ◌+◌, ◌%◌, ◌≡◌, ◌⊎◌, ◌<◌, ◌≤◌, Bool, true, false, not, Option, None, Some, IsNone, IsSome, IsTrue, List, [], ◌∷◌, ◌++◌, length, map, reverse, slice_get, Contains, if◌then◌else◌}
+use Rattle.std.specs.Prelude.{ℕ, suc, ◌+◌, ◌%◌, ◌≡◌, ◌⊎◌, ◌<◌, ◌≤◌, Bool, true, false, not, Option, None, Some, IsNone, IsSome, IsTrue, List, [], ◌∷◌, ◌++◌, length, map, reverse, slice_get, Contains, if◌then◌else◌, All}
 use Rattle.std.specs.List.{AllByRecursion}
 use Rattle.blk_base.specs.declared.place.Lba.{Lba}
 use Rattle.blk_base.specs.declared.place.Mapping.{Mapping}
@@ -59,11 +59,13 @@ use Rattle.core_model.specs.PageTrees.{IsMapTree, is_listed, link_at, missing_at
 use Rattle.plain_laws.specs.Sums.{bit, total, Each}
 use Rattle.core_model.specs.Superblocks.{superblock_stage}
 use Rattle.core_model.specs.Tokens.{lock_weight}
-use Rattle.core_model.specs.Trace.{Asks as AsksIn, Trace, all_of, filled, sealed, moments, lines, calls, marks, places, journaled, entered, durable, applied, done, dropped, remappings, aborted, added, strayed, has_taken, is_for, has_stopped, of_address, newest, logged_of, entry_of, damage_in}
+use Rattle.core_model.specs.Trace.{Asks as AsksIn, Trace, all_of, filled, sealed, moments, lines, calls, marks, places, journaled, entered, durable, applied, done, dropped, remappings, aborted, added, strayed, has_taken, is_for, has_stopped, of_address, newest, logged_of, entry_of, damage_in, last_asked, receipts}
 use Rattle.data_vio.specs.Vios.{all_logged, asked, counts_of, logged, request_of, remapping, ticket_zone}
 use Rattle.core_model.specs.PhysicalRules.{HasTicketRoom, next_step}
 use Rattle.core_model.specs.Uses.{counted, gained, issued, lost, ticket_at, uncounted}
+use Rattle.slab_counts.specs.declared.tickets.Receipt.{Receipt}
 use Rattle.slab_counts.specs.declared.tickets.Ticket.{Ticket}
+use Rattle.slab_tickets.specs.declared.forms.Waiting.{Waiting}
 use Rattle.slab_tickets.specs.Numbers.{AreNumbered, ticket_of}
 use Rattle.vdo_model.specs.declared.report.Damage.{Damage}
 use Rattle.zone_counts.specs.ByBlock.{claims_in, counter_in, out_with}
@@ -134,7 +136,13 @@ pub record LacksBlock (s : Session) (t : Trace) (w : Writer) (tickets : List Tic
   pub each : (zone : ℕ) → zone < s.sizes.physical
       → WasRefused newer older w zone ⊎ ((k : Ticket) × (k.zone ≡ zone) × Contains tickets k × Contains older (AsksIn w k))
 
--- It withdraws its tickets: while none brought it a block, it asked each zone.
+-- the newest of its tickets, which it got in their order
+abbrev pub newest_ticket : List Ticket → Option Ticket
+newest_ticket [] = None
+newest_ticket (k ∷ []) = Some k
+newest_ticket (k ∷ j ∷ newer) = newest_ticket (j ∷ newer)
+
+-- It withdraws its tickets: while none brought it a block, it asked each zone, and has yet the ticket that it was given last.
 pub record IsWithdrawing (s : Session) (t : Trace) (w : Writer) (claim : Option Pbn) (tickets : List Ticket) : Type 0 where
   pub turn : ℕ
   pub in_turn : AreInTurn s.sizes turn tickets
@@ -142,6 +150,7 @@ pub record IsWithdrawing (s : Session) (t : Trace) (w : Writer) (claim : Option 
   pub some : 0 < length tickets
   pub asked : AllByRecursion (λ k. Contains t (AsksIn w k)) tickets
   pub lacks : claim ≡ None → LacksBlock s t w tickets
+  pub last : claim ≡ None → last_asked t w ≡ newest_ticket tickets
 
 -- a request for a block: it reads, writes or discards
 abbrev pub IsForBlock : Asks → Type 0
@@ -268,7 +277,17 @@ abbrev pub HasEarned : Session → Trace → FlushMark → Asks → Request → 
 HasEarned s t m asks r None = ⊥
 HasEarned s t m asks r (Some a) = IsEarned s t m r a (is_marked asks a)
 
+-- it has the receipt of the ticket that it was given last
+pub record HasReceipt (t : Trace) (w : Writer) (receipt : Option Receipt) : Type 0 where
+  pub ticket : Ticket
+  pub last : last_asked t w ≡ Some ticket
+  pub given : Receipt
+  pub receipt_is : receipt ≡ Some given
+  pub asked : given.asked ≡ ticket.asked
+
+-- so where it is answered that no block is free
 abbrev pub MayReply : Session → Trace → Vio → Option Answer → Type 0
+MayReply s t v (Some reply.NoSpace) = HasEarned s t (mark_of_vio v) v.asks (request_of v) (Some reply.NoSpace) × HasReceipt t v.request v.receipt
 MayReply s t v answer = HasEarned s t (mark_of_vio v) v.asks (request_of v) answer
 
 -- a mapping is to a block, or to one inside the image
@@ -419,6 +438,7 @@ name_of (at.Device d) = id.Device
 pub record DeskLists (t : Trace) (desk : Desk) : Type 0 where
   pub log_is : desk.log ≡ lines t
   pub marks_is : desk.marks ≡ marks t
+  pub receipts_is : desk.receipts ≡ receipts t
 
 -- a report that was kept is of an address of the zone
 abbrev pub ReportOk : Session → Trace → ℕ → Remapping → Type 0
@@ -434,6 +454,10 @@ pub record LogicalLists (s : Session) (t : Trace) (zone next : ℕ) (placed : Li
   pub tree_is : IsMapTree s.sizes.geometry zone s.sizes.zones s.links (applied t) tree
   pub reports_are : AllByRecursion (ReportOk s t zone) reported
 
+-- a ticket that is out in a zone was given there, in the step in which it asked
+abbrev pub WasIssued : Trace → (zone : ℕ) → Waiting → Type 0
+WasIssued t zone waiting = Contains t (AsksIn waiting.writer (record { zone = zone; number = waiting.number; asked = waiting.asked }))
+
 -- The counters of a physical zone are those of the opened image with the updates that were taken; and each use of its blocks, by a
 -- mapping or a claim, is one of the trace.
 pub record PhysicalLists (s : Session) (t : Trace) (p : PhysicalZone) : Type 0 where
@@ -443,6 +467,7 @@ pub record PhysicalLists (s : Session) (t : Trace) (p : PhysicalZone) : Type 0 w
   -- what it knows of its tickets is what happened to them
   pub tickets_are : (number : ℕ) → ticket_of p.counts.desk.out number ≡ ticket_at s.sizes t p.counts.zone number
   pub issued_is : p.counts.desk.issued ≡ issued t p.counts.zone
+  pub out_are : All (WasIssued t p.counts.zone) p.counts.desk.out
 
 -- The log has the entries of the blocks that were sealed, and of the one being filled, in their order. No zone lets go of an
 -- entry, so its head is the first sequence.

@@ -22,6 +22,7 @@ IsShort items = length items ≤ most_items
 pub record IsDeskWithin (desk : Desk) : Type 0 where
   pub log : length desk.log ≤ 2 * requests_in desk.requests
   pub marks : length desk.marks ≤ requests_in desk.requests
+  pub receipts : length desk.receipts ≤ requests_in desk.requests
   pub parked : IsShort desk.parked
   pub notices : desk.notices ≤ most_notices
 

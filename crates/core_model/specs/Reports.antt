@@ -16,7 +16,7 @@ use Rattle.data_vio.specs.declared.logged.Remapping.{Remapping}
 use Rattle.core_model.specs.Sessions.{Session, opened_image}
 use Rattle.core_model.specs.Superblocks.{superblock_bytes}
 use Rattle.core_model.specs.Uses.{data_blocks, used_at}
-use Rattle.core_model.specs.Trace.{Trace, lines, marks, places, damage_in, entered, done, logged_of}
+use Rattle.core_model.specs.Trace.{Trace, lines, marks, receipts, places, damage_in, entered, done, logged_of}
 use Rattle.image_model.specs.Windows.{IsWindow}
 use Rattle.image_model.specs.Looked.{is_looked_at}
 use Rattle.blk_base.specs.declared.journal_entry.CommittedEntry.{CommittedEntry}
@@ -50,6 +50,7 @@ report_of s t = record {
   requests = s.script;
   desk = lines t;
   marks = marks t;
+  receipts = receipts t;
   places = listed_places s t;
   histories = histories_of s.script (lines t) (progress_of t) (listed_places s t);
   damage = damage_in t;

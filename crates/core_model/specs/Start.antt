@@ -29,6 +29,7 @@ pub record IsFirstDesk (s : Session) (number : ℕ) (desk : Desk) : Type 0 where
   pub requests : desk.requests ≡ s.script
   pub log : desk.log ≡ []
   pub marks : desk.marks ≡ []
+  pub receipts : desk.receipts ≡ []
   pub notices : desk.notices ≡ 0
   pub parked : desk.parked ≡ []
 

@@ -6,7 +6,7 @@ use Rattle.blk_base.specs.declared.place.Mapping.TheVariants.{At}
 use Rattle.blk_base.specs.declared.place.PageId.{PageId}
 use Rattle.blk_base.specs.declared.place.Pbn.{Pbn}
 use Rattle.page_codec.specs.declared.fault.PageFault.{PageFault}
-use Rattle.blk_base.specs.declared.request.Answer.TheVariants.{Ok}
+use Rattle.blk_base.specs.declared.request.Answer.TheVariants.{NoSpace, Ok}
 use Rattle.blk_base.specs.declared.request.Writer.{Writer}
 use Rattle.disk_model.specs.declared.call.Call.{Call}
 use Rattle.disk_model.specs.declared.call.Call.TheVariants.{Read, Write, Flush}
@@ -15,6 +15,7 @@ use Rattle.vdo_model.specs.declared.report.Damage.TheVariants.{Page}
 use Rattle.vdo_model.specs.declared.report.DeskLine.{DeskLine}
 use Rattle.vdo_model.specs.declared.report.DeskLine.TheVariants.{Answer}
 use Rattle.vdo_model.specs.declared.report.FlushMark.{FlushMark}
+use Rattle.vdo_model.specs.declared.report.NoSpaceReceipt.{NoSpaceReceipt}
 use Rattle.vdo_model.specs.declared.report.Placed.{Placed}
 use Rattle.vdo_model.specs.FlushMarks.{Moment, Desk, Device, lines_of, calls_of}
 use Rattle.vdo_model.specs.Scripts.{same_writer}
@@ -95,6 +96,22 @@ abbrev pub marks : Trace → List FlushMark
 marks [] = []
 marks (Flushes mark ∷ t) = mark ∷ marks t
 marks (other ∷ t) = marks t
+
+-- the ticket that a request was given last, and the step in which that was given: 0 where it was given none
+abbrev pub last_asked : Trace → Writer → Option Ticket
+last_asked [] w = None
+last_asked (Asks v k ∷ t) w = if same_writer v w then Some k else last_asked t w
+last_asked (other ∷ t) w = last_asked t w
+
+abbrev pub asked_step : Option Ticket → ℕ
+asked_step None = 0
+asked_step (Some k) = k.asked
+
+-- the receipts of the requests that were answered that no block is free: each says when the last of its zones was asked
+abbrev pub receipts : Trace → List NoSpaceReceipt
+receipts [] = []
+receipts (Says (Answer w NoSpace) ∷ t) = record { request = w; step = asked_step (last_asked t w) } ∷ receipts t
+receipts (other ∷ t) = receipts t
 
 -- the places that were drawn
 abbrev pub places : Trace → List Placed

@@ -1,8 +1,8 @@
 ghost use Rattle.std.specs.Prelude.{◌≡◌, ◌+◌, ◌*◌, ◌-◌, ◌^◌, ◌<◌, ◌≤◌, [], ◌∷◌, ◌++◌, IfOk, IfSome, IfNone, length, reverse, vec_len, vec_capacity};
-ghost use Rattle.blk_base.specs.declared.request.Answer.TheVariants.{Ok as Done};
+ghost use Rattle.blk_base.specs.declared.request.Answer.TheVariants.{NoSpace as Lacking, Ok as Done};
 ghost use Rattle.vdo_model.specs.DeskLog.{answered, begun};
 ghost use Rattle.vdo_model.specs.declared.report.DeskLine.TheVariants.{Answer as Answered, Begin};
-ghost use Rattle.core_model.specs.DeskRules.{mark_of_vio};
+ghost use Rattle.core_model.specs.DeskRules.{mark_of_vio, receipt_of_vio, receipt_step};
 ghost use Rattle.core_model.specs.Limits.{HasRoomToBegin};
 ghost use Rattle.core_model.specs.SessionLimits.{most_requests, most_streams, most_under_way, requests_in};
 ghost use Rattle.plain_laws.specs.Sums.{total};
@@ -11,9 +11,10 @@ use crate::counts::StreamCounts;
 use crate::scripts::count_requests;
 use blk_base::{Answer, Block, Lba, Mapping, Writer, ZoneId};
 use data_vio::{Asks, BoxedVio, Fifo, HeldTickets, LANE_ROOM, MOST_UNDER_WAY, Phase, Vio};
+use slab_counts::Receipt;
 use std::alloc::{AllocError, Global};
 use std::marker::Model;
-use vdo_model::{DeskLine, FlushMark, ReportList, Requests};
+use vdo_model::{DeskLine, FlushMark, NoSpaceReceipt, ReportList, Requests};
 
 /// Where requests begin and are answered. It has the boxes of all requests that aren't under way.
 #[derive(Drop)]
@@ -26,6 +27,7 @@ pub struct Desk {
     begun: StreamCounts,
     answered: StreamCounts,
     marks: Vec<FlushMark>,
+    receipts: Vec<NoSpaceReceipt>,
     notices: u32,
     parked: Fifo<BoxedVio, LANE_ROOM>,
     spare: Vec<BoxedVio>,
@@ -45,6 +47,7 @@ impl Model for Desk {
       requests = d.requests;
       log = reverse d.lines.items;
       marks = reverse d.marks.items;
+      receipts = reverse d.receipts.items;
       notices = d.notices;
       parked = d.parked;
     } };
@@ -56,6 +59,7 @@ impl Model for Desk {
       begun : CountBegun d.begun (reverse d.lines.items);
       answered : CountAnswered d.answered (reverse d.lines.items);
       marks_room : requests_in d.requests + 1 ≤ vec_capacity d.marks;
+      receipts_room : requests_in d.requests + 1 ≤ vec_capacity d.receipts;
       few_spare : vec_len d.spare ≤ most_under_way;
       spare_room : most_under_way ≤ vec_capacity d.spare;
       spare : AreBegunFirst (reverse d.lines.items)
@@ -63,12 +67,13 @@ impl Model for Desk {
     } };
 }
 
-/// What a report has of the desk: the requests, the desk log and the marks.
+/// What a report has of the desk: the requests, the desk log, the marks and the receipts.
 #[derive(Drop)]
 pub struct DeskReport {
     pub requests: Requests,
     pub log: ReportList<DeskLine>,
     pub marks: ReportList<FlushMark>,
+    pub receipts: ReportList<NoSpaceReceipt>,
 }
 
 // A request in a box that isn't under way.
@@ -109,17 +114,36 @@ fn spare_boxes(alloc: Global) -> Result<Vec<BoxedVio>, AllocError>
     Ok(boxes)
 }
 
+// The step of a receipt, and 0 where there is none.
+fn step_in(receipt: &Option<Receipt>) -> u64
+    ensures { result ≡ receipt_step receipt.now }
+{
+    match receipt {
+        Some(receipt) => receipt.asked,
+        None => 0,
+    }
+}
+
 impl Desk {
     /// The desk at the start of a session: it has the requests, and began none of them. It takes all its room.
     pub fn new(alloc: Global, requests: Requests) -> Result<Desk, AllocError>
         requires streams { length requests ≤ most_streams }
         requires few { requests_in requests ≤ most_requests }
         ensures { IfOk result (λ desk.
-            desk ≡ record { requests = requests; log = []; marks = []; notices = 0; parked = [] }) }
+            desk
+            ≡ record {
+              requests = requests;
+              log = [];
+              marks = [];
+              receipts = [];
+              notices = 0;
+              parked = [];
+            }) }
     {
         let count = count_requests(&requests);
         let lines = Vec::with_capacity(alloc, 2 * count + 2)?;
         let marks = Vec::with_capacity(alloc, count + 1)?;
+        let receipts = Vec::with_capacity(alloc, count + 1)?;
         let parked = Fifo::new(alloc)?;
         let spare = spare_boxes(alloc)?;
         Ok(Desk {
@@ -129,6 +153,7 @@ impl Desk {
             begun: StreamCounts::new(),
             answered: StreamCounts::new(),
             marks,
+            receipts,
             notices: 0,
             parked,
             spare,
@@ -239,6 +264,24 @@ impl Desk {
         self.answer(vio, Answer::Ok);
     }
 
+    /// A request that found no block is answered so, with its receipt.
+    pub fn lack(&mut self, vio: BoxedVio)
+        requires lines { length self.old.log ≤ 2 * requests_in self.old.requests }
+        requires receipts { length self.old.receipts ≤ requests_in self.old.requests }
+        ensures { self.new
+            ≡ record self.old {
+              log = Answered vio.request Lacking ∷ self.old.log;
+              receipts = receipt_of_vio vio
+                  ∷ self.old.receipts;
+            } }
+    {
+        let request = vio.get().request;
+        let step = step_in(&vio.get().receipt);
+        self.receipts
+            .push_reserved(NoSpaceReceipt { request, step });
+        self.answer(vio, Answer::NoSpace);
+    }
+
     /// A request waits until the stop notice of every zone has come.
     pub fn park(&mut self, vio: BoxedVio)
         requires { length self.old.parked < LANE_ROOM }
@@ -266,12 +309,19 @@ impl Desk {
 
     /// What a report has of it.
     pub fn into_list(self) -> DeskReport
-        ensures { result ≡ record { requests = self.requests; log = self.log; marks = self.marks } }
+        ensures { result
+            ≡ record {
+              requests = self.requests;
+              log = self.log;
+              marks = self.marks;
+              receipts = self.receipts;
+            } }
     {
         DeskReport {
             requests: self.requests,
             log: ReportList::from_vec(self.lines),
             marks: ReportList::from_vec(self.marks),
+            receipts: ReportList::from_vec(self.receipts),
         }
     }
 }

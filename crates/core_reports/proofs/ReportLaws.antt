@@ -11,7 +11,7 @@ use Rattle.vdo_model.proofs.ZoneOrderLaws.{drawn_same, listed_same}
 use Rattle.vdo_model.specs.Histories.{histories_of}
 use Rattle.vdo_model.specs.ZoneOrder.{by_zone}
 use Rattle.core_model.specs.DeskData.{Desk}
-use Rattle.core_model.specs.Trace.{damage_in}
+use Rattle.core_model.specs.Trace.{damage_in, receipts}
 use Rattle.core_model.specs.Uses.{data_blocks, sum_below, used_at, used_of_slab}
 use Rattle.data_vio.specs.Zones.{device_number, physical_number}
 use Rattle.vdo_model.specs.declared.report.Damage.{Damage}
@@ -173,6 +173,7 @@ module _ (s : Session) (t : Trace) (zones : List Zone) (session : IsSession s) (
     pub requests_is : desk.requests ≡ s.script
     pub log_is : desk.log ≡ lines t
     pub marks_is : desk.marks ≡ marks t
+    pub receipts_is : desk.receipts ≡ receipts t
 
   pub its_desk : ItsDesk
   its_desk =
@@ -184,6 +185,7 @@ module _ (s : Session) (t : Trace) (zones : List Zone) (session : IsSession s) (
         requests_is = is.sound.requests;
         log_is = is.lists.log_is;
         marks_is = is.lists.marks_is;
+        receipts_is = is.lists.receipts_is;
       }
 
   pub its_entries : HasEntered (journaled t) zones
@@ -237,18 +239,19 @@ module _ (s : Session) (t : Trace) (zones : List Zone) (session : IsSession s) (
 
   -- so the desk, the places, the histories, the damage and the space make the report
   pub report_is : (rows : DeskReport) (ps : List Placed) (hs : List HistoryEntry) (damage : Option Damage) (used total : ℕ)
-      → rows ≡ record { requests = its_desk.desk.requests; log = its_desk.desk.log; marks = its_desk.desk.marks } → ps ≡ places_of_all zones
+      → rows ≡ record { requests = its_desk.desk.requests; log = its_desk.desk.log; marks = its_desk.desk.marks; receipts = its_desk.desk.receipts } → ps ≡ places_of_all zones
       → hs ≡ histories_of its_desk.desk.requests its_desk.desk.log (progress_of t) ps → damage ≡ damage_in t → used ≡ used_by_all zones → total ≡ data_blocks s.sizes.geometry
-      → ◌≡◌ {A = RunReport} (record { requests = rows.requests; desk = rows.log; marks = rows.marks; places = ps; histories = hs; damage = damage; used = used; total = total }) (report_of s t)
+      → ◌≡◌ {A = RunReport} (record { requests = rows.requests; desk = rows.log; marks = rows.marks; receipts = rows.receipts; places = ps; histories = hs; damage = damage; used = used; total = total }) (report_of s t)
   report_is rows ps hs damage used total rows_are ps_are hs_are damage_is used_is total_is =
       let placed : ps ≡ listed_places s t = ps_are ∙ places_listed in
       let requests : rows.requests ≡ s.script = ap (λ (r : DeskReport). r.requests) rows_are ∙ its_desk.requests_is in
       let log : rows.log ≡ lines t = ap (λ (r : DeskReport). r.log) rows_are ∙ its_desk.log_is in
       let marked : rows.marks ≡ marks t = ap (λ (r : DeskReport). r.marks) rows_are ∙ its_desk.marks_is in
+      let kept : rows.receipts ≡ receipts t = ap (λ (r : DeskReport). r.receipts) rows_are ∙ its_desk.receipts_is in
       let histories : hs ≡ histories_of s.script (lines t) (progress_of t) (listed_places s t)
       = hs_are
       ∙ ap (λ (script : Script). histories_of script its_desk.desk.log (progress_of t) ps) its_desk.requests_is
       ∙ ap (λ (desk : List DeskLine). histories_of s.script desk (progress_of t) ps) its_desk.log_is
       ∙ ap (λ (qs : List Placed). histories_of s.script (lines t) (progress_of t) qs) placed in
       let used_blocks : used ≡ used_at s t = used_is ∙ all_used in
-      rw (requests, log, marked, placed, histories, damage_is, used_blocks, total_is) refl
+      rw (requests, log, marked, kept, placed, histories, damage_is, used_blocks, total_is) refl

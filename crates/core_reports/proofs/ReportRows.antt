@@ -80,7 +80,7 @@ all_places = refl
 
 -- the desk
 abbrev data_of : ℕ → Desk
-data_of notices = record { requests = script; log = []; marks = []; notices = notices; parked = [] }
+data_of notices = record { requests = script; log = []; marks = []; receipts = []; notices = notices; parked = [] }
 
 desk_there : HasDesk (data_of 0) zones
 desk_there = record { zone = front; had = refl; keeps = refl }

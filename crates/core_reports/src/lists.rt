@@ -105,7 +105,13 @@ pub(crate) fn total_space(zones: &[Zone]) -> u32
 /// What a report has of the desk.
 pub(crate) fn desk_report(mut zones: Vec<Zone>) -> DeskReport
     ensures { (desk : DeskData) → HasDesk desk zones.items →
-        result ≡ record { requests = desk.requests; log = desk.log; marks = desk.marks } }
+        result
+        ≡ record {
+          requests = desk.requests;
+          log = desk.log;
+          marks = desk.marks;
+          receipts = desk.receipts;
+        } }
 {
     let alloc = *zones.allocator();
     if !zones.is_empty() {
@@ -118,5 +124,6 @@ pub(crate) fn desk_report(mut zones: Vec<Zone>) -> DeskReport
         requests: Requests::new(alloc),
         log: ReportList::new(alloc),
         marks: ReportList::new(alloc),
+        receipts: ReportList::new(alloc),
     }
 }

@@ -12,7 +12,7 @@ use crate::room::ReportRoom;
 use core_model::Zone;
 use vdo_model::RunReport;
 
-/// The report of a core that is done: its requests, desk log and marks are moved out of the desk, its places are those
+/// The report of a core that is done: its requests, desk log, marks and receipts are moved out of the desk, its places are those
 /// of the zones, one zone's behind the other's, its histories have an entry for each write that has a place, its damage is what the
 /// device's zone found first, and its used blocks are those that the physical zones count. It asks
 /// for no memory; its time is linear in the requests, for each of the 16 streams. Of a core that isn't legal, or isn't
@@ -37,6 +37,7 @@ pub fn report(zones: Vec<Zone>, room: ReportRoom) -> RunReport
         requests: desk.requests,
         desk: desk.log,
         marks: desk.marks,
+        receipts: desk.receipts,
         places: places.into_list(),
         histories: histories.into_list(),
         damage,

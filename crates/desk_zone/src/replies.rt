@@ -1,6 +1,6 @@
 ghost use Rattle.std.specs.Prelude.{◌≡◌, [], IsSome, Some, true};
 ghost use Rattle.blk_base.specs.declared.request.Answer.{Answer};
-ghost use Rattle.blk_base.specs.declared.request.Answer.TheVariants.{Ok};
+ghost use Rattle.blk_base.specs.declared.request.Answer.TheVariants.{NoSpace, Ok};
 ghost use Rattle.data_vio.specs.declared.items.Asks.TheVariants.{Flush};
 ghost use Rattle.data_vio.specs.declared.items.Phase.TheVariants.{Reply};
 ghost use Rattle.core_model.specs.DeskRules as rows;
@@ -27,6 +27,14 @@ fn is_marked(asks: Asks, answer: &Answer) -> bool
     matches!((asks, answer), (Asks::Flush, Answer::Ok))
 }
 
+// Whether an answer is that no block is free.
+fn is_no_space(answer: &Answer) -> bool
+    ensures is { result ≡ rows.is_no_space answer.now }
+    ensures so { result ≡ true → answer.now ≡ NoSpace }
+{
+    matches!(answer, Answer::NoSpace)
+}
+
 // Whether an answer waits until the stop notice of every zone has come.
 fn is_stopped(answer: &Answer) -> bool
     ensures { result ≡ rows.is_stopped answer.now }
@@ -49,6 +57,8 @@ fn reply(sizes: &Sizes, desk: &mut Desk, mut vio: BoxedVio)
     };
     if is_marked(asks, &given) {
         desk.mark(vio);
+    } else if is_no_space(&given) {
+        desk.lack(vio);
     } else {
         desk.answer(vio, given);
     }

@@ -59,13 +59,13 @@ moved keeps = sender keeps [] ∷ receiver one ∷ []
 
 -- the first zone is a desk all of whose requests are answered, since it has none; or it is no desk
 abbrev done : ZoneData
-done = at.Desk (record { requests = []; log = []; marks = []; notices = 0; parked = [] })
+done = at.Desk (record { requests = []; log = []; marks = []; receipts = []; notices = 0; parked = [] })
 
 abbrev undone : ZoneData
 undone = physical nothing nothing
 
 is_done : IsDone (zones done)
-is_done = record { zone = sender done one; desk = record { requests = []; log = []; marks = []; notices = 0; parked = [] }; had = refl; keeps = refl; full = refl }
+is_done = record { zone = sender done one; desk = record { requests = []; log = []; marks = []; receipts = []; notices = 0; parked = [] }; had = refl; keeps = refl; full = refl }
 
 isnt_done : IsDone (zones undone) → ⊥
 isnt_done is =

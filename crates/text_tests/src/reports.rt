@@ -5,7 +5,7 @@ use vdo_model::{DeskLine, Placed, ReportList, Requests, RunReport};
 /// What a put gives, and where the sink holds other bytes then.
 pub type Put = (Result<(), Failed>, Option<usize>);
 
-/// A report of these requests, without marks and histories.
+/// A report of these requests, without marks, receipts and histories.
 pub fn report_of(
     alloc: Global,
     requests: Requests,
@@ -16,6 +16,7 @@ pub fn report_of(
         requests,
         desk,
         marks: ReportList::new(alloc),
+        receipts: ReportList::new(alloc),
         places,
         histories: ReportList::new(alloc),
         damage: None,

@@ -48,7 +48,7 @@ use Rattle.vdo_cli.proofs.SessionLaws.{happens, plays, reported}
 
 -- a report of no request, and the one of a session of none over what was opened
 abbrev pub empty_report : RunReport
-empty_report = record { requests = no_requests; desk = []; marks = []; places = []; histories = []; damage = None; used = 0; total = 0 }
+empty_report = record { requests = no_requests; desk = []; marks = []; receipts = []; places = []; histories = []; damage = None; used = 0; total = 0 }
 
 abbrev pub still_report : Opened → RunReport
 still_report start = report_of (sessions.bare (run_sizes start.head) no_requests start) []
@@ -65,7 +65,7 @@ module _ (start : Opened) (script : Script) (counts : Counters) where
 
   abbrev pub first_zones : List Zone
   first_zones =
-      first_zone 0 (at.Desk (record { requests = script; log = []; marks = []; notices = 0; parked = [] }))
+      first_zone 0 (at.Desk (record { requests = script; log = []; marks = []; receipts = []; notices = 0; parked = [] }))
       ∷ first_zone 1 (at.Logical (record { zone = 0; notified = false; next = 0; places = []; held = []; waiting = []; retired = []; tree = bare start.head.geometry; making = []; lacking = []; unlinkable = []; settling = []; reported = []; slots = [] }))
       ∷ first_zone 2 (at.Physical (record { notified = false; strays = []; counts = counts }))
       ∷ first_zone 3 (at.Journal (record { notified = false; busy = false; broken = false; log = first_log (run_sizes start.head); filling = []; waiting = []; entered = []; committed = [] }))
@@ -92,7 +92,7 @@ module _ (start : Opened) (script : Script) (counts : Counters) where
     begun number keeps own = record { number_is = refl; steps = refl; lanes = omega (arith, zones_are, physical_are); inbox = refl; outboxes = (refl, (refl, (refl, (refl, (refl, tt))))); own = own }
 
     each : Each (IsFirstZone s) first_zones
-    each zero zone is = subst (IsFirstZone s 0) (same_Some _ _ is) (begun 0 _ (record { number_is = refl; requests = sym over.script_is; log = refl; marks = refl; notices = refl; parked = refl }))
+    each zero zone is = subst (IsFirstZone s 0) (same_Some _ _ is) (begun 0 _ (record { number_is = refl; requests = sym over.script_is; log = refl; marks = refl; receipts = refl; notices = refl; parked = refl }))
     each (suc zero) zone is = subst (IsFirstZone s 1) (same_Some _ _ is) (begun 1 _ (record {
       number_is = refl;
       among = omega (arith, zones_are);

@@ -37,7 +37,7 @@ begins = with [] (7 ∷ []) [] 0
 
 -- another report than the empty one
 abbrev pub some_report : RunReport
-some_report = record { requests = [] ∷ []; desk = []; marks = []; places = []; histories = []; damage = None; used = 0; total = 0 }
+some_report = record { requests = [] ∷ []; desk = []; marks = []; receipts = []; places = []; histories = []; damage = None; used = 0; total = 0 }
 
 -- Usage. The words are no command, and only its line was put:
 usage-no_words : Ends [] begins (with [] (7 ∷ []) (codes "usage\n") 0) 2 no_report (Some fault.Usage)

@@ -159,7 +159,7 @@ older_full = refl
 
 -- struck_status: 4 goes before 3, and 3 before what served_status says, 1 before 0
 abbrev told : List DeskLine → RunReport
-told lines = record { requests = []; desk = lines; marks = []; places = []; histories = []; damage = None; used = 2; total = 64 }
+told lines = record { requests = []; desk = lines; marks = []; receipts = []; places = []; histories = []; damage = None; used = 2; total = 64 }
 
 all_right : (struck_status (told desk) ≡ None) × (served_status desk ≡ 0)
 all_right = (refl, refl)

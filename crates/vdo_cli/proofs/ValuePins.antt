@@ -54,6 +54,7 @@ read_report byte = record {
   requests = reads_one;
   desk = Answer (of_a 0) (reply.Bytes (block byte)) ∷ Begin (of_a 0) ∷ [];
   marks = [];
+  receipts = [];
   places = placed (of_a 0) 0 0 ∷ [];
   histories = [];
   damage = None;
@@ -70,6 +71,7 @@ write_report calls = record {
   requests = writes_one;
   desk = Answer (of_a 1) reply.Ok ∷ Begin (of_a 1) ∷ Answer (of_a 0) reply.Ok ∷ Begin (of_a 0) ∷ [];
   marks = record { request = of_a 1; calls = calls } ∷ [];
+  receipts = [];
   places = placed (of_a 0) 0 0 ∷ [];
   histories = entry 1 (of_a 0) Settled ∷ [];
   damage = None;

@@ -86,7 +86,7 @@ Tells tells text status (Some other) before after = ⊥
 
 -- the report where no session was begun
 abbrev pub no_report : RunReport
-no_report = record { requests = []; desk = []; marks = []; places = []; histories = []; damage = None; used = 0; total = 0 }
+no_report = record { requests = []; desk = []; marks = []; receipts = []; places = []; histories = []; damage = None; used = 0; total = 0 }
 
 -- no session was begun: its fault's line is put, behind what was recovered, with the fault's status
 pub record RefusesAfter (tells : Bool) (recovered : Option ℕ) (why : Fault) (status : ℕ) (report : RunReport) (before after : SinkSeen) : Type 0 where

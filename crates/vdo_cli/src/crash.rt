@@ -64,6 +64,7 @@ fn unserved(alloc: Global, requests: Requests) -> RunReport
         requests,
         desk: ReportList::new(alloc),
         marks: ReportList::new(alloc),
+        receipts: ReportList::new(alloc),
         places: ReportList::new(alloc),
         histories: ReportList::new(alloc),
         damage: None,

@@ -87,6 +87,7 @@ fn empty_report(alloc: Global) -> RunReport
         requests: Requests::new(alloc),
         desk: ReportList::new(alloc),
         marks: ReportList::new(alloc),
+        receipts: ReportList::new(alloc),
         places: ReportList::new(alloc),
         histories: ReportList::new(alloc),
         damage: None,

@@ -36,7 +36,7 @@ module _ (lines : List DeskLine) (outboxes : List (List Item)) where
   desk_number script log = record {
     number = 0;
     steps = 0;
-    keeps = at.Desk (record { requests = script; log = log; marks = []; notices = 0; parked = [] });
+    keeps = at.Desk (record { requests = script; log = log; marks = []; receipts = []; notices = 0; parked = [] });
     ports = record { inbox = []; outboxes = outboxes };
   }
 
@@ -49,8 +49,8 @@ module _ (lines : List DeskLine) (outboxes : List (List Item)) where
   done-not_with_fewer : IsDone (desk_number ((request.Flush ∷ []) ∷ []) [] ∷ []) → ⊥
   done-not_with_fewer done =
       let zone : desk_number ((request.Flush ∷ []) ∷ []) [] ≡ done.zone = let had = done.had in cc in
-      let desk : at.Desk (record { requests = (request.Flush ∷ []) ∷ []; log = []; marks = []; notices = 0; parked = [] }) ≡ at.Desk done.desk = ap (λ (z : Zone). z.keeps) zone ∙ done.keeps in
-      let kept : record { requests = (request.Flush ∷ []) ∷ []; log = []; marks = []; notices = 0; parked = [] } ≡ done.desk = cc in
+      let desk : at.Desk (record { requests = (request.Flush ∷ []) ∷ []; log = []; marks = []; receipts = []; notices = 0; parked = [] }) ≡ at.Desk done.desk = ap (λ (z : Zone). z.keeps) zone ∙ done.keeps in
+      let kept : record { requests = (request.Flush ∷ []) ∷ []; log = []; marks = []; receipts = []; notices = 0; parked = [] } ≡ done.desk = cc in
       let full = done.full in
       absurd (omega (arith, ap (λ (d : Desk). length d.log) kept, ap (λ (d : Desk). 2 * requests_in d.requests) kept, full))
 

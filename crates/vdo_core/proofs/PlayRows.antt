@@ -38,7 +38,7 @@ abbrev pub flushes : Script
 flushes = (request.Flush ∷ request.Flush ∷ []) ∷ []
 
 abbrev pub desk_with : List DeskLine → Desk
-desk_with log = record { requests = flushes; log = log; marks = []; notices = 0; parked = [] }
+desk_with log = record { requests = flushes; log = log; marks = []; receipts = []; notices = 0; parked = [] }
 
 abbrev pub desk : ℕ → List DeskLine → Zone
 desk steps log = record { number = 0; steps = steps; keeps = at.Desk (desk_with log); ports = record { inbox = []; outboxes = [] } }

@@ -50,12 +50,13 @@ pub numbered : (s : Session) (number other : ℕ) (keeps : ZoneData) → other �
 numbered s number other keeps is first = subst (λ (n : ℕ). IsFirstData s n keeps) (sym is) first
 
 -- the desk that has the requests, and began none
-pub first_desk : (s : Session) (desk : Desk) (requests : Script) → desk ≡ record { requests = requests; log = []; marks = []; notices = 0; parked = [] } → s.script ≡ requests → IsFirstDesk s desk_number desk
+pub first_desk : (s : Session) (desk : Desk) (requests : Script) → desk ≡ record { requests = requests; log = []; marks = []; receipts = []; notices = 0; parked = [] } → s.script ≡ requests → IsFirstDesk s desk_number desk
 first_desk s desk requests is script = record {
   number_is = refl;
   requests = ap (λ (d : Desk). d.requests) is ∙ sym script;
   log = ap (λ (d : Desk). d.log) is;
   marks = ap (λ (d : Desk). d.marks) is;
+  receipts = ap (λ (d : Desk). d.receipts) is;
   notices = ap (λ (d : Desk). d.notices) is;
   parked = ap (λ (d : Desk). d.parked) is;
 }

@@ -27,7 +27,7 @@ abbrev HasValues : Blocks → (ℕ → List ℕ) → Type 0
 HasValues image values = (values 0 ≡ block 10) × (sector 0 (block_at image 0) ≡ sector 0 (values 1))
 
 abbrev report : List FlushMark → Mark → RunReport
-report marks last = record { requests = script; desk = first_lines; marks = marks; places = first_places; histories = entry 1 (of_a 0) last ∷ []; damage = None; used = 0; total = 0 }
+report marks last = record { requests = script; desk = first_lines; marks = marks; receipts = []; places = first_places; histories = entry 1 (of_a 0) last ∷ []; damage = None; used = 0; total = 0 }
 
 -- after stops in these calls, with these ones before the run
 abbrev IsRight : List Call → List FlushMark → Mark → List Call → Type 0

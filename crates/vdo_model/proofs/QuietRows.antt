@@ -102,7 +102,7 @@ abbrev mark : FlushMark
 mark = record { request = of_a 0; calls = 1 }
 
 abbrev report : List DeskLine → List FlushMark → RunReport
-report desk marks = record { requests = []; desk = desk; marks = marks; places = []; histories = []; damage = None; used = 0; total = 0 }
+report desk marks = record { requests = []; desk = desk; marks = marks; receipts = []; places = []; histories = []; damage = None; used = 0; total = 0 }
 
 abbrev AtFlush : (Blocks → Pbn → Type 0) → List DeskLine → List FlushMark → Type 0
 AtFlush IsUsed desk marks = IsFullAtFlush IsUsed small [] [] (report desk marks) (Flush true ∷ [])

@@ -322,7 +322,7 @@ written_elsewhere_alone =
 -- ShowsRight: the values of all addresses below the logical size, behind the mark of b.
 
 abbrev report : RunReport
-report = record { requests = script; desk = desk; marks = marks; places = places; histories = histories; damage = None; used = 0; total = 0 }
+report = record { requests = script; desk = desk; marks = marks; receipts = []; places = places; histories = histories; damage = None; used = 0; total = 0 }
 
 abbrev openings : ℕ → List ℕ
 openings a = block (a + 10)

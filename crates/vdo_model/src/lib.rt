@@ -13,7 +13,9 @@ mod report_list;
 mod requests;
 mod zone_order;
 
-pub use report::{Damage, DeskLine, FlushMark, HistoryEntry, Mark, Placed, RunReport};
+pub use report::{
+    Damage, DeskLine, FlushMark, HistoryEntry, Mark, NoSpaceReceipt, Placed, RunReport,
+};
 pub use report_list::ReportList;
 pub use requests::Requests;
 pub use zone_order::zones_may_be_listed_in_any_order;

@@ -44,6 +44,15 @@ pub struct FlushMark {
     pub calls: u64,
 }
 
+/// The receipt of a request that was answered `no space`.
+#[derive(Clone, Copy, Debug, PartialEq, Eq)]
+pub struct NoSpaceReceipt {
+    pub request: Writer,
+    /// When it asked the physical zone that it asked last: the number, from 0, among the steps in which that zone gave
+    /// or took back a ticket.
+    pub step: u64,
+}
+
 /// What was found wrong on the device in a session that was opened without a fault.
 #[derive(Clone, Copy, Debug, PartialEq, Eq)]
 pub enum Damage {
@@ -61,6 +70,8 @@ pub struct RunReport {
     pub desk: ReportList<DeskLine>,
     /// The marks of the flushes that were answered Ok.
     pub marks: ReportList<FlushMark>,
+    /// The receipts of the requests that were answered `no space`.
+    pub receipts: ReportList<NoSpaceReceipt>,
     /// The place of each request that has one, in the order of each zone's numbers.
     pub places: ReportList<Placed>,
     /// The writes and discards that have a place. Those of one address are its history, in the order of their places.

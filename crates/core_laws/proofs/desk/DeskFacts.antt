@@ -11,10 +11,14 @@ use Rattle.data_vio.specs.declared.items.Asks.TheVariants.{Read, Write, Discard,
 use Rattle.data_vio.specs.declared.items.Item.TheVariants as item
 use Rattle.data_vio.specs.declared.items.Phase.TheVariants as phase
 use Rattle.core_model.specs.declared.zones.ZoneData.TheVariants as at
-use Rattle.core_model.specs.DeskRules.{DeskBegins, DeskServes, is_notified, at_once, vio_of, first_zone, is_marked, is_stopped, mark_of_vio, with_notice, woken}
+use Rattle.core_model.specs.DeskRules.{DeskBegins, DeskServes, is_notified, at_once, vio_of, first_zone, is_marked, is_stopped, mark_of_vio, with_notice, woken, is_no_space, receipt_step}
 use Rattle.core_laws.proofs.kept.ActKept.{Known, unborn, ActKept, PostOk, act_none, act_one, own_request, plain_clears, reaches, line_kept, shown_plain, in_bare, unborn_place, unborn_entry, unborn_take, unborn_slot, vio_ok}
 use Rattle.core_laws.proofs.trace.DeskOfTrace.{desk_log_right, answered_begun, shown_of}
 use Rattle.core_laws.proofs.physical.PhysicalFacts.{zone_below}
+use Rattle.core_laws.proofs.kept.Carried.{earned_by}
+use Rattle.core_model.specs.Facts.{HasReceipt}
+use Rattle.core_model.specs.Trace.{asked_step, last_asked, receipts}
+use Rattle.vdo_model.specs.declared.report.NoSpaceReceipt.{NoSpaceReceipt}
 
 -- a request is among the begun ones once its Begin stands
 pub begun_now : (w : Writer) (older : List DeskLine) → w.number ≡ begun w.stream older → w.number < begun w.stream (line.Begin w ∷ older)
@@ -150,6 +154,34 @@ once_stopped sizes notified Write a is = low_stopped (nat_lt a sizes.geometry.lo
 once_stopped sizes notified Discard a is = low_stopped (nat_lt a sizes.geometry.logical) notified is
 once_stopped sizes notified Flush a is = notified_first notified is
 
+-- and no space isn't answered at once
+abbrev is_lacking : Option Reply → Bool
+is_lacking None = false
+is_lacking (Some a) = is_no_space a
+
+low_spaced : (low notified : Bool) → is_lacking (if low then (if notified then Some reply.Stopped else None) else Some reply.Range) ≡ false
+low_spaced true true = refl
+low_spaced true false = refl
+low_spaced false notified = refl
+
+read_spaced : (low : Bool) → is_lacking (if low then None else Some reply.Range) ≡ false
+read_spaced true = refl
+read_spaced false = refl
+
+at_once_spaced : (sizes : Sizes) (notified : Bool) (asks : Asks) (a : ℕ) → is_lacking (at_once sizes notified asks a) ≡ false
+at_once_spaced sizes notified Read a = read_spaced (nat_lt a sizes.geometry.logical)
+at_once_spaced sizes notified Write a = low_spaced (nat_lt a sizes.geometry.logical) notified
+at_once_spaced sizes notified Discard a = low_spaced (nat_lt a sizes.geometry.logical) notified
+at_once_spaced sizes notified Flush a = low_spaced true notified
+
+once_spaced : (sizes : Sizes) (notified : Bool) (asks : Asks) (a : ℕ) (answer : Reply) → at_once sizes notified asks a ≡ Some answer → is_no_space answer ≡ false
+once_spaced sizes notified asks a answer is = sym (ap is_lacking is) ∙ at_once_spaced sizes notified asks a
+
+-- any other answer adds no receipt
+receipts_said : (t : Trace) (w : Writer) (a : Reply) → is_no_space a ≡ false → receipts (Says (line.Answer w a) ∷ t) ≡ receipts t
+receipts_said t w reply.NoSpace spaced = absurd cc
+receipts_said t w other spaced = refl
+
 -- The desk begins a request.
 pub desk_begins : {s : Session} {t : Trace} {n : ℕ} {old : Desk} → Known s t n (at.Desk old) [] → (new : Desk) (made : Trace) (posts : List Post) → DeskBegins s.sizes old new made posts → ActKept s t n (at.Desk old) [] (at.Desk new) made posts
 desk_begins {s} {t} {n} {old} known new made posts (DeskBegins.answers w r v a next_line asks served once i m q) =
@@ -172,7 +204,7 @@ desk_begins {s} {t} {n} {old} known new made posts (DeskBegins.answers w r v a n
       owns = (reaches known second, (reaches known first, tt));
       own = record {
         number_is = own.number_is;
-        lists = record { log_is = ap (λ (ls : List DeskLine). line.Answer w a ∷ line.Begin w ∷ ls) own.lists.log_is; marks_is = own.lists.marks_is };
+        lists = record { log_is = ap (λ (ls : List DeskLine). line.Answer w a ∷ line.Begin w ∷ ls) own.lists.log_is; marks_is = own.lists.marks_is; receipts_is = own.lists.receipts_is ∙ sym (receipts_said (began ∷ t) w a (once_spaced s.sizes (is_notified s.sizes old) v.asks v.at.0 a once)) };
         sound = record {
           requests = own.sound.requests;
           stops_notified = stops_answer old.notices (notified_zones s.sizes) w a (line.Begin w ∷ old.log) own.sound.stops_notified
@@ -194,7 +226,7 @@ desk_begins {s} {t} {n} {old} known new made posts (DeskBegins.sends w r v next_
     rw (i, m, q) (act_one known began clears (λ gives fair. gives (fair_before s began t fair)) (begins_right s t w known.session known.right next)
     (record {
       number_is = own.number_is;
-      lists = record { log_is = ap (λ (ls : List DeskLine). line.Begin w ∷ ls) own.lists.log_is; marks_is = own.lists.marks_is };
+      lists = record { log_is = ap (λ (ls : List DeskLine). line.Begin w ∷ ls) own.lists.log_is; marks_is = own.lists.marks_is; receipts_is = own.lists.receipts_is };
       sound = record { requests = own.sound.requests; stops_notified = own.sound.stops_notified; parked_early = own.sound.parked_early };
       kept = line_kept known began t clears own.kept;
       answers = tt;
@@ -219,7 +251,13 @@ module _ {s : Session} {t : Trace} {n : ℕ} {old : Desk} {v : Vio} (known : Kno
   earned : v.phase ≡ phase.Reply → (a : Reply) → v.answer ≡ Some a → IsEarned s t (mark_of_vio v) (request_of v) a (is_marked v.asks a)
   earned is a answer =
       let may : MayReply s t v v.answer = (in_bare known phase.Reply is (λ page no. no)).1 in
-      let k : MayReply s t v (Some a) = subst (λ (o : Option Reply). MayReply s t v o) answer may in k
+      earned_by s t v a (subst (λ (o : Option Reply). MayReply s t v o) answer may)
+
+  -- one that found no block has its receipt
+  its_receipt : v.phase ≡ phase.Reply → v.answer ≡ Some reply.NoSpace → HasReceipt t v.request v.receipt
+  its_receipt is answer =
+      let may : MayReply s t v v.answer = (in_bare known phase.Reply is (λ page no. no)).1 in
+      let k : MayReply s t v (Some reply.NoSpace) = subst (λ (o : Option Reply). MayReply s t v o) answer may in k.1
 
   answer_cause : v.phase ≡ phase.Reply → (a : Reply) → v.answer ≡ Some a → is_marked v.asks a ≡ false → (r : Request) → request_at s.script v.request ≡ Some r → MayAnswer s t v.request r a
   answer_cause is a answer unmarked r asks =
@@ -254,7 +292,7 @@ module _ {s : Session} {t : Trace} {n : ℕ} {old : Desk} {v : Vio} (known : Kno
       let own = known.own in
       rw (i, m, q) (act_none known (record {
         number_is = own.number_is;
-        lists = record { log_is = own.lists.log_is; marks_is = own.lists.marks_is };
+        lists = record { log_is = own.lists.log_is; marks_is = own.lists.marks_is; receipts_is = own.lists.receipts_is };
         sound = record {
           requests = own.sound.requests;
           stops_notified = own.sound.stops_notified;
@@ -264,7 +302,7 @@ module _ {s : Session} {t : Trace} {n : ℕ} {old : Desk} {v : Vio} (known : Kno
         answers = tt;
         told = λ heard. earned_stopped a stopped (earned is a answer);
       }) tt)
-  desk_serves new made posts (DeskServes.answers a is answer notified unmarked i m q) =
+  desk_serves new made posts (DeskServes.answers a is answer notified unmarked spaced i m q) =
       let own = known.own in
       let h = Says (line.Answer v.request a) in
       let clears = plain_clears known h t tt own.number_is (own_request known) tt tt in
@@ -272,7 +310,7 @@ module _ {s : Session} {t : Trace} {n : ℕ} {old : Desk} {v : Vio} (known : Kno
       ((((vio_ok known).is_open.is_begun, (vio_ok known).is_open.unanswered), answer_cause is a answer unmarked), shown_plain s t h tt (shown_of s t known.right), known.right)
       (record {
         number_is = own.number_is;
-        lists = record { log_is = ap (λ (ls : List DeskLine). line.Answer v.request a ∷ ls) own.lists.log_is; marks_is = own.lists.marks_is };
+        lists = record { log_is = ap (λ (ls : List DeskLine). line.Answer v.request a ∷ ls) own.lists.log_is; marks_is = own.lists.marks_is; receipts_is = own.lists.receipts_is ∙ sym (receipts_said t v.request a spaced) };
         sound = record {
           requests = own.sound.requests;
           stops_notified = stops_answer old.notices (notified_zones s.sizes) v.request a old.log own.sound.stops_notified (λ same. notified_enough s.sizes old (notified (ap is_stopped same)));
@@ -294,12 +332,35 @@ module _ {s : Session} {t : Trace} {n : ℕ} {old : Desk} {v : Vio} (known : Kno
         lists = record {
           log_is = ap (λ (ls : List DeskLine). line.Answer v.request reply.Ok ∷ ls) own.lists.log_is;
           marks_is = ap (λ (ms : List FlushMark). mark ∷ ms) own.lists.marks_is;
+          receipts_is = own.lists.receipts_is;
         };
         sound = record { requests = own.sound.requests; stops_notified = stops_answer old.notices (notified_zones s.sizes) v.request reply.Ok old.log own.sound.stops_notified (λ same. absurd cc); parked_early = own.sound.parked_early };
         kept = line_kept known h t clears own.kept;
         answers = tt;
         told = own.told;
       }) tt)
+  desk_serves new made posts (DeskServes.lacks is answer i m q) =
+      let own = known.own in
+      let h = Says (line.Answer v.request reply.NoSpace) in
+      let clears = plain_clears known h t tt own.number_is (own_request known) tt tt in
+      let step = same_step is answer in
+      rw (i, m, q) (act_one known h clears (λ gives fair. gives (fair_before s h t fair))
+      ((((vio_ok known).is_open.is_begun, (vio_ok known).is_open.unanswered), answer_cause is reply.NoSpace answer refl), shown_plain s t h tt (shown_of s t known.right), known.right)
+      (record {
+        number_is = own.number_is;
+        lists = record {
+          log_is = ap (λ (ls : List DeskLine). line.Answer v.request reply.NoSpace ∷ ls) own.lists.log_is;
+          marks_is = own.lists.marks_is;
+          receipts_is = ap (λ (n : ℕ). record { request = v.request; step = n } ∷ old.receipts) step ∙ ap (λ (rs : List NoSpaceReceipt). record { request = v.request; step = asked_step (last_asked t v.request) } ∷ rs) own.lists.receipts_is;
+        };
+        sound = record { requests = own.sound.requests; stops_notified = stops_answer old.notices (notified_zones s.sizes) v.request reply.NoSpace old.log own.sound.stops_notified (λ same. absurd cc); parked_early = own.sound.parked_early };
+        kept = line_kept known h t clears own.kept;
+        answers = tt;
+        told = own.told;
+      }) tt)
+    where
+      same_step : v.phase ≡ phase.Reply → v.answer ≡ Some reply.NoSpace → receipt_step v.receipt ≡ asked_step (last_asked t v.request)
+      same_step is answer = let k = its_receipt is answer in ap receipt_step k.receipt_is ∙ k.asked ∙ sym (ap asked_step k.last)
 
 -- those that wait go to the desk itself
 woken_ok : (s : Session) (t : Trace) (vs : List Vio) → AllByRecursion (KeptOk s t phase.Reply) vs → AllByRecursion (PostOk s t) (woken vs)
@@ -312,7 +373,7 @@ desk_hears {s} {t} {n} {old} known =
     let own = known.own in
     act_none known (record {
       number_is = own.number_is;
-      lists = record { log_is = own.lists.log_is; marks_is = own.lists.marks_is };
+      lists = record { log_is = own.lists.log_is; marks_is = own.lists.marks_is; receipts_is = own.lists.receipts_is };
       sound = record { requests = own.sound.requests; stops_notified = λ w stopped. (let enough = own.sound.stops_notified w stopped in omega (arith, enough)); parked_early = λ some. absurd (omega (arith, some)) };
       kept = tt;
       answers = tt;

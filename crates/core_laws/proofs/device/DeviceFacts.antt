@@ -173,9 +173,17 @@ unmarked q a (inl is) = rw is refl
 unmarked q a (inr is) = rw is refl
 
 leaf_fault : (s : Session) (t : Trace) (v : Vio) (a : Reply) → ((a ≡ reply.ReadFault) × (has_read_fault t v.request ≡ true)) ⊎ ((a ≡ reply.Damaged) × (is_harmed t v.request ≡ true)) → IsPlaced s t v → MayReply s t v (Some a)
-leaf_fault s t v a why placed =
-    subst (IsEarned s t (mark_of_vio v) (request_of v) a) (sym (unmarked v.asks a (elim why [ inl fault ↦ inl fault.0 | inr harm ↦ inr harm.0 ])))
-    (leaf_cause s t v.request v.asks v.at v.bytes a why placed.for_block (some_is _ _ placed.placed) placed.not_entered)
+leaf_fault s t v a why placed = by a why earned
+  where
+    earned : IsEarned s t (mark_of_vio v) (request_of v) a (is_marked v.asks a)
+    earned =
+        subst (IsEarned s t (mark_of_vio v) (request_of v) a) (sym (unmarked v.asks a (elim why [ inl fault ↦ inl fault.0 | inr harm ↦ inr harm.0 ])))
+        (leaf_cause s t v.request v.asks v.at v.bytes a why placed.for_block (some_is _ _ placed.placed) placed.not_entered)
+
+    by : (b : Reply) → ((b ≡ reply.ReadFault) × (has_read_fault t v.request ≡ true)) ⊎ ((b ≡ reply.Damaged) × (is_harmed t v.request ≡ true)) → IsEarned s t (mark_of_vio v) (request_of v) b (is_marked v.asks b) → MayReply s t v (Some b)
+    by reply.NoSpace (inl is) k = absurd (let no = is.0 in cc)
+    by reply.NoSpace (inr is) k = absurd (let no = is.0 in cc)
+    by other is k = k
 
 -- the notices after it
 notices_after_ok : (s : Session) (t : Trace) (stopped : Bool) → has_stopped t ≡ true → AllByRecursion (PostOk s t) (notices_after stopped s.sizes)

@@ -18,7 +18,7 @@ use Rattle.core_laws.proofs.kept.StandsOn.{journal_kept, left_kept, mapped_all, 
 use Rattle.core_laws.proofs.kept.Carried.{logged_request, pending_over}
 use Rattle.blk_base.specs.declared.place.Mapping.TheVariants.{At, Unmapped, Zero}
 use Rattle.blk_base.specs.declared.place.PageId.{PageId}
-use Rattle.core_model.specs.Facts.{CarriesFor, CarriesOwn, CarriesPage, MakesPage}
+use Rattle.core_model.specs.Facts.{CarriesFor, CarriesOwn, CarriesPage, MakesPage, HasReceipt}
 use Rattle.core_laws.proofs.journal.LoggedEntries.{block_at, logged_makes, logged_own, on_address, on_page}
 use Rattle.core_laws.proofs.journal.PageEntries.{page_pending, page_right}
 use Rattle.blk_base.specs.declared.request.Answer.TheVariants as reply
@@ -60,8 +60,9 @@ cause_no_space s t w q at bytes is none some none_taken no_free = rw is (some, n
 pub may_stop : (s : Session) (t : Trace) (v : Vio) → IsChange v.asks → has_stopped t ≡ true → HasPlace s t v.request v.at.0 v.place → IsNone (logged_of (done t) v.request) → MayReply s t v (Some reply.Stopped)
 may_stop s t v is stopped placed none = cause_stopped s t v.request v.asks v.at v.bytes is stopped (some_is _ _ placed) none
 
-pub write_no_space : (s : Session) (t : Trace) (v : Vio) → v.asks ≡ Write → IsPlaced s t v → has_taken t v.request None ≡ false → HadNoFree s t v.request → MayReply s t v (Some reply.NoSpace)
-write_no_space s t v is k none_taken no_free = cause_no_space s t v.request v.asks v.at v.bytes is k.not_entered (some_is _ _ k.placed) none_taken no_free
+pub write_no_space : (s : Session) (t : Trace) (v : Vio) → v.asks ≡ Write → IsPlaced s t v → has_taken t v.request None ≡ false → HadNoFree s t v.request → HasReceipt t v.request v.receipt
+    → MayReply s t v (Some reply.NoSpace)
+write_no_space s t v is k none_taken no_free receipt = (cause_no_space s t v.request v.asks v.at v.bytes is k.not_entered (some_is _ _ k.placed) none_taken no_free, receipt)
 
 pub may_fill : (s : Session) (t : Trace) (v : Vio) → IsChange v.asks → IsPlaced s t v → HasFullJournal s t → MayReply s t v (Some reply.Full)
 may_fill s t v is k full = cause_full s t v.request v.asks v.at v.bytes is k.not_entered (some_is _ _ k.placed) full

@@ -35,6 +35,8 @@ use Rattle.core_laws.proofs.tokens.Posts.{goes_by}
 use Rattle.core_laws.proofs.tokens.Known.{IsIn, KeptIn}
 use Rattle.core_laws.proofs.trace.Growth.{begun_stays}
 use Rattle.core_laws.proofs.trace.PlacesOfTrace.{cause_placed}
+use Rattle.core_laws.proofs.kept.Carried.{earned_by}
+use Rattle.blk_base.specs.declared.request.Answer.TheVariants.{NoSpace}
 
 -- what is posted has its place, or needs none
 abbrev pub Still : Post → Type 0
@@ -291,17 +293,19 @@ module _ (s : Session) (t : Trace) (right : RightTrace s t) where
       let here : request_at s.script w ≡ Some r = subst (λ (script : _). request_at script w ≡ Some r) script h in
       rw (m, q) (ap (λ (us : List Writer). sent_to_zone s zone t ++ us) (ap (λ (o : Option Request). only_of zone (zone_asked s.sizes.zones o) w) here ∙ posted_begun s.sizes zone w r v served)))
 
+  -- an answer that isn't marked has its cause
+  earned : (v : Vio) → ItemOk s t desk_number (item.Request v) → (a : Answer) → v.phase ≡ phase.Reply → v.answer ≡ Some a → is_marked v.asks a ≡ false → HasCause s t v.request (request_of v) a
+  earned v ok a p h k =
+      let may : MayReply s t v v.answer = (bare_of s t v phase.Reply (λ page no. no) (subst (λ (q : Phase). Carries s t v q) p ok.1)).1 in
+      subst (λ (b : Bool). IsEarned s t (mark_of_vio v) (request_of v) a b) k (earned_by s t v a (subst (λ (o : Option Answer). MayReply s t v o) h may))
+
   desk_course : (old : Desk) (v : Vio) (new : Desk) (made : Trace) (posts : List Post) → ItemOk s t desk_number (item.Request v) → DeskServes s.sizes old v new made posts
       → Course s t (at.Desk old) (item.Request v ∷ []) made posts
   desk_course old v new made posts ok (desk.parks reply p h stopped told n m q) = still (past v p) (rw q tt) (rw m refl) (λ zone. rw m refl)
-  desk_course old v new made posts ok (desk.answers reply p h stopped k n m q) =
-      still (past v p) (rw q tt) (rw m refl) (λ zone. rw m (answer_sends s t v.request reply zone right (answer_placed s t v reply right ok.0 (earned reply p h k))))
-    where
-      earned : (a : Answer) → v.phase ≡ phase.Reply → v.answer ≡ Some a → is_marked v.asks a ≡ false → HasCause s t v.request (request_of v) a
-      earned a p h k =
-          let reply : MayReply s t v v.answer = (bare_of s t v phase.Reply (λ page no. no) (subst (λ (q : Phase). Carries s t v q) p ok.1)).1 in
-          let has : IsEarned s t (mark_of_vio v) (request_of v) a (is_marked v.asks a) = subst (λ (o : Option Answer). MayReply s t v o) h reply in
-          subst (λ (b : Bool). IsEarned s t (mark_of_vio v) (request_of v) a b) k has
+  desk_course old v new made posts ok (desk.answers reply p h stopped k spaced n m q) =
+      still (past v p) (rw q tt) (rw m refl) (λ zone. rw m (answer_sends s t v.request reply zone right (answer_placed s t v reply right ok.0 (earned v ok reply p h k))))
+  desk_course old v new made posts ok (desk.lacks p h n m q) =
+      still (past v p) (rw q tt) (rw m refl) (λ zone. rw m (answer_sends s t v.request NoSpace zone right (answer_placed s t v NoSpace right ok.0 (earned v ok NoSpace p h refl))))
   desk_course old v new made posts ok (desk.marks p k h n m q) = still (past v p) (rw q tt) (rw m refl) (λ zone. rw m refl)
 
   -- each act is one of the three

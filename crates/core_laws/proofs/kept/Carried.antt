@@ -12,13 +12,14 @@ use Rattle.blk_base.specs.declared.place.PageId.{PageId}
 use Rattle.data_vio.specs.Vios.{logged_for}
 use Rattle.core_model.specs.DeskRules.{is_marked, mark_of_vio}
 use Rattle.core_model.specs.DeviceRules.{page_at}
+use Rattle.core_model.specs.Trace.{last_asked}
 use Rattle.blk_base.specs.Regions.{IsDataBlock}
 use Rattle.data_vio.specs.Phases.{row}
 use Rattle.data_vio.specs.declared.logged.Logged.TheVariants.{Remaps}
 use Rattle.core_model.specs.Facts.{CarriesFor, CarriesOwn, CarriesPage, ClaimOk, IsDecrement, ReportOk, claim_of, HasLeaf, HasPageEntry, IsUnmade, MakesPage, NeedsLeaf}
 use Rattle.image_model.specs.Pages.{leaf_of}
 use Rattle.core_laws.proofs.kept.Keys.{Key, OfRequest, OfAddress, OfBlock, OfJournal, OfPage, token_of, Spares, own_name, holder_one, claim_one, maker_one}
-use Rattle.core_laws.proofs.kept.Spared.{applied_at, SparesRequest, SparesAddress, SparesPage, open_kept, durable_has, leafy_kept, journaled_has, link_same, put_same, there_kept, undropped_kept, place_same, entry_same, slot_same, abort_same, gift_same, take_same, stop_kept, fault_kept, harm_kept, linked_at_kept, abort_kept, needs_kept, journal_full_kept, mapping_same, quiet_kept, committed_kept, below_kept, pending_kept, mark_kept, value_same, added_has, hearing_kept, no_free_kept, asking_kept, withdrawing_kept, reported_kept, spent_kept}
+use Rattle.core_laws.proofs.kept.Spared.{applied_at, SparesRequest, SparesAddress, SparesPage, open_kept, durable_has, leafy_kept, journaled_has, link_same, put_same, there_kept, undropped_kept, place_same, entry_same, slot_same, abort_same, gift_same, take_same, stop_kept, fault_kept, harm_kept, linked_at_kept, abort_kept, needs_kept, journal_full_kept, mapping_same, quiet_kept, committed_kept, below_kept, pending_kept, mark_kept, value_same, added_has, hearing_kept, no_free_kept, asking_kept, withdrawing_kept, reported_kept, spent_kept, ask_same, receipt_kept}
 use Rattle.core_laws.proofs.kept.StandsOn.{SparesBlock, SparesJournal, SparesJournaled, SparesMap, SparesSealed, block_reads_kept, comes_stands, last_spared, new_kept, new_reads_kept, on_each, reads_kept, rest_spared, rests_kept, way_kept}
 
 none_weigh : (vs : List Vio) → total (λ v. 0) vs ≡ 0
@@ -56,9 +57,22 @@ pub record SaysSame (h : Happening) (t : Trace) (w : Writer) : Type 0 where
   pub of_slot : logged_of (done (h ∷ t)) w ≡ logged_of (done t) w
   pub of_gift : gift_of (gifts (h ∷ t)) w ≡ gift_of (gifts t) w
   pub of_take : has_taken (h ∷ t) w None ≡ has_taken t w None
+  pub of_ask : last_asked (h ∷ t) w ≡ last_asked t w
 
 says_same : (h : Happening) (t : Trace) (w : Writer) → SparesRequest h w → SaysSame h t w
-says_same h t w apart = record { of_place = place_same h t w apart; of_entry = entry_same h t w apart; of_slot = slot_same h t w apart; of_gift = gift_same h t w apart; of_take = take_same h t w None apart }
+says_same h t w apart = record {
+  of_place = place_same h t w apart;
+  of_entry = entry_same h t w apart;
+  of_slot = slot_same h t w apart;
+  of_gift = gift_same h t w apart;
+  of_take = take_same h t w None apart;
+  of_ask = ask_same h t w apart;
+}
+
+-- an answer that it may have is earned
+pub earned_by : (s : Session) (t : Trace) (v : Vio) (a : Answer) → MayReply s t v (Some a) → IsEarned s t (mark_of_vio v) (request_of v) a (is_marked v.asks a)
+earned_by s t v reply.NoSpace may = may.0
+earned_by s t v other may = may
 
 module _ (s : Session) (h : Happening) (t : Trace) where
   pub cause_kept : (w : Writer) (r : Request) (a : Answer) → SaysSame h t w → HasCause s t w r a → HasCause s (h ∷ t) w r a
@@ -93,6 +107,7 @@ module _ (s : Session) (h : Happening) (t : Trace) where
 
   pub reply_said : (v : Vio) (answer : Option Answer) → SaysSame h t v.request → MayReply s t v answer → MayReply s (h ∷ t) v answer
   reply_said v None same k = k
+  reply_said v (Some reply.NoSpace) same k = (earned_said v reply.NoSpace false same k.0, receipt_kept h t v.request v.receipt same.of_ask k.1)
   reply_said v (Some a) same k = earned_said v a (is_marked v.asks a) same k
 
   pub reply_kept : (v : Vio) (answer : Option Answer) → SparesRequest h v.request → MayReply s t v answer → MayReply s (h ∷ t) v answer
@@ -169,7 +184,7 @@ module _ (s : Session) (h : Happening) (t : Trace) where
   by_phase v phase.LoadLeaf r a b k = (turn_kept v r (a refl) k.0, take_same h t v.request None r ∙ k.1, needs_leaf_kept v (a refl) k.2)
   by_phase v phase.LoadedLeaf r a b k = (has_leaf_kept v r (a refl) k.0, take_same h t v.request None r ∙ k.1)
   by_phase v phase.Claim r a b k = (holds_kept v r (a refl) k.0, k.1, needs_kept h t v.request v.bytes (take_same h t v.request None r) k.2, leafy_kept s h t v.at.0 k.3, asking_kept s h t v.request v.place v.tickets k.4)
-  by_phase v phase.Withdraw r a b k = (holds_kept v r (a refl) k.0, k.1, leafy_kept s h t v.at.0 k.2, withdrawing_kept s h t v.request v.claim v.tickets (take_same h t v.request None r) k.3)
+  by_phase v phase.Withdraw r a b k = (holds_kept v r (a refl) k.0, k.1, leafy_kept s h t v.at.0 k.2, withdrawing_kept s h t v.request v.claim v.tickets r k.3)
   by_phase v phase.Store r a b k = (holds_kept v r (a refl) k.0, k.1, k.2, leafy_kept s h t v.at.0 k.3)
   by_phase v phase.Enter r a b k = (
     holds_kept v r (a refl) k.0,
@@ -226,7 +241,7 @@ module _ (s : Session) (h : Happening) (t : Trace) where
 
     by_page : (q : Phase) → (q ≡ phase.Enter → (x : Pbn) → v.new ≡ At x → SparesBlock h x.0) → CarriesPage s t v page q → CarriesPage s (h ∷ t) v page q
     by_page phase.Claim b k = (making_kept k.0, unmade_kept k.1, asking_kept s h t v.request v.place v.tickets k.2, take_same h t v.request (Some page) r ∙ k.3)
-    by_page phase.Withdraw b k = (making_kept k.0, unmade_kept k.1, withdrawing_kept s h t v.request v.claim v.tickets (take_same h t v.request None r) k.2)
+    by_page phase.Withdraw b k = (making_kept k.0, unmade_kept k.1, withdrawing_kept s h t v.request v.claim v.tickets r k.2)
     by_page phase.Store b k = (making_kept k.0, unmade_kept k.1, k.2)
     by_page phase.Enter b k = (
       making_kept k.0,

@@ -77,7 +77,7 @@ abbrev pub logical : ℕ → LogicalZone
 logical zone = record { zone = zone; notified = false; next = 0; places = []; held = []; waiting = []; retired = []; tree = bare small zone 2; making = []; lacking = []; settling = []; unlinkable = []; slots = []; reported = [] }
 
 abbrev pub small_desk : Desk
-small_desk = record { requests = script; log = []; marks = []; notices = 0; parked = [] }
+small_desk = record { requests = script; log = []; marks = []; receipts = []; notices = 0; parked = [] }
 
 -- its slab, of which no block is used, and the zone of that
 abbrev small_slab : Counts
@@ -156,7 +156,7 @@ pub small_first : IsFirst small_session small_core
 small_first = record {
   count = refl;
   each = each_of (IsFirstZone small_session) small_core.zones (
-    empty_first 0 (at.Desk small_desk) (record { number_is = refl; requests = refl; log = refl; marks = refl; notices = refl; parked = refl }),
+    empty_first 0 (at.Desk small_desk) (record { number_is = refl; requests = refl; log = refl; marks = refl; receipts = refl; notices = refl; parked = refl }),
     (
       empty_first 1 (at.Logical (logical 0)) (logical_first 0 (omega arith)),
       (

@@ -1,5 +1,5 @@
 -- A core at its start is legal, with an empty trace.
-use Rattle.std.proofs.Common.{◌≡◌, if◌then◌else◌, nat_eq, true, ℕ, suc, ◌≤◌, Bool, false, not, List, [], ◌∷◌, ◌++◌, length, refl, sym, ◌∙◌, ap, subst, inl, arith, ◌%◌}
+use Rattle.std.proofs.Common.{◌≡◌, if◌then◌else◌, nat_eq, true, ℕ, suc, ◌≤◌, Bool, false, not, List, [], ◌∷◌, ◌++◌, length, refl, sym, ◌∙◌, ap, subst, inl, arith, ◌%◌, All}
 use Rattle.core_laws.proofs.journal.LogLaws.{log_at_start}
 use Rattle.core_laws.proofs.Common.{PhysicalZone, all_logged, AllByRecursion, answers_of, arrival, as_items, AtMost, AtRest, Balanced, begins_of, bit, DataOk, desk_number, DeskLine, Each, entry_token, every-get, given, holder_token, in_log, is_answer, is_begin, is_entry, IsAsOpened, IsSession, Item, ItemOk, journal_token, KeptEach, KeptOk, Lba, lease_token, Lock, lock_weight, LocksOk, Remapping, logical_number, made_by, MapOk, Mapping, notice_token, notified_by, of_address, OnBlock, Pbn, queued, request_token, RestsAt, room_token, Session, Shown, Stands, Token, total, Trace, Vio, weight, Zone, zone_count, ZoneData, ZoneOk, Logged, remappings, opened_at, KeptStands, Writer, physical_number, journal_number, total_alone, Geometry}
 use Rattle.blk_base.specs.Regions.{IsDataBlock}
@@ -19,7 +19,7 @@ use Rattle.zone_counts.proofs.OpenedCounts.{is_data, is_none, opened_none, tells
 use Rattle.zone_counts.specs.ByBlock.{counter_in}
 use Rattle.zone_counts.specs.Zone.{IsOf, IsOfZone, slab_number}
 use Rattle.core_model.specs.Tokens.{block_token, claim_token, damage_token, has_old, is_entry, is_old, report_token, waiter_token}
-use Rattle.core_model.specs.Facts.{ReportOk}
+use Rattle.core_model.specs.Facts.{ReportOk, WasIssued}
 use Rattle.blk_base.specs.declared.place.Mapping.TheVariants.{Unmapped, Zero, At}
 use Rattle.journal_stops.proofs.StepLaws.{opened}
 use Rattle.core_model.specs.declared.zones.ZoneData.TheVariants as at
@@ -42,6 +42,7 @@ use Rattle.core_laws.proofs.kept.OpenedBlocks.{opened_data}
 use Rattle.blk_base.proofs.RegionLaws.{data_block_high, data_block_inside}
 use Rattle.image_model.proofs.LookedLaws.{looked_high, looked_low}
 use Rattle.image_model.specs.Maps.{value_with}
+use Rattle.std.proofs.lemmas.List.Elements.{All-nil}
 
 -- sums of what each thing has, as the one is at most the other
 pub total_at_most : {X : Type 0} (f g : X → ℕ) (xs : List X) → Each (λ i x. f x ≤ g x) xs → total f xs ≤ total g xs
@@ -193,7 +194,7 @@ module _ (s : Session) (session : IsSession s) where
   data_at_start : (n : ℕ) (d : ZoneData) → IsFirstData s n d → DataOk s [] n d
   data_at_start n (at.Desk d) h = record {
     number_is = h.number_is;
-    lists = record { log_is = h.log; marks_is = h.marks };
+    lists = record { log_is = h.log; marks_is = h.marks; receipts_is = h.receipts };
     sound = record {
       requests = h.requests;
       stops_notified = λ w is. absurd (let none = rw h.log at is in cc);
@@ -219,6 +220,7 @@ module _ (s : Session) (session : IsSession s) where
       strays_are = h.strays;
       tickets_are = λ number. ap (λ (d : TicketDesk). ticket_of d.out number) h.desk;
       issued_is = ap (λ (d : TicketDesk). d.issued) h.desk;
+      out_are = subst (λ (d : TicketDesk). All (WasIssued [] p.counts.zone) d.out) (sym h.desk) (All-nil (WasIssued [] p.counts.zone));
     };
     sound = record {
       is_zone = h.is_zone;

@@ -9,7 +9,7 @@ use Rattle.core_model.specs.Uses.{given_at, issued, ticket_at}
 use Rattle.blk_base.specs.declared.place.Mapping.TheVariants.{Unmapped, Zero, At}
 use Rattle.zone_counts.specs.Zone.{IsOfZone}
 use Rattle.core_laws.proofs.lists.CountedIn.{counting_number, leads_elsewhere, not_counted, zone_is}
-use Rattle.core_model.specs.Trace.{Adds, Asks, Drops, Hears, Removes, Strays, Withdraws, added, claimed, passed_on, damage_in, removed, strayed, unclaimed}
+use Rattle.core_model.specs.Trace.{Adds, Asks, Drops, Hears, Removes, Strays, Withdraws, added, claimed, passed_on, damage_in, removed, strayed, unclaimed, receipts}
 use Rattle.core_laws.proofs.Common.{all_of, AllBelow, AllByRecursion, Answers, bit, calls, Calls, Commits, durable, desk_number, device_number, drawn, Draws, Each, journaled, Enters, eq-eqb, eqb_tells, every-front, Fails, fair_before, filled, Flushes, Gives, Happening, has_stopped, HasLists, is_block, is_entry, is_old, Item, ItemOk, journal_number, kept_by, KeptEach, KeptOk, lines, logical_number, Mapping, marks, name_of, new_of, of_address, Pbn, Phase, physical_number, places, RestsAt, Says, sealed, Seals, Session, Remaps, Sets, Sizes, Takes, Token, total, total-append, total-get, Trace, Vio, WasTold, weight, Zone, zone_number, zone_of, ZoneData, ZoneOk, Passes, applied, passed, remappings, Remapping, superblock_stage, Harms}
 use Rattle.core_laws.proofs.lists.Between.{every_between}
 use Rattle.vdo_model.specs.FlushMarks.{successes}
@@ -21,7 +21,7 @@ use Rattle.core_laws.proofs.journal.LogLaws.{log_over}
 use Rattle.core_laws.proofs.kept.Carried.{kept_kept, item_kept, report_kept}
 use Rattle.core_laws.proofs.kept.Keys.{Key, OfAddress, OfJournal, OfPage, token_of, Spares, happens_in, Clears, mine_or_spared, free_one, unmade_one}
 use Rattle.core_laws.proofs.logical.PageFacts.{tree_home, tree_over}
-use Rattle.core_laws.proofs.kept.Spared.{of_other, put_same, quiet_kept, stop_kept, abort_kept}
+use Rattle.core_laws.proofs.kept.Spared.{issued_kept, of_other, put_same, quiet_kept, stop_kept, abort_kept}
 use Rattle.core_laws.proofs.kept.StandsOn.{resting_spared, rests_kept}
 use Rattle.core_laws.proofs.tokens.Lift.{items_total}
 
@@ -36,6 +36,10 @@ module _ (sizes : Sizes) where
   marks_same : (h : Happening) (t : Trace) → desk_number ≢ happens_in sizes h → marks (h ∷ t) ≡ marks t
   marks_same (Flushes m) t off = absurd (off refl)
   marks_same other t off = refl
+
+  receipts_same : (h : Happening) (t : Trace) → desk_number ≢ happens_in sizes h → receipts (h ∷ t) ≡ receipts t
+  receipts_same (Says line) t off = absurd (off refl)
+  receipts_same other t off = refl
 
   zone_apart : (a b : ℕ) → logical_number b ≢ logical_number a → (a == b) ≡ false
   zone_apart a b off = elim (eqb_tells a b) [ inl same ↦ absurd (off (ap logical_number (sym same.1))) | inr other ↦ other.0 ]
@@ -121,7 +125,7 @@ module _ (s : Session) (h : Happening) (t : Trace) where
   reports_on zone (e ∷ es) k = (report_kept s h t e zone k.0, reports_on zone es k.1)
 
   lists_kept : (d : ZoneData) → zone_number s.sizes (name_of d) ≢ happens_in s.sizes h → IsSound s d → HasLists s t d → HasLists s (h ∷ t) d
-  lists_kept (at.Desk desk) off sound k = record { log_is = k.log_is ∙ sym (lines_same s.sizes h t off); marks_is = k.marks_is ∙ sym (marks_same s.sizes h t off) }
+  lists_kept (at.Desk desk) off sound k = record { log_is = k.log_is ∙ sym (lines_same s.sizes h t off); marks_is = k.marks_is ∙ sym (marks_same s.sizes h t off); receipts_is = k.receipts_is ∙ sym (receipts_same s.sizes h t off) }
   lists_kept (at.Logical l) off sound k = record {
     places_is = k.places_is ∙ sym (places_same s.sizes h t l.zone off).0;
     next_is = k.next_is ∙ sym (places_same s.sizes h t l.zone off).1;
@@ -139,6 +143,7 @@ module _ (s : Session) (h : Happening) (t : Trace) where
     strays_are = k.strays_are ∙ sym (strays_same s.sizes h t p.counts.zone off);
     tickets_are = λ number. k.tickets_are number ∙ sym (tickets_same s.sizes h t p.counts.zone number off);
     issued_is = k.issued_is ∙ sym (issued_same s.sizes h t p.counts.zone off);
+    out_are = issued_kept h t p.counts.zone p.counts.desk.out k.out_are;
   }
     where
       stays : (x : Pbn) → IsOfZone p.counts x

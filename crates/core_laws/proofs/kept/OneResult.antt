@@ -10,7 +10,7 @@ use Rattle.data_vio.specs.declared.items.Item.TheVariants as item
 use Rattle.data_vio.specs.declared.items.Phase.TheVariants as phase
 use Rattle.data_vio.specs.declared.items.Stage.TheVariants as stage
 use Rattle.core_model.specs.declared.zones.ZoneData.TheVariants as at
-use Rattle.core_model.specs.DeskRules.{BeginsNext, DeskBegins, DeskServes, parks, answers, marks, at_once, first_zone, vio_of, is_notified, is_stopped, is_marked, mark_of_vio}
+use Rattle.core_model.specs.DeskRules.{BeginsNext, DeskBegins, DeskServes, parks, answers, marks, lacks as finds_none, at_once, first_zone, vio_of, is_no_space, is_notified, is_stopped, is_marked, mark_of_vio, receipt_of_vio}
 use Rattle.core_model.specs.DeviceRules.{Announces, DeviceHears, DeviceServes, DeviceWorks, IsReady, counted, halted, harmed, notices_after, stop_notices, next_stage, next_superblock, next_zone, superblock_call}
 use Rattle.core_model.specs.declared.zones.SuperblockStage.TheVariants.{AsOpened, Written, Durable}
 use Rattle.core_model.specs.PhysicalRules.{BeginsNext as BeginsStep, PhysicalServes, PhysicalTakes, asks_on, served, spent_for, tells, with_counts}
@@ -66,14 +66,16 @@ abbrev to_desk : Phase → Vio → Post
 to_desk now v = (id.Desk, item.Request (turned now v))
 
 -- the desk
-abbrev reply_at : Desk → Vio → Answer → (waits marked : Bool) → Result Desk
-reply_at desk v a true marked = (record desk { parked = desk.parked ++ v ∷ [] }, [], [])
-reply_at desk v a false true = (record desk { log = line.Answer v.request reply.Ok ∷ desk.log; marks = mark_of_vio v ∷ desk.marks }, Flushes (mark_of_vio v) ∷ [], [])
-reply_at desk v a false false = (record desk { log = line.Answer v.request a ∷ desk.log }, Says (line.Answer v.request a) ∷ [], [])
+abbrev reply_at : Desk → Vio → Answer → (waits marked lacks : Bool) → Result Desk
+reply_at desk v a true marked lacks = (record desk { parked = desk.parked ++ v ∷ [] }, [], [])
+reply_at desk v a false true lacks = (record desk { log = line.Answer v.request reply.Ok ∷ desk.log; marks = mark_of_vio v ∷ desk.marks }, Flushes (mark_of_vio v) ∷ [], [])
+reply_at desk v a false false true =
+    (record desk { log = line.Answer v.request reply.NoSpace ∷ desk.log; receipts = receipt_of_vio v ∷ desk.receipts }, Says (line.Answer v.request reply.NoSpace) ∷ [], [])
+reply_at desk v a false false false = (record desk { log = line.Answer v.request a ∷ desk.log }, Says (line.Answer v.request a) ∷ [], [])
 
 abbrev desk_at : Sizes → Desk → Vio → Option Answer → Result Desk
 desk_at sizes desk v None = (desk, [], [])
-desk_at sizes desk v (Some a) = reply_at desk v a (is_stopped a && not (is_notified sizes desk)) (is_marked v.asks a)
+desk_at sizes desk v (Some a) = reply_at desk v a (is_stopped a && not (is_notified sizes desk)) (is_marked v.asks a) (is_no_space a)
 
 waits_not : (stops notified : Bool) → (stops ≡ true → notified ≡ true) → (stops && not notified) ≡ false
 waits_not true notified h = rw (h refl) refl
@@ -81,8 +83,9 @@ waits_not false notified h = refl
 
 desk_is : (sizes : Sizes) (desk : Desk) (v : Vio) (new : Desk) (made : Trace) (posts : List Post) → DeskServes sizes desk v new made posts → (new, made, posts) ≡ desk_at sizes desk v v.answer
 desk_is sizes desk v new made posts (parks a is answer stops waits n m q) = rw (n, m, q, answer, stops, waits) refl
-desk_is sizes desk v new made posts (answers a is answer told unmarked n m q) = rw (n, m, q, answer, waits_not (is_stopped a) (is_notified sizes desk) told, unmarked) refl
+desk_is sizes desk v new made posts (answers a is answer told unmarked spaced n m q) = rw (n, m, q, answer, waits_not (is_stopped a) (is_notified sizes desk) told, unmarked, spaced) refl
 desk_is sizes desk v new made posts (marks is asks answer n m q) = rw (n, m, q, answer, asks) refl
+desk_is sizes desk v new made posts (finds_none is answer n m q) = rw (n, m, q, answer) refl
 
 -- it begins a request
 abbrev vio_asked : Sizes → Writer → Option Request → Option Vio

@@ -29,7 +29,7 @@ use Rattle.core_laws.proofs.physical.TicketDesks.{back_keeps, now}
 use Rattle.core_laws.proofs.physical.ZoneFacts.{of_zone_kept, one_same}
 use Rattle.core_laws.proofs.tokens.Owners.{held_is_out}
 use Rattle.core_model.specs.declared.zones.ZoneData.TheVariants as at
-use Rattle.core_model.specs.DeskRules.{DeskBegins, DeskServes, at_once, vio_of, is_marked, is_stopped, is_notified}
+use Rattle.core_model.specs.DeskRules.{DeskBegins, DeskServes, at_once, vio_of, is_marked, is_no_space, is_stopped, is_notified}
 use Rattle.blk_base.specs.declared.place.ZoneId.TheVariants as id
 use Rattle.data_vio.specs.Phases.{AtDevice, row, stage_row}
 use Rattle.core_model.specs.DeviceRules.{Announces, DeviceServes, DeviceWorks, IsInside, call_of, journal_bytes, superblock_call}
@@ -80,17 +80,25 @@ marked_is Write reply.Ok marked = absurd cc
 marked_is Discard reply.Ok marked = absurd cc
 marked_is asks other marked = absurd cc
 
+-- one that no block is free
+pub no_space_is : (a : Answer) → is_no_space a ≡ true → a ≡ reply.NoSpace
+no_space_is reply.NoSpace lacking = refl
+no_space_is other lacking = absurd cc
+
 module _ (s : Session) (session : IsSession s) (t : Trace) (right : RightTrace s t) where
   -- the desk
   replies : (desk : Desk) (v : Vio) (o : Option Answer) → v.answer ≡ o → v.phase ≡ phase.Reply → MayReply s t v o → HasAct s.sizes (at.Desk desk) (item.Request v ∷ [])
   replies desk v None is reply may = absurd may
   replies desk v (Some a) is reply may = elim (cases_Bool (is_marked v.asks a)) [
     | inl marked ↦ let both = marked_is v.asks a marked in (_, _, _, steps.answers (DeskServes.marks reply both.0 (is ∙ ap Some both.1) refl refl refl))
-    | inr unmarked ↦ elim (cases_Bool (is_notified s.sizes desk)) [
-      | inl notified ↦ (_, _, _, steps.answers (DeskServes.answers a reply is (λ stopped. notified) unmarked refl refl refl))
-      | inr unnotified ↦ elim (cases_Bool (is_stopped a)) [
-        | inl stopped ↦ (_, _, _, steps.answers (DeskServes.parks a reply is stopped unnotified refl refl refl))
-        | inr served ↦ (_, _, _, steps.answers (DeskServes.answers a reply is (λ stopped. absurd cc) unmarked refl refl refl))
+    | inr unmarked ↦ elim (cases_Bool (is_no_space a)) [
+      | inl lacking ↦ (_, _, _, steps.answers (DeskServes.lacks reply (is ∙ ap Some (no_space_is a lacking)) refl refl refl))
+      | inr spaced ↦ elim (cases_Bool (is_notified s.sizes desk)) [
+        | inl notified ↦ (_, _, _, steps.answers (DeskServes.answers a reply is (λ stopped. notified) unmarked spaced refl refl refl))
+        | inr unnotified ↦ elim (cases_Bool (is_stopped a)) [
+          | inl stopped ↦ (_, _, _, steps.answers (DeskServes.parks a reply is stopped unnotified refl refl refl))
+          | inr served ↦ (_, _, _, steps.answers (DeskServes.answers a reply is (λ stopped. absurd cc) unmarked spaced refl refl refl))
+        ]
       ]
     ]
   ]

@@ -1,5 +1,5 @@
 -- Facts on the trace stay where the next happening is about something else.
-use Rattle.std.proofs.Common.{◌≡◌, ◌≢◌, ◌⊎◌, ℕ, zero, suc, ◌+◌, ◌<◌, ◌==◌, Bool, true, false, not, ◌&&◌, ◌||◌, if◌then◌else◌, Option, None, Some, IsSome, List, [], ◌∷◌, ◌≤◌, Contains, refl, ap, sym, ◌∙◌, subst, inl, inr, arith}
+use Rattle.std.proofs.Common.{All, ◌≡◌, ◌≢◌, ◌⊎◌, ℕ, zero, suc, ◌+◌, ◌<◌, ◌==◌, Bool, true, false, not, ◌&&◌, ◌||◌, if◌then◌else◌, Option, None, Some, IsSome, List, [], ◌∷◌, ◌≤◌, Contains, refl, ap, sym, ◌∙◌, subst, inl, inr, arith}
 use Rattle.disk_model.specs.declared.call.Call.TheVariants.{Read}
 use Rattle.core_laws.proofs.Common.{Aborts, AllBelow, AllByRecursion, Calls, Adds, Commits, DeskLine, Draws, Drops, Enters, Fails, Flushes, FlushMark, Gives, Happening, Hears, HasBelow, IsCommitted, HasFullJournal, IsOpen, IsPending, Logged, Makes, Mapping, Pbn, Remapping, Remaps, Removes, Strays, NeedsBlock, Quiet, Says, Seals, Session, Sets, Takes, Trace, Writer, aborted, begun, committed, done, dropped, entered, eqb_tells, gift_of, gifts, has_read_fault, has_stopped, has_taken, is_read, lines, logged_of, moments, newest, of_address, place_of, places, remappings, request_in, same_self, same_writer, value_at, Passes, applied, durable, journaled, passed, mapped_or, mapping_by, opened_at, Harms, is_harmed}
 use Rattle.core_laws.proofs.lists.Between.{address_between, every_between, logged_between}
@@ -9,9 +9,12 @@ use Rattle.vdo_model.specs.declared.report.DeskLine.TheVariants.{Begin, Answer}
 use Rattle.blk_base.specs.declared.place.PageId.{PageId}
 use Rattle.image_model.specs.Pages.{is_page, leaf_of}
 use Rattle.core_model.specs.RightTraces.{HadNoFree, HearingMayFollow, WasRefused, IsLeafy, IsLinkedAt, IsReported}
-use Rattle.core_model.specs.Trace.{Asks, Withdraws, added, removed, strayed, is_for}
-use Rattle.core_model.specs.Facts.{HasClaim, IsAsking, IsWithdrawing, LacksBlock, HasSpent, IsMade, TookNone}
+use Rattle.core_model.specs.Trace.{Asks, Withdraws, added, removed, strayed, is_for, last_asked}
+use Rattle.core_model.specs.Facts.{HasClaim, IsAsking, IsWithdrawing, LacksBlock, HasSpent, IsMade, TookNone, HasReceipt, WasIssued}
+use Rattle.slab_counts.specs.declared.tickets.Receipt.{Receipt}
 use Rattle.slab_counts.specs.declared.tickets.Ticket.{Ticket}
+use Rattle.slab_tickets.specs.declared.forms.Waiting.{Waiting}
+use Rattle.std.proofs.lemmas.List.Elements.{All-weaker}
 use Rattle.vdo_model.specs.declared.report.Damage.{Damage}
 use Rattle.core_model.specs.PageLinks.{IsThere, page_in}
 
@@ -141,6 +144,10 @@ spent_kept s h t w own same k = record {
 -- one that claimed no block has handed in what it claimed for pages
 pub none_spent : (s : Session) (t : Trace) (w : Writer) → TookNone t w → HasSpent s t w None
 none_spent s t w none = record { none_taken = none None; others = λ page other taken. absurd (let both : false ≡ true = sym (none (Some page)) ∙ taken in cc) }
+
+pub ask_same : (h : Happening) (t : Trace) (w : Writer) → SparesRequest h w → last_asked (h ∷ t) w ≡ last_asked t w
+ask_same (Asks v k) t w apart = rw apart refl
+ask_same other t w apart = refl
 
 -- what they say of an address
 pub of_other : (e : Remapping) (es : List Remapping) (a : ℕ) → e.at.0 ≢ a → of_address a (e ∷ es) ≡ of_address a es
@@ -331,16 +338,24 @@ lacking_kept s h t w tickets same k = record {
   each = λ zone inside. elim (k.each zone inside) [ inl was ↦ inl (refused_kept h k.newer k.older w zone was) | inr held ↦ inr held ];
 }
 
-pub withdrawing_kept : (s : Session) (h : Happening) (t : Trace) (w : Writer) (claim : Option Pbn) (tickets : List Ticket) → has_taken (h ∷ t) w None ≡ has_taken t w None → IsWithdrawing s t w claim tickets
-    → IsWithdrawing s (h ∷ t) w claim tickets
-withdrawing_kept s h t w claim tickets same k = record {
+pub withdrawing_kept : (s : Session) (h : Happening) (t : Trace) (w : Writer) (claim : Option Pbn) (tickets : List Ticket) → SparesRequest h w → IsWithdrawing s t w claim tickets → IsWithdrawing s (h ∷ t) w claim tickets
+withdrawing_kept s h t w claim tickets apart k = record {
   turn = k.turn;
   in_turn = k.in_turn;
   few = k.few;
   some = k.some;
   asked = asked_kept h t w tickets k.asked;
-  lacks = λ none. lacking_kept s h t w tickets same (k.lacks none);
+  lacks = λ none. lacking_kept s h t w tickets (take_same h t w None apart) (k.lacks none);
+  last = λ none. ask_same h t w apart ∙ k.last none;
 }
+
+-- and the receipt of the ticket that it was given last
+pub receipt_kept : (h : Happening) (t : Trace) (w : Writer) (receipt : Option Receipt) → last_asked (h ∷ t) w ≡ last_asked t w → HasReceipt t w receipt → HasReceipt (h ∷ t) w receipt
+receipt_kept h t w receipt same k = record { ticket = k.ticket; last = same ∙ k.last; given = k.given; receipt_is = k.receipt_is; asked = k.asked }
+
+-- and the tickets that are out in a zone were given there
+pub issued_kept : (h : Happening) (t : Trace) (zone : ℕ) (out : List Waiting) → All (WasIssued t zone) out → All (WasIssued (h ∷ t) zone) out
+issued_kept h t zone out all = All-weaker (WasIssued t zone) (WasIssued (h ∷ t) zone) (λ waiting was. contains_more h t _ was) out all
 
 -- what was counted is so from then on
 pub added_has : (h : Happening) (t : Trace) (e : Logged) → Contains (added t) e → Contains (added (h ∷ t)) e

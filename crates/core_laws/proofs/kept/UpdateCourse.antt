@@ -367,8 +367,9 @@ module _ (s : Session) (t : Trace) where
 
   desk_course : (old : Desk) (v : Vio) (new : Desk) (made : Trace) (posts : List Post) → DeskServes s.sizes old v new made posts → Course s t (at.Desk old) (item.Request v ∷ []) made posts
   desk_course old v new made posts (desk.parks reply p h stopped told n m q) = still (past v p) (rw q tt) (rw m refl) (rw m refl)
-  desk_course old v new made posts (desk.answers reply p h stopped k n m q) = still (past v p) (rw q tt) (rw m refl) (rw m refl)
+  desk_course old v new made posts (desk.answers reply p h stopped k spaced n m q) = still (past v p) (rw q tt) (rw m refl) (rw m refl)
   desk_course old v new made posts (desk.marks p k h n m q) = still (past v p) (rw q tt) (rw m refl) (rw m refl)
+  desk_course old v new made posts (desk.lacks p h n m q) = still (past v p) (rw q tt) (rw m refl) (rw m refl)
 
   -- each act is one of the three
   pub course : (n : ℕ) (old : ZoneData) (front : List Item) (new : ZoneData) (made : Trace) (posts : List Post) → Act s.sizes old front new made posts → AllByRecursion (ItemOk s t n) front → KeptIn old

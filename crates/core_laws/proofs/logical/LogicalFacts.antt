@@ -605,4 +605,4 @@ module _ {s : Session} {t : Trace} {n : ℕ} {l : LogicalZone} {v : Vio} (known 
     aborts_entered_kept =
         let both = retire_ok s (gone ∷ t) n l known.session right_abort gone_ok v (leased phase.AbortEntered is refl) home carries_it.2 (λ place less. inl (refl, less)) in
         act_one known gone clears_abort (λ f fair. f (fair_before s gone t fair)) right_abort both.0
-        ((omega arith, (vio_over s gone t v refl (vio_ok known), carries_own s (gone ∷ t) (turned phase.Reply v) phase.Reply bare (reply_said s gone t v v.answer (record { of_place = refl; of_entry = refl; of_slot = refl; of_gift = refl; of_take = refl }) carries_it.1), refl, claim_in known phase.AbortEntered is)), both.1)
+        ((omega arith, (vio_over s gone t v refl (vio_ok known), carries_own s (gone ∷ t) (turned phase.Reply v) phase.Reply bare (reply_said s gone t v v.answer (record { of_place = refl; of_entry = refl; of_slot = refl; of_gift = refl; of_take = refl; of_ask = refl }) carries_it.1), refl, claim_in known phase.AbortEntered is)), both.1)

@@ -387,6 +387,6 @@ module _ {s : Session} {t : Trace} {n : ℕ} {l : LogicalZone} {v : Vio} (known 
         let again = again_ok s (drop ∷ t) l.zone l.lacking known.own.sound.among (line_kept known drop t clears_drop known.own.kept).1 known.own.sound.pages.at_home in
         act_one known drop clears_drop (λ gives fair. gives (fair_before s drop t fair)) right_drop
         (subst (λ (z : LogicalZone). DataOk s (drop ∷ t) n (at.Logical z)) (sym (release_dropped page v.at.0 l)) both.0) (
-          (omega arith, (vio_over s drop t v refl (vio_ok known), reply_said s drop t v v.answer (record { of_place = refl; of_entry = refl; of_slot = refl; of_gift = refl; of_take = refl }) dropping.3, refl, none_left (claim_in known phase.AbortEntered is).claim_is ((claim_in known phase.AbortEntered is).no_ticket refl))),
+          (omega arith, (vio_over s drop t v refl (vio_ok known), reply_said s drop t v v.answer (record { of_place = refl; of_entry = refl; of_slot = refl; of_gift = refl; of_take = refl; of_ask = refl }) dropping.3, refl, none_left (claim_in known phase.AbortEntered is).claim_is ((claim_in known phase.AbortEntered is).no_ticket refl))),
           every-append (PostOk s (drop ∷ t)) (granted v.at.0 l) (all_again l.lacking) both.1 again,
         )

@@ -1,7 +1,7 @@
 -- What a request owes that asks a physical zone for a block, or withdraws a ticket there.
-use Rattle.std.proofs.Common.{◌≡◌, ℕ, zero, suc, ◌+◌, ◌<◌, ◌≤◌, ◌%◌, ◌==◌, ◌&&◌, if◌then◌else◌, nat_eq, nat_lt, true, false, Bool, Option, None, Some, IsSome, List, [], ◌∷◌, length, length-append, Contains, refl, ap, sym, ◌∙◌, subst, inl, inr, arith, not, ◌||◌}
+use Rattle.std.proofs.Common.{◌≡◌, ℕ, zero, suc, ◌+◌, ◌<◌, ◌≤◌, ◌%◌, ◌==◌, ◌&&◌, if◌then◌else◌, nat_eq, nat_lt, true, false, Bool, Option, None, Some, IsSome, List, [], ◌∷◌, length, length-append, Contains, refl, ap, sym, ◌∙◌, subst, inl, inr, arith, not, ◌||◌, All, ◌++◌}
 use Rattle.std.specs.Bool.{IsTrue}
-use Rattle.core_laws.proofs.Common.{AllByRecursion, Carries, DataOk, Drops, Happening, Holds, IsInTurn, IsPlaced, Mapping, MayReply, OnBlock, Pbn, PhysicalZone, Post, RightTrace, Session, Takes, Trace, Vio, VioOk, asked, ended, eq-eqb, eqb_tells, every-append, fair_before, has_taken, ltb-false, ltb-true, bit, physical_number, place_of, places, some_is, total, turned, zone_count, zone_number, Writer, same_writer}
+use Rattle.core_laws.proofs.Common.{AllByRecursion, Carries, DataOk, Drops, Happening, Holds, IsInTurn, IsPlaced, Mapping, MayReply, OnBlock, Pbn, PhysicalZone, Post, RightTrace, Session, Takes, Trace, Vio, VioOk, asked, ended, eq-eqb, eqb_tells, every-append, fair_before, has_taken, ltb-false, ltb-true, bit, physical_number, place_of, places, some_is, total, turned, zone_count, zone_number, Writer, same_writer, same_self}
 use Rattle.blk_base.specs.Regions.{IsDataBlock}
 use Rattle.blk_base.specs.declared.place.Mapping.TheVariants.{Unmapped, Zero, At}
 use Rattle.blk_base.specs.declared.place.PageId.{PageId}
@@ -12,11 +12,11 @@ use Rattle.data_vio.specs.declared.items.Item.TheVariants as item
 use Rattle.data_vio.specs.declared.items.Phase.TheVariants as phase
 use Rattle.data_vio.specs.declared.items.Phase.{Phase}
 use Rattle.core_model.specs.declared.zones.ZoneData.TheVariants as at
-use Rattle.core_model.specs.Facts.{AreFirstClaims, AreInTurn, CarriesFor, ClaimFor, IsAsking, IsUnmade, IsWithdrawing, LacksBlock, MakesPage, zone_at, HasSpent}
+use Rattle.core_model.specs.Facts.{AreFirstClaims, AreInTurn, CarriesFor, ClaimFor, IsAsking, IsUnmade, IsWithdrawing, LacksBlock, MakesPage, zone_at, HasSpent, HasReceipt, newest_ticket, WasIssued}
 use Rattle.core_model.specs.PageLinks.{block_in}
 use Rattle.core_model.specs.PhysicalRules.{BeginsNext, asks_on, goes_on, served, with_counts}
 use Rattle.core_model.specs.RightTraces.{HadNoFree, IsLeafy, NeedsFor, WasRefused}
-use Rattle.core_model.specs.Trace.{Asks, Withdraws}
+use Rattle.core_model.specs.Trace.{Asks, Withdraws, last_asked}
 use Rattle.core_model.specs.Uses.{NoneFreeIn, issued, ticket_at}
 use Rattle.slab_counts.specs.Calls.{one_of}
 use Rattle.slab_counts.specs.Counts.{unclaimed}
@@ -35,7 +35,7 @@ use Rattle.zone_counts.proofs.TicketLaws.{begun_is_zone, begun_next, begun_out, 
 use Rattle.zone_counts.proofs.ZoneLaws.{zone_claimed}
 use Rattle.core_laws.proofs.journal.JournalFacts.{home_within, write_no_space}
 use Rattle.core_laws.proofs.kept.ActKept.{ActKept, Known, PostOk, reaches, act_one, claim_in, in_phase, own_request, plain_clears, shown_plain, vio_ok, vio_over}
-use Rattle.core_laws.proofs.kept.Spared.{asked_kept, below_kept, contains_cut, made_kept, quiet_kept, refused_kept, spent_kept}
+use Rattle.core_laws.proofs.kept.Spared.{asked_kept, below_kept, contains_cut, made_kept, quiet_kept, refused_kept, spent_kept, issued_kept}
 use Rattle.core_laws.proofs.kept.ZoneKinds.{physical_below}
 use Rattle.core_laws.proofs.lists.CountedIn.{counts_within, of_zone}
 use Rattle.core_laws.proofs.physical.AskTurns.{first_inside, of_each_zone, turn_more}
@@ -43,13 +43,25 @@ use Rattle.core_laws.proofs.physical.TicketDesks.{IsKeptBy, back_keeps, begun_ke
 use Rattle.core_laws.proofs.physical.ZoneFacts.{KnowsTickets, after_ok, data_of, drop_follows, dropped_ok, number_of, of_zone_kept, one_other, one_same, same_number, knows_still}
 use Rattle.core_laws.proofs.tokens.Moves.{Moves, given_moves, no_block}
 use Rattle.core_laws.proofs.trace.DeskOfTrace.{shown_of}
-use Rattle.core_laws.proofs.trace.TicketsOfTrace.{all_refused_none}
+use Rattle.core_laws.proofs.trace.TicketsOfTrace.{all_refused_none, same_ticket}
 use Rattle.image_model.specs.Pages.{is_page}
+use Rattle.core_laws.proofs.physical.OutTickets.{issued_all, withdrawn_all, withdrawn_one}
 
 -- what a write holds that asks for a block: the lock of its address, and what it needs the block for
 abbrev pub HoldsFor : Session → Trace → Vio → Option PageId → Type 0
 HoldsFor s t v None = Holds s t v × (v.asks ≡ Write) × IsLeafy s t v.at.0
 HoldsFor s t v (Some page) = MakesPage s t v page × IsUnmade s t page
+
+-- it has the ticket that it was given last, or with none left the receipt of that
+abbrev pub HasLast : Trace → Vio → List Ticket → Type 0
+HasLast t v [] = HasReceipt t v.request v.receipt
+HasLast t v (k ∷ newer) = last_asked t v.request ≡ newest_ticket (k ∷ newer)
+
+-- one more is the newest
+newest_added : (tickets : List Ticket) (k : Ticket) → newest_ticket (tickets ++ k ∷ []) ≡ Some k
+newest_added [] k = refl
+newest_added (j ∷ []) k = refl
+newest_added (j ∷ i ∷ newer) k = newest_added (i ∷ newer) k
 
 -- A write that asks no more, with the tickets that it has left.
 pub record AsksNoMore (s : Session) (t : Trace) (v : Vio) : Type 0 where
@@ -60,6 +72,7 @@ pub record AsksNoMore (s : Session) (t : Trace) (v : Vio) : Type 0 where
   pub few : length v.tickets ≤ s.sizes.physical
   pub asked : AllByRecursion (λ k. Contains t (Asks v.request k)) v.tickets
   pub lacks : v.claim ≡ None → LacksBlock s t v.request v.tickets
+  pub last : v.claim ≡ None → HasLast t v v.tickets
   pub claim_is : v.claim ≡ block_in v.new
   pub on_data : OnBlock (λ x. IsDataBlock s.sizes.geometry x.0) v.new
 
@@ -110,11 +123,12 @@ module _ (s : Session) (t : Trace) (some : 1 ≤ s.sizes.physical) (right : Righ
       by : (tickets : List Ticket) (claim : Option Pbn) → v.tickets ≡ tickets → v.claim ≡ claim → PostOk s t (goes_on v tickets claim)
       by (j ∷ others) claim has is =
           let inside = first_inside s.sizes k.turn j others some (subst (AreInTurn s.sizes k.turn) has k.in_turn) in
-          let left : 0 < length v.tickets = rw has (omega arith) in (
+          let left : 0 < length v.tickets = rw has (omega arith) in
+          let its_last : v.claim ≡ None → last_asked t v.request ≡ newest_ticket v.tickets = λ none. subst (HasLast t v) has (k.last none) ∙ ap newest_ticket (sym has) in (
             omega (arith, inside),
             (
               k.ok,
-              back_carries v v.page k.holds (record { turn = k.turn; in_turn = k.in_turn; few = k.few; some = left; asked = k.asked; lacks = k.lacks }),
+              back_carries v v.page k.holds (record { turn = k.turn; in_turn = k.in_turn; few = k.few; some = left; asked = k.asked; lacks = k.lacks; last = λ none. its_last none }),
               ap (λ (tickets : List Ticket). zone_number s.sizes (ticket_zone tickets)) (sym has),
               record { claim_is = k.claim_is; on_data = λ claims. k.on_data; no_ticket = λ asks. absurd cc },
             ),
@@ -124,7 +138,7 @@ module _ (s : Session) (t : Trace) (some : 1 ≤ s.sizes.physical) (right : Righ
           (omega arith, (k.ok, store_carries v v.page x to k.holds, refl, record { claim_is = k.claim_is; on_data = λ claims. k.on_data; no_ticket = λ asks. has }))
       by [] None has is =
           let lacks : LacksBlock s t v.request [] = subst (LacksBlock s t v.request) has (k.lacks is) in
-          let may = write_no_space s t v (is_write v v.page k.holds) (is_placed v v.page k.holds) lacks.none_taken (had_none v lacks) in
+          let may = write_no_space s t v (is_write v v.page k.holds) (is_placed v v.page k.holds) lacks.none_taken (had_none v lacks) (subst (HasLast t v) has (k.last is)) in
           (home, (k.ok, abort_carries v v.page k.holds may, refl, record { claim_is = is; on_data = λ claims. absurd (never claims); no_ticket = λ asks. has }))
         where
           never : IsTrue false → ⊥
@@ -292,7 +306,7 @@ module _ {s : Session} {t : Trace} {n : ℕ} {old : PhysicalZone} {v : Vio} (kno
           let kept = claimed_keeps old.counts z x gives in
           act_one known takes (plain_clears known takes t tt (number_of own x free.0) (own_request known) tt tt) (λ g fair. g (fair_before s takes t fair)) right_takes
           (after_ok own (takes ∷ t) z (one_of x) no_block no_block (subst IsZone (sym gives.same) (zone_claimed old.counts z.slabs x is_zone gives.claims)) kept moves (first moves) (λ y. omega arith) (λ y. omega arith) refl
-          (knows_still own (takes ∷ t) z kept (ap (λ (w : Zone). w.desk) gives.same) (λ number. refl) refl)) (
+          (knows_still own takes z kept (ap (λ (w : Zone). w.desk) gives.same) (λ number. refl) refl)) (
             served_ok s (takes ∷ t) some_zones right_takes (claiming x v) home (record {
               ok = vio_over s takes t v refl (vio_ok known);
               holds = holds_on s t v takes refl v.page refl (holding_for v.page (in_phase known phase.Claim is));
@@ -301,6 +315,7 @@ module _ {s : Session} {t : Trace} {n : ℕ} {old : PhysicalZone} {v : Vio} (kno
               few = let fewer = asks.fewer in omega (arith, fewer);
               asked = asked_kept takes t v.request v.tickets asks.asked;
               lacks = λ none. absurd cc;
+              last = λ none. absurd cc;
               claim_is = refl;
               on_data = is_data;
             }),
@@ -374,6 +389,9 @@ module _ {s : Session} {t : Trace} {n : ℕ} {old : PhysicalZone} {v : Vio} (kno
       out_before : b.desk.out ≡ old.counts.desk.out
       out_before = begun_out old.counts b _ begins
 
+      new_one : WasIssued (given ∷ t) old.counts.zone (record { number = k.number; asked = k.asked; writer = v.request; block = None })
+      new_one = (0, omega arith, ap (λ (zone : ℕ). Asks v.request (record { zone = zone; number = k.number; asked = k.asked })) here)
+
       knows : KnowsTickets s (given ∷ t) old.counts.zone z
       knows = record {
         tickets_are = λ number.
@@ -390,6 +408,8 @@ module _ {s : Session} {t : Trace} {n : ℕ} {old : PhysicalZone} {v : Vio} (kno
             let same = issues_out b.desk z.desk v.request k x gives.issues in
             let was = ap (λ (out : List Waiting). total (waits_with x) out) out_before in
             of_zone_kept old.counts z x kept (known.own.sound.passed x (omega (arith, some, same, was)));
+        out_are = issued_all (WasIssued (given ∷ t) old.counts.zone) b z v.request k gives new_one
+            (subst (All (WasIssued (given ∷ t) old.counts.zone)) (sym out_before) (issued_kept given t old.counts.zone old.counts.desk.out known.own.lists.out_are));
       }
 
       data_ok : DataOk s (given ∷ t) n (at.Physical (with_counts z old))
@@ -448,6 +468,7 @@ module _ {s : Session} {t : Trace} {n : ℕ} {old : PhysicalZone} {v : Vio} (kno
         some = omega (arith, one_more);
         asked = all_asked;
         lacks = λ none. lacks enough;
+        last = λ none. rw (same_self v.request) (sym (newest_added v.tickets k));
       }
 
       backing_on : nat_lt (length held.tickets) s.sizes.physical ≡ false → (o : Option PageId) → v.page ≡ o → CarriesFor s t v phase.Claim o → CarriesFor s (given ∷ t) (withdrawing held) phase.Withdraw o
@@ -566,15 +587,17 @@ module _ {s : Session} {t : Trace} {n : ℕ} {old : PhysicalZone} {v : Vio} (kno
                 ∙ sym (ap (λ (c : Bool). if c && nat_eq k.number number then None else ticket_at s.sizes t old.counts.zone number) ticket_true);
             issued_is = withdrawn_next b z k worth from ∙ begun_next old.counts b _ begins ∙ known.own.lists.issued_is;
             passed = λ y some. of_zone_kept old.counts z y back_kept (known.own.sound.passed y (let less = back_out y in omega (arith, some, less)));
+            out_are = withdrawn_all (WasIssued (back_taken ∷ t) old.counts.zone) b z k worth from
+                (subst (All (WasIssued (back_taken ∷ t) old.counts.zone)) (sym (begun_out old.counts b _ begins)) (issued_kept back_taken t old.counts.zone old.counts.desk.out known.own.lists.out_are));
           })
 
       back_number : n ≡ physical_number s.sizes k.zone
       back_number = known.own.number_is ∙ ap (physical_number s.sizes) (sym ticket_here)
 
       -- what it has then, but for its claim
-      left_with : (claim : Option Pbn) (new : Mapping) (receipt : Option Receipt) → (claim ≡ None → LacksBlock s (back_taken ∷ t) v.request others) → claim ≡ block_in new → OnBlock (λ x. IsDataBlock s.sizes.geometry x.0) new
+      left_with : (claim : Option Pbn) (new : Mapping) (receipt : Option Receipt) → (claim ≡ None → LacksBlock s (back_taken ∷ t) v.request others) → (claim ≡ None → HasLast (back_taken ∷ t) (record v { receipt = receipt }) others) → claim ≡ block_in new → OnBlock (λ x. IsDataBlock s.sizes.geometry x.0) new
           → AsksNoMore s (back_taken ∷ t) (record v { phase = v.phase; new = new; claim = claim; tickets = others; receipt = receipt })
-      left_with claim new receipt lacks claim_is on_data = record {
+      left_with claim new receipt lacks last claim_is on_data = record {
         ok = vio_over s back_taken t v refl (vio_ok known);
         holds = holds_left v.page refl (holds_on s t v back_taken tt v.page refl (holding_back v.page (in_phase known phase.Withdraw is)));
         turn = suc withdraws.turn;
@@ -582,6 +605,7 @@ module _ {s : Session} {t : Trace} {n : ℕ} {old : PhysicalZone} {v : Vio} (kno
         few = omega (arith, few);
         asked = asked_kept back_taken t v.request others were_asked.1;
         lacks = lacks;
+        last = λ none. last_left others (last none);
         claim_is = claim_is;
         on_data = on_data;
       }
@@ -589,6 +613,11 @@ module _ {s : Session} {t : Trace} {n : ℕ} {old : PhysicalZone} {v : Vio} (kno
           holds_left : (o : Option PageId) → v.page ≡ o → HoldsFor s (back_taken ∷ t) v o → HoldsFor s (back_taken ∷ t) (record v { phase = v.phase; new = new; claim = claim; tickets = others; receipt = receipt }) o
           holds_left None bare k' = k'
           holds_left (Some page) some k' = k'
+
+          last_left : (tickets : List Ticket) → HasLast (back_taken ∷ t) (record v { receipt = receipt }) tickets
+              → HasLast (back_taken ∷ t) (record v { phase = v.phase; new = new; claim = claim; tickets = others; receipt = receipt }) tickets
+          last_left [] k' = k'
+          last_left (j ∷ newer) k' = k'
 
     -- the block that went to a ticket is a data block, which is claimed
     module _ (x : Pbn) (z : Zone) (from : WithdrawsFrom b z k (Block x)) where
@@ -613,12 +642,12 @@ module _ {s : Session} {t : Trace} {n : ℕ} {old : PhysicalZone} {v : Vio} (kno
         act_one known h (plain_clears known h t tt (back_number z (Block x) (Some x) from (block_out x z from)) (own_request known) tt tt) (λ g fair. g (fair_before s h t fair)) right
         (back_data z (Block x) (Some x) from (block_out x z from)) (
           served_ok s (h ∷ t) some_zones right (claiming x (with_tickets others v)) home
-              (as_served (left_with z (Block x) (Some x) from (block_out x z from) (Some x) (At x) v.receipt (λ no. absurd cc) refl (block_data x z from))),
+              (as_served (left_with z (Block x) (Some x) from (block_out x z from) (Some x) (At x) v.receipt (λ no. absurd cc) (λ no. absurd cc) refl (block_data x z from))),
           tt,
         )
       where
         as_served : AsksNoMore s (Withdraws v.request k (Some x) ∷ t) (record v { phase = v.phase; new = At x; claim = Some x; tickets = others; receipt = v.receipt }) → AsksNoMore s (Withdraws v.request k (Some x) ∷ t) (claiming x (with_tickets others v))
-        as_served k' = record { ok = k'.ok; holds = k'.holds; turn = k'.turn; in_turn = k'.in_turn; few = k'.few; asked = k'.asked; lacks = k'.lacks; claim_is = k'.claim_is; on_data = k'.on_data }
+        as_served k' = record { ok = k'.ok; holds = k'.holds; turn = k'.turn; in_turn = k'.in_turn; few = k'.few; asked = k'.asked; lacks = k'.lacks; last = λ none. absurd cc; claim_is = k'.claim_is; on_data = k'.on_data }
 
     -- No block went to it.
     module _ (r : Receipt) (z : Zone) (from : WithdrawsFrom b z k (Nothing r)) where
@@ -646,13 +675,29 @@ module _ {s : Session} {t : Trace} {n : ℕ} {old : PhysicalZone} {v : Vio} (kno
             ];
           }
 
+      -- its receipt is of this ticket
+      receipt_is : r.asked ≡ k.asked
+      receipt_is =
+          let out = subst (All (WasIssued t old.counts.zone)) (sym (begun_out old.counts b _ begins)) known.own.lists.out_are in
+          let (waiting, was, number, asked) = withdrawn_one (WasIssued t old.counts.zone) b z k r from out in
+          let ticket : Ticket = record { zone = old.counts.zone; number = waiting.number; asked = waiting.asked } in
+          let same : ticket ≡ k = same_ticket s t waiting.writer v.request ticket k known.right was were_asked.0 (sym ticket_here) number in
+          asked ∙ ap (λ (j : Ticket). j.asked) same
+
+      last_left : v.claim ≡ None → HasLast (in_vain ∷ t) (record v { receipt = Some r }) others
+      last_left none = by others (sym (ap newest_ticket has) ∙ sym (withdraws.last none))
+        where
+          by : (tickets : List Ticket) → newest_ticket (k ∷ tickets) ≡ last_asked t v.request → HasLast (in_vain ∷ t) (record v { receipt = Some r }) tickets
+          by [] same = record { ticket = k; last = sym same; given = r; receipt_is = refl; asked = receipt_is }
+          by (j ∷ newer) same = sym same
+
       pub lacks_ok : After (with_counts z old) (in_vain ∷ []) (served (refused r (with_tickets others v)) ∷ [])
       lacks_ok =
           let claim = claim_in known phase.Withdraw is in
           act_one known in_vain (plain_clears known in_vain t tt (back_number z (Nothing r) None from none_out) (own_request known) tt tt) (λ g fair. g (fair_before s in_vain t fair)) (right_back z (Nothing r) None from none_out)
           (back_data z (Nothing r) None from none_out) (
             served_ok s (in_vain ∷ t) some_zones (right_back z (Nothing r) None from none_out) (refused r (with_tickets others v)) home
-                (left_with z (Nothing r) None from none_out v.claim v.new (Some r) lacks_left claim.claim_is (claim.on_data refl)),
+                (left_with z (Nothing r) None from none_out v.claim v.new (Some r) lacks_left last_left claim.claim_is (claim.on_data refl)),
             tt,
           )
 
@@ -681,7 +726,7 @@ module _ {s : Session} {t : Trace} {n : ℕ} {old : PhysicalZone} {v : Vio} (kno
       spared =
           let claim = claim_in known phase.Withdraw is in
           let u : Vio = with_tickets others v in
-          let k' : AsksNoMore s (got ∷ t) u = left_with m (Block x) (Some x) from (block_out x m from) v.claim v.new v.receipt (λ none. absurd (let both : Some y ≡ None = sym some ∙ none in cc)) claim.claim_is (claim.on_data refl) in
+          let k' : AsksNoMore s (got ∷ t) u = left_with m (Block x) (Some x) from (block_out x m from) v.claim v.new v.receipt (λ none. absurd (let both : Some y ≡ None = sym some ∙ none in cc)) (λ none. absurd (let both : Some y ≡ None = sym some ∙ none in cc)) claim.claim_is (claim.on_data refl) in
           record {
             ok = vio_over s drops (got ∷ t) u refl k'.ok;
             holds = holds_on s (got ∷ t) u drops tt u.page refl k'.holds;
@@ -690,6 +735,7 @@ module _ {s : Session} {t : Trace} {n : ℕ} {old : PhysicalZone} {v : Vio} (kno
             few = k'.few;
             asked = asked_kept drops (got ∷ t) v.request others k'.asked;
             lacks = λ none. absurd (let both : Some y ≡ None = sym some ∙ none in cc);
+            last = λ none. absurd (let both : Some y ≡ None = sym some ∙ none in cc);
             claim_is = k'.claim_is;
             on_data = k'.on_data;
           }

@@ -26,7 +26,7 @@ use Rattle.core_model.specs.Trace.{added, new_of}
 use Rattle.core_model.specs.UpdateStream.{counting}
 use Rattle.core_laws.proofs.kept.ActKept.{Known, ActKept, PostOk, act_none, act_one, claim_in, plain_clears, own_request, shown_plain, vio_over, vio_ok, in_phase}
 use Rattle.core_laws.proofs.kept.Carried.{SaysSame, by_all, logged_request, reply_said}
-use Rattle.core_laws.proofs.kept.Spared.{below_kept, quiet_kept, spent_kept}
+use Rattle.core_laws.proofs.kept.Spared.{below_kept, quiet_kept, spent_kept, issued_kept}
 use Rattle.core_laws.proofs.trace.DeskOfTrace.{shown_of}
 use Rattle.core_laws.proofs.journal.JournalFacts.{home_within}
 use Rattle.core_laws.proofs.tokens.Moves.{Moves, counted_moves, no_block, passes, removed_moves, removed_passes}
@@ -132,7 +132,7 @@ module _ {s : Session} {t : Trace} {n : ℕ} {old : PhysicalZone} {v : Vio} (kno
         act_one known adds (plain_clears known adds t tt (number_led own x (new_of (logged v)) claimed.own leads) tt tt tt) (λ g fair. g (fair_before s adds t fair))
         (record { is_open = subst (IsOpen t) (sym (logged_request v)) (vio_ok known).is_open; next = next }, shown_plain s t adds tt (shown_of s t known.right), known.right)
         (after_ok own (adds ∷ t) z no_block no_block (one_of x) (zone_counted v.page old.counts z x slab own.sound.is_zone claimed fits change) kept moves (first moves)
-        (λ y. omega arith) (λ y. let one : is_entry y (logged v) ≡ one_of x y = ap (leads_to y) leads in omega (arith, one)) refl (knows_still own (adds ∷ t) z kept (counted_desk v.page old.counts z x slab own.sound.is_zone claimed fits change) (λ number. refl) refl))
+        (λ y. omega arith) (λ y. let one : is_entry y (logged v) ≡ one_of x y = ap (leads_to y) leads in omega (arith, one)) refl (knows_still own adds z kept (counted_desk v.page old.counts z x slab own.sound.is_zone claimed fits change) (λ number. refl) refl))
         ((home, (vio_over s adds t v refl (vio_ok known), settles_for v.page refl carries, refl, no_claim s None v.new v.tickets refl ((claim_in known phase.Count is).no_ticket refl))), tt)
       where
         first : Moves old.counts z no_block no_block (one_of x) → AreFirstClaims z
@@ -153,7 +153,7 @@ module _ {s : Session} {t : Trace} {n : ℕ} {old : PhysicalZone} {v : Vio} (kno
     drops = Drops v.request x (served_ticket change.serves)
 
     said : SaysSame drops t v.request
-    said = record { of_place = refl; of_entry = refl; of_slot = refl; of_gift = refl; of_take = refl }
+    said = record { of_place = refl; of_entry = refl; of_slot = refl; of_gift = refl; of_take = refl; of_ask = refl }
 
     dropped_for : (o : Option PageId) → CarriesFor s t v phase.AbortClaim o → CarriesFor s (drops ∷ t) (unclaiming phase.Abort v) phase.Abort o
     dropped_for None k = (dropped_turn s t v x _ k.0, reply_said s drops t v v.answer said k.1)
@@ -275,7 +275,7 @@ module _ {s : Session} {t : Trace} {n : ℕ} {old : PhysicalZone} {e : Remapping
         (record { next = turn x from mine; block = x; old_is = from; none_counted = omega (arith, stray, here.0, counters) }, shown_plain s t strays tt (shown_of s t known.right), known.right)
         (record {
           number_is = own.number_is;
-          lists = record { counters = own.lists.counters; uses = own.lists.uses; tickets_are = own.lists.tickets_are; issued_is = own.lists.issued_is; strays_are = ap (λ (es : List Remapping). e ∷ es) own.lists.strays_are ∙ sym (let mine_is : is_counted_in s.sizes old.counts.zone e.old ≡ true = ap (is_counted_in s.sizes old.counts.zone) from ∙ counted_here s.sizes old.counts.zone x (zone_is s old own.sound x mine) in rw mine_is refl) };
+          lists = record { counters = own.lists.counters; uses = own.lists.uses; tickets_are = own.lists.tickets_are; issued_is = own.lists.issued_is; out_are = issued_kept strays t old.counts.zone old.counts.desk.out own.lists.out_are; strays_are = ap (λ (es : List Remapping). e ∷ es) own.lists.strays_are ∙ sym (let mine_is : is_counted_in s.sizes old.counts.zone e.old ≡ true = ap (is_counted_in s.sizes old.counts.zone) from ∙ counted_here s.sizes old.counts.zone x (zone_is s old own.sound x mine) in rw mine_is refl) };
           sound = record { is_zone = own.sound.is_zone; geometry = own.sound.geometry; zones = own.sound.zones; numbered = own.sound.numbered; few = own.sound.few; room = own.sound.room; passed = own.sound.passed; first_claims = own.sound.first_claims };
           kept = tt;
           answers = tt;
@@ -294,7 +294,7 @@ physical_notified known =
     let own = known.own in
     act_none known (record {
       number_is = own.number_is;
-      lists = record { counters = own.lists.counters; uses = own.lists.uses; strays_are = own.lists.strays_are; tickets_are = own.lists.tickets_are; issued_is = own.lists.issued_is };
+      lists = record { counters = own.lists.counters; uses = own.lists.uses; strays_are = own.lists.strays_are; tickets_are = own.lists.tickets_are; issued_is = own.lists.issued_is; out_are = own.lists.out_are };
       sound = record { is_zone = own.sound.is_zone; geometry = own.sound.geometry; zones = own.sound.zones; numbered = own.sound.numbered; few = own.sound.few; room = own.sound.room; passed = own.sound.passed; first_claims = own.sound.first_claims };
       kept = tt;
       answers = tt;

@@ -1,10 +1,10 @@
 -- What a physical zone has after a call of its counts: its facts, by what the call moves.
-use Rattle.std.proofs.Common.{◌≡◌, ℕ, ◌+◌, ◌<◌, ◌==◌, if◌then◌else◌, ◌&&◌, nat_eq, true, Bool, Option, None, Some, List, [], ◌∷◌, ◌++◌, refl, ap, sym, ◌∙◌, subst, inl, inr, arith}
+use Rattle.std.proofs.Common.{◌≡◌, ℕ, ◌+◌, ◌<◌, ◌==◌, if◌then◌else◌, ◌&&◌, nat_eq, true, Bool, Option, None, Some, List, [], ◌∷◌, ◌++◌, refl, ap, sym, ◌∙◌, subst, inl, inr, arith, All}
 use Rattle.core_laws.proofs.Common.{DataOk, Drops, Happening, Mapping, Pbn, PhysicalZone, Session, Trace, eq-eqb, eqb_tells, is_block, physical_number, total, zone_number, Writer}
 use Rattle.blk_base.specs.Regions.{IsDataBlock}
 use Rattle.blk_base.specs.declared.place.Mapping.TheVariants.{At}
 use Rattle.core_model.specs.CountUpdates.{replaced_in}
-use Rattle.core_model.specs.Facts.{AreFirstClaims}
+use Rattle.core_model.specs.Facts.{AreFirstClaims, WasIssued}
 use Rattle.core_model.specs.PhysicalRules.{spent_for, with_counts}
 use Rattle.blk_base.specs.declared.place.PageId.{PageId}
 use Rattle.slab_tickets.specs.Tickets.{Desk}
@@ -27,6 +27,8 @@ use Rattle.slab_tickets.specs.Numbers.{AreNumbered, ticket_of}
 use Rattle.zone_counts.specs.ByBlock.{claims_in, counter_in, is_at, out_with, served_block, served_ticket}
 use Rattle.zone_counts.specs.Zone.{Zone, Changes, IsClaimedIn, IsOfZone, IsZone, slab_of}
 use Rattle.zone_counts.proofs.TicketLaws.{changed_next, dropped_is_zone, dropped_none_waits, dropped_served, removed_served, served_neither, served_tickets, unserved_tickets}
+use Rattle.core_laws.proofs.physical.OutTickets.{changed_all}
+use Rattle.core_laws.proofs.kept.Spared.{issued_kept}
 
 -- 1 for the block itself, 0 for others
 pub one_same : (x y : Pbn) → x.0 ≡ y.0 → one_of x y ≡ 1
@@ -51,6 +53,7 @@ pub record KnowsTickets (s : Session) (t : Trace) (zone : ℕ) (z : Zone) : Type
   pub tickets_are : (number : ℕ) → ticket_of z.desk.out number ≡ ticket_at s.sizes t zone number
   pub issued_is : z.desk.issued ≡ issued t zone
   pub passed : (x : Pbn) → 0 < out_with x z.desk → IsOfZone z x
+  pub out_are : All (WasIssued t zone) z.desk.out
 
 module _ {s : Session} {t : Trace} {n : ℕ} {old : PhysicalZone} (own : DataOk s t n (at.Physical old)) where
   -- where a block of the zone is counted
@@ -77,6 +80,7 @@ module _ {s : Session} {t : Trace} {n : ℕ} {old : PhysicalZone} (own : DataOk 
       strays_are = own.lists.strays_are ∙ sym (ap (replaced_in s.sizes old.counts.zone) strays) ∙ ap (λ (zone : ℕ). replaced_in s.sizes zone (strayed t')) (sym kept.zone);
       tickets_are = λ number. knows.tickets_are number ∙ ap (λ (zone : ℕ). ticket_at s.sizes t' zone number) (sym kept.zone);
       issued_is = knows.issued_is ∙ ap (issued t') (sym kept.zone);
+      out_are = subst (λ (zone : ℕ). All (WasIssued t' zone) z.desk.out) (sym kept.zone) knows.out_are;
     };
     sound = record {
       is_zone = is;
@@ -189,12 +193,13 @@ freed_by m z x slab spent change moves none one = let no = ap (is_at x) (served_
 
 -- What it knows of its tickets where nothing happened to them, and where a block may have gone to one.
 module _ {s : Session} {t : Trace} {n : ℕ} {old : PhysicalZone} (own : DataOk s t n (at.Physical old)) where
-  pub knows_still : (t' : Trace) (z : Zone) → IsKeptBy old.counts z → z.desk ≡ old.counts.desk → ((number : ℕ) → ticket_at s.sizes t' old.counts.zone number ≡ ticket_at s.sizes t old.counts.zone number)
-      → issued t' old.counts.zone ≡ issued t old.counts.zone → KnowsTickets s t' old.counts.zone z
-  knows_still t' z kept desk tickets numbers = record {
+  pub knows_still : (h : Happening) (z : Zone) → IsKeptBy old.counts z → z.desk ≡ old.counts.desk → ((number : ℕ) → ticket_at s.sizes (h ∷ t) old.counts.zone number ≡ ticket_at s.sizes t old.counts.zone number)
+      → issued (h ∷ t) old.counts.zone ≡ issued t old.counts.zone → KnowsTickets s (h ∷ t) old.counts.zone z
+  knows_still h z kept desk tickets numbers = record {
     tickets_are = λ number. ap (λ (d : Desk). ticket_of d.out number) desk ∙ own.lists.tickets_are number ∙ sym (tickets number);
     issued_is = ap (λ (d : Desk). d.issued) desk ∙ own.lists.issued_is ∙ sym numbers;
     passed = λ x some. of_zone_kept old.counts z x kept (own.sound.passed x (subst (λ (d : Desk). 0 < out_with x d) desk some));
+    out_are = subst (λ (d : Desk). All (WasIssued (h ∷ t) old.counts.zone) d.out) (sym desk) (issued_kept h t old.counts.zone old.counts.desk.out own.lists.out_are);
   }
 
   pub knows_passed : (h : Happening) (x : Pbn) (slab : Counts) (z : Zone) → IsOfZone old.counts x → (change : Changes old.counts z x slab) → IsKeptBy old.counts z
@@ -208,6 +213,7 @@ module _ {s : Session} {t : Trace} {n : ℕ} {old : PhysicalZone} (own : DataOk 
         ∙ sym (tickets number);
     issued_is = changed_next old.counts z x slab change ∙ own.lists.issued_is ∙ sym numbers;
     passed = λ y some. of_zone_kept old.counts z y kept (passed_after s t old.counts.zone old.counts z x slab change own.sound.numbered served out own.sound.passed mine y some);
+    out_are = changed_all (WasIssued (h ∷ t) old.counts.zone) (λ waiting b was. was) old.counts z x slab change (issued_kept h t old.counts.zone old.counts.desk.out own.lists.out_are);
   }
 
 -- an increment frees no block

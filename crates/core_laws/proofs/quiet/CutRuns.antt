@@ -55,8 +55,9 @@ begins_first sizes old new made posts (desk.DeskBegins.sends w r v next asked is
 -- and as it answers one
 answers_first : (sizes : Sizes) (old : Desk) (v : Vio) (new : Desk) (made : Trace) (posts : List Post) → DeskServes sizes old v new made posts → BeginsFirst (lines made)
 answers_first sizes old v new made posts (desk.DeskServes.parks a p is stopped early n m q) = subst (λ (u : Trace). BeginsFirst (lines u)) (sym m) tt
-answers_first sizes old v new made posts (desk.DeskServes.answers a p is stopped unmarked n m q) = subst (λ (u : Trace). BeginsFirst (lines u)) (sym m) tt
+answers_first sizes old v new made posts (desk.DeskServes.answers a p is stopped unmarked spaced n m q) = subst (λ (u : Trace). BeginsFirst (lines u)) (sym m) tt
 answers_first sizes old v new made posts (desk.DeskServes.marks p flush is n m q) = subst (λ (u : Trace). BeginsFirst (lines u)) (sym m) tt
+answers_first sizes old v new made posts (desk.DeskServes.lacks p is n m q) = subst (λ (u : Trace). BeginsFirst (lines u)) (sym m) tt
 
 -- what happens in another zone is no line
 no_line : (sizes : Sizes) (h : Happening) (t : Trace) → desk_number ≢ happens_in sizes h → lines (h ∷ t) ≡ lines t

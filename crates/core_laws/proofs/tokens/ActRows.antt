@@ -28,6 +28,7 @@ use Rattle.block_map_tree.specs.Tree.{Tree}
 use Rattle.data_vio.specs.Vios as vios
 use Rattle.core_laws.proofs.tokens.Known.{IsCounted, Leased, MadeIn}
 use Rattle.blk_base.specs.declared.place.Mapping.TheVariants.{At}
+use Rattle.vdo_model.specs.declared.report.NoSpaceReceipt.{NoSpaceReceipt}
 
 -- what items have together of what one may have
 abbrev pub Sum : Type 0
@@ -128,8 +129,8 @@ pub data Row (sizes : Sizes) : ZoneData → ZoneData → Sum → Sum → Type 0 
       → Row sizes (at.Desk d) (at.Desk (record d { log = line.Begin v.request ∷ d.log })) (all_in phase.Reply d.parked) (λ f. f (Request (turned phase.Flush v)) + all_in phase.Reply d.parked f)
   parks : (d : Desk) (v : Vio) (parked : List Vio)
       → Row sizes (at.Desk d) (at.Desk (record d { parked = parked })) (λ f. f (Request (turned phase.Reply v)) + all_in phase.Reply d.parked f) (λ f. f (Request (turned phase.Reply v)) + all_in phase.Reply d.parked f)
-  answers : (d : Desk) (v : Vio) (a : Answer) (marks : List FlushMark) → v.page ≡ None → v.claim ≡ None → v.tickets ≡ []
-      → Row sizes (at.Desk d) (at.Desk (record d { log = line.Answer v.request a ∷ d.log; marks = marks })) (λ f. f (Request (turned phase.Reply v)) + all_in phase.Reply d.parked f) (all_in phase.Reply d.parked)
+  answers : (d : Desk) (v : Vio) (a : Answer) (marks : List FlushMark) (receipts : List NoSpaceReceipt) → v.page ≡ None → v.claim ≡ None → v.tickets ≡ []
+      → Row sizes (at.Desk d) (at.Desk (record d { log = line.Answer v.request a ∷ d.log; marks = marks; receipts = receipts })) (λ f. f (Request (turned phase.Reply v)) + all_in phase.Reply d.parked f) (all_in phase.Reply d.parked)
   hears : (d : Desk) → Row sizes (at.Desk d) (at.Desk (with_notice d)) (λ f. f StopNotice + all_in phase.Reply d.parked f) (all_in phase.Reply d.parked)
   -- a logical zone
   arrives_retired : (l : LogicalZone) (v : Vio)

@@ -147,10 +147,12 @@ module _ (sizes : Sizes) where
   desk_row old v new made posts kept none claims (desk.parks a p has stops notified n m q) =
       rw (n, q) (is_row (row.parks old v (old.parked ++ v ∷ [])) (λ f. omega (arith, in_phase f v phase.Reply p, all_are f phase.Reply old.parked kept))
       (λ f. omega (arith, in_phase f v phase.Reply p, items_more f old.parked v, all_are f phase.Reply old.parked kept)))
-  desk_row old v new made posts kept none claims (desk.answers a p has notified marked n m q) =
-      rw (n, q) (is_row (row.answers old v a old.marks (none v refl (inr p)) (claim_in v phase.Reply p claims) (tickets_in v phase.Reply p claims refl)) (λ f. omega (arith, in_phase f v phase.Reply p, all_are f phase.Reply old.parked kept)) (λ f. omega (arith, all_are f phase.Reply old.parked kept)))
+  desk_row old v new made posts kept none claims (desk.answers a p has notified marked spaced n m q) =
+      rw (n, q) (is_row (row.answers old v a old.marks old.receipts (none v refl (inr p)) (claim_in v phase.Reply p claims) (tickets_in v phase.Reply p claims refl)) (λ f. omega (arith, in_phase f v phase.Reply p, all_are f phase.Reply old.parked kept)) (λ f. omega (arith, all_are f phase.Reply old.parked kept)))
   desk_row old v new made posts kept none claims (desk.marks p asks has n m q) =
-      rw (n, q) (is_row (row.answers old v reply.Ok _ (none v refl (inr p)) (claim_in v phase.Reply p claims) (tickets_in v phase.Reply p claims refl)) (λ f. omega (arith, in_phase f v phase.Reply p, all_are f phase.Reply old.parked kept)) (λ f. omega (arith, all_are f phase.Reply old.parked kept)))
+      rw (n, q) (is_row (row.answers old v reply.Ok _ old.receipts (none v refl (inr p)) (claim_in v phase.Reply p claims) (tickets_in v phase.Reply p claims refl)) (λ f. omega (arith, in_phase f v phase.Reply p, all_are f phase.Reply old.parked kept)) (λ f. omega (arith, all_are f phase.Reply old.parked kept)))
+  desk_row old v new made posts kept none claims (desk.lacks p has n m q) =
+      rw (n, q) (is_row (row.answers old v reply.NoSpace old.marks _ (none v refl (inr p)) (claim_in v phase.Reply p claims) (tickets_in v phase.Reply p claims refl)) (λ f. omega (arith, in_phase f v phase.Reply p, all_are f phase.Reply old.parked kept)) (λ f. omega (arith, all_are f phase.Reply old.parked kept)))
 
   -- a logical zone: who goes on with a lock, and who gets it
   abbrev goes_to : (v : Vio) (q : Phase) (new : Mapping) → List ℕ → holds q ≡ true → owes q ≡ false → has_entry q ≡ false → is_committed q ≡ false → Onward

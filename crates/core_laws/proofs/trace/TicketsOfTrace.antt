@@ -4,7 +4,7 @@ use Rattle.std.proofs.Common.{◌≡◌, ◌⊎◌, ℕ, ◌+◌, ◌<◌, ◌�
 use Rattle.core_laws.proofs.Common.{Happening, Pbn, Removes, RightTrace, Session, Sizes, Takes, Trace, Writer, bit, cases_Bool, eqb-true, eqb_tells, is_block, is_old, leads_to, total}
 use Rattle.blk_base.specs.Regions.{IsDataBlock}
 use Rattle.core_model.specs.PageLinks.{block_in}
-use Rattle.core_model.specs.RightTraces.{LossMayFollow, WasRefused}
+use Rattle.core_model.specs.RightTraces.{AskMayFollow, LossMayFollow, MayFollow, WasRefused}
 use Rattle.core_model.specs.Trace.{Asks, Drops, Withdraws, claimed, passed_on}
 use Rattle.core_model.specs.Uses.{NoneFree, NoneFreeIn, Waits, gained, given_at, issued, lost, ticket_at}
 use Rattle.data_vio.specs.Zones.{physical_zone_of}
@@ -122,6 +122,28 @@ module _ (s : Session) where
     | inr earlier ↦ let below = issued_below t w k right.2 earlier in omega (arith, below)
   ]
   issued_below (h ∷ t) w k right has = elim (contains_cut h t (Asks w k) has) [ inl here ↦ absurd cc | inr earlier ↦ issued_below t w k right.2 earlier ]
+
+  -- two tickets of a zone that have one number are the same
+  first_is_new : (h : Happening) (t : Trace) (w v : Writer) (k j : Ticket) → MayFollow s h t → RightTrace s t → h ≡ Asks w k → Contains t (Asks v j) → k.zone ≡ j.zone → k.number ≡ j.number → ⊥
+  first_is_new h t w v k j may right is earlier zones numbers =
+      let next : AskMayFollow s w k t = subst (λ (g : Happening). MayFollow s g t) is may in
+      let number = next.number in
+      let below = issued_below t v j right earlier in
+      let there = ap (issued t) zones in
+      omega (arith, number, below, there, numbers)
+
+  pub same_ticket : (t : Trace) (w v : Writer) (k j : Ticket) → RightTrace s t → Contains t (Asks w k) → Contains t (Asks v j) → k.zone ≡ j.zone → k.number ≡ j.number → k ≡ j
+  same_ticket [] w v k j right one two zones numbers = absurd (omega (arith, one.1))
+  same_ticket (h ∷ t) w v k j right one two zones numbers = elim (contains_cut h t (Asks w k) one) [
+    | inl here ↦ elim (contains_cut h t (Asks v j) two) [
+      | inl there ↦ let same : Asks w k ≡ Asks v j = sym here ∙ there in cc
+      | inr earlier ↦ absurd (first_is_new h t w v k j right.0 right.2 here earlier zones numbers)
+    ]
+    | inr before ↦ elim (contains_cut h t (Asks v j) two) [
+      | inl there ↦ absurd (first_is_new h t v w j k right.0 right.2 there before (sym zones) (sym numbers))
+      | inr earlier ↦ same_ticket t w v k j right.2 before earlier zones numbers
+    ]
+  ]
 
   -- a ticket that waits at the end waited since it was given
   still_waits : (newer older : Trace) (zone number : ℕ) → RightTrace s (newer ++ older) → number < issued older zone → Waits s.sizes (newer ++ older) zone number → Waits s.sizes older zone number

@@ -12,7 +12,7 @@ use Rattle.core_model.proofs.rows.WorkedTraces.{script, first, reader, second, o
 
 -- a desk with this log
 abbrev with_log : List DeskLine → Desk
-with_log log = record { requests = script; log = log; marks = []; notices = 0; parked = [] }
+with_log log = record { requests = script; log = log; marks = []; receipts = []; notices = 0; parked = [] }
 
 -- a stream of the script, at a depth of 2
 abbrev MayBegin : List DeskLine → Writer → Type 0

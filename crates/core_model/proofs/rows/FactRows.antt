@@ -1,9 +1,10 @@
 -- For each clause of what a zone with its lanes keeps a case that it accepts, and one that breaks it alone: in the middle of
 -- a session, where the first write has its block and is on its way to the device, and another write asks for one.
-use Rattle.std.specs.Prelude.{ℕ, zero, suc, ◌≡◌, ◌≢◌, ◌≤◌, false, List, [], ◌∷◌, length, slice_set, None, Some, refl}
+use Rattle.std.specs.Prelude.{All, Contains, ℕ, zero, suc, ◌≡◌, ◌≢◌, ◌≤◌, false, List, [], ◌∷◌, length, slice_set, None, Some, refl}
 use Rattle.std.specs.List.{AllByRecursion}
 use Rattle.std.proofs.Common.{ap, arith, inl, inr, subst, sym}
 use Rattle.std.proofs.lemmas.Bool.Decides.{eqb_tells}
+use Rattle.std.proofs.lemmas.List.Elements.{All-nil, All-push}
 use Rattle.blk_base.specs.declared.geometry.Geometry.{Geometry}
 use Rattle.blk_base.specs.declared.place.Mapping.TheVariants.{At}
 use Rattle.core_model.specs.declared.zones.PhysicalZone.{PhysicalZone}
@@ -18,17 +19,17 @@ use Rattle.data_vio.specs.declared.items.Phase.TheVariants as phase
 use Rattle.data_vio.specs.declared.items.Vio.{Vio}
 use Rattle.core_model.specs.declared.zones.Zone.{Zone}
 use Rattle.core_model.specs.CountUpdates.{replaced_in}
-use Rattle.core_model.specs.Facts.{AreFirstClaims, Carries, ClaimOk, DataOk, IsDecrement, IsInTurn, IsSoundPhysical, ItemOk, PhysicalLists, VioOk, ZoneOk, made_by}
+use Rattle.core_model.specs.Facts.{AreFirstClaims, Carries, ClaimOk, DataOk, IsDecrement, IsInTurn, IsSoundPhysical, ItemOk, PhysicalLists, VioOk, WasIssued, ZoneOk, made_by}
 use Rattle.core_model.specs.PhysicalRules.{HasTicketRoom}
 use Rattle.core_model.specs.Sessions.{IsFair}
-use Rattle.core_model.specs.Trace.{Asks, Commits, Enters, Gives, Removes, Sets, Takes, Trace, Withdraws, strayed}
+use Rattle.core_model.specs.Trace.{Asks, Commits, Enters, Gives, Removes, Sets, Takes, Trace, Withdraws, strayed, Happening}
 use Rattle.image_model.specs.Pages.{leaf_of}
 use Rattle.core_model.specs.Uses.{ticket_at}
 use Rattle.slab_tickets.specs.Numbers.{ticket_of}
 use Rattle.core_model.specs.declared.zones.ZoneData.TheVariants as at
 use Rattle.plain_laws.specs.Sums.{Each}
 use Rattle.core_model.proofs.rows.PhaseRows.{device, has_block, nothing, one, physical, seven, slab_with, stepped, vio, waiting, writes, zone_with}
-use Rattle.core_model.proofs.rows.TicketTraces.{one_asked, one_has, ticket}
+use Rattle.core_model.proofs.rows.TicketTraces.{has_asked, one_asked, one_has, ticket}
 use Rattle.core_model.proofs.rows.WorkedTraces.{sizes, address, block, given, of_first, of_second, leafy, other, second, session, took, two_not_zeros, y}
 
 -- the physical zone with these counters and claims
@@ -135,6 +136,7 @@ may_withdraw = (
     few = omega arith;
     some = omega arith;
     asked = ((0, omega arith, refl), tt);
+    last = λ none. refl;
     lacks = λ none. record {
       newer = [];
       older = asked;
@@ -284,6 +286,21 @@ a_ticket_without_its_block = λ lists. let no = lists.tickets_are 0 in cc
 
 issued_anew : ¬ PhysicalLists leafy (Withdraws second (ticket 0 0) None ∷ one_asked took) (with_tickets 0 0 [])
 issued_anew = λ lists. omega (arith, lists.issued_is)
+
+-- and each asked in the step of its ticket
+as_it_was_issued : All (WasIssued (one_asked took) 0) (with_tickets 0 1 (waiting second 0 None ∷ [])).counts.desk.out
+as_it_was_issued = All-push (WasIssued (one_asked took) 0) [] (waiting second 0 None) (All-nil (WasIssued (one_asked took) 0)) (0, omega arith, refl)
+
+asked_in_another_step : ¬ PhysicalLists leafy (one_asked took) (with_tickets 0 1 (record (waiting second 0 None) { asked = 3 } ∷ []))
+asked_in_another_step = λ lists. absurd (let found = has_asked second 0 took (record (ticket 0 0) { asked = 3 }) refl (other_than_one (lists.out_are 0 (record (waiting second 0 None) { asked = 3 }) (omega arith))) in omega (arith, found))
+  where
+    step_of : Happening → ℕ
+    step_of (Asks w k) = k.asked
+    step_of h = 0
+
+    other_than_one : Contains (one_asked took) (Asks second (record (ticket 0 0) { asked = 3 })) → Contains took (Asks second (record (ticket 0 0) { asked = 3 }))
+    other_than_one (zero, low, is) = let steps = ap step_of is in absurd (omega (arith, steps))
+    other_than_one (suc k, low, is) = (k, omega (arith, low), is)
 
 -- IsSoundPhysical: the slabs of its number, in as many zones as the session has; a block that is claimed is mapped by nobody, and
 -- claimed once

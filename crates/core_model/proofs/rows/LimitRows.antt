@@ -7,6 +7,7 @@ use Rattle.vdo_model.specs.Scripts.{Script}
 use Rattle.vdo_model.specs.declared.report.DeskLine.{DeskLine}
 use Rattle.vdo_model.specs.declared.report.DeskLine.TheVariants.{Begin}
 use Rattle.vdo_model.specs.declared.report.FlushMark.{FlushMark}
+use Rattle.vdo_model.specs.declared.report.NoSpaceReceipt.{NoSpaceReceipt}
 use Rattle.data_vio.specs.declared.items.Phase.TheVariants as phase
 use Rattle.data_vio.specs.declared.items.Vio.{Vio}
 use Rattle.data_vio.specs.declared.sizes.Sizes.{Sizes}
@@ -63,37 +64,44 @@ too_many_zones is = absurd (omega (arith, is.zones))
 too_many_physical : IsLimited (record (sized 4 16) { physical = 5 }) (streams 65536 15) → ⊥
 too_many_physical is = absurd (omega (arith, is.physical))
 
--- a desk over the six requests of the script, with so many lines and marks, so many that wait, and so many notices heard
+-- a desk over the six requests of the script, with so many lines, marks and receipts, so many that wait, and so many notices heard
 abbrev line : DeskLine
 line = Begin first
 
 abbrev mark : FlushMark
 mark = record { request = flush; calls = 1 }
 
+abbrev receipt : NoSpaceReceipt
+receipt = record { request = first; step = 0 }
+
 abbrev waits : Vio
 waits = writes phase.Reply
 
-abbrev desk : (lines marks parked notices : ℕ) → Desk
-desk lines marks parked notices = record { requests = script; log = replicate lines line; marks = replicate marks mark; notices = notices; parked = replicate parked waits }
+abbrev desk : (lines marks receipts parked notices : ℕ) → Desk
+desk lines marks receipts parked notices = record { requests = script; log = replicate lines line; marks = replicate marks mark; receipts = replicate receipts receipt; notices = notices; parked = replicate parked waits }
 
--- twelve lines, six marks, as many requests as are under way in all, and a notice of each of nine zones
-fullest : IsDeskWithin (desk 12 6 526 9)
+-- twelve lines, six marks, six receipts, as many requests as are under way in all, and a notice of each of nine zones
+fullest : IsDeskWithin (desk 12 6 6 526 9)
 fullest = record {
   log = omega (arith, length-replicate 12 line);
   marks = omega (arith, length-replicate 6 mark);
+  receipts = omega (arith, length-replicate 6 receipt);
   parked = omega (arith, length-replicate 526 waits);
   notices = omega arith;
 }
 
 -- one more of each
-too_many_lines : IsDeskWithin (desk 13 6 526 9) → ⊥
+too_many_lines : IsDeskWithin (desk 13 6 6 526 9) → ⊥
 too_many_lines is = absurd (omega (arith, is.log, length-replicate 13 line))
 
-too_many_marks : IsDeskWithin (desk 12 7 526 9) → ⊥
+too_many_marks : IsDeskWithin (desk 12 7 6 526 9) → ⊥
 too_many_marks is = absurd (omega (arith, is.marks, length-replicate 7 mark))
 
-too_many_parked : IsDeskWithin (desk 12 6 527 9) → ⊥
+too_many_receipts : IsDeskWithin (desk 12 6 7 526 9) → ⊥
+too_many_receipts is = absurd (omega (arith, is.receipts, length-replicate 7 receipt))
+
+too_many_parked : IsDeskWithin (desk 12 6 6 527 9) → ⊥
 too_many_parked is = absurd (omega (arith, is.parked, length-replicate 527 waits))
 
-too_many_notices : IsDeskWithin (desk 12 6 526 10) → ⊥
+too_many_notices : IsDeskWithin (desk 12 6 6 526 10) → ⊥
 too_many_notices is = absurd (omega (arith, is.notices))

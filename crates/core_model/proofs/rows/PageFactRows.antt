@@ -104,7 +104,7 @@ withdraws_for_it = (
     up = inl refl;
   },
   refl,
-  record { turn = 0; in_turn = (refl, tt); few = omega arith; some = omega arith; asked = ((0, omega arith, refl), tt); lacks = λ is. absurd cc },
+  record { turn = 0; in_turn = (refl, tt); few = omega arith; some = omega arith; asked = ((0, omega arith, refl), tt); lacks = λ is. absurd cc; last = λ is. absurd cc },
 )
 
 withdraws_without_a_ticket : ¬ Carries session asked (record (maker phase.Withdraw []) { claim = Some (block 85); new = At (block 85) }) phase.Withdraw

@@ -100,11 +100,11 @@ answered answer v = record v { answer = Some answer }
 
 -- the desk: its log and its marks, how many stop notices have come, and who waits for them
 abbrev pub desk : List DeskLine → List FlushMark → ℕ → List Vio → ZoneData
-desk log marks notices parked = at.Desk (record { requests = script; log = log; marks = marks; notices = notices; parked = parked })
+desk log marks notices parked = at.Desk (record { requests = script; log = log; marks = marks; receipts = []; notices = notices; parked = parked })
 
 -- a desk with another script, with this log and these marks
 abbrev desk_of : Script → List DeskLine → List FlushMark → ZoneData
-desk_of requests log marks = at.Desk (record { requests = requests; log = log; marks = marks; notices = 0; parked = [] })
+desk_of requests log marks = at.Desk (record { requests = requests; log = log; marks = marks; receipts = []; notices = 0; parked = [] })
 
 abbrev pass_of_first : Remapping
 pass_of_first = record { request = first; at = address 0; place = 0; old = Unmapped; new = Unmapped }
@@ -244,7 +244,7 @@ begins_after_a_stop = begins (DeskBegins.answers first (request.Write (address 0
 
 -- Reply: an answer is said, a flush gets its mark, one that is stopped waits for all stop notices
 replies : Acts (desk [] [] 0 []) (Request (answered reply.Ok (writes phase.Reply)) ∷ []) (desk (line.Answer first reply.Ok ∷ []) [] 0 []) (Says (line.Answer first reply.Ok) ∷ []) []
-replies = answers (DeskServes.answers reply.Ok refl refl (λ is. absurd cc) refl refl refl refl)
+replies = answers (DeskServes.answers reply.Ok refl refl (λ is. absurd cc) refl refl refl refl refl)
 
 replies_to_a_flush : Acts (desk [] [] 0 []) (Request (record (vio flush asks.Flush phase.Reply 0) { answer = Some reply.Ok; calls = 3 }) ∷ [])
     (desk (line.Answer flush reply.Ok ∷ []) (record { request = flush; calls = 3 } ∷ []) 0 []) (Flushes (record { request = flush; calls = 3 }) ∷ []) []

@@ -1,6 +1,6 @@
 -- What is known of a request that asks for a data block, and of one that withdraws its tickets: for each clause a case that it accepts,
 -- and one that breaks it alone, in a session with two physical zones.
-use Rattle.std.proofs.Common.{ℕ, zero, suc, ◌≡◌, ◌⊎◌, ◌<◌, None, Some, List, [], ◌∷◌, ◌++◌, refl, ap, arith, inl, inr}
+use Rattle.std.proofs.Common.{ℕ, zero, suc, ◌≡◌, ◌⊎◌, ◌<◌, Option, None, Some, List, [], ◌∷◌, ◌++◌, refl, ap, arith, inl, inr}
 use Rattle.std.specs.Prelude.{Contains}
 use Rattle.blk_base.specs.declared.request.Writer.{Writer}
 use Rattle.data_vio.specs.declared.sizes.Sizes.{Sizes}
@@ -123,12 +123,12 @@ lacks-at_one_moment = λ h. elim (h.each 0 (omega arith)) [
     not_of_zone_0 k (suc i, below, is) of = omega (arith, below)
 
 -- IsWithdrawing: its tickets are of zones in turn, as many as there are at most, and some; it was given each, and lacks a block while it
--- has no claim
+-- has no claim, with the one that it was given last
 withdraws : IsWithdrawing crowded_two asked_both second None both
-withdraws = record { turn = 1; in_turn = (refl, (refl, tt)); few = omega arith; some = omega arith; asked = ((1, omega arith, refl), ((0, omega arith, refl), tt)); lacks = λ is. lacks }
+withdraws = record { turn = 1; in_turn = (refl, (refl, tt)); few = omega arith; some = omega arith; asked = ((1, omega arith, refl), ((0, omega arith, refl), tt)); lacks = λ is. lacks; last = λ is. refl }
 
 withdraws_with_a_claim : IsWithdrawing crowded_two asked_1 second (Some (block 90)) (ticket 1 0 ∷ [])
-withdraws_with_a_claim = record { turn = 1; in_turn = (refl, tt); few = omega arith; some = omega arith; asked = ((0, omega arith, refl), tt); lacks = λ is. absurd cc }
+withdraws_with_a_claim = record { turn = 1; in_turn = (refl, tt); few = omega arith; some = omega arith; asked = ((0, omega arith, refl), tt); lacks = λ is. absurd cc; last = λ is. absurd cc }
 
 withdraws-in_turn : ¬ IsWithdrawing crowded_two asked_both second (Some (block 90)) (ticket 0 0 ∷ ticket 0 0 ∷ [])
 withdraws-in_turn = λ is. omega (arith, is.in_turn.0, is.in_turn.1.0)
@@ -144,3 +144,10 @@ withdraws-what_it_was_given = λ is. let found = has_asked second 0 asked_1 (tic
 
 withdraws-once_it_asked_each : ¬ IsWithdrawing crowded_two asked_1 second None (ticket 1 0 ∷ [])
 withdraws-once_it_asked_each = λ is. lacks-once_it_asked_each (is.lacks refl)
+
+withdraws-the_last_of_all : ¬ IsWithdrawing crowded_two asked_both second None (ticket 1 0 ∷ [])
+withdraws-the_last_of_all = λ is. absurd (let last = is.last refl in let zone = ap zone_in last in omega (arith, zone))
+  where
+    zone_in : Option Ticket → ℕ
+    zone_in None = 2
+    zone_in (Some k) = k.zone

@@ -17,7 +17,7 @@ returns-clause-placed c = λ s core w r a legal. places_all s core.trace w r a l
 
 pub returns-clause-at_desk : goal.returns-clause-at_desk
 returns-clause-at_desk c = λ s core n z desk legal had keeps.
-    let k = subst (λ (d : ZoneData). DataOk s core.trace n d) keeps (legal.each n z had).own in (k.lists.log_is, k.lists.marks_is)
+    let k = subst (λ (d : ZoneData). DataOk s core.trace n d) keeps (legal.each n z had).own in (k.lists.log_is, k.lists.marks_is, k.lists.receipts_is)
 
 pub returns-clause-at_zone : goal.returns-clause-at_zone
 returns-clause-at_zone c = λ s core n z l legal had keeps.

@@ -17,6 +17,7 @@ invariant_of-self c = record {
   begun = let now = answers_none_begun _ c.push_reserved.new.self.items c.args.request c.args.answer (rw c.push_reserved.ensures.items (begins _ c.self.inside.lines.items c.args.request c.self.invariant.begun)) in rw (c.raise.ensures, c.push_reserved-2.ensures.items) now;
   answered = let now = answers _ c.push_reserved.new.self.items c.args.request c.args.answer (rw c.push_reserved.ensures.items (begins_none_answered _ c.self.inside.lines.items c.args.request c.self.invariant.answered)) in rw (c.raise-2.ensures, c.push_reserved-2.ensures.items) now;
   marks_room = search rules;
+  receipts_room = search rules;
   few_spare = search rules;
   spare_room = search rules;
   spare = grind (arith, common_steps);

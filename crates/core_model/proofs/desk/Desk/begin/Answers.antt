@@ -14,6 +14,7 @@ invariant_of-self c = record {
   begun = let now = begins _ c.self.inside.lines.items c.args.vio.request c.self.invariant.begun in rw (c.raise.ensures, c.push_reserved.ensures.items) now;
   answered = let now = begins_none_answered _ c.self.inside.lines.items c.args.vio.request c.self.invariant.answered in rw c.push_reserved.ensures.items now;
   marks_room = search rules;
+  receipts_room = search rules;
   few_spare = search rules;
   spare_room = search rules;
   spare = grind (arith, common_steps);
