@@ -85,20 +85,30 @@ fn first_other(report: &RunReport, from: u32, gives: &[Given]) -> Option<(usize,
     None
 }
 
-// What is wrong with the answers where no block is free, and how many blocks are used at the end.
+// The report of what is asked where no block is free.
 fn where_none_is_free<R: Wait>(
     rt: &R,
     alloc: Global,
     zones: Zones,
     number: u64,
-) -> Result<(Option<(usize, Given)>, u32), Unplayed> {
+) -> Result<RunReport, Unplayed> {
     let mut asks = filling(alloc, zones)?;
-    let from = zones.total().wrapping_sub(1);
     asks.extend_from_slice(&FULL)?;
     let mut streams = Vec::new(alloc);
     push(&mut streams, asks)?;
     let mut device = troubled_of(alloc, &zones.geometry(), Trouble::Nothing)?;
-    let report = report_of(rt, alloc, (zones, 1), &streams, number, &mut device)?;
+    report_of(rt, alloc, (zones, 1), &streams, number, &mut device)
+}
+
+// What is wrong with the answers, and how many blocks are used at the end.
+fn found_where_none_is_free<R: Wait>(
+    rt: &R,
+    alloc: Global,
+    zones: Zones,
+    number: u64,
+) -> Result<(Option<(usize, Given)>, u32), Unplayed> {
+    let report = where_none_is_free(rt, alloc, zones, number)?;
+    let from = zones.total().wrapping_sub(1);
     Ok((first_other(&report, from, &FULL_GIVES), report.used))
 }
 
@@ -107,12 +117,45 @@ fn where_none_is_free<R: Wait>(
 fn a_block_that_a_discard_frees(rt: HostRuntime) -> Result<(), Fail> {
     for zones in [Zones::One, Zones::Two, Zones::Three, Zones::Four] {
         for number in 0..4 {
-            let found = where_none_is_free(&rt, rt.alloc(), zones, number)?;
+            let found = found_where_none_is_free(&rt, rt.alloc(), zones, number)?;
             assert_eq!(rt;
                 (zones, number, found),
                 (zones, number, (None, zones.total()))
             );
         }
+    }
+    Ok(())
+}
+
+/// The receipts of the first requests that found no block, the oldest first: the number of each in its stream, and its step.
+type Receipts = [Option<(u32, u64)>; 4];
+
+// The receipts of a report.
+fn receipts(report: &RunReport) -> Receipts {
+    let mut found = [None; 4];
+    for (k, receipt) in report.receipts.as_slice().iter().enumerate() {
+        if k < 4 {
+            found[k] = Some((receipt.request.number, receipt.step));
+        }
+    }
+    found
+}
+
+// The receipts where no block is free, with one physical zone.
+fn receipts_of_one<R: Wait>(rt: &R, alloc: Global, number: u64) -> Result<Receipts, Unplayed> {
+    let report = where_none_is_free(rt, alloc, Zones::One, number)?;
+    Ok(receipts(&report))
+}
+
+// Each of the three writes that find no block asks in one step of the zone, and takes its ticket back in the next one.
+#[test]
+fn the_receipts_of_writes_that_find_none(rt: HostRuntime) -> Result<(), Fail> {
+    for number in 0..4 {
+        let found = receipts_of_one(&rt, rt.alloc(), number)?;
+        assert_eq!(rt;
+            (number, found),
+            (number, [Some((15, 0)), Some((16, 2)), Some((20, 4)), None])
+        );
     }
     Ok(())
 }

@@ -13,6 +13,7 @@ use std::test::Fail;
 use std::thread::Threads;
 use stream_text::{LineFault, ScriptRefusal};
 use vdo_cli::{Ended, Fault, Words, put_fault, run};
+use vdo_model::RunReport;
 
 /// The default sizes, but for the height of the block map.
 const TALL: Geometry = Geometry {
@@ -41,11 +42,12 @@ pub(crate) struct Outside {
     pub(crate) sink: MemSink,
 }
 
-// A run that ended: its device, its status and what it put.
+// A run that ended: its device, its status, its report and what it put.
 #[derive(Drop)]
 pub(crate) struct Ran {
     pub(crate) device: MemDisk,
     pub(crate) status: u8,
+    pub(crate) report: RunReport,
     pub(crate) sink: MemSink,
 }
 
@@ -99,10 +101,16 @@ pub(crate) fn run_in<R: Threads + Wait + Sync>(rt: &R, outside: Outside, device:
         mut sink,
     } = outside;
     let ended = run(rt, &words, device, &mut source, &mut sink, &OpenGate);
-    let Ended { device, status, .. } = ended;
+    let Ended {
+        device,
+        status,
+        report,
+        ..
+    } = ended;
     Ran {
         device,
         status,
+        report,
         sink,
     }
 }

@@ -5,6 +5,7 @@ use std::alloc::{AllocError, Global};
 use std::sync::Wait;
 use std::test::Fail;
 use std::thread::Threads;
+use vdo_model::RunReport;
 
 /// 16 data blocks, of which a leaf takes one, and a journal that takes more entries than are made.
 const SMALL: Geometry = Geometry {
@@ -47,24 +48,30 @@ const LONG: Geometry = Geometry {
 /// So many writes and their leaf take all of them.
 const WRITES: u32 = 63;
 
-/// What is asked behind these writes, and what is put. A block that is there already would need no other one: equal blocks aren't
+/// The receipts of the first requests that found no block, the oldest first: the number of each in its stream, and its step.
+type Receipts = [Option<(u32, u64)>; 3];
+
+/// What is asked behind these writes, what is put, and the receipts. A block that is there already would need no other one: equal blocks aren't
 /// shared yet, and no line asks it.
-const BEHIND: [(&[u8], &[u8]); 3] = [
+const BEHIND: [(&[u8], &[u8], Receipts); 3] = [
     // A new address finds no block, until another one has none any more.
     (
         b"0 flush\n0 write 63 4096*40\n0 discard 1 1\n0 flush\n0 write 70 4096*41\n",
         b"0 63 flush ok\n0 64 write 63 no space z0:63\n0 65 discard 1 ok z0:64\n0 66 flush ok\n0 67 write 70 ok z0:65\nused 64 of 64\n",
+        [Some((64, 0)), None, None],
     ),
     // Nor does one that has a block, and it keeps that.
     (
         b"0 flush\n0 write 0 4096*41\n0 read 0\n",
         b"0 63 flush ok\n0 64 write 0 no space z0:63\n0 65 read 0 4096*01 z0:64\nused 64 of 64\n",
+        [Some((64, 0)), None, None],
     ),
     // One without a leaf finds no block for that. The block of a discard becomes the leaf, and there is none for the data; the
-    // next one has the data.
+    // next one has the data. Each that finds none asks in one step of the zone, and takes its ticket back in the next one.
     (
         b"0 flush\n0 write 900 4096*41\n0 discard 1 1\n0 write 900 4096*42\n0 read 900\n0 discard 2 1\n0 write 900 4096*43\n0 read 900\n",
         b"0 63 flush ok\n0 64 write 900 no space z0:63\n0 65 discard 1 ok z0:64\n0 66 write 900 no space z0:65\n0 67 read 900 4096*00 z0:66\n0 68 discard 2 ok z0:67\n0 69 write 900 ok z0:68\n0 70 read 900 4096*43 z0:69\nused 64 of 64\n",
+        [Some((64, 0)), Some((66, 2)), None],
     ),
 ];
 
@@ -97,24 +104,41 @@ fn text(alloc: Global, behind: &[u8]) -> Result<Vec<u8>, AllocError> {
     Ok(text)
 }
 
-// The status of a run of the writes and these lines, and whether its text is as wanted.
+// The receipts of a report.
+fn receipts(report: &RunReport) -> Receipts {
+    let mut found = [None; 3];
+    for (k, receipt) in report.receipts.as_slice().iter().enumerate() {
+        if k < 3 {
+            found[k] = Some((receipt.request.number, receipt.step));
+        }
+    }
+    found
+}
+
+// The status of a run of the writes and these lines, whether its text is as wanted, and its receipts.
 fn end<R: Threads + Wait + Sync>(
     rt: &R,
     alloc: Global,
-    (asked, put): (&[u8], &[u8]),
-) -> Result<(u8, bool), AllocError> {
+    asked: &[u8],
+    put: &[u8],
+) -> Result<(u8, bool, Receipts), AllocError> {
     let script = script(alloc, asked)?;
     let ran = run_on(rt, alloc, sized(alloc, &LONG)?, &script, None, 4000)?;
     let text = text(alloc, put)?;
-    let Ran { status, sink, .. } = ran;
-    Ok((status, sink.bytes() == text.as_slice()))
+    let Ran {
+        status,
+        report,
+        sink,
+        ..
+    } = ran;
+    Ok((status, sink.bytes() == text.as_slice(), receipts(&report)))
 }
 
 #[test]
 fn a_write_behind_those_that_take_all_blocks(rt: HostRuntime) -> Result<(), Fail> {
-    for (number, &row) in BEHIND.iter().enumerate() {
-        let end = end(&rt, rt.alloc(), row)?;
-        assert_eq!(rt; (number, end), (number, (1, true)));
+    for (number, &(asked, put, receipts)) in BEHIND.iter().enumerate() {
+        let end = end(&rt, rt.alloc(), asked, put)?;
+        assert_eq!(rt; (number, end), (number, (1, true, receipts)));
     }
     Ok(())
 }

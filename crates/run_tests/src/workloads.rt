@@ -31,6 +31,7 @@ fn serves<R: Threads + Wait + Sync + Abort>(
         device,
         status: found,
         sink,
+        ..
     } = run_in(rt, outside, device);
     assert_eq!(rt; (found, sink.bytes()), (status, text));
     Ok(device)
