@@ -25,7 +25,7 @@ use Rattle.data_vio.specs.declared.sizes.Sizes.{Sizes}
 use Rattle.core_model.specs.declared.zones.Zone.{Zone}
 use Rattle.core_model.specs.Legal.{Legal}
 use Rattle.core_model.specs.PageLinks.{opened_page}
-use Rattle.core_model.specs.Reports.{opening_values, report_of}
+use Rattle.core_model.specs.Reports.{IsMappedIn, opening_values, report_of}
 use Rattle.core_model.specs.RightTraces.{HarmMayFollow, HearingMayFollow, MayAnswer, MayFollow, RightTrace}
 use Rattle.core_model.specs.Sessions.{Session, IsFair, IsSession}
 use Rattle.core_model.specs.Start.{IsFirst}
@@ -37,6 +37,7 @@ use Rattle.core_laws.proofs.trace.DamageOfTrace.{fair_undamaged}
 use Rattle.core_laws.proofs.trace.MarksOfTrace.{marks_right}
 use Rattle.core_laws.proofs.trace.ReportOfTrace.{report_reads_right, run_right}
 use Rattle.core_laws.proofs.kept.LegalMoves.{legal_leads}
+use Rattle.core_laws.proofs.quiet.Quiet.{quiet_writes}
 use Rattle.step_parts.specs.DeviceLog.{HasCalled, RoseBy, failed_calls}
 use Rattle.page_codec.specs.declared.fault.PageFault.{PageFault}
 use Rattle.rebuild.specs.Openings.{OpensRight}
@@ -57,6 +58,7 @@ use Rattle.vdo_core.proofs.DoneLaws.{answered_when_done}
 use Rattle.vdo_core.proofs.SessionLaws.{bare, can_serve, honest_reads, is_of, is_session}
 use Rattle.vdo_model.specs.DeskLog.{AllAnswered, answer_of}
 use Rattle.vdo_model.specs.FlushMarks.{successes}
+use Rattle.vdo_model.specs.QuietWrites.{QuietRight}
 use Rattle.vdo_model.specs.RightReads.{ReadsRight}
 use Rattle.vdo_model.proofs.NameLaws.{same_tells}
 use Rattle.vdo_model.specs.Scripts.{Script, request_at}
@@ -355,6 +357,9 @@ module _ (tells honest : Bool) (start : Opened) (script : Script) (first last : 
     pub undamaged_of_image : report.damage ≡ None
     undamaged_of_image = fair_undamaged real trace real_session real_legal.right real_fair
 
+    pub quiet_of_image : QuietRight (IsMappedIn start.head.geometry start.head.start) start.head.geometry before.opening before.log report (calls trace)
+    quiet_of_image = quiet_writes real (core_with first []) (core_with last trace) real_session (begins real real_over) leads real_fair
+
     -- its values
     pub values_of_image : opening_values real ≡ value_of (image_in image sound)
     values_of_image = fun_ext (as_opened_values real start sound right refl refl refl refl is.one)
@@ -417,6 +422,9 @@ module _ (tells honest : Bool) (start : Opened) (script : Script) (first last : 
       -- no leaf is found not to decode
       pub undamaged_then : report.damage ≡ None
       undamaged_then = undamaged_of_image left.left left.is_sound left.is_told opens named
+
+      pub quiet_then : QuietRight (IsMappedIn start.head.geometry start.head.start) start.head.geometry before.opening before.log report (calls trace)
+      quiet_then = quiet_of_image left.left left.is_sound left.is_told opens named
 
       values_are : opening_values (real left.left left.is_sound left.is_told opens named) ≡ value_of (image_in image sound)
       values_are = values_of_image left.left left.is_sound left.is_told opens named ∙ fun_ext left.values
@@ -485,6 +493,7 @@ module _ (tells honest : Bool) (start : Opened) (script : Script) (first last : 
       stays = stays_on entry before after stays_till stays;
       reads_right = λ image told sound. reads_then image told sound;
       undamaged = λ image told sound. undamaged_then image told sound;
+      quiet = λ image told sound. quiet_then image told sound;
       happens = happens;
       early = ready_kept (trust tells honest) entry before found start ready;
       stops = λ image told sound late. stops_then image told sound late;

@@ -1,7 +1,10 @@
--- Rows that pin what a session says of a sound image that it opened (`early`, `reads_right`, `undamaged` and `stops` of
+-- Rows that pin what a session says of a sound image that it opened (`early`, `reads_right`, `undamaged`, `quiet` and `stops` of
 -- `ServesRequests`): a run that is accepted, and for each one that isn't since it breaks this clause.
-use Rattle.std.proofs.Common.{ℕ, ◌≡◌, ◌+◌, ◌-◌, ◌<◌, ◌≤◌, ◌^◌, ◌++◌, true, false, List, [], ◌∷◌, length, replicate, Some, None, Err, refl, sym, ◌∙◌, ap, subst, append_assoc, arith}
+use Rattle.std.proofs.Common.{ℕ, ◌≡◌, ◌+◌, ◌-◌, ◌<◌, ◌≤◌, ◌^◌, ◌++◌, true, false, List, [], ◌∷◌, length, replicate, Some, None, Err, refl, sym, ◌∙◌, ap, subst, append_assoc, arith, inl, inr}
 use Rattle.blk_base.specs.declared.opened.Opened.{Opened}
+use Rattle.blk_base.specs.Regions.{IsDataBlock}
+use Rattle.blk_base.specs.declared.place.Pbn.{Pbn}
+use Rattle.core_model.specs.Reports.{IsMappedIn}
 use Rattle.blk_base.specs.declared.place.PageId.{PageId}
 use Rattle.blk_base.specs.declared.request.Answer.TheVariants as reply
 use Rattle.blk_base.specs.declared.request.Request.TheVariants as request
@@ -59,6 +62,20 @@ read_report byte = record {
   histories = [];
   damage = None;
   used = 2;
+  total = 64;
+}
+
+-- a report of one write of address 1, which found no space
+abbrev full_report : RunReport
+full_report = record {
+  requests = (request.Write (address 1) (block 1) false ∷ []) ∷ replicate 15 [];
+  desk = Answer (of_a 0) reply.NoSpace ∷ Begin (of_a 0) ∷ [];
+  marks = [];
+  receipts = record { request = of_a 0; step = 0 } ∷ [];
+  places = placed (of_a 0) 0 0 ∷ [];
+  histories = [];
+  damage = None;
+  used = 64;
   total = 64;
 }
 
@@ -132,6 +149,19 @@ module _ (before : Seen) (image : Blocks) (told : IsTold true true before image)
   -- undamaged: no leaf is found not to decode
   undamaged-not_with_damage : Served before left after 4 (record empty_report { damage = Some (Page (record { 0 = 85 }) Header) }) → ⊥
   undamaged-not_with_damage ends = absurd (let none = ends.session.serves.undamaged image told sound in cc)
+
+  -- quiet: the first request found no space, with nothing else under way, so each data block is mapped by the image, where no path has
+  -- a page that is no root
+  quiet-not_in_an_image_with_room : (ends : Served before left after 1 full_report) → ends.session.start.head.geometry.height ≡ 1
+      → (other : Blocks) → IsImage ends.session.serves.opened.opening ends.session.serves.opened.log other
+      → (x : Pbn) → IsDataBlock ends.session.start.head.geometry x.0 → (IsMappedIn ends.session.start.head.geometry ends.session.start.head.start other x → ⊥) → ⊥
+  quiet-not_in_an_image_with_room ends roots other is_image x is_data unmapped =
+      let quiet = ends.session.serves.quiet image told sound in
+      let full = quiet.at_first [] (of_a 0) refl other is_image in
+      elim (full.used x is_data) [
+        | inl mapped ↦ unmapped mapped
+        | inr taken ↦ let few = full.at_most in let low = taken.1 in omega (arith, few, low, roots)
+      ]
 
   -- stops: at each moment of the run a stop leaves a sound image, of these sizes, and the next session begins soon behind this one
   stops-not_unsound : (report : RunReport) (later prefix : List Call) (other : Blocks) → Served before left after 0 report → HasSequencesLeft image sound

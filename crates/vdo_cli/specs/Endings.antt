@@ -7,7 +7,8 @@ use Rattle.disk_model.specs.Since.{SinceThen}
 use Rattle.disk_model.specs.Streams.{SourceSeen}
 use Rattle.image_model.specs.Maps.{value_of}
 use Rattle.image_model.specs.declared.fault.ImageFault.{ImageFault}
-use Rattle.core_model.specs.Trace.{Trace, moments}
+use Rattle.core_model.specs.Reports.{IsMappedIn}
+use Rattle.core_model.specs.Trace.{Trace, calls, moments}
 use Rattle.rebuild.specs.declared.forms.Recovered.{Recovered}
 use Rattle.recovery_laws.specs.Kept.{image_in}
 use Rattle.session_seams.specs.Logs.{StopsRight, StopsShow, report_from}
@@ -15,6 +16,7 @@ use Rattle.session_seams.specs.Sequences.{ShowsValues, next_start}
 use Rattle.stream_text.specs.WholeScript.{whole_script}
 use Rattle.vdo_model.specs.declared.report.RunReport.{RunReport}
 use Rattle.vdo_model.specs.FlushMarks.{successes}
+use Rattle.vdo_model.specs.QuietWrites.{QuietRight}
 use Rattle.vdo_model.specs.RightReads.{ReadsRight}
 use Rattle.vdo_cli.specs.declared.fault.Fault.{Fault}
 use Rattle.vdo_cli.specs.declared.fault.Fault.TheVariants as fault
@@ -46,6 +48,9 @@ pub record ServesRequests (trust : Trust) (schedule : ℕ) (found : Recovered) (
       (λ image sound. ReadsRight (value_of (image_in image sound)) report.requests report.desk report.places report.histories)
   -- and no leaf is found not to decode
   pub undamaged : OfSound trust before (λ image sound. report.damage ≡ None)
+  -- A write that found no space with nothing else under way, right behind a flush or as the first request: by each image that a
+  -- stop behind that flush could leave, or in which the session began, all data blocks but a few are mapped.
+  pub quiet : OfSound trust before (λ image sound. QuietRight (IsMappedIn start.head.geometry start.head.start) start.head.geometry opened.opening opened.log report (calls trace))
   -- flush marks
   pub happens : IsTrue trust.tells → Happens (moments trace) report before opened after
   -- a stop before the session leaves an image that says the same
