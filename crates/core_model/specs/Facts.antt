@@ -285,7 +285,7 @@ pub record HasReceipt (t : Trace) (w : Writer) (receipt : Option Receipt) : Type
   pub receipt_is : receipt ≡ Some given
   pub asked : given.asked ≡ ticket.asked
 
--- so where it is answered that no block is free
+-- The answer is earned; and where that is that no block is free, the request has its receipt.
 abbrev pub MayReply : Session → Trace → Vio → Option Answer → Type 0
 MayReply s t v (Some reply.NoSpace) = HasEarned s t (mark_of_vio v) v.asks (request_of v) (Some reply.NoSpace) × HasReceipt t v.request v.receipt
 MayReply s t v answer = HasEarned s t (mark_of_vio v) v.asks (request_of v) answer
