@@ -11,9 +11,11 @@ use Rattle.data_vio.specs.declared.sizes.Sizes.{Sizes}
 use Rattle.core_model.specs.declared.zones.Zone.{Zone}
 use Rattle.core_model.specs.Trace.{Trace}
 use Rattle.vdo_core.specs.Done.{IsDone}
-use Rattle.vdo_core.specs.Plays.{Plays, PlaysOne}
+use Rattle.vdo_core.specs.Notes.{has_posted}
+use Rattle.vdo_core.specs.Plays.{HasNoWork, Plays, PlaysOne}
 use Rattle.vdo_core.specs.declared.events.Event.{Event}
 use Rattle.vdo_core.specs.declared.events.Event.TheVariants as event
+use Rattle.vdo_core.proofs.NoteLaws.{nothing_from}
 use Rattle.vdo_core.proofs.PlayLaws.{LeadsBy, plays_lead}
 use Rattle.schedule.specs.Turns.{AreReady, Drives, IsTurn, PlaysUntilDone, event_count, event_of}
 
@@ -33,6 +35,23 @@ module _ (sizes : Sizes) (zones : List Zone) where
   ready_once (suc k) xs ys (inr (front, is, some, early)) (inl (none, early')) = absurd (some none)
   ready_once (suc k) xs ys (inr (front, is, some, early)) (inr (front', is', some', early')) =
       is ∙ ap (λ (es : List Event). es ++ event_of (length zones) k ∷ []) (ready_once k front front' early early') ∙ sym is'
+
+  -- no more are listed where there is no work for any of the next events
+  pub ready_past : (k more : ℕ) (xs : List Event) → ((j : ℕ) → j < more → HasNoWork sizes zones (event_of (length zones) (k + j))) → AreReady sizes zones k xs
+      → AreReady sizes zones (k + more) xs
+  ready_past k zero xs none ready = let order : k ≡ k + 0 = omega arith in subst (λ (n : ℕ). AreReady sizes zones n xs) order ready
+  ready_past k (suc more) xs none ready =
+      let order : suc (k + more) ≡ k + suc more = omega arith in
+      subst (λ (n : ℕ). AreReady sizes zones n xs) order (inl (none more (omega arith), ready_past k more xs (λ j below. none j (omega (arith, below))) ready))
+
+  -- so the moves from a zone that posted nothing are passed over
+  pub row_past : (from : ℕ) (xs : List Event) → has_posted (slice_get zones from) ≡ false → AreReady sizes zones (length zones + from * length zones) xs
+      → AreReady sizes zones (length zones + (from + 1) * length zones) xs
+  row_past from xs nothing ready =
+      let order : length zones + from * length zones + length zones ≡ length zones + (from + 1) * length zones = omega arith in
+      subst (λ (k : ℕ). AreReady sizes zones k xs) order
+      (ready_past (length zones + from * length zones) (length zones) xs
+      (λ j below. subst (λ (e : Event). HasNoWork sizes zones e) (sym (move_is (length zones) from j below)) (nothing_from zones from j nothing)) ready)
 
   -- so a turn takes one event
   pub turn_once : (state : ℕ) (e e' : Event) → IsTurn sizes zones state e → IsTurn sizes zones state e' → e ≡ e'

@@ -104,7 +104,8 @@ fn add_ready(core: &Core, event: Event, k: u32, ready: &mut ArrayVec<u8, MOST_EV
     }
 }
 
-// Those of the moves from one zone, behind the steps and the moves from the zones before it.
+// Those of the moves from one zone, behind the steps and the moves from the zones before it. A zone that posted nothing is
+// passed over.
 fn add_moves(core: &Core, from: u32, ready: &mut ArrayVec<u8, MOST_EVENTS>)
     requires there { from < length core.now.zones }
     requires room { length ready.old.items ≤ length core.now.zones + from * length core.now.zones }
@@ -118,6 +119,9 @@ fn add_moves(core: &Core, from: u32, ready: &mut ArrayVec<u8, MOST_EVENTS>)
         (map (event_of (length core.now.zones)) ready.new.items) }
 {
     let zones = core.zone_count();
+    if !core.has_posted(from) {
+        return;
+    }
     let first = zones + from * zones;
     for to in 0..zones {
         add_ready(core, Event::Move(from, to), first + to, ready);

@@ -3,6 +3,7 @@ pub mod Conditions
 pub mod Cores
 pub mod Done
 pub mod Moves
+pub mod Notes
 pub mod Plays
 pub mod Starts
 pub mod StepTools

@@ -1,4 +1,4 @@
-ghost use Rattle.std.specs.Prelude.{◌≡◌, ◌≤◌, [], IfOk, IsTrue, false, length};
+ghost use Rattle.std.specs.Prelude.{◌≡◌, ◌≤◌, [], IfOk, IsTrue, false, length, slice_get};
 ghost use Rattle.disk_model.specs.Seen.{Stays};
 ghost use Rattle.core_model.specs.Legal.{Legal};
 ghost use Rattle.core_model.specs.Reports.{report_of};
@@ -9,10 +9,12 @@ ghost use Rattle.vdo_core.specs.declared.stepped.Stepped.TheVariants.{Did, Idle}
 ghost use Rattle.device_zone.specs.DeviceCalls.{Fits};
 ghost use Rattle.vdo_core.specs.Cores.{CanBegin, IsWhole, sizes_of};
 ghost use Rattle.vdo_core.specs.Done.{IsDone};
+ghost use Rattle.vdo_core.specs.Notes.{has_posted};
 ghost use Rattle.vdo_core.specs.Plays.{HasNoWork, PlaysOne, core_with};
 ghost use Rattle.vdo_core.specs.Starts.{IsOf};
 
 use crate::events::{Event, play_one};
+use crate::notes::WorkNotes;
 use crate::start::begin;
 use crate::stepped::Stepped;
 use crate::work::{is_done, ready};
@@ -42,6 +44,7 @@ pub struct Core {
     sizes: Sizes,
     zones: Zones,
     room: ReportRoom,
+    notes: WorkNotes,
 }
 
 /// The zones of a core, with what it needs beside them to be a core again.
@@ -57,12 +60,16 @@ pub struct CoreZones {
 
 impl Model for Core {
     ghost use Rattle.vdo_core.specs.Cores.{CoreState, IsWhole};
+    ghost use Rattle.vdo_core.specs.Notes.{IsKnown};
 
     ghost Value = { CoreState };
 
     ghost view = { λ c. record { sizes = c.sizes; zones = c.zones } };
 
-    ghost invariant = { λ c. IsWhole c.sizes c.zones c.room };
+    ghost invariant = { λ c. record {
+      whole : IsWhole c.sizes c.zones c.room;
+      known : IsKnown c.sizes c.notes c.zones;
+    } };
 }
 
 impl Core {
@@ -89,7 +96,13 @@ impl Core {
         };
         let room = ReportRoom::with_room_for(alloc, &requests)?;
         let zones = begin(alloc, &sizes, requests, opened)?;
-        Ok(Core { sizes, zones, room })
+        let notes = WorkNotes::of(&sizes, &zones);
+        Ok(Core {
+            sizes,
+            zones,
+            room,
+            notes,
+        })
     }
 
     /// One event: a zone steps, or what it posted to another moves there. It is idle exactly where there is no work for it,
@@ -105,7 +118,9 @@ impl Core {
         ensures idle { result ≡ Idle → HasNoWork self.old.sizes self.old.zones event }
         ensures same { result ≡ Idle → self.new ≡ self.old }
     {
-        play_one(&self.sizes, &mut self.zones, event, device)
+        let stepped = play_one(&self.sizes, &mut self.zones, event, device);
+        self.notes.follow(&self.sizes, &self.zones, event);
+        stepped
     }
 
     /// Whether there is work for an event: exactly where `step` isn't idle.
@@ -113,7 +128,15 @@ impl Core {
         ensures yes { IsTrue result → HasNoWork self.now.sizes self.now.zones event → ⊥ }
         ensures no { (result ≡ false) → HasNoWork self.now.sizes self.now.zones event }
     {
-        ready(&self.sizes, &self.zones, event)
+        ready(&self.sizes, &self.zones, &self.notes, event)
+    }
+
+    /// Whether a zone posted something that hasn't moved yet: where it hasn't, or where no zone has the number, there is no
+    /// work for a move from it.
+    pub fn has_posted(&self, from: u32) -> bool
+        ensures { result ≡ has_posted (slice_get self.now.zones from) }
+    {
+        self.notes.has_posted(&self.sizes, &self.zones, from)
     }
 
     /// Whether each request is answered.
@@ -166,10 +189,12 @@ impl Core {
         requires { IsWhole core.sizes core.zones core.room }
         ensures { result ≡ record { sizes = core.sizes; zones = core.zones } }
     {
+        let notes = WorkNotes::of(&core.sizes, &core.zones);
         Core {
             sizes: core.sizes,
             zones: core.zones,
             room: core.room,
+            notes,
         }
     }
 }

@@ -13,6 +13,7 @@ mod events;
 mod lanes;
 mod laws;
 mod moves;
+mod notes;
 mod numbers;
 mod start;
 mod stepped;

@@ -6,10 +6,15 @@ use Rattle.core_model.specs.declared.zones.Zone.{Zone}
 use Rattle.vdo_core.proofs.MoveLaws.{moves_something}
 use Rattle.vdo_core.proofs.work.ready.Goals as goal
 
-pub has_work-requires : goal.has_work-requires
-has_work-requires c =
+pub has_work-requires-clause-can : goal.has_work-requires-clause-can
+has_work-requires-clause-can c =
     let had : slice_get c.args.zones.now c.in-Step.number ≡ Some c.in-Some.zone.now = grind (arith, common_steps, gets) in
-    (c.requires c.in-Step.number c.in-Some.zone.now had).begins
+    (c.requires.can c.in-Step.number c.in-Some.zone.now had).begins
+
+pub has_work-requires-clause-known : goal.has_work-requires-clause-known
+has_work-requires-clause-known c =
+    let had : slice_get c.args.zones.now c.in-Step.number ≡ Some c.in-Some.zone.now = grind (arith, common_steps, gets) in
+    c.requires.known.each c.in-Step.number c.in-Some.zone.now had
 
 pub returns-in-Some-clause-yes : goal.returns-in-Some-clause-yes
 returns-in-Some-clause-yes c some =
