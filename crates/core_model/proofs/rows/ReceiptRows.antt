@@ -4,16 +4,19 @@ use Rattle.blk_base.specs.declared.request.Answer.TheVariants as reply
 use Rattle.blk_base.specs.declared.request.Writer.{Writer}
 use Rattle.vdo_model.specs.declared.report.DeskLine.TheVariants as line
 use Rattle.vdo_model.specs.declared.report.NoSpaceReceipt.{NoSpaceReceipt}
+use Rattle.data_vio.specs.declared.items.Asks.TheVariants as asks
 use Rattle.data_vio.specs.declared.items.Phase.TheVariants as phase
 use Rattle.data_vio.specs.declared.items.Vio.{Vio}
 use Rattle.slab_counts.specs.declared.tickets.Receipt.{Receipt}
 use Rattle.slab_counts.specs.declared.tickets.Ticket.{Ticket}
 use Rattle.core_model.specs.DeskData.{Desk}
 use Rattle.core_model.specs.DeskRules.{DeskServes, receipt_of_vio}
-use Rattle.core_model.specs.Facts.{DeskLists, HasReceipt, newest_ticket}
+use Rattle.core_model.specs.Facts.{DeskLists, HasReceipt, newest_ticket, MayReply}
 use Rattle.core_model.specs.Trace.{Asks, Says, Trace, asked_step, last_asked, lines, receipts}
-use Rattle.core_model.proofs.rows.PhaseRows.{answered, writes}
-use Rattle.core_model.proofs.rows.WorkedTraces.{drawn, first, script, second, sizes}
+use Rattle.core_model.proofs.rows.PhaseRows.{answered, writes, vio}
+use Rattle.core_model.proofs.rows.WorkedTraces.{drawn, first, script, second, sizes, session}
+use Rattle.core_model.specs.RightTraces.{HasCause}
+use Rattle.data_vio.specs.Vios.{request_of}
 
 -- a ticket of this zone, that was given in this step
 abbrev given_in : (zone step : ℕ) → Ticket
@@ -78,6 +81,24 @@ has_receipt-none = λ is. let none = is.receipt_is in absurd cc
 
 has_receipt-asked_none : ¬ HasReceipt drawn second (Some (paper 4))
 has_receipt-asked_none = λ is. let none = is.last in absurd cc
+
+-- MayReply: a write that is answered that no block is free has its receipt, and one that is answered otherwise needs none
+abbrev refusing : Option Receipt → Vio
+refusing receipt = answered reply.NoSpace (record (vio second asks.Write phase.Reply 1) { receipt = receipt })
+
+module _ (cause : HasCause session asked second (request_of (refusing None)) reply.NoSpace) where
+  replies_with_a_receipt : MayReply session asked (refusing (Some (paper 4))) (Some reply.NoSpace)
+  replies_with_a_receipt = (cause, has_receipt)
+
+may_reply-with_a_receipt : ¬ MayReply session asked (refusing None) (Some reply.NoSpace)
+may_reply-with_a_receipt = λ may. has_receipt-none may.1
+
+may_reply-with_its_own : ¬ MayReply session asked (refusing (Some (paper 7))) (Some reply.NoSpace)
+may_reply-with_its_own = λ may. has_receipt-of_an_older_ticket may.1
+
+module _ (cause : HasCause session asked second (request_of (refusing None)) reply.Full) where
+  replies_without_a_receipt : MayReply session asked (refusing None) (Some reply.Full)
+  replies_without_a_receipt = cause
 
 -- receipt_of_vio: the step of what it withdrew last
 step_of_receipt : receipt_of_vio (record (writes phase.Reply) { receipt = Some (paper 4) }) ≡ receipt first 4
