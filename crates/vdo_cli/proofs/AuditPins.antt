@@ -1,6 +1,6 @@
--- Rows that pin how an audit ends (`EndsSo` of the word `audit`, its parts `IsAuditTold`, `FindsNothing`, `OnlyLooks`): for each
+-- Rows that pin how an audit ends (`EndsSo` of the word `audit`, its part `TellsReport`): for each
 -- part some that it accepts, and some that break this part alone.
-use Rattle.std.proofs.Common.{ℕ, ◌≡◌, ◌≤◌, ◌++◌, true, false, List, [], ◌∷◌, length, take, Option, Some, None, codes, refl, ap, inl, inr, arith}
+use Rattle.std.proofs.Common.{ℕ, ◌≡◌, ◌≤◌, ◌++◌, true, false, List, [], ◌∷◌, length, take, Option, Some, None, Result, Ok, Err, codes, refl, ap, inl, inr, arith}
 use Rattle.audit.specs.Audits.{AuditFails, IsAudited}
 use Rattle.audit.specs.declared.forms.Report.{Report}
 use Rattle.blk_base.specs.declared.place.Pbn.{Pbn}
@@ -8,7 +8,6 @@ use Rattle.blk_base.specs.declared.point.Point.{Point}
 use Rattle.disk_model.specs.declared.call.Call.{Call}
 use Rattle.disk_model.specs.declared.call.Call.TheVariants.{Read, Write, Flush}
 use Rattle.disk_model.specs.Seen.{Seen}
-use Rattle.disk_model.specs.Streams.{SourceSeen}
 use Rattle.disk_model.specs.Since.{IsUntouched, OnlyReads}
 use Rattle.image_layout.specs.declared.fault.SuperFault.TheVariants.{NotAnImage}
 use Rattle.image_model.specs.declared.fault.ImageFault.{ImageFault}
@@ -18,12 +17,15 @@ use Rattle.vdo_model.specs.declared.report.RunReport.{RunReport}
 use Rattle.command_text.specs.Audits.{report_text}
 use Rattle.vdo_cli.specs.declared.fault.Fault.{Fault}
 use Rattle.vdo_cli.specs.declared.fault.Fault.TheVariants as fault
-use Rattle.vdo_cli.specs.Inspections.{OnlyLooks, TellsReport, told_as}
-use Rattle.vdo_cli.specs.Outsides.{Outside, no_report, outside}
-use Rattle.vdo_cli.specs.Texts.{fault_status, fault_text}
+use Rattle.vdo_cli.specs.Inspections.{Looks, TellsReport, told_as}
+use Rattle.vdo_cli.specs.Outsides.{Outside, no_report, outcome, outside, trust}
+use Rattle.vdo_cli.specs.Results.{TellsResult}
+use Rattle.vdo_cli.specs.Texts.{fault_text}
 use Rattle.vdo_cli.proofs.CommandPins.{audit_words}
-use Rattle.vdo_cli.proofs.PlayPins.{device, at, source, sink}
-use Rattle.vdo_cli.proofs.RunPins.{Ends, some_report, telling}
+use Rattle.vdo_cli.proofs.PlayPins.{device, at, bare, begins, no_image, source, sink, status_in}
+use Rattle.vdo_cli.proofs.ResultPins as rows
+use Rattle.vdo_cli.proofs.ResultPins.{Parts}
+use Rattle.vdo_cli.proofs.RunPins.{Ends, some_report}
 
 -- told_as: a device that failed and want of memory have faults of their own, what is wrong with an image is told as it is
 device_is_told : told_as image.Device ≡ fault.Device
@@ -38,66 +40,51 @@ page_is_told block why = refl
 counter_is_told : (block : Pbn) (point : Point) → told_as (image.Counter block point) ≡ fault.Image (image.Counter block point)
 counter_is_told block point = refl
 
--- a device without blocks, a source with one byte left, and a sink that holds these bytes
-abbrev pub bare : List Call → List ℕ → List ℕ → ℕ → Outside
-bare log left held faults = outside (device [] log 0 0) (source left 0) (sink held faults)
+-- what an audit does, and the two parts that it may end with
+abbrev Audits : Seen → Seen → Result Report ImageFault → Type 0
+Audits before after result = Looks (trust true false) (IsAudited true false before after) before after result
 
-abbrev pub begins : Outside
-begins = bare [] (7 ∷ []) [] 0
+parts : {before after : Outside} {status : ℕ} {report : RunReport} {ended : Option Fault} → Ends audit_words before after status report ended
+    → Parts Audits (TellsReport true) told_as before after (outcome status report ended)
+parts {before = before} {after = after} ends = rows.parts Audits (TellsReport true) told_as before after _ ends
 
-abbrev pub no_image : Fault
-no_image = fault.Image (image.Super NotAnImage)
-
-pub looks : OnlyLooks telling begins begins
-looks = record {
-  untouched = record {
-    stays = record { opening = refl; size = refl };
-    later = record { faults = omega arith; unkept = omega arith };
-    reads = λ told. ([], refl, tt);
-  };
-  source = refl;
+-- Image. There is none, nothing was done,
+refused : Audits begins.device begins.device (Err (image.Super NotAnImage))
+refused = record {
+  found = tt;
+  failed = inl (inl (record { none = refl; fault_is = refl; same = refl }));
+  untouched = rows.untouched;
 }
 
--- Image. There is none, nothing was done, and the line says so:
+-- and the line says so:
 image-refused : Ends audit_words begins (bare [] (7 ∷ []) (fault_text no_image) 0) 4 no_report (Some no_image)
 image-refused = record {
-  ends = inr (record {
-    why = image.Super NotAnImage;
-    fault_is = refl;
-    cause = inl (inl (record { none = refl; fault_is = refl; same = refl }));
-    refuses = record { status_is = refl; report_is = refl; puts = inl (λ told. refl) };
-  });
-  looks = record { untouched = looks.untouched; source = refl };
+  result = Err (image.Super NotAnImage);
+  works = refused;
+  ends = record { fault_is = refl; refuses = record { status_is = refl; report_is = refl; puts = inl (λ told. refl) } };
+  source = refl;
 }
 
 -- or a part of it, where the sink failed
 image-part : Ends audit_words begins (bare [] (7 ∷ []) (codes "bad") 1) 4 no_report (Some no_image)
 image-part = record {
-  ends = inr (record {
-    why = image.Super NotAnImage;
-    fault_is = refl;
-    cause = inl (inl (record { none = refl; fault_is = refl; same = refl }));
-    refuses = record { status_is = refl; report_is = refl; puts = inr (omega arith, λ told. (3, refl)) };
-  });
-  looks = record { untouched = looks.untouched; source = refl };
+  result = Err (image.Super NotAnImage);
+  works = refused;
+  ends = record { fault_is = refl; refuses = record { status_is = refl; report_is = refl; puts = inr (omega arith, λ told. (3, refl)) } };
+  source = refl;
 }
 
--- a fault has its own status
-abbrev pub status_in : Option Fault → ℕ
-status_in (Some why) = fault_status why
-status_in None = 0
-
 image-not_another_status : (after : Outside) (why : ImageFault) → Ends audit_words begins after 3 no_report (Some (fault.Image why)) → ⊥
-image-not_another_status after why ends = elim ends.ends [
-  | inl told ↦ told.told.1
-  | inr nothing ↦ let same = ap status_in nothing.fault_is in let status = nothing.refuses.status_is in omega (arith, same, status)
+image-not_another_status after why ends = elim (parts ends) [
+  | inl (found, works, told) ↦ told.told.1
+  | inr (cause, works, nothing) ↦ let same = ap status_in nothing.fault_is in let status = nothing.refuses.status_is in omega (arith, same, status)
 ]
 
 image-not_silent : Ends audit_words begins begins 4 no_report (Some no_image) → ⊥
-image-not_silent ends = elim ends.ends [
-  | inl told ↦ told.told.1
-  | inr nothing ↦ elim nothing.refuses.puts [
-    | inl put ↦ some nothing.why nothing.fault_is (put refl)
+image-not_silent ends = elim (parts ends) [
+  | inl (found, works, told) ↦ told.told.1
+  | inr (why, works, nothing) ↦ elim nothing.refuses.puts [
+    | inl put ↦ some why nothing.fault_is (put refl)
     | inr (rose, part) ↦ omega (arith, rose)
   ]
 ]
@@ -110,17 +97,17 @@ image-not_silent ends = elim ends.ends [
     some why is put = let size = ap length (ap line_in is) in let none = ap length put in omega (arith, size, none)
 
 image-not_reported : Ends audit_words begins (bare [] (7 ∷ []) (fault_text no_image) 0) 4 some_report (Some no_image) → ⊥
-image-not_reported ends = elim ends.ends [
-  | inl told ↦ told.told.1
-  | inr nothing ↦ let same = ap (λ (report : RunReport). length report.requests) nothing.refuses.report_is in omega (arith, same)
+image-not_reported ends = elim (parts ends) [
+  | inl (found, works, told) ↦ told.told.1
+  | inr (why, works, nothing) ↦ let same = ap (λ (report : RunReport). length report.requests) nothing.refuses.report_is in omega (arith, same)
 ]
 
 -- a fault that only opening an image finds isn't there
 image-not_of_counts : (before after : Outside) (block : Pbn) (stored mapped : ℕ)
     → Ends audit_words before after 4 no_report (Some (fault.Image (image.Counts block stored mapped))) → ⊥
-image-not_of_counts before after block stored mapped ends = elim ends.ends [
-  | inl told ↦ told.told.1
-  | inr nothing ↦ of_counts nothing.why nothing.fault_is nothing.cause
+image-not_of_counts before after block stored mapped ends = elim (parts ends) [
+  | inl (found, works, told) ↦ told.told.1
+  | inr (why, works, nothing) ↦ of_counts why nothing.fault_is works.failed
 ]
   where
     of_counts : (why : ImageFault) → Some (fault.Image (image.Counts block stored mapped)) ≡ Some (told_as why)
@@ -143,7 +130,7 @@ image-not_of_counts before after block stored mapped ends = elim ends.ends [
 
 -- Nothing is written, and the script isn't looked at, however an audit ends
 looks-not_written : (status : ℕ) (report : RunReport) (ended : Option Fault) → Ends audit_words begins (bare (Write (at 0) [] true ∷ []) (7 ∷ []) [] 0) status report ended → ⊥
-looks-not_written status report ended ends = let since = ends.looks.untouched.reads refl in written since.0 since.1 since.2
+looks-not_written status report ended ends = let since = ends.works.untouched.reads refl in written since.0 since.1 since.2
   where
     written : (calls : List Call) → Write (at 0) [] true ∷ [] ≡ calls ++ [] → OnlyReads calls → ⊥
     written [] is reads = absurd cc
@@ -152,11 +139,11 @@ looks-not_written status report ended ends = let since = ends.looks.untouched.re
     written (Flush ok ∷ calls) is reads = reads
 
 looks-not_taken : (held : List ℕ) (status : ℕ) (report : RunReport) (ended : Option Fault) → Ends audit_words begins (bare [] [] held 0) status report ended → ⊥
-looks-not_taken held status report ended ends = let same = ap (λ (s : SourceSeen). length s.left) ends.looks.source in omega (arith, same)
+looks-not_taken held status report ended = rows.not_taken Audits (TellsResult true (TellsReport true) told_as) held (outcome status report ended)
 
 looks-not_source_failed : (held : List ℕ) (status : ℕ) (report : RunReport) (ended : Option Fault)
     → Ends audit_words begins (outside (device [] [] 0 0) (source (7 ∷ []) 1) (sink held 0)) status report ended → ⊥
-looks-not_source_failed held status report ended ends = let same = ap (λ (s : SourceSeen). s.faults) ends.looks.source in omega (arith, same)
+looks-not_source_failed held status report ended = rows.not_source_failed Audits (TellsResult true (TellsReport true) told_as) held (outcome status report ended)
 
 -- TellsReport. No block differs: the text was put, with status 0;
 clean-told : (found : Report) → found.differs.items ≡ [] → TellsReport true found 0 None (sink [] 0) (sink (report_text found) 0)
@@ -211,20 +198,21 @@ report-not_an_image_s_fault found status why held tells = tells.1
 module _ (before after : Seen) (found : Report) (audited : IsAudited true false before after found) (untouched : IsUntouched true before after) where
   told-clean : found.differs.items ≡ [] → Ends audit_words (outside before (source [] 0) (sink [] 0)) (outside after (source [] 0) (sink (report_text found) 0)) 0 no_report None
   told-clean none = record {
-    ends = inl (record { found = found; audited = audited; report_is = refl; told = clean-told found none });
-    looks = record { untouched = untouched; source = refl };
+    result = Ok found;
+    works = record { found = audited; failed = tt; untouched = untouched };
+    ends = record { report_is = refl; told = clean-told found none };
+    source = refl;
   }
 
   told-differs : (count : ℕ) → 1 ≤ count → count ≡ length found.differs.items
       → Ends audit_words (outside before (source [] 0) (sink [] 0)) (outside after (source [] 0) (sink (report_text found) 0)) 6 no_report (Some (fault.Differs count))
   told-differs count some is = record {
-    ends = inl (record { found = found; audited = audited; report_is = refl; told = differs-told found count some is });
-    looks = record { untouched = untouched; source = refl };
+    result = Ok found;
+    works = record { found = audited; failed = tt; untouched = untouched };
+    ends = record { report_is = refl; told = differs-told found count some is };
+    source = refl;
   }
 
 -- with no report of a session
 told-not_reported : (before after : Outside) → Ends audit_words before after 0 some_report None → ⊥
-told-not_reported before after ends = elim ends.ends [
-  | inl told ↦ let same = ap (λ (report : RunReport). length report.requests) told.report_is in omega (arith, same)
-  | inr nothing ↦ let same = nothing.fault_is in absurd cc
-]
+told-not_reported = rows.not_reported Audits (TellsReport true) told_as

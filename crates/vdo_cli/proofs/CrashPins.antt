@@ -19,9 +19,9 @@ use Rattle.vdo_cli.specs.Crashes.{CopyFails, HasCopyOf, IsCrashComplete, IsOnDev
 use Rattle.vdo_cli.specs.Outsides.{Outside, input_setting_of, inputs, no_report, outcome, outcome_with, outside, trust}
 use Rattle.vdo_cli.specs.Runs.{EndsSo}
 use Rattle.vdo_cli.specs.Texts.{fault_status, fault_text}
-use Rattle.vdo_cli.proofs.AuditPins.{bare, begins, looks, no_image}
 use Rattle.vdo_cli.proofs.CommandPins.{crash_of, crash_words}
-use Rattle.vdo_cli.proofs.PlayPins.{sink, source}
+use Rattle.vdo_cli.proofs.PlayPins.{sink, source, bare, begins, no_image}
+use Rattle.vdo_cli.proofs.ResultPins.{untouched}
 use Rattle.vdo_cli.proofs.RunPins.{Ends, telling}
 
 -- Nothing was run: the device has too many blocks;
@@ -44,7 +44,7 @@ not_run-too_large = record {
 not_run-no_memory : Ends crash_words begins (bare [] (7 ∷ []) (codes "no memory\n") 0) 5 no_report (Some fault.Memory)
 not_run-no_memory = record {
   ends = record { why = fault.Memory; fault_is = refl; cause = inl (tt, refl); refuses = record { status_is = refl; report_is = refl; puts = inl (λ told. refl) } };
-  untouched = looks.untouched;
+  untouched = untouched;
 }
 
 not_run-not_another_status : (after : Outside) → Ends crash_words begins after 4 no_report (Some fault.Memory) → ⊥

@@ -1,9 +1,9 @@
--- Rows that pin how growing ends (`EndsSo` of the words `grow --logical 2000 --slabs 2`, its parts `IsGrowthTold` and
--- `IsNotGrown`): for each part some that it accepts, and some that break this part alone.
-use Rattle.std.proofs.Common.{ℕ, ◌≡◌, true, false, List, [], ◌∷◌, length, take, Option, Some, None, Ok, Err, codes, refl, ◌∙◌, ap, inl, inr, arith}
+-- Rows that pin how growing ends (`EndsSo` of the words `grow --logical 2000 --slabs 2`): for each part some that it accepts, and
+-- some that break this part alone. What no command's work decides is in `ResultPins`.
+use Rattle.std.proofs.Common.{ℕ, ◌≡◌, ◌⊎◌, true, false, List, [], ◌∷◌, take, Option, Some, None, Ok, Err, codes, refl, ap, inl, inr, arith}
 use Rattle.disk_model.specs.declared.call.Call.TheVariants.{Read, Flush}
 use Rattle.disk_model.specs.Seen.{Seen}
-use Rattle.disk_model.specs.Streams.{SourceSeen}
+use Rattle.disk_model.specs.Since.{IsUntouched}
 use Rattle.image_layout.specs.declared.fault.Field.TheVariants.{Slabs}
 use Rattle.image_layout.specs.declared.fault.LayoutFault.TheVariants.{LogicalTooLarge}
 use Rattle.image_layout.specs.declared.fault.SuperFault.TheVariants.{NotAnImage}
@@ -17,12 +17,13 @@ use Rattle.vdo_model.specs.declared.report.RunReport.{RunReport}
 use Rattle.vdo_cli.specs.declared.fault.Fault.{Fault}
 use Rattle.vdo_cli.specs.declared.fault.Fault.TheVariants as fault
 use Rattle.vdo_cli.specs.Growths.{grow_told_as}
-use Rattle.vdo_cli.specs.Outsides.{Outside, no_report, outside}
+use Rattle.vdo_cli.specs.Outsides.{Outside, Tells, no_report, outcome, outside}
+use Rattle.vdo_cli.specs.Results.{TellsResult}
 use Rattle.vdo_cli.specs.Texts.{fault_text}
-use Rattle.vdo_cli.proofs.AuditPins.{bare, begins, looks, no_image, status_in}
 use Rattle.vdo_cli.proofs.CommandPins.{grow_words}
-use Rattle.vdo_cli.proofs.PlayPins.{at, source, sink}
-use Rattle.vdo_cli.proofs.RecoveryPins.{failed, first_of, not_flushed}
+use Rattle.vdo_cli.proofs.PlayPins.{at, bare, begins, first_of, no_image, source, sink}
+use Rattle.vdo_cli.proofs.ResultPins as rows
+use Rattle.vdo_cli.proofs.ResultPins.{failed, flushed}
 use Rattle.vdo_cli.proofs.RunPins.{Ends, some_report}
 
 -- grow_told_as: by the kind of the fault
@@ -44,12 +45,12 @@ told_mapped = refl
 -- Image. There is none, nothing was done,
 refused : IsGrowing true false 2000 2 begins.device begins.device (Err (growth.Image (image.Super NotAnImage)))
 refused = record {
-  stays = looks.untouched.stays;
-  later = looks.untouched.later;
+  stays = rows.untouched.stays;
+  later = rows.untouched.later;
   grows = λ told. ([], refl);
   answers = tt;
   fails = inl (inl (inl (record { none = refl; fault_is = refl; same = refl })));
-  nothing = inr looks.untouched;
+  nothing = inr rows.untouched;
   says = λ blocks is. let fair = is.fair in absurd cc;
   stops = λ blocks is. let fair = is.fair in absurd cc;
   grown = tt;
@@ -57,34 +58,17 @@ refused = record {
 
 -- and the line says so
 image-refused : Ends grow_words begins (bare [] (7 ∷ []) (fault_text no_image) 0) 4 no_report (Some no_image)
-image-refused = record {
-  ends = inr (record {
-    why = growth.Image (image.Super NotAnImage);
-    fault_is = refl;
-    cause = refused;
-    refuses = record { status_is = refl; report_is = refl; puts = inl (λ told. refl) };
-  });
-  source = refl;
-}
+image-refused = rows.refused (IsGrowing true false 2000 2) grown_text grow_told_as begins.device (growth.Image (image.Super NotAnImage)) refused
 
 image-not_another_status : (after : Outside) → Ends grow_words begins after 0 no_report (Some no_image) → ⊥
-image-not_another_status after ends = elim ends.ends [
-  | inl told ↦ told.line
-  | inr nothing ↦ let same = ap status_in nothing.fault_is in let status = nothing.refuses.status_is in omega (arith, same, status)
-]
+image-not_another_status = rows.refused-not_another_status (IsGrowing true false 2000 2) grown_text grow_told_as
 
 -- a refused image isn't written
 image-not_written : (held : List ℕ) → Ends grow_words begins (bare (Flush true ∷ []) (7 ∷ []) held 0) 4 no_report (Some no_image) → ⊥
-image-not_written held ends = elim ends.ends [
-  | inl told ↦ told.line
-  | inr nothing ↦ elim nothing.cause.nothing [
-    | inl device ↦ no_device nothing.why nothing.fault_is device
-    | inr untouched ↦ not_flushed untouched
-  ]
-]
+image-not_written = rows.refused-not_written (IsGrowing true false 2000 2) grown_text grow_told_as nothing
   where
-    no_device : (why : GrowFault) → Some no_image ≡ Some (grow_told_as why) → why ≡ growth.Image image.Device → ⊥
-    no_device why is device = let same = ap status_in (is ∙ ap (λ (w : GrowFault). Some (grow_told_as w)) device) in omega (arith, same)
+    nothing : (why : GrowFault) → IsGrowing true false 2000 2 begins.device flushed (Err why) → (grow_told_as why ≡ fault.Device) ⊎ IsUntouched true begins.device flushed
+    nothing why is = elim is.nothing [ inl device ↦ inl (ap grow_told_as device) | inr reads ↦ inr reads ]
 
 -- Device. The last call failed,
 failed_so : IsGrowing true false 2000 2 begins.device failed (Err (growth.Image image.Device))
@@ -93,13 +77,7 @@ failed_so = record {
   later = record { faults = omega arith; unkept = omega arith };
   grows = λ told. (Read (at 0) [] false ∷ [], refl);
   answers = tt;
-  fails = inl (inl (record {
-    stays = record { opening = refl; size = refl };
-    later = record { faults = omega arith; unkept = omega arith };
-    given = tt;
-    rose = omega arith;
-    logged = λ told. ([], inl refl);
-  }));
+  fails = inl (inl rows.read_failed);
   nothing = inl refl;
   says = λ blocks is. let fair = is.fair in absurd cc;
   stops = λ blocks is. let fair = is.fair in absurd cc;
@@ -108,56 +86,34 @@ failed_so = record {
 
 -- and the line says so
 device-failed : Ends grow_words begins (outside failed (source (7 ∷ []) 0) (sink (codes "device fault\n") 0)) 3 no_report (Some fault.Device)
-device-failed = record {
-  ends = inr (record {
-    why = growth.Image image.Device;
-    fault_is = refl;
-    cause = failed_so;
-    refuses = record { status_is = refl; report_is = refl; puts = inl (λ told. refl) };
-  });
-  source = refl;
-}
+device-failed = rows.refused (IsGrowing true false 2000 2) grown_text grow_told_as failed (growth.Image image.Device) failed_so
 
 -- The script isn't looked at
 script-not_taken : (held : List ℕ) (status : ℕ) (report : RunReport) (ended : Option Fault) → Ends grow_words begins (bare [] [] held 0) status report ended → ⊥
-script-not_taken held status report ended ends = let same = ap (λ (s : SourceSeen). length s.left) ends.source in omega (arith, same)
+script-not_taken held status report ended = rows.not_taken (IsGrowing true false 2000 2) (TellsResult true (λ found. Tells true (grown_text found)) grow_told_as) held (outcome status report ended)
 
 script-not_failed : (held : List ℕ) (status : ℕ) (report : RunReport) (ended : Option Fault)
     → Ends grow_words begins (outside begins.device (source (7 ∷ []) 1) (sink held 0)) status report ended → ⊥
-script-not_failed held status report ended ends = let same = ap (λ (s : SourceSeen). s.faults) ends.source in omega (arith, same)
+script-not_failed held status report ended = rows.not_source_failed (IsGrowing true false 2000 2) (TellsResult true (λ found. Tells true (grown_text found)) grow_told_as) held (outcome status report ended)
 
 -- Told. The image has grown, and the line was put, with status 0;
-module _ (before after : Seen) (found : Grown) (growing : IsGrowing true false 2000 2 before after (Ok found)) where
-  told-put : Ends grow_words (outside before (source [] 0) (sink [] 0)) (outside after (source [] 0) (sink (grown_text found) 0)) 0 no_report None
-  told-put = record {
-    ends = inl (record { found = found; growing = growing; report_is = refl; line = (refl, λ told. refl) });
-    source = refl;
-  }
+told-put : (before after : Seen) (found : Grown) → IsGrowing true false 2000 2 before after (Ok found)
+    → Ends grow_words (outside before (source [] 0) (sink [] 0)) (outside after (source [] 0) (sink (grown_text found) 0)) 0 no_report None
+told-put = rows.put (IsGrowing true false 2000 2) grown_text grow_told_as
 
-  -- or a part of it, with 7
-  told-part : (n : ℕ) → Ends grow_words (outside before (source [] 0) (sink [] 0)) (outside after (source [] 0) (sink (take n (grown_text found)) 1)) 7 no_report (Some fault.Sink)
-  told-part n = record {
-    ends = inl (record { found = found; growing = growing; report_is = refl; line = (refl, omega arith, λ told. (n, refl)) });
-    source = refl;
-  }
+-- or a part of it, with 7
+told-part : (before after : Seen) (found : Grown) → IsGrowing true false 2000 2 before after (Ok found) → (n : ℕ)
+    → Ends grow_words (outside before (source [] 0) (sink [] 0)) (outside after (source [] 0) (sink (take n (grown_text found)) 1)) 7 no_report (Some fault.Sink)
+told-part = rows.put_part (IsGrowing true false 2000 2) grown_text grow_told_as
 
 told-not_another_status : (before after : Outside) (report : RunReport) → Ends grow_words before after 4 report None → ⊥
-told-not_another_status before after report ends = elim ends.ends [
-  | inl told ↦ omega (arith, told.line.0)
-  | inr nothing ↦ let same = nothing.fault_is in absurd cc
-]
+told-not_another_status = rows.put-not_another_status (IsGrowing true false 2000 2) grown_text grow_told_as 4 (omega arith)
 
 told-not_reported : (before after : Outside) → Ends grow_words before after 0 some_report None → ⊥
-told-not_reported before after ends = elim ends.ends [
-  | inl told ↦ let same = ap (λ (report : RunReport). length report.requests) told.report_is in omega (arith, same)
-  | inr nothing ↦ let same = nothing.fault_is in absurd cc
-]
+told-not_reported = rows.not_reported (IsGrowing true false 2000 2) (λ found. Tells true (grown_text found)) grow_told_as
 
 told-not_silent : (before after : Seen) → Ends grow_words (outside before (source [] 0) (sink [] 0)) (outside after (source [] 0) (sink [] 0)) 0 no_report None → ⊥
-told-not_silent before after ends = elim ends.ends [
-  | inl told ↦ some told.found (told.line.1 refl)
-  | inr nothing ↦ let same = nothing.fault_is in absurd cc
-]
+told-not_silent = rows.put-not_silent (IsGrowing true false 2000 2) grown_text grow_told_as some
   where
     some : (found : Grown) → [] ≡ grown_text found → ⊥
     some found put = let first : ◌≡◌ {A = ℕ} 0 103 = ap first_of put in omega (arith, first)

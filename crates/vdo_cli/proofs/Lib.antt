@@ -17,6 +17,7 @@ pub mod TextPins
 pub mod PlayPins
 pub mod RunPins
 pub mod FormatPins
+pub mod ResultPins
 pub mod AuditPins
 pub mod StatusPins
 pub mod RecoveryPins

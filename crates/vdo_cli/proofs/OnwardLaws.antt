@@ -16,11 +16,7 @@ use Rattle.vdo_cli.specs.Onward.{GoesOn}
 use Rattle.vdo_cli.specs.declared.words.Served.{Served}
 use Rattle.vdo_cli.specs.declared.words.Served.TheVariants as served
 use Rattle.vdo_cli.specs.Commands.{served_of}
-use Rattle.vdo_words.specs.declared.commands.GrowOptions.{GrowOptions}
-use Rattle.vdo_cli.specs.Growths.{EndsGrowth}
 use Rattle.vdo_cli.specs.NewImages.{MakesImage}
-use Rattle.vdo_cli.specs.Rebuilds.{EndsRebuild}
-use Rattle.vdo_cli.specs.Recoveries.{EndsRecovery}
 use Rattle.vdo_cli.specs.Openings.{IsUnready}
 use Rattle.vdo_cli.specs.Outsides.{Outcome, Outside, Setting, Trust}
 use Rattle.vdo_cli.specs.Runs.{EndsAs, EndsSo, NotBegun, PlayedOut, RunsScriptBy}
@@ -103,27 +99,6 @@ format_goes_on s g before after ends makes = record {
   calls = λ told. let since = makes.stops told in (since.0, since.1);
 }
 
-recovery_goes_on : (s : Setting) (before after : Outside) (ends : Outcome)
-    → EndsRecovery s before after ends → GoesOn s.device.tells before.device after.device
-recovery_goes_on s before after ends is = elim is.ends [
-  | inl done ↦ record { stays = done.recovery.stays; calls = done.recovery.grows }
-  | inr refused ↦ record { stays = refused.cause.stays; calls = refused.cause.grows }
-]
-
-rebuild_goes_on : (s : Setting) (before after : Outside) (ends : Outcome)
-    → EndsRebuild s before after ends → GoesOn s.device.tells before.device after.device
-rebuild_goes_on s before after ends is = elim is.ends [
-  | inl done ↦ record { stays = done.forcing.stays; calls = done.forcing.grows }
-  | inr refused ↦ record { stays = refused.cause.stays; calls = refused.cause.grows }
-]
-
-growth_goes_on : (s : Setting) (options : GrowOptions) (before after : Outside) (ends : Outcome)
-    → EndsGrowth s options before after ends → GoesOn s.device.tells before.device after.device
-growth_goes_on s options before after ends is = elim is.ends [
-  | inl done ↦ record { stays = done.growing.stays; calls = done.growing.grows }
-  | inr refused ↦ record { stays = refused.cause.stays; calls = refused.cause.grows }
-]
-
 same_device : (tells : Bool) (before after : Seen) → after ≡ before → GoesOn tells before after
 same_device tells before after same = rw same (record { stays = record { opening = refl; size = refl }; calls = λ told. ([], refl) })
 
@@ -135,11 +110,11 @@ served_goes_on s (Some (served.Script schedule)) before after outcome ends = scr
 served_goes_on s (Some (served.Workload options)) before after outcome ends = workload_goes_on outcome.fault s options before after outcome ends.ends
 served_goes_on s (Some (served.Crash options)) before after outcome ends = untouched s.device.tells before.device after.device ends.untouched
 served_goes_on s (Some (served.Format sizes)) before after outcome ends = format_goes_on s sizes before after outcome ends
-served_goes_on s (Some served.Recover) before after outcome ends = recovery_goes_on s before after outcome ends
-served_goes_on s (Some served.ForceRebuild) before after outcome ends = rebuild_goes_on s before after outcome ends
-served_goes_on s (Some (served.Grow options)) before after outcome ends = growth_goes_on s options before after outcome ends
-served_goes_on s (Some served.Audit) before after outcome ends = untouched s.device.tells before.device after.device ends.looks.untouched
-served_goes_on s (Some served.Status) before after outcome ends = untouched s.device.tells before.device after.device ends.looks.untouched
+served_goes_on s (Some served.Recover) before after outcome ends = record { stays = ends.works.stays; calls = ends.works.grows }
+served_goes_on s (Some served.ForceRebuild) before after outcome ends = record { stays = ends.works.stays; calls = ends.works.grows }
+served_goes_on s (Some (served.Grow options)) before after outcome ends = record { stays = ends.works.stays; calls = ends.works.grows }
+served_goes_on s (Some served.Audit) before after outcome ends = untouched s.device.tells before.device after.device ends.works.untouched
+served_goes_on s (Some served.Status) before after outcome ends = untouched s.device.tells before.device after.device ends.works.untouched
 
 -- over a run
 pub run_goes_on : (s : Setting) (words : List (List ℕ)) (before after : Outside) (outcome : Outcome)

@@ -26,10 +26,10 @@ use Rattle.vdo_cli.specs.Openings.{IsReady, IsUnready, recovered_of}
 use Rattle.vdo_cli.specs.Outsides.{Outside, input_setting, inputs, no_report, outcome, setting, trust}
 use Rattle.vdo_cli.specs.Runs.{EndsSo}
 use Rattle.vdo_cli.specs.Texts.{fault_text, refusal_text}
-use Rattle.vdo_cli.proofs.AuditPins.{bare, begins, no_image}
 use Rattle.vdo_cli.proofs.CommandPins.{run_words}
-use Rattle.vdo_cli.proofs.PlayPins.{source}
-use Rattle.vdo_cli.proofs.RecoveryPins.{failed, failed_so, refused}
+use Rattle.vdo_cli.proofs.PlayPins.{source, bare, begins, no_image}
+use Rattle.vdo_cli.proofs.RecoveryPins.{failed_so, refused}
+use Rattle.vdo_cli.proofs.ResultPins.{failed}
 use Rattle.vdo_cli.proofs.RunPins.{Ends, some_report}
 
 -- a device that tells, and a source that does, with these bytes left

@@ -24,10 +24,9 @@ use Rattle.vdo_cli.specs.Openings.{IsReady, recovered_of}
 use Rattle.vdo_cli.specs.Outsides.{Outside, no_report, outside, trust}
 use Rattle.vdo_cli.specs.Texts.{fault_text, served_status, struck_status}
 use Rattle.vdo_cli.specs.Workloads.{ServesWorkload, WorkloadFails, requests_for, summary_of}
-use Rattle.vdo_cli.proofs.AuditPins.{bare, begins, no_image}
 use Rattle.vdo_cli.proofs.CommandPins.{draws, workload_words}
 use Rattle.vdo_cli.proofs.EmptyScript.{empty_report}
-use Rattle.vdo_cli.proofs.PlayPins.{device, sink, source}
+use Rattle.vdo_cli.proofs.PlayPins.{device, sink, source, bare, begins, no_image}
 use Rattle.vdo_cli.proofs.RecoveryPins.{refused}
 use Rattle.vdo_cli.proofs.RunPins.{Ends, some_report, status_by}
 

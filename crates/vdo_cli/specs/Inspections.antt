@@ -1,9 +1,10 @@
 -- How the commands end that look at an image: of what was read, and with nothing written.
-use Rattle.std.specs.Prelude.{ℕ, ◌≡◌, ◌⊎◌, ◌≤◌, Bool, [], length, Option, Some}
+use Rattle.std.specs.Prelude.{ℕ, ◌≡◌, ◌≤◌, Bool, [], length, Option, Some, Result, IfOk, IfErr}
 use Rattle.audit.specs.Audits.{AuditFails, IsAudited}
 use Rattle.audit.specs.declared.forms.Report.{Report}
 use Rattle.command_text.specs.Audits.{report_text}
 use Rattle.command_text.specs.Statuses.{status_text}
+use Rattle.disk_model.specs.Seen.{Seen}
 use Rattle.disk_model.specs.Since.{IsUntouched}
 use Rattle.disk_model.specs.Streams.{SinkSeen}
 use Rattle.image_model.specs.declared.fault.ImageFault.{ImageFault}
@@ -12,7 +13,8 @@ use Rattle.image_status.specs.Statuses.{IsStatusRead}
 use Rattle.image_status.specs.declared.forms.ImageStatus.{ImageStatus}
 use Rattle.vdo_cli.specs.declared.fault.Fault.{Fault}
 use Rattle.vdo_cli.specs.declared.fault.Fault.TheVariants as fault
-use Rattle.vdo_cli.specs.Outsides.{Outcome, Outside, PutsOrFails, Refuses, Setting, Tells, no_report}
+use Rattle.vdo_cli.specs.Outsides.{Outcome, Outside, PutsOrFails, Setting, Tells, Trust}
+use Rattle.vdo_cli.specs.Results.{EndsBy, TellsResult}
 
 -- Both commands.
 
@@ -22,17 +24,11 @@ told_as image.Device = fault.Device
 told_as image.Memory = fault.Memory
 told_as other = fault.Image other
 
--- nothing was found, for this cause, and the fault's line was put
-pub record FindsNothing (s : Setting) (Causes : ImageFault → Type 0) (before after : Outside) (outcome : Outcome) : Type 0 where
-  pub why : ImageFault
-  pub fault_is : outcome.fault ≡ Some (told_as why)
-  pub cause : Causes why
-  pub refuses : Refuses s.sink_tells (told_as why) outcome.status outcome.report before.sink after.sink
-
--- the device was read and no more, and the script wasn't looked at
-pub record OnlyLooks (s : Setting) (before after : Outside) : Type 0 where
-  pub untouched : IsUntouched s.device.tells before.device after.device
-  pub source : after.source ≡ before.source
+-- what a look at an image found so, or why nothing; the device was read and no more
+pub record Looks {T : Type 0} (trust : Trust) (Finds : T → Type 0) (before after : Seen) (result : Result T ImageFault) : Type 0 where
+  pub found : IfOk result Finds
+  pub failed : IfErr result (AuditFails trust.tells trust.honest before after)
+  pub untouched : IsUntouched trust.tells before after
 
 -- The audit.
 
@@ -44,30 +40,15 @@ TellsReport tells report status (Some (fault.Differs count)) before after =
 TellsReport tells report status ended before after =
     (report.differs.items ≡ []) × Tells tells (report_text report) status ended before after
 
--- the image was audited, and the report was put
-pub record IsAuditTold (s : Setting) (before after : Outside) (outcome : Outcome) : Type 0 where
-  pub found : Report
-  pub audited : IsAudited s.device.tells s.device.honest before.device after.device found
-  pub report_is : outcome.report ≡ no_report
-  pub told : TellsReport s.sink_tells found outcome.status outcome.fault before.sink after.sink
-
--- how an audit ends
-pub record EndsAudit (s : Setting) (before after : Outside) (outcome : Outcome) : Type 0 where
-  pub ends : IsAuditTold s before after outcome
-      ⊎ FindsNothing s (AuditFails s.device.tells s.device.honest before.device after.device) before after outcome
-  pub looks : OnlyLooks s before after
+-- how an audit ends: its report is put, or the line of a fault
+abbrev pub EndsAudit : Setting → Outside → Outside → Outcome → Type 0
+EndsAudit s before after outcome =
+    EndsBy (λ from to. Looks s.device (IsAudited s.device.tells s.device.honest from to) from to) (TellsResult s.sink_tells (TellsReport s.sink_tells) told_as) before after outcome
 
 -- The status.
 
--- the image was looked at, and its status was put, or a part of it and the sink failed
-pub record IsStatusTold (s : Setting) (before after : Outside) (outcome : Outcome) : Type 0 where
-  pub found : ImageStatus
-  pub read : IsStatusRead s.device.tells s.device.honest before.device after.device found
-  pub report_is : outcome.report ≡ no_report
-  pub told : Tells s.sink_tells (status_text found) outcome.status outcome.fault before.sink after.sink
-
--- how a status ends
-pub record EndsStatus (s : Setting) (before after : Outside) (outcome : Outcome) : Type 0 where
-  pub ends : IsStatusTold s before after outcome
-      ⊎ FindsNothing s (AuditFails s.device.tells s.device.honest before.device after.device) before after outcome
-  pub looks : OnlyLooks s before after
+-- how it ends: it was put, or a part of it and the sink failed; or the line of a fault was put
+abbrev pub EndsStatus : Setting → Outside → Outside → Outcome → Type 0
+EndsStatus s before after outcome =
+    EndsBy (λ from to. Looks s.device (IsStatusRead s.device.tells s.device.honest from to) from to)
+    (TellsResult s.sink_tells (λ (found : ImageStatus). Tells s.sink_tells (status_text found)) told_as) before after outcome

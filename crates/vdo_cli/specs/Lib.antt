@@ -5,6 +5,7 @@ pub mod Stops
 pub mod Endings
 pub mod Texts
 pub mod Outsides
+pub mod Results
 pub mod NewImages
 pub mod Inspections
 pub mod Recoveries

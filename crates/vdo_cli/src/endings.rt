@@ -1,5 +1,6 @@
 ghost use Rattle.std.specs.Prelude.{◌≡◌, ◌++◌, codes, decimal, reverse};
 ghost use Rattle.disk_model.specs.Streams.{Puts};
+ghost use Rattle.vdo_cli.specs.declared.fault.Fault.{Fault};
 ghost use Rattle.vdo_cli.specs.Growths.{grow_told_as};
 ghost use Rattle.vdo_cli.specs.Inspections.{told_as};
 ghost use Rattle.vdo_cli.specs.Texts as texts;
@@ -105,14 +106,33 @@ pub(crate) fn fault_of(why: ImageFault) -> Fault
     }
 }
 
-/// The fault of a run for that of an image that didn't grow.
-pub(crate) fn growth_fault_of(why: GrowFault) -> Fault
-    ensures { result ≡ grow_told_as why }
-{
-    match why {
-        GrowFault::Image(fault) => fault_of(fault),
-        GrowFault::Layout(fault) => Fault::Layout(fault),
-        GrowFault::Smaller(_) | GrowFault::Mapped { .. } => Fault::Grow(why),
+/// Why a command found nothing.
+pub(crate) trait Cause {
+    /// The fault of a run for it.
+    ghost told: { Self → Fault };
+
+    /// That fault.
+    fn to_fault(self) -> Fault
+        ensures { result ≡ told self };
+}
+
+impl Cause for ImageFault {
+    ghost told = { told_as };
+
+    fn to_fault(self) -> Fault {
+        fault_of(self)
+    }
+}
+
+impl Cause for GrowFault {
+    ghost told = { grow_told_as };
+
+    fn to_fault(self) -> Fault {
+        match self {
+            GrowFault::Image(fault) => fault_of(fault),
+            GrowFault::Layout(fault) => Fault::Layout(fault),
+            GrowFault::Smaller(_) | GrowFault::Mapped { .. } => Fault::Grow(self),
+        }
     }
 }
 

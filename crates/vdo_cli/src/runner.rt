@@ -1,17 +1,15 @@
-ghost use Rattle.std.specs.Prelude.{ℕ, ◌≡◌, ◌<◌, ◌^◌, Bool, List, Some, None, IsTrue, length};
+ghost use Rattle.std.specs.Prelude.{ℕ, ◌≡◌, ◌<◌, ◌^◌, Bool, IfOk, List, Some, None, IsTrue, length};
 ghost use Rattle.command_text.specs.Workloads.{summary_text};
 ghost use Rattle.disk_model.specs.Streams.{Puts, SinkSeen};
 ghost use Rattle.stream_text.specs.AnswerRooms.{HasRoomFor};
 ghost use Rattle.vdo_cli.specs.Closings.{Closes};
 ghost use Rattle.vdo_cli.specs.Commands.{IsServedWithin, IsWorkload, served_of};
 ghost use Rattle.vdo_cli.specs.Crashes.{HasCopyOf, IsOnDevice};
-ghost use Rattle.vdo_cli.specs.Growths.{EndsGrowth};
-ghost use Rattle.vdo_cli.specs.Inspections.{EndsAudit, EndsStatus, TellsReport};
+ghost use Rattle.vdo_cli.specs.Inspections.{TellsReport, told_as};
 ghost use Rattle.vdo_cli.specs.NewImages.{MakesImage};
 ghost use Rattle.vdo_cli.specs.Openings as openings;
 ghost use Rattle.vdo_cli.specs.Outsides.{Refuses, RefusesAfter, Tells, no_report, outcome, outcome_with, outside, setting};
-ghost use Rattle.vdo_cli.specs.Rebuilds.{EndsRebuild};
-ghost use Rattle.vdo_cli.specs.Recoveries.{EndsRecovery};
+ghost use Rattle.vdo_cli.specs.Results.{TellsResult};
 ghost use Rattle.vdo_cli.specs.Runs.{EndsAs, EndsSo, RunsScript};
 ghost use Rattle.vdo_cli.specs.Texts.{session_text};
 ghost use Rattle.vdo_cli.specs.Workloads as workloads;
@@ -19,8 +17,7 @@ ghost use Rattle.vdo_cli.specs.Workloads.{EndsWorkload};
 
 use crate::crash_end::run_crash;
 use crate::endings::{
-    fault_of, growth_fault_of, has_full, put_fault, put_refusal, session_notes, status_of,
-    struck_status,
+    Cause, fault_of, has_full, put_fault, put_refusal, session_notes, status_of, struck_status,
 };
 use crate::new_image::make_image;
 use crate::ready::recovered_of;
@@ -34,13 +31,14 @@ use command_text::{Line, put_audit, put_run, put_summary};
 use disk_model::{Disk, Failed, MemDisk, Sink, Source, ZoneGate};
 use force_rebuild::force;
 use grow_image::grow;
+use image_model::ImageFault;
 use image_status::read_status;
 use rebuild::recover;
 use std::alloc::Global;
 use std::sync::Wait;
 use std::thread::Threads;
 use vdo_model::{ReportList, Requests, RunReport};
-use vdo_words::{GrowOptions, WorkloadOptions};
+use vdo_words::WorkloadOptions;
 
 /// A run that ended: its status, why no other one, what became of the requests (nothing where no session was begun), and
 /// the device; and the copy of it as the run left it, where a stop was tried on one. The report is then that of the run there.
@@ -243,6 +241,41 @@ fn tell_report<D: Disk, K: Sink>(
     end_with(alloc, 6, Some(Fault::Differs(differ)), device)
 }
 
+// Tells what a command found, or why it found nothing.
+fn end<L: Line + Drop, W: Cause, D: Disk, K: Sink>(
+    alloc: Global,
+    work: Result<L, W>,
+    device: D,
+    out: &mut K,
+) -> Finished<D>
+    ensures device { result.device ≡ device }
+    ensures ends { TellsResult K.tells (λ found. Tells K.tells (L.text found)) W.told work
+        (K.seen out.old) (K.seen out.new) (outcome result.status result.report result.fault) }
+{
+    match work {
+        Ok(found) => tell(alloc, &found, device, out),
+        Err(why) => refuse(alloc, why.to_fault(), device, out),
+    }
+}
+
+// Tells what an audit found, or why nothing.
+fn end_audit<D: Disk, K: Sink>(
+    alloc: Global,
+    work: Result<Report, ImageFault>,
+    device: D,
+    out: &mut K,
+) -> Finished<D>
+    requires { IfOk work (λ report. length report.differs.items < 2 ^ 32) }
+    ensures device { result.device ≡ device }
+    ensures ends { TellsResult K.tells (TellsReport K.tells) told_as work
+        (K.seen out.old) (K.seen out.new) (outcome result.status result.report result.fault) }
+{
+    match work {
+        Ok(report) => tell_report(alloc, &report, device, out),
+        Err(why) => refuse(alloc, fault_of(why), device, out),
+    }
+}
+
 // Serves a script by the schedule of this number.
 fn run_script<R: Wait, D: Disk, S: Source, K: Sink>(
     rt: &R,
@@ -306,102 +339,6 @@ fn format<D: Disk, S: Source, K: Sink>(
     }
 }
 
-// Closes the image, if its last session wasn't closed.
-fn recover_device<D: Disk, S: Source, K: Sink>(
-    alloc: Global,
-    device: D,
-    script: &S,
-    out: &mut K,
-) -> Finished<D>
-    ensures { EndsRecovery (setting D.tells D.honest S.tells K.tells)
-        (outside (D.seen device) (S.seen script.now) (K.seen out.old))
-        (outside (D.seen result.device) (S.seen script.now) (K.seen out.new))
-        (outcome result.status result.report result.fault) }
-{
-    let mut device = device;
-    match recover(alloc, &mut device) {
-        Ok(recovered) => tell(alloc, &recovered, device, out),
-        Err(why) => refuse(alloc, fault_of(why), device, out),
-    }
-}
-
-// Sets the stored counts of the image from its block map.
-fn rebuild_device<D: Disk, S: Source, K: Sink>(
-    alloc: Global,
-    device: D,
-    script: &S,
-    out: &mut K,
-) -> Finished<D>
-    ensures { EndsRebuild (setting D.tells D.honest S.tells K.tells)
-        (outside (D.seen device) (S.seen script.now) (K.seen out.old))
-        (outside (D.seen result.device) (S.seen script.now) (K.seen out.new))
-        (outcome result.status result.report result.fault) }
-{
-    let mut device = device;
-    match force(alloc, &mut device) {
-        Ok(forced) => tell(alloc, &forced, device, out),
-        Err(why) => refuse(alloc, fault_of(why), device, out),
-    }
-}
-
-// Gives the image so many addresses and slabs.
-fn grow_device<D: Disk, S: Source, K: Sink>(
-    alloc: Global,
-    options: GrowOptions,
-    device: D,
-    script: &S,
-    out: &mut K,
-) -> Finished<D>
-    ensures { EndsGrowth (setting D.tells D.honest S.tells K.tells) options
-        (outside (D.seen device) (S.seen script.now) (K.seen out.old))
-        (outside (D.seen result.device) (S.seen script.now) (K.seen out.new))
-        (outcome result.status result.report result.fault) }
-{
-    let mut device = device;
-    match grow(alloc, &mut device, options.logical, options.slabs) {
-        Ok(grown) => tell(alloc, &grown, device, out),
-        Err(why) => refuse(alloc, growth_fault_of(why), device, out),
-    }
-}
-
-// Compares the stored counts of the image with its mappings.
-fn audit_device<D: Disk, S: Source, K: Sink>(
-    alloc: Global,
-    device: D,
-    script: &S,
-    out: &mut K,
-) -> Finished<D>
-    ensures { EndsAudit (setting D.tells D.honest S.tells K.tells)
-        (outside (D.seen device) (S.seen script.now) (K.seen out.old))
-        (outside (D.seen result.device) (S.seen script.now) (K.seen out.new))
-        (outcome result.status result.report result.fault) }
-{
-    let mut device = device;
-    match audit(alloc, &mut device) {
-        Ok(report) => tell_report(alloc, &report, device, out),
-        Err(why) => refuse(alloc, fault_of(why), device, out),
-    }
-}
-
-// Asks the image what it says of itself.
-fn status_of_device<D: Disk, S: Source, K: Sink>(
-    alloc: Global,
-    device: D,
-    script: &S,
-    out: &mut K,
-) -> Finished<D>
-    ensures { EndsStatus (setting D.tells D.honest S.tells K.tells)
-        (outside (D.seen device) (S.seen script.now) (K.seen out.old))
-        (outside (D.seen result.device) (S.seen script.now) (K.seen out.new))
-        (outcome result.status result.report result.fault) }
-{
-    let mut device = device;
-    match read_status(alloc, &mut device) {
-        Ok(status) => tell(alloc, &status, device, out),
-        Err(why) => refuse(alloc, fault_of(why), device, out),
-    }
-}
-
 // Does what is served on the device itself.
 fn serve_on_device<R: Wait, D: Disk, S: Source, K: Sink>(
     rt: &R,
@@ -418,15 +355,19 @@ fn serve_on_device<R: Wait, D: Disk, S: Source, K: Sink>(
         (outside (D.seen result.device) (S.seen script.new) (K.seen out.new))
         (outcome result.status result.report result.fault) }
 {
+    let mut device = device;
     match served {
         Some(Served::Script(schedule)) => run_script(rt, alloc, schedule, device, script, out),
         Some(Served::Workload(options)) => run_workload(rt, alloc, &options, device, script, out),
         Some(Served::Format(sizes)) => format(alloc, &sizes, device, script, out),
-        Some(Served::Recover) => recover_device(alloc, device, script, out),
-        Some(Served::ForceRebuild) => rebuild_device(alloc, device, script, out),
-        Some(Served::Grow(options)) => grow_device(alloc, options, device, script, out),
-        Some(Served::Audit) => audit_device(alloc, device, script, out),
-        Some(Served::Status) => status_of_device(alloc, device, script, out),
+        Some(Served::Recover) => end(alloc, recover(alloc, &mut device), device, out),
+        Some(Served::ForceRebuild) => end(alloc, force(alloc, &mut device), device, out),
+        Some(Served::Grow(options)) => {
+            let grown = grow(alloc, &mut device, options.logical, options.slabs);
+            end(alloc, grown, device, out)
+        }
+        Some(Served::Audit) => end_audit(alloc, audit(alloc, &mut device), device, out),
+        Some(Served::Status) => end(alloc, read_status(alloc, &mut device), device, out),
         Some(Served::Crash(_)) => unreachable!(),
         None => refuse(alloc, Fault::Usage, device, out),
     }
