@@ -11,10 +11,14 @@ abbrev pub difference_text : Difference → List ℕ
 difference_text d =
     concat (codes "block " ∷ decimal d.at.0 ∷ codes " stored " ∷ decimal d.stored ∷ codes " mapped " ∷ decimal d.mapped ∷ codes "\n" ∷ [])
 
--- `audit clean, used 2 of 64`, or `audit differs 1`
+-- `audit differs 1`: how many blocks differ
+abbrev pub differs_text : ℕ → List ℕ
+differs_text count = concat (codes "audit differs " ∷ decimal count ∷ codes "\n" ∷ [])
+
+-- `audit clean, used 2 of 64`, or so
 abbrev pub verdict_text : List Difference → Space → List ℕ
 verdict_text [] space = codes "audit clean, " ++ space_text space
-verdict_text (d ∷ more) space = concat (codes "audit differs " ∷ decimal (length (d ∷ more)) ∷ codes "\n" ∷ [])
+verdict_text (d ∷ more) space = differs_text (length (d ∷ more))
 
 -- a line for each block that differs, and then the verdict
 abbrev pub findings_text : List Difference → Space → List ℕ

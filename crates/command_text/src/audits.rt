@@ -1,5 +1,5 @@
 ghost use Rattle.disk_model.specs.Streams.{Puts};
-ghost use Rattle.command_text.specs.Audits.{difference_text, report_text, verdict_text};
+ghost use Rattle.command_text.specs.Audits.{difference_text, differs_text, report_text, verdict_text};
 
 use crate::parts::Space;
 use crate::pieces::{Line, Piece, put_lines};
@@ -25,6 +25,20 @@ impl Line for Difference {
     }
 }
 
+/// Puts `audit differs 1`: how many blocks differ. It fails where the sink fails; then a first part of the line was put.
+pub fn put_differs<K: Sink>(count: u64, out: &mut K) -> Result<(), Failed>
+    ensures { Puts K.tells (differs_text count) (K.seen out.old) (K.seen out.new) result }
+{
+    put_lines(
+        &[
+            Piece::Word(b"audit differs "),
+            Piece::U64(count),
+            Piece::Word(b"\n"),
+        ],
+        out,
+    )
+}
+
 fn put_verdict<K: Sink>(differences: &[Difference], space: Space, out: &mut K) -> Result<(), Failed>
     ensures { Puts K.tells
         (verdict_text differences.now space)
@@ -43,14 +57,7 @@ fn put_verdict<K: Sink>(differences: &[Difference], space: Space, out: &mut K) -
             out,
         )
     } else {
-        put_lines(
-            &[
-                Piece::Word(b"audit differs "),
-                Piece::Usize(differences.len()),
-                Piece::Word(b"\n"),
-            ],
-            out,
-        )
+        put_differs(differences.len() as u64, out)
     }
 }
 

@@ -20,7 +20,7 @@ mod statuses;
 mod tallies;
 mod workloads;
 
-pub use audits::put_audit;
+pub use audits::{put_audit, put_differs};
 pub use crashes::{AddressValue, Crash, CrashStop, put_crash, put_crash_stop};
 pub use faults::put_image_fault;
 pub use formats::put_formatted;

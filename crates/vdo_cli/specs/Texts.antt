@@ -3,6 +3,7 @@ use Rattle.std.specs.List.{list_any}
 use Rattle.std.specs.Prelude.{ℕ, ◌++◌, Bool, true, false, List, [], Option, Some, None, is_some, option_map, codes, decimal, if◌then◌else◌}
 use Rattle.blk_base.specs.declared.request.Answer.{Answer as Reply}
 use Rattle.blk_base.specs.declared.request.Answer.TheVariants as reply
+use Rattle.command_text.specs.Audits.{differs_text}
 use Rattle.command_text.specs.Faults.{image_fault_line}
 use Rattle.command_text.specs.Formats.{layout_line}
 use Rattle.command_text.specs.Growths.{grow_fault_line}
@@ -22,10 +23,6 @@ use Rattle.vdo_model.specs.declared.report.DeskLine.TheVariants.{Begin, Answer}
 use Rattle.vdo_model.specs.declared.report.RunReport.{RunReport}
 use Rattle.vdo_cli.specs.declared.fault.Fault.{Fault}
 use Rattle.vdo_cli.specs.declared.fault.Fault.TheVariants as fault
-
--- the line that says how many blocks differ
-abbrev pub differs_line : ℕ → List ℕ
-differs_line count = codes "audit differs " ++ (decimal count ++ codes "\n")
 
 -- what is wrong with a line
 abbrev pub line_fault_text : LineFault → List ℕ
@@ -49,7 +46,7 @@ fault_text (fault.Layout why) = layout_line why
 fault_text fault.Device = codes "device fault\n"
 fault_text (fault.Image why) = image_fault_line why
 fault_text fault.Memory = codes "no memory\n"
-fault_text (fault.Differs count) = differs_line count
+fault_text (fault.Differs count) = differs_text count
 fault_text (fault.Grow why) = grow_fault_line why
 fault_text fault.Read = codes "read fault\n"
 fault_text fault.Sink = []

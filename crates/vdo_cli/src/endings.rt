@@ -4,13 +4,13 @@ ghost use Rattle.vdo_cli.specs.declared.fault.Fault.{Fault};
 ghost use Rattle.vdo_cli.specs.Growths.{grow_told_as};
 ghost use Rattle.vdo_cli.specs.Inspections.{told_as};
 ghost use Rattle.vdo_cli.specs.Texts as texts;
-ghost use Rattle.vdo_cli.specs.Texts.{fault_text, fault_status, grow_status, differs_line, line_fault_text, lost_line, full_line, refusal_text, some_lost, some_full};
+ghost use Rattle.vdo_cli.specs.Texts.{fault_text, fault_status, grow_status, line_fault_text, lost_line, full_line, refusal_text, some_lost, some_full};
 
 use crate::Fault;
 use blk_base::Answer;
 use command_text::{
-    DamagedPlace, Piece, RunNotes, Space, put_grow_fault, put_image_fault, put_layout_fault,
-    put_lines, put_recovered,
+    DamagedPlace, Piece, RunNotes, Space, put_differs, put_grow_fault, put_image_fault,
+    put_layout_fault, put_lines, put_recovered,
 };
 use disk_model::{Failed, Sink};
 use grow_image::GrowFault;
@@ -49,20 +49,6 @@ fn put_script_line<K: Sink>(line: u64, end: &[u8], out: &mut K) -> Result<(), Fa
     )
 }
 
-// Puts how many blocks differ.
-fn put_differs<K: Sink>(count: u32, out: &mut K) -> Result<(), Failed>
-    ensures { Puts K.tells (differs_line count) (K.seen out.old) (K.seen out.new) result }
-{
-    put_lines(
-        &[
-            Piece::Word(b"audit differs "),
-            Piece::U32(count),
-            Piece::Word(b"\n"),
-        ],
-        out,
-    )
-}
-
 /// Puts the line of a fault. Where the sink is the fault, nothing is put.
 pub fn put_fault<K: Sink>(fault: &Fault, out: &mut K) -> Result<(), Failed>
     ensures { Puts K.tells (fault_text fault.now) (K.seen out.old) (K.seen out.new) result }
@@ -70,7 +56,7 @@ pub fn put_fault<K: Sink>(fault: &Fault, out: &mut K) -> Result<(), Failed>
     let line: &[u8] = match fault {
         Fault::Script(why) => return put_script_line(why.line, script_fault_end(why.fault), out),
         Fault::Image(why) => return put_image_fault(*why, out),
-        Fault::Differs(count) => return put_differs(*count, out),
+        Fault::Differs(count) => return put_differs(*count as u64, out),
         Fault::Layout(why) => return put_layout_fault(*why, out),
         Fault::Grow(why) => return put_grow_fault(*why, out),
         Fault::Usage => b"usage\n",
