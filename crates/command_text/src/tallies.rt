@@ -1,9 +1,9 @@
 ghost use Rattle.std.specs.Prelude.{◌≡◌, ◌≤◌, length, reverse};
 ghost use Rattle.std.specs.List.{sum};
+ghost use Rattle.vdo_model.specs.KeptLines.{shown_answer};
 ghost use Rattle.command_text.specs.Tallies.{with_answer, with_line, tally_of, HasRoom, GrowsLittle};
 
-use blk_base::Answer;
-use vdo_model::DeskLine;
+use vdo_model::{KeptLine, ShownAnswer, ShownLine};
 
 /// How the requests of a run were answered.
 #[derive(Clone, Copy, Debug, PartialEq, Eq)]
@@ -29,37 +29,40 @@ fn byte_sum(bytes: &[u8]) -> u128
 }
 
 impl Tally {
-    fn count_answer(self, answer: &Answer) -> Tally
+    fn count_answer(self, answer: ShownAnswer) -> Tally
         requires { HasRoom self }
-        ensures counted { result ≡ with_answer answer.now self }
+        ensures counted { result ≡ with_answer (shown_answer answer.entry) self }
         ensures little { GrowsLittle self result }
     {
         let mut counted = self;
         match answer {
-            Answer::Ok => counted.ok += 1,
-            Answer::Bytes(block) => {
+            ShownAnswer::Ok => counted.ok += 1,
+            ShownAnswer::Bytes(block) => {
                 counted.ok += 1;
                 counted.read_sum += byte_sum(&block.bytes);
             }
-            Answer::NoSpace | Answer::Full => counted.no_space += 1,
-            Answer::Range | Answer::ReadFault | Answer::Stopped | Answer::Damaged => {}
+            ShownAnswer::NoSpace | ShownAnswer::Full => counted.no_space += 1,
+            ShownAnswer::Range
+            | ShownAnswer::ReadFault
+            | ShownAnswer::Stopped
+            | ShownAnswer::Damaged => {}
         }
         counted
     }
 
-    fn count_line(self, line: &DeskLine) -> Tally
+    fn count_line(self, line: &KeptLine) -> Tally
         requires { HasRoom self }
         ensures counted { result ≡ with_line line.now self }
         ensures little { GrowsLittle self result }
     {
-        match line {
-            DeskLine::Begin { .. } => self,
-            DeskLine::Answer { answer, .. } => self.count_answer(answer),
+        match line.show() {
+            ShownLine::Begin { .. } => self,
+            ShownLine::Answer { answer, .. } => self.count_answer(answer),
         }
     }
 
     /// How the requests of a desk log were answered, of which the oldest line stands first.
-    pub fn of_desk(desk: &[DeskLine]) -> Tally
+    pub fn of_desk(desk: &[KeptLine]) -> Tally
         ensures { result ≡ tally_of (reverse desk.now) }
     {
         let mut tally = Tally {

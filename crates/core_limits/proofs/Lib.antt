@@ -10,6 +10,7 @@ pub mod WholeZones
 pub mod ZoneLimits
 mod MakingLimits
 mod PageLimits
+mod ReadLimits
 pub mod UpdateSums
 pub mod StrayLimits
 mod TicketLimits

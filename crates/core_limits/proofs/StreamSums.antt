@@ -42,7 +42,7 @@ over_ones zero f ones = omega arith
 over_ones (suc k) f ones = omega (arith, ones k, over_ones k f ones)
 
 -- the first stream apart from the others
-over_first : (k : ℕ) (f : ℕ → ℕ) → over (suc k) f ≡ f 0 + over k (λ i. f (suc i))
+pub over_first : (k : ℕ) (f : ℕ → ℕ) → over (suc k) f ≡ f 0 + over k (λ i. f (suc i))
 over_first zero f = refl
 over_first (suc k) f = omega (arith, over_first k f)
 

@@ -4,9 +4,13 @@ use Rattle.std.proofs.lemmas.Nat.{mul-le}
 use Rattle.core_laws.proofs.Common.{AllByRecursion, DataOk, Desk, IsSession, Item, LogicalZone, Placed, Script, Session, Zone, ZoneData, heard_at, kept_by, lines, notice_token, places, total-get, weight}
 use Rattle.core_model.specs.declared.zones.ZoneData.TheVariants as at
 use Rattle.core_model.specs.Legal.{Legal, share}
-use Rattle.core_model.specs.Limits.{IsDeskWithin, IsShort, most_depth, most_items, most_notices, most_requests, most_streams, requests_in}
+use Rattle.core_model.specs.Limits.{IsDeskWithin, IsShort, most_depth, most_items, most_notices, most_requests, most_streams, reads_in, requests_in}
+use Rattle.core_model.specs.DeskLines.{is_bytes}
+use Rattle.plain_laws.specs.Sums.{total}
+use Rattle.vdo_model.specs.declared.report.DeskLine.{DeskLine}
 use Rattle.core_model.specs.Steps.{Core}
 use Rattle.core_limits.proofs.DeskLimits.{answers_few, begins_few, log_few, marks_few, receipts_few}
+use Rattle.core_limits.proofs.ReadLimits.{bytes_few}
 use Rattle.core_limits.proofs.PlaceLimits.{in_zone_few, places_few}
 use Rattle.core_laws.proofs.tokens.Lift.{items_total}
 use Rattle.core_limits.proofs.Rooms.{few_words, inbox_room, lane_room, one_each, queue_room}
@@ -54,12 +58,15 @@ module _ (s : Session) (core : Core) (session : IsSession s) (legal : Legal s co
         let right = desk_log_right s core.trace legal.right in
         let requests = ap (λ (script : Script). requests_in script) k.sound.requests in
         let log = ap (λ xs. length xs) k.lists.log_is in
+        let given = ap (λ (lines : List DeskLine). total is_bytes lines) k.lists.log_is in
+        let reads = ap (λ (script : Script). reads_in script) k.sound.requests in
         let marked = ap (λ xs. length xs) k.lists.marks_is in
         let kept = ap (λ xs. length xs) k.lists.receipts_is in
         let parked = ap (λ (d : ZoneData). length (kept_by d)) keeps in
         let heard = ap heard_at keeps in
         record {
           log = omega (arith, log, requests, log_few s.sizes.depth s.script (lines core.trace) right);
+          bytes = omega (arith, given, reads, bytes_few s core.trace legal.right);
           marks = omega (arith, marked, requests, marks_few core.trace, answers_few s.sizes.depth s.script (lines core.trace) right, begins_few s.sizes.depth s.script (lines core.trace) right);
           receipts = omega (arith, kept, requests, receipts_few core.trace, answers_few s.sizes.depth s.script (lines core.trace) right, begins_few s.sizes.depth s.script (lines core.trace) right);
           parked = omega (arith, parked, waiting_within);

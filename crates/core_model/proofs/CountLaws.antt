@@ -1,15 +1,42 @@
 -- What the desk counts goes on with its log.
-use Rattle.std.proofs.Common.{ℕ, ◌≡◌, ◌+◌, ◌<◌, ◌≤◌, ◌==◌, List, [], ◌∷◌, ◌++◌, length, reverse, get_or, set, arith, cond, inl, inr, subst, ap, sym, ◌∙◌}
+use Rattle.std.proofs.Common.{ℕ, zero, suc, refl, drop, ◌≡◌, ◌+◌, ◌<◌, ◌≤◌, ◌==◌, List, [], ◌∷◌, ◌++◌, length, reverse, get_or, set, arith, cond, inl, inr, subst, ap, sym, ◌∙◌}
 use Rattle.std.proofs.lemmas.Bool.Decides.{eqb_tells}
 use Rattle.std.proofs.lemmas.Bool.{cases_lt}
 use Rattle.std.proofs.lemmas.List.{get_or_past, get_or-set_other, get_or-set_same, length-reverse, length-set, reverse-append}
+use Rattle.blk_base.specs.declared.request.Request.{Request}
+use Rattle.blk_base.specs.declared.request.Request.TheVariants.{Read}
 use Rattle.blk_base.specs.declared.request.Answer.{Answer as Reply}
 use Rattle.blk_base.specs.declared.request.Writer.{Writer}
 use Rattle.core_model.specs.DeskCounts.{CountAnswered, CountBegun, CountEach}
-use Rattle.core_model.specs.SessionLimits.{most_streams}
+use Rattle.core_model.specs.SessionLimits.{asks_read, most_streams, reads_in, requests_in}
+use Rattle.plain_laws.specs.Sums.{total}
+use Rattle.vdo_model.specs.Scripts.{Script}
 use Rattle.vdo_model.specs.DeskLog.{begun, answered}
 use Rattle.vdo_model.specs.declared.report.DeskLine.{DeskLine}
 use Rattle.vdo_model.specs.declared.report.DeskLine.TheVariants.{Begin, Answer}
+
+-- no more are reads than there are
+few_in_row : (requests : List Request) → total asks_read requests ≤ length requests
+few_in_row [] = omega arith
+few_in_row (Read at ∷ rest) = omega (arith, few_in_row rest)
+few_in_row (other ∷ rest) = omega (arith, few_in_row rest)
+
+pub few_in_all : (script : Script) → reads_in script ≤ requests_in script
+few_in_all [] = omega arith
+few_in_all (requests ∷ script) = omega (arith, few_in_row requests, few_in_all script)
+
+-- the reads of one more stream
+pub with_row : (script : Script) (n : ℕ) → n < length script → total asks_read (get_or script n []) + total (total asks_read) (drop (n + 1) script) ≡ total (total asks_read) (drop n script)
+with_row [] n within = absurd (omega (arith, within))
+with_row (requests ∷ script) zero within = refl
+with_row (requests ∷ script) (suc n) within =
+    let place : suc n + 1 ≡ suc (n + 1) = omega arith in
+    rw place (with_row script n (omega (arith, within)))
+
+-- those of the streams up to one are no more than there are requests
+pub few_with_row : (script : Script) (n count : ℕ) → n < length script → count + total (total asks_read) (drop n script) ≡ reads_in script
+    → count + total asks_read (get_or script n []) ≤ requests_in script
+few_with_row script n count within right = omega (arith, with_row script n within, right, few_in_all script)
 
 -- one more of a stream
 abbrev raised : List ℕ → ℕ → List ℕ

@@ -1,6 +1,7 @@
 -- What a line of the desk log counts for.
 use Rattle.std.specs.Prelude.{ℕ, ◌≤◌, List, [], ◌∷◌}
 use Rattle.plain_laws.specs.Sums.{total}
+use Rattle.vdo_model.specs.KeptLines.{gives_bytes}
 use Rattle.vdo_model.specs.declared.report.DeskLine.{DeskLine}
 use Rattle.vdo_model.specs.declared.report.DeskLine.TheVariants.{Begin, Answer}
 
@@ -12,6 +13,11 @@ is_begin (Answer v a) = 0
 abbrev pub is_answer : DeskLine → ℕ
 is_answer (Begin v) = 0
 is_answer (Answer v a) = 1
+
+-- how many blocks of reads it has
+abbrev pub is_bytes : DeskLine → ℕ
+is_bytes (Begin v) = 0
+is_bytes (Answer v a) = gives_bytes a
 
 -- at no moment more requests were answered than begun
 abbrev pub AreBegunFirst : List DeskLine → Type 0

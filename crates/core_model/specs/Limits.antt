@@ -2,8 +2,8 @@
 use Rattle.std.specs.Prelude.{ℕ, ◌+◌, ◌*◌, ◌^◌, ◌<◌, ◌≤◌, List, length}
 use Rattle.std.specs.List.{AllByRecursion}
 use Rattle.core_model.specs.DeskData.{Desk}
-pub use Rattle.core_model.specs.SessionLimits.{IsLimited, most_depth, most_entries, most_items, most_notices, most_physical, most_requests, most_streams, most_under_way, most_zones, requests_in}
-use Rattle.core_model.specs.DeskLines.{AreBegunFirst, is_answer, is_begin}
+pub use Rattle.core_model.specs.SessionLimits.{IsLimited, most_depth, most_entries, most_items, most_notices, most_physical, most_requests, most_streams, most_under_way, most_zones, reads_in, requests_in}
+use Rattle.core_model.specs.DeskLines.{AreBegunFirst, is_answer, is_begin, is_bytes}
 use Rattle.core_model.specs.declared.zones.ZoneData.{ZoneData}
 use Rattle.core_model.specs.declared.zones.ZoneData.TheVariants as at
 use Rattle.core_model.specs.declared.zones.DeviceZone.{DeviceZone}
@@ -18,9 +18,11 @@ use Rattle.plain_laws.specs.Sums.{total}
 abbrev pub IsShort : {T : Type 0} → List T → Type 0
 IsShort items = length items ≤ most_items
 
--- The lists of the desk, by the requests of its script: a request is begun once and answered once.
+-- The lists of the desk, by the requests of its script: a request is begun once and answered once, and bytes are given to reads
+-- alone.
 pub record IsDeskWithin (desk : Desk) : Type 0 where
   pub log : length desk.log ≤ 2 * requests_in desk.requests
+  pub bytes : total is_bytes desk.log ≤ reads_in desk.requests
   pub marks : length desk.marks ≤ requests_in desk.requests
   pub receipts : length desk.receipts ≤ requests_in desk.requests
   pub parked : IsShort desk.parked

@@ -1,5 +1,7 @@
 -- How large a session may be.
 use Rattle.std.specs.Prelude.{ℕ, ◌+◌, ◌*◌, ◌≤◌, length}
+use Rattle.blk_base.specs.declared.request.Request.{Request}
+use Rattle.blk_base.specs.declared.request.Request.TheVariants.{Read}
 use Rattle.vdo_model.specs.Scripts.{Script}
 use Rattle.data_vio.specs.declared.sizes.Sizes.{Sizes}
 use Rattle.plain_laws.specs.Sums.{total}
@@ -40,6 +42,14 @@ most_items = 2 * most_under_way + most_notices + 1 + most_physical
 -- how many requests a script has
 abbrev pub requests_in : Script → ℕ
 requests_in script = total length script
+
+-- how many of them are reads
+abbrev pub asks_read : Request → ℕ
+asks_read (Read at) = 1
+asks_read other = 0
+
+abbrev pub reads_in : Script → ℕ
+reads_in script = total (total asks_read) script
 
 -- a session of these sizes, with these requests, is no larger than it may be
 pub record IsLimited (sizes : Sizes) (script : Script) : Type 0 where

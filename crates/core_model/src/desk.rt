@@ -4,17 +4,18 @@ ghost use Rattle.vdo_model.specs.DeskLog.{answered, begun};
 ghost use Rattle.vdo_model.specs.declared.report.DeskLine.TheVariants.{Answer as Answered, Begin};
 ghost use Rattle.core_model.specs.DeskRules.{mark_of_vio, receipt_of_vio, receipt_step};
 ghost use Rattle.core_model.specs.Limits.{HasRoomToBegin};
-ghost use Rattle.core_model.specs.SessionLimits.{most_requests, most_streams, most_under_way, requests_in};
+ghost use Rattle.core_model.specs.SessionLimits.{most_requests, most_streams, most_under_way, reads_in, requests_in};
+ghost use Rattle.core_model.specs.DeskLines.{is_bytes};
 ghost use Rattle.plain_laws.specs.Sums.{total};
 
 use crate::counts::StreamCounts;
-use crate::scripts::count_requests;
+use crate::scripts::{count_reads, count_requests};
 use blk_base::{Answer, Block, Lba, Mapping, Writer, ZoneId};
 use data_vio::{Asks, BoxedVio, Fifo, HeldTickets, LANE_ROOM, MOST_UNDER_WAY, Phase, Vio};
 use slab_counts::Receipt;
 use std::alloc::{AllocError, Global};
 use std::marker::Model;
-use vdo_model::{DeskLine, FlushMark, NoSpaceReceipt, ReportList, Requests};
+use vdo_model::{AnswerBoxes, FlushMark, KeptLine, NoSpaceReceipt, ReportList, Requests};
 
 /// Where requests begin and are answered. It has the boxes of all requests that aren't under way.
 #[derive(Drop)]
@@ -22,7 +23,9 @@ pub struct Desk {
     requests: Requests,
     // How many requests there are.
     count: usize,
-    lines: Vec<DeskLine>,
+    lines: Vec<KeptLine>,
+    // Room for the bytes of the reads.
+    boxes: AnswerBoxes,
     // How many requests of each stream are begun, and how many are answered.
     begun: StreamCounts,
     answered: StreamCounts,
@@ -36,9 +39,9 @@ pub struct Desk {
 impl Model for Desk {
     ghost use Rattle.std.specs.Prelude.{◌≡◌, ◌+◌, ◌*◌, ◌≤◌, reverse, vec_capacity, vec_len};
     ghost use Rattle.core_model.specs.DeskData.{Desk as DeskData};
-    ghost use Rattle.core_model.specs.SessionLimits.{most_requests, most_under_way, requests_in};
+    ghost use Rattle.core_model.specs.SessionLimits.{most_requests, most_under_way, reads_in, requests_in};
     ghost use Rattle.core_model.specs.DeskCounts.{CountAnswered, CountBegun};
-    ghost use Rattle.core_model.specs.DeskLines.{AreBegunFirst, is_answer, is_begin};
+    ghost use Rattle.core_model.specs.DeskLines.{AreBegunFirst, is_answer, is_begin, is_bytes};
     ghost use Rattle.plain_laws.specs.Sums.{total};
 
     ghost Value = { DeskData };
@@ -56,6 +59,7 @@ impl Model for Desk {
       counted : d.count ≡ requests_in d.requests;
       few : d.count ≤ most_requests;
       lines_room : 2 * requests_in d.requests + 2 ≤ vec_capacity d.lines;
+      boxes : reads_in d.requests + 1 ≤ d.boxes + total is_bytes (reverse d.lines.items);
       begun : CountBegun d.begun (reverse d.lines.items);
       answered : CountAnswered d.answered (reverse d.lines.items);
       marks_room : requests_in d.requests + 1 ≤ vec_capacity d.marks;
@@ -71,7 +75,7 @@ impl Model for Desk {
 #[derive(Drop)]
 pub struct DeskReport {
     pub requests: Requests,
-    pub log: ReportList<DeskLine>,
+    pub log: ReportList<KeptLine>,
     pub marks: ReportList<FlushMark>,
     pub receipts: ReportList<NoSpaceReceipt>,
 }
@@ -142,6 +146,7 @@ impl Desk {
     {
         let count = count_requests(&requests);
         let lines = Vec::with_capacity(alloc, 2 * count + 2)?;
+        let boxes = AnswerBoxes::new(alloc, count_reads(&requests) + 1)?;
         let marks = Vec::with_capacity(alloc, count + 1)?;
         let receipts = Vec::with_capacity(alloc, count + 1)?;
         let parked = Fifo::new(alloc)?;
@@ -150,6 +155,7 @@ impl Desk {
             requests,
             count,
             lines,
+            boxes,
             begun: StreamCounts::new(),
             answered: StreamCounts::new(),
             marks,
@@ -175,7 +181,7 @@ impl Desk {
     }
 
     /// The lines of the desk log, the oldest first.
-    pub fn lines(&self) -> &[DeskLine]
+    pub fn lines(&self) -> &[KeptLine]
         ensures { self.now.log ≡ reverse result.now }
     {
         &self.lines
@@ -216,32 +222,34 @@ impl Desk {
         let request = vio.request;
         self.begun.raise(vio.request.stream);
         boxed.put(vio);
-        self.lines.push_reserved(DeskLine::Begin { request });
+        self.lines.push_reserved(KeptLine::begin(request));
         boxed
     }
 
     /// A request is begun, and answered at once.
     pub fn answer_at_once(&mut self, request: Writer, answer: Answer)
-        requires { length self.old.log ≤ 2 * requests_in self.old.requests }
+        requires lines { length self.old.log ≤ 2 * requests_in self.old.requests }
+        requires bytes { total is_bytes self.old.log ≤ reads_in self.old.requests }
         ensures { self.new
             ≡ record self.old { log = Answered request answer ∷ Begin request ∷ self.old.log } }
     {
         self.begun.raise(request.stream);
         self.answered.raise(request.stream);
-        self.lines.push_reserved(DeskLine::Begin { request });
-        self.lines
-            .push_reserved(DeskLine::Answer { request, answer });
+        self.lines.push_reserved(KeptLine::begin(request));
+        let line = KeptLine::answer(request, answer, &mut self.boxes);
+        self.lines.push_reserved(line);
     }
 
     /// A request is answered, and its box is spare again.
     pub fn answer(&mut self, vio: BoxedVio, answer: Answer)
-        requires { length self.old.log ≤ 2 * requests_in self.old.requests + 1 }
+        requires lines { length self.old.log ≤ 2 * requests_in self.old.requests + 1 }
+        requires bytes { total is_bytes self.old.log ≤ reads_in self.old.requests }
         ensures { self.new ≡ record self.old { log = Answered vio.request answer ∷ self.old.log } }
     {
         let request = vio.get().request;
         self.answered.raise(request.stream);
-        self.lines
-            .push_reserved(DeskLine::Answer { request, answer });
+        let line = KeptLine::answer(request, answer, &mut self.boxes);
+        self.lines.push_reserved(line);
         if self.spare.len() < MOST_UNDER_WAY {
             self.spare.push_reserved(vio);
         }
@@ -250,6 +258,7 @@ impl Desk {
     /// A flush is answered, with its mark.
     pub fn mark(&mut self, vio: BoxedVio)
         requires lines { length self.old.log ≤ 2 * requests_in self.old.requests }
+        requires bytes { total is_bytes self.old.log ≤ reads_in self.old.requests }
         requires marks { length self.old.marks ≤ requests_in self.old.requests }
         ensures { self.new
             ≡ record self.old {
@@ -267,6 +276,7 @@ impl Desk {
     /// A request that found no block is answered so, with its receipt.
     pub fn lack(&mut self, vio: BoxedVio)
         requires lines { length self.old.log ≤ 2 * requests_in self.old.requests }
+        requires bytes { total is_bytes self.old.log ≤ reads_in self.old.requests }
         requires receipts { length self.old.receipts ≤ requests_in self.old.requests }
         ensures { self.new
             ≡ record self.old {

@@ -1,6 +1,8 @@
 ghost use Rattle.std.specs.Prelude.{◌≡◌, ◌≤◌, ◌↔◌, IsTrue, length};
-ghost use Rattle.core_model.specs.SessionLimits.{most_requests, most_streams, requests_in};
+ghost use Rattle.core_model.specs.SessionLimits.{asks_read, most_requests, most_streams, reads_in, requests_in};
+ghost use Rattle.plain_laws.specs.Sums.{total};
 
+use blk_base::Request;
 use data_vio::{MOST_REQUESTS, MOST_STREAMS};
 use vdo_model::Requests;
 
@@ -13,6 +15,32 @@ pub(crate) fn count_requests(requests: &Requests) -> usize
     let mut count = 0;
     for stream in 0..requests.count() {
         count += requests.stream(stream as u8).len();
+    }
+    count
+}
+
+// How many of these requests are reads.
+fn count_row(requests: &[Request]) -> usize
+    ensures { result ≡ total asks_read requests.now }
+{
+    let mut count = 0;
+    for request in requests {
+        if let Request::Read(_) = request {
+            count += 1;
+        }
+    }
+    count
+}
+
+/// How many requests are reads.
+pub(crate) fn count_reads(requests: &Requests) -> usize
+    requires streams { length requests.now ≤ most_streams }
+    requires few { requests_in requests.now ≤ most_requests }
+    ensures { result ≡ reads_in requests.now }
+{
+    let mut count = 0;
+    for stream in 0..requests.count() {
+        count += count_row(requests.stream(stream as u8));
     }
     count
 }

@@ -17,7 +17,7 @@ use crate::notes::{StreamNotes, note_streams, noted_line};
 use blk_base::{Lba, Request, Writer};
 use core_model::{Zone, ZoneData};
 use data_vio::{Logged, REQUEST_ROOM, Register};
-use vdo_model::{DeskLine, HistoryEntry, Placed, Requests};
+use vdo_model::{HistoryEntry, KeptLine, Placed, Requests};
 
 // The address that a request changes, where it is a write or a discard.
 fn changed(requests: &Requests, request: Writer) -> Option<Lba>
@@ -37,7 +37,7 @@ fn changed(requests: &Requests, request: Writer) -> Option<Lba>
 // Adds what a request that has a place adds to the histories, while there is room for it.
 fn add_entry(
     requests: &Requests,
-    desk: &[DeskLine],
+    desk: &[KeptLine],
     notes: &[StreamNotes],
     entries: &[Logged],
     request: Writer,
@@ -67,7 +67,7 @@ fn add_entry(
 // Adds what the requests of these places add to the histories, in the order of the places.
 fn add_entries(
     requests: &Requests,
-    desk: &[DeskLine],
+    desk: &[KeptLine],
     notes: &[StreamNotes],
     entries: &[Logged],
     places: &[Placed],

@@ -7,7 +7,6 @@ ghost use Rattle.vdo_cli.specs.Texts as texts;
 ghost use Rattle.vdo_cli.specs.Texts.{fault_text, fault_status, grow_status, line_fault_text, lost_line, full_line, refusal_text, some_lost, some_full};
 
 use crate::Fault;
-use blk_base::Answer;
 use command_text::{
     DamagedPlace, Piece, RunNotes, Space, put_differs, put_grow_fault, put_image_fault,
     put_layout_fault, put_lines, put_recovered,
@@ -16,7 +15,7 @@ use disk_model::{Failed, Sink};
 use grow_image::GrowFault;
 use image_model::ImageFault;
 use stream_text::LineFault;
-use vdo_model::{Damage, DeskLine, RunReport};
+use vdo_model::{Damage, KeptLine, RunReport, ShownAnswer, ShownLine};
 
 // What the line of a script's fault ends with.
 fn script_fault_end(fault: LineFault) -> &'static [u8]
@@ -149,40 +148,40 @@ pub(crate) fn status_of(fault: &Fault) -> u8
 }
 
 // Whether a line answers Stopped, a read fault or damage.
-fn is_lost(line: &DeskLine) -> bool
+fn is_lost(line: &KeptLine) -> bool
     ensures { result ≡ lost_line line.now }
 {
     matches!(
-        line,
-        DeskLine::Answer {
-            answer: Answer::Stopped | Answer::ReadFault | Answer::Damaged,
+        line.show(),
+        ShownLine::Answer {
+            answer: ShownAnswer::Stopped | ShownAnswer::ReadFault | ShownAnswer::Damaged,
             ..
         }
     )
 }
 
 // Whether a line answers that there was no room.
-fn is_full(line: &DeskLine) -> bool
+fn is_full(line: &KeptLine) -> bool
     ensures { result ≡ full_line line.now }
 {
     matches!(
-        line,
-        DeskLine::Answer {
-            answer: Answer::Full | Answer::NoSpace,
+        line.show(),
+        ShownLine::Answer {
+            answer: ShownAnswer::Full | ShownAnswer::NoSpace,
             ..
         }
     )
 }
 
 // Whether a request was answered Stopped, with a read fault or with damage.
-fn has_lost(desk: &[DeskLine]) -> bool
+fn has_lost(desk: &[KeptLine]) -> bool
     ensures { result ≡ some_lost (reverse desk.now) }
 {
     desk.iter().any(|line| is_lost(line))
 }
 
 /// Whether a request was answered that there was no room.
-pub(crate) fn has_full(desk: &[DeskLine]) -> bool
+pub(crate) fn has_full(desk: &[KeptLine]) -> bool
     ensures { result ≡ some_full (reverse desk.now) }
 {
     desk.iter().any(|line| is_full(line))

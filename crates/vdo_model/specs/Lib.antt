@@ -1,5 +1,6 @@
 pub mod Scripts
 pub mod DeskLog
+pub mod KeptLines
 pub mod Places
 pub mod ZoneOrder
 pub mod Histories

@@ -84,6 +84,7 @@ desk lines marks receipts parked notices = record { requests = script; log = rep
 fullest : IsDeskWithin (desk 12 6 6 526 9)
 fullest = record {
   log = omega (arith, length-replicate 12 line);
+  bytes = omega arith;
   marks = omega (arith, length-replicate 6 mark);
   receipts = omega (arith, length-replicate 6 receipt);
   parked = omega (arith, length-replicate 526 waits);

@@ -1,10 +1,11 @@
 use Rattle.std.proofs.Common.{◌≡◌, refl}
+use Rattle.vdo_model.specs.KeptLines.{shown_answer}
 use Rattle.stream_text.specs.Texts.{answer_text}
 use Rattle.stream_text.proofs.lines.put_answer.Given.{Over}
 use Rattle.stream_text.proofs.lines.put_answer.Goals.{After-put, in-Ok, in-Range, in-NoSpace, in-Full, in-ReadFault, in-Stopped, in-Damaged}
 use Rattle.stream_text.proofs.lines.put_answer.Goals as goal
 
-word_of : (g : Over) (c : After-put g) → c.match-answer.word.now ≡ answer_text c.args.answer.now
+word_of : (g : Over) (c : After-put g) → c.match-answer.word.now ≡ answer_text (shown_answer c.args.answer)
 word_of g c =
     elim c.match-answer.branch [
       | in-Ok w ↦ rw (w.word-is, w.in-Ok.is) refl

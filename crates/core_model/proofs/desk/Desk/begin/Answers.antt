@@ -11,8 +11,9 @@ invariant_of-self c = record {
   counted = search rules;
   few = search rules;
   lines_room = search rules;
-  begun = let now = begins _ c.self.inside.lines.items c.args.vio.request c.self.invariant.begun in rw (c.raise.ensures, c.push_reserved.ensures.items) now;
-  answered = let now = begins_none_answered _ c.self.inside.lines.items c.args.vio.request c.self.invariant.answered in rw c.push_reserved.ensures.items now;
+  boxes = grind (arith, common_steps);
+  begun = let now = begins _ c.self.inside.lines.items c.args.vio.request c.self.invariant.begun in rw (c.raise.ensures, c.push_reserved.ensures.items, c.begin.ensures) now;
+  answered = let now = begins_none_answered _ c.self.inside.lines.items c.args.vio.request c.self.invariant.answered in rw (c.push_reserved.ensures.items, c.begin.ensures) now;
   marks_room = search rules;
   receipts_room = search rules;
   few_spare = search rules;
