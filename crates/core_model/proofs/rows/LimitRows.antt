@@ -1,11 +1,12 @@
 -- How large a session may be, and how long the lists of the desk get: each clause at its limit, and one past it.
 use Rattle.std.proofs.Common.{◌≡◌, ℕ, zero, suc, ◌+◌, List, [], ◌∷◌, length, replicate, refl, arith}
 use Rattle.std.proofs.lemmas.List.{length-replicate}
+use Rattle.blk_base.specs.declared.request.Answer.TheVariants as reply
 use Rattle.blk_base.specs.declared.request.Request.{Request}
 use Rattle.blk_base.specs.declared.request.Request.TheVariants as request
 use Rattle.vdo_model.specs.Scripts.{Script}
 use Rattle.vdo_model.specs.declared.report.DeskLine.{DeskLine}
-use Rattle.vdo_model.specs.declared.report.DeskLine.TheVariants.{Begin}
+use Rattle.vdo_model.specs.declared.report.DeskLine.TheVariants.{Begin, Answer}
 use Rattle.vdo_model.specs.declared.report.FlushMark.{FlushMark}
 use Rattle.vdo_model.specs.declared.report.NoSpaceReceipt.{NoSpaceReceipt}
 use Rattle.data_vio.specs.declared.items.Phase.TheVariants as phase
@@ -13,6 +14,8 @@ use Rattle.data_vio.specs.declared.items.Vio.{Vio}
 use Rattle.data_vio.specs.declared.sizes.Sizes.{Sizes}
 use Rattle.core_model.specs.DeskData.{Desk}
 use Rattle.core_model.specs.Limits.{IsDeskWithin, IsLimited, requests_in}
+use Rattle.core_model.specs.SessionLimits.{asks_read, reads_in}
+use Rattle.core_model.specs.DeskLines.{is_bytes}
 use Rattle.core_model.proofs.rows.PhaseRows.{writes}
 use Rattle.core_model.proofs.rows.WorkedTraces.{first, flush, script, sizes}
 use Rattle.plain_laws.specs.Sums.{total}
@@ -94,6 +97,26 @@ fullest = record {
 -- one more of each
 too_many_lines : IsDeskWithin (desk 13 6 6 526 9) → ⊥
 too_many_lines is = absurd (omega (arith, is.log, length-replicate 13 line))
+
+-- asks_read, reads_in: the script has two reads; a flush is none
+two_reads : reads_in script ≡ 2
+two_reads = refl
+
+no_read : asks_read request.Flush ≡ 0
+no_read = refl
+
+-- is_bytes: an answer with bytes has a block, a line that begins none; and there is one more than the script has reads
+abbrev given : DeskLine
+given = Answer first (reply.Bytes [])
+
+one_block : is_bytes given ≡ 1
+one_block = refl
+
+begins_none : is_bytes line ≡ 0
+begins_none = refl
+
+too_many_blocks : IsDeskWithin (record (desk 0 6 6 526 9) { log = given ∷ given ∷ given ∷ [] }) → ⊥
+too_many_blocks is = absurd (omega (arith, is.bytes))
 
 too_many_marks : IsDeskWithin (desk 12 7 6 526 9) → ⊥
 too_many_marks is = absurd (omega (arith, is.marks, length-replicate 7 mark))
