@@ -1,7 +1,7 @@
 -- The words that are served.
 use Rattle.std.specs.Prelude.{ℕ, ◌≤◌, ◌==◌, ◌&&◌, Bool, List, Option, Some, None, option_map, if◌then◌else◌}
 use Rattle.blk_base.specs.declared.geometry.Geometry.{Geometry}
-use Rattle.vdo_words.specs.Commands.{command_of}
+use Rattle.vdo_words.specs.Commands.{command_of, default_core}
 use Rattle.vdo_words.specs.declared.commands.Command.{Command}
 use Rattle.vdo_words.specs.declared.commands.Command.TheVariants.{Audit, Crash, ForceRebuild, Format, Grow, Recover, Run, Status, Workload}
 use Rattle.vdo_words.specs.declared.commands.CoreOptions.{CoreOptions}
@@ -13,13 +13,15 @@ use Rattle.vdo_core.specs.declared.cores.Setup.{Setup}
 use Rattle.vdo_cli.specs.declared.words.Served.{Served}
 use Rattle.vdo_cli.specs.declared.words.Served.TheVariants as served
 
--- a core is set up with one logical zone, and one request of each stream is under way at most
+-- a core is set up as without options: with one logical zone, and one request of each stream is under way at most
 abbrev pub run_setup : Setup
-run_setup = record { logical_zones = 1; physical_zones = 1; depth = 1 }
+run_setup = record { logical_zones = default_core.logical_zones; physical_zones = default_core.physical_zones; depth = default_core.depth }
 
 -- the options of a core are those that it has without any
 abbrev pub are_default : CoreOptions → Bool
-are_default o = (o.depth == 1) && ((o.logical_zones == 1) && ((o.physical_zones == 1) && ((o.hash_zones == 1) && (o.cache == 16))))
+are_default o =
+    (o.depth == default_core.depth) && ((o.logical_zones == default_core.logical_zones) && ((o.physical_zones == default_core.physical_zones)
+    && ((o.hash_zones == default_core.hash_zones) && (o.cache == default_core.cache))))
 
 -- the number of the schedule; threads aren't served yet
 abbrev pub number_of : Drive → Option ℕ

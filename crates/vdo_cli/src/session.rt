@@ -18,12 +18,13 @@ use std::sync::Wait;
 use stream_text::{AnswerRoom, ReadScript, read_script};
 use vdo_core::{Core, Setup};
 use vdo_model::{Requests, RunReport};
+use vdo_words::DEFAULT_CORE;
 
-/// A core of the program: one logical zone and one physical zone, and one request of each stream is under way at most.
+/// A core of the program is set up as without options.
 const SETUP: Setup = Setup {
-    logical_zones: 1,
-    physical_zones: 1,
-    depth: 1,
+    logical_zones: DEFAULT_CORE.logical_zones as u8,
+    physical_zones: DEFAULT_CORE.physical_zones as u8,
+    depth: DEFAULT_CORE.depth,
 };
 
 /// What a session left: what was recovered before, its report, and room to put its answers.

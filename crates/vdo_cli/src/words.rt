@@ -7,19 +7,19 @@ use blk_base::Geometry;
 use std::alloc::{AllocError, Global};
 use std::marker::Model;
 use vdo_words::{
-    Command, CoreOptions, CrashOptions, Drive, FormatOptions, GrowOptions, WorkloadOptions,
-    read_command,
+    Command, CoreOptions, CrashOptions, DEFAULT_CORE, Drive, FormatOptions, GrowOptions,
+    WorkloadOptions, read_command,
 };
 
 // Whether the options of a core are those that it has without any.
 fn are_default(options: &CoreOptions) -> bool
     ensures { result ≡ commands.are_default options.now }
 {
-    options.depth == 1
-        && options.logical_zones == 1
-        && options.physical_zones == 1
-        && options.hash_zones == 1
-        && options.cache == 16
+    options.depth == DEFAULT_CORE.depth
+        && options.logical_zones == DEFAULT_CORE.logical_zones
+        && options.physical_zones == DEFAULT_CORE.physical_zones
+        && options.hash_zones == DEFAULT_CORE.hash_zones
+        && options.cache == DEFAULT_CORE.cache
 }
 
 /// What words ask for, of what is served.

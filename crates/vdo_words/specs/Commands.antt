@@ -21,13 +21,17 @@ use Rattle.vdo_words.specs.declared.commands.Usage.{Usage}
 abbrev pub core_names : List OptionName
 core_names = Depth ∷ LogicalZones ∷ PhysicalZones ∷ HashZones ∷ Cache ∷ []
 
+-- without any
+abbrev pub default_core : CoreOptions
+default_core = record { depth = 1; logical_zones = 1; physical_zones = 1; hash_zones = 1; cache = 16 }
+
 abbrev pub core_of : List Given → CoreOptions
 core_of options = record {
-  depth = number_or 1 Depth options;
-  logical_zones = number_or 1 LogicalZones options;
-  physical_zones = number_or 1 PhysicalZones options;
-  hash_zones = number_or 1 HashZones options;
-  cache = number_or 16 Cache options;
+  depth = number_or default_core.depth Depth options;
+  logical_zones = number_or default_core.logical_zones LogicalZones options;
+  physical_zones = number_or default_core.physical_zones PhysicalZones options;
+  hash_zones = number_or default_core.hash_zones HashZones options;
+  cache = number_or default_core.cache Cache options;
 }
 
 abbrev pub format_names : List OptionName

@@ -6,8 +6,8 @@ ghost use Rattle.vdo_words.specs.declared.option_names.OptionName.TheVariants.{S
 ghost use Rattle.vdo_words.specs.Commands.{bare_command, command_named, core_of, crash_of, format_of, grow_of, read, run_of, workload_of, drive_of};
 
 use crate::commands::{
-    Command, CoreOptions, CrashOptions, Drive, FormatOptions, GrowOptions, RunOptions, Usage,
-    WorkloadOptions,
+    Command, CoreOptions, CrashOptions, DEFAULT_CORE, Drive, FormatOptions, GrowOptions,
+    RunOptions, Usage, WorkloadOptions,
 };
 use crate::line::Line;
 use crate::option_names::OptionName;
@@ -100,11 +100,11 @@ fn core(line: &Line<'_>) -> CoreOptions
     ensures { result ≡ core_of line.now }
 {
     CoreOptions {
-        depth: number(OptionName::Depth, 1, line),
-        logical_zones: number(OptionName::LogicalZones, 1, line),
-        physical_zones: number(OptionName::PhysicalZones, 1, line),
-        hash_zones: number(OptionName::HashZones, 1, line),
-        cache: number(OptionName::Cache, 16, line),
+        depth: number(OptionName::Depth, DEFAULT_CORE.depth, line),
+        logical_zones: number(OptionName::LogicalZones, DEFAULT_CORE.logical_zones, line),
+        physical_zones: number(OptionName::PhysicalZones, DEFAULT_CORE.physical_zones, line),
+        hash_zones: number(OptionName::HashZones, DEFAULT_CORE.hash_zones, line),
+        cache: number(OptionName::Cache, DEFAULT_CORE.cache, line),
     }
 }
 

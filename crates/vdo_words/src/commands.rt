@@ -65,6 +65,15 @@ pub struct CoreOptions {
     pub cache: u32,
 }
 
+/// How a core is set up without options.
+pub const DEFAULT_CORE: CoreOptions = CoreOptions {
+    depth: 1,
+    logical_zones: 1,
+    physical_zones: 1,
+    hash_zones: 1,
+    cache: 16,
+};
+
 /// What drives a core.
 #[derive(Clone, Copy, Debug, PartialEq, Eq)]
 pub enum Drive {

@@ -19,6 +19,6 @@ mod rules;
 
 pub use command_reader::read_command;
 pub use commands::{
-    Command, CoreOptions, CrashOptions, Drive, FormatOptions, GrowOptions, RunOptions, Usage,
-    WorkloadOptions,
+    Command, CoreOptions, CrashOptions, DEFAULT_CORE, Drive, FormatOptions, GrowOptions,
+    RunOptions, Usage, WorkloadOptions,
 };
