@@ -123,5 +123,5 @@ bytes_few s t right =
     let reads = given_reads s t right in
     let counted = all_named itself (length s.script) (requests_of s.script) names (given_inside s.script names reads) in
     let few = over_le (length s.script) (of_stream itself (requests_of s.script) names) (reads_of s.script) (λ i.
-        over_le (requests_of s.script i) (λ n. named itself (at i n) names) (λ n. read_bit (request_at s.script (at i n))) (λ n. once_read s.script (at i n) names apart reads)) in
+    over_le (requests_of s.script i) (λ n. named itself (at i n) names) (λ n. read_bit (request_at s.script (at i n))) (λ n. once_read s.script (at i n) names apart reads)) in
     omega (arith, as_many (lines t), counted, few, all_reads s.script)
