@@ -3,3 +3,4 @@ pub mod ReadLaws
 pub mod HeadLaws
 pub mod TornLaws
 pub mod HeldLaws
+mod RunLaws

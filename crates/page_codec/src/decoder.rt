@@ -1,14 +1,24 @@
-ghost use Rattle.std.specs.Prelude.{◌≡◌, ◌<◌, ◌≤◌, ◌↔◌, List, length, replicate, IsTrue, IfOk, IfErr, OnOk, OnErr, IfSome, IfNone};
+ghost use Rattle.std.specs.Prelude.{◌≡◌, ◌+◌, ◌*◌, ◌<◌, ◌≤◌, ◌↔◌, List, length, replicate, IsTrue, IfOk, IfErr, OnOk, OnErr, IfSome, IfNone};
 ghost use Rattle.blk_base.specs.declared.place.Mapping.{Mapping};
 ghost use Rattle.blk_base.specs.declared.place.Mapping.TheVariants.{Unmapped};
 ghost use Rattle.blk_base.specs.Limits.{IsGeometry};
 ghost use Rattle.byte_fields.specs.Mappings.{state_of, target_of};
 ghost use Rattle.page_codec.specs.Grammar.{HoldsMapping, IsPage, HasHead, IsSlot, IsSlotFault, IsPageFault};
+ghost use Rattle.page_codec.specs.Runs.{AreReadTo, HasZeros};
 
 use crate::encoder::{HEAD, WIDTH, put_head};
 use crate::{MapPage, PageFault, PageHead};
 use blk_base::{Block, Layout, Mapping, Mappings, PAGE_SLOTS, Pbn};
 use byte_fields::{read_u8, read_u32};
+
+/// How many slots of a page are looked at at once: all of them are so many runs.
+const RUN: u16 = 28;
+
+/// How many runs a page has.
+const RUNS: u16 = 29;
+
+/// How many bytes a run has.
+const RUN_BYTES: usize = 140;
 
 // Which numbers are data blocks is a question of the sizes, so it asks for some within their limits.
 /// Reads a page. The fault is that the block begins as another page does, or else that of the least slot that has one.
@@ -49,6 +59,7 @@ pub fn slot(block: &Block, want: &PageHead, slot: u16) -> Result<Mapping, PageFa
 }
 
 // The same as `decode`, for the bytes of a block.
+// Most pages have few mappings, so what is unmapped is passed over by runs.
 fn read_page(bytes: &[u8], want: &PageHead, into: &mut Mappings) -> Result<(), PageFault>
     requires geometry { IsGeometry want.now.geometry }
     requires size { length bytes.now ≡ 4096 }
@@ -59,10 +70,41 @@ fn read_page(bytes: &[u8], want: &PageHead, into: &mut Mappings) -> Result<(), P
         return Err(PageFault::Header);
     }
     into.clear();
-    for slot in 0..PAGE_SLOTS {
+    for run in 0..RUNS {
+        read_run(bytes, want, run, into)?;
+    }
+    Ok(())
+}
+
+// Reads the slots of a run, behind those of the runs before it.
+fn read_run(bytes: &[u8], want: &PageHead, run: u16, into: &mut Mappings) -> Result<(), PageFault>
+    requires geometry { IsGeometry want.now.geometry }
+    requires size { length bytes.now ≡ 4096 }
+    requires head { HasHead want.now bytes.now }
+    requires run { run < 29 }
+    requires read { AreReadTo want.now bytes.now (28 * run) into.old }
+    ensures ok { OnOk result (AreReadTo want.now bytes.now (28 * (run + 1)) into.new) }
+    ensures fault { IfErr result (λ fault. IsPageFault want.now bytes.now fault) }
+{
+    if has_zeros(bytes, run) {
+        return Ok(());
+    }
+    for slot in RUN * run..RUN * (run + 1) {
         into.set(slot, read_slot(bytes, want, slot)?);
     }
     Ok(())
+}
+
+// Whether the slots of a run are all zeros.
+fn has_zeros(bytes: &[u8], run: u16) -> bool
+    requires size { length bytes.now ≡ 4096 }
+    requires run { run < 29 }
+    ensures { IsTrue result ↔ HasZeros run bytes.now }
+{
+    let at = HEAD + RUN_BYTES * run as usize;
+    let zeros = [0; RUN_BYTES];
+    let slots = &bytes[at..at + RUN_BYTES];
+    slots == zeros.as_slice()
 }
 
 // Whether the bytes begin as this page does.
