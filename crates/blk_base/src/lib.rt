@@ -5,6 +5,7 @@
 #![tactic(auto)]
 
 mod block;
+mod boxed_block;
 mod default_sizes;
 mod filled;
 mod geometry;
@@ -20,6 +21,7 @@ mod request;
 mod sizes;
 
 pub use block::Block;
+pub use boxed_block::BoxedBlock;
 pub use default_sizes::default_sizes_are_within_limits;
 pub use filled::{repeated, repeated_with};
 pub use geometry::{Geometry, Super};

@@ -1,4 +1,4 @@
-use crate::{Block, Lba};
+use crate::{BoxedBlock, Lba};
 
 /// A request's name: its stream, and its number there from 0.
 #[derive(Clone, Copy, Debug, PartialEq, Eq)]
@@ -12,7 +12,11 @@ pub struct Writer {
 #[derive(Drop)]
 pub enum Request {
     Read(Lba),
-    Write { at: Lba, block: Block, fua: bool },
+    Write {
+        at: Lba,
+        block: BoxedBlock,
+        fua: bool,
+    },
     Discard(Lba),
     Flush,
 }
@@ -22,7 +26,7 @@ pub enum Request {
 pub enum Answer {
     Ok,
     /// What a read gives.
-    Bytes(Block),
+    Bytes(BoxedBlock),
     /// The address isn't below the logical size.
     Range,
     /// No data block was free.

@@ -123,7 +123,7 @@ impl KeptLine {
     {
         let said = match answer {
             Answer::Ok => Said::Ok,
-            Answer::Bytes(block) => Said::Bytes(boxes.keep(&block)),
+            Answer::Bytes(block) => Said::Bytes(boxes.keep(block.get())),
             Answer::Range => Said::Range,
             Answer::NoSpace => Said::NoSpace,
             Answer::Full => Said::Full,
