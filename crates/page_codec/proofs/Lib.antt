@@ -4,3 +4,4 @@ pub mod HeadLaws
 pub mod TornLaws
 pub mod HeldLaws
 mod RunLaws
+mod RunRows
