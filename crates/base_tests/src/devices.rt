@@ -2,8 +2,8 @@ ghost use Rattle.std.specs.Prelude.{◌≡◌, ◌<◌, IfOk, length};
 
 use blk_base::{Block, Pbn, ZoneId};
 use disk_model::{
-    Call, CallKind, Disk, Failed, FaultAt, MemDisk, MemSink, MemSource, OpenGate, Sink, Source,
-    ZoneGate,
+    Call, CallKind, Disk, Failed, FaultAt, MemDisk, MemSink, MemSource, OpenGate, RamDisk, Sink,
+    Source, ZoneGate,
 };
 use std::alloc::{AllocError, Global};
 use std::test::Fail;
@@ -177,6 +177,43 @@ fn a_device(rt: HostRuntime) -> Result<(), Fail> {
     let wanted = [('r', 1, 6, true), ('w', 0, 7, true), ('f', 0, 0, true)];
     let told = (size, done, device.unkept(), calls);
     assert_eq!(rt; told, (2, ([Ok(()), Ok(()), Ok(())], 6), 0, Some(wanted)));
+    Ok(())
+}
+
+// The first byte that a read gives of a block; 9 where it gives none.
+fn byte_given(device: &mut RamDisk, at: u32) -> u8
+    requires { at < length device.old.opening }
+    ensures { device.new.opening ≡ device.old.opening }
+{
+    let mut into = block_of(9);
+    let _ = device.read(Pbn(at), &mut into);
+    into.bytes[0]
+}
+
+// The first bytes of three blocks at first, whether a write of the second and a flush succeed, and the first bytes then.
+fn write_second(device: &mut RamDisk) -> ([u8; 3], [Result<(), Failed>; 2], [u8; 3])
+    requires { length device.old.opening ≡ 3 }
+{
+    let before = [
+        byte_given(device, 0),
+        byte_given(device, 1),
+        byte_given(device, 2),
+    ];
+    let done = [device.write(Pbn(1), &block_of(7)), device.flush()];
+    let after = [
+        byte_given(device, 0),
+        byte_given(device, 1),
+        byte_given(device, 2),
+    ];
+    (before, done, after)
+}
+
+#[test]
+fn a_device_without_a_log(rt: HostRuntime) -> Result<(), Fail> {
+    let mut device = RamDisk::zeroed(rt.alloc(), 3)?;
+    let size = device.blocks();
+    let done = write_second(&mut device);
+    assert_eq!(rt; (size, done), (3, ([0, 0, 0], [Ok(()), Ok(())], [0, 7, 0])));
     Ok(())
 }
 

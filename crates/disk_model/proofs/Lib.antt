@@ -17,3 +17,4 @@ pub mod PickImageLaws
 pub mod PickRows
 mod ImageRows
 mod LookedRows
+mod RamRows

@@ -10,4 +10,6 @@ pub mod Fuses
 pub mod Picks
 pub mod PickParts
 pub mod Memory
+pub mod Ram
+pub mod Histories
 pub mod Streams
