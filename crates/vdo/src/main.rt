@@ -14,7 +14,7 @@
 mod arguments;
 
 use arguments::{ArgumentsError, CommandLine, Device, command_line};
-use disk_model::{Disk, MemDisk, OpenGate};
+use disk_model::{Disk, OpenGate, RamDisk};
 use file_disk::open_disk;
 use std::alloc::{AllocError, Global};
 use std::process::ExitCode;
@@ -69,7 +69,7 @@ fn run_in_memory<R: Threads + Wait + Sync>(
 ) -> Result<u8, AllocError> {
     let mut format = Words::new(alloc);
     format.push("format")?;
-    let device = MemDisk::zeroed(alloc, blocks)?;
+    let device = RamDisk::zeroed(alloc, blocks)?;
     let made = streams.run(rt, &format, device);
     if made.status != 0 {
         return Ok(made.status);
