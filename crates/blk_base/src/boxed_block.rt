@@ -28,6 +28,13 @@ impl BoxedBlock {
         })
     }
 
+    /// The box of a block as it is: nothing is copied.
+    pub fn of_box(block: Box<Block>) -> BoxedBlock
+        ensures { result ≡ block.value }
+    {
+        BoxedBlock { block }
+    }
+
     /// The block.
     pub fn get(&self) -> &Block
         ensures { result.now ≡ self.now }
