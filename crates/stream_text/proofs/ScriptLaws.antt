@@ -8,8 +8,8 @@ use Rattle.vdo_model.specs.Scripts.{Script}
 use Rattle.stream_text.specs.WholeScript.{lines_with_ends, text_of, after_text, is_too_long, after_line, go_on, script_from}
 use Rattle.stream_text.specs.ReadingBytes.{goes_on_from, refusal_said, IsReadingBytes, RefusesScript, StopsLine}
 use Rattle.stream_text.specs.declared.refusal.ReadScript.{ReadScript}
-use Rattle.stream_text.specs.declared.added_lines.LineError.{LineError}
-use Rattle.stream_text.specs.declared.added_lines.LineError.TheVariants as stop
+use Rattle.stream_text.specs.declared.refusal.LineError.{LineError}
+use Rattle.stream_text.specs.declared.refusal.LineError.TheVariants as stop
 use Rattle.stream_text.specs.declared.refusal.LineFault.{LineFault}
 use Rattle.stream_text.specs.declared.refusal.LineFault.TheVariants.{TooLong}
 use Rattle.stream_text.specs.declared.refusal.ScriptRefusal.{ScriptRefusal}

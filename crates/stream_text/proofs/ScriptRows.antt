@@ -5,10 +5,11 @@ use Rattle.blk_base.specs.declared.request.Request.TheVariants.{Read, Write, Dis
 use Rattle.stream_text.specs.LineFaults.{first_of, both}
 use Rattle.stream_text.specs.LineWords.{number_of, least_number, within, stream_number, address_number, count_number, run_number, extent_of, run_of, run_of_part, run_before, bytes_of_parts, block_of_bytes, block_of_word}
 use Rattle.stream_text.specs.Runs.{Run}
-use Rattle.stream_text.specs.LineGrammar.{write_asked, asked_of_line, stream_asked}
+use Rattle.stream_text.specs.LineGrammar.{write_asked, asked_of_line, stream_asked, SaysAsked}
 use Rattle.stream_text.specs.StreamRows.{discards}
 use Rattle.stream_text.specs.WholeScript.{lines_with_ends, text_of, is_passed_over, is_too_long}
 use Rattle.stream_text.specs.declared.refusal.LineFault.TheVariants.{Word, Number, Stream, Range, BlockLength}
+use Rattle.stream_text.specs.declared.refusal.LineError.TheVariants.{Fault, Memory}
 use Rattle.stream_text.specs.declared.asked.Asked.TheVariants.{One, Discards}
 
 pub number_zeros : number_of (codes "007") ≡ Some 7
@@ -217,3 +218,21 @@ long_at_limit = refl
 
 pub long_beyond : is_too_long 134217728 (codes "\n") ≡ true
 long_beyond = refl
+
+pub says_asked : SaysAsked (Ok (One 3 Flush)) (Ok (One 3 Flush))
+says_asked = refl
+
+pub says_other : SaysAsked (Ok (One 3 Flush)) (Ok (One 4 Flush)) → ⊥
+says_other same = absurd cc
+
+pub says_fault : SaysAsked (Err (Fault Word)) (Err Word)
+says_fault = refl
+
+pub says_other_fault : SaysAsked (Err (Fault Word)) (Err Number) → ⊥
+says_other_fault same = absurd cc
+
+pub says_no_fault : SaysAsked (Err (Fault Word)) (Ok (One 3 Flush)) → ⊥
+says_no_fault same = absurd cc
+
+pub says_memory : SaysAsked (Err Memory) (Err Word)
+says_memory = tt

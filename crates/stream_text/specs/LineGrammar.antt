@@ -1,11 +1,13 @@
 -- What a line asks for.
-use Rattle.std.specs.Prelude.{ℕ, ◌==◌, false, List, [], ◌∷◌, codes, bytes_eq, Result, Ok, Err, if◌then◌else◌}
+use Rattle.std.specs.Prelude.{ℕ, ◌≡◌, ◌==◌, false, List, [], ◌∷◌, codes, bytes_eq, Result, Ok, Err, if◌then◌else◌}
 use Rattle.std.specs.List.{slice_split}
 use Rattle.blk_base.specs.declared.request.Request.TheVariants.{Read, Write, Flush}
 use Rattle.stream_text.specs.LineFaults.{both}
 use Rattle.stream_text.specs.LineWords.{stream_number, address_number, count_number, extent_of, block_of_word}
 use Rattle.stream_text.specs.declared.refusal.LineFault.{LineFault}
 use Rattle.stream_text.specs.declared.refusal.LineFault.TheVariants.{Word}
+use Rattle.stream_text.specs.declared.refusal.LineError.{LineError}
+use Rattle.stream_text.specs.declared.refusal.LineError.TheVariants as stop
 use Rattle.stream_text.specs.declared.asked.Asked.{Asked}
 use Rattle.stream_text.specs.declared.asked.Asked.TheVariants.{One, Discards}
 
@@ -42,6 +44,12 @@ words_of line = slice_split (λ byte. byte == 32) line
 -- what a line asks for
 abbrev pub asked_of_line : List ℕ → Result Asked LineFault
 asked_of_line line = asked_of_words (words_of line)
+
+-- what is said of a line is what it asks for, or its first fault; that memory ran out says nothing of the line
+abbrev pub SaysAsked : Result Asked LineError → Result Asked LineFault → Type 0
+SaysAsked (Ok asked) asks = asks ≡ Ok asked
+SaysAsked (Err (stop.Fault fault)) asks = asks ≡ Err fault
+SaysAsked (Err stop.Memory) asks = Unit {0}
 
 -- the stream that is asked for
 abbrev pub stream_asked : Asked → ℕ

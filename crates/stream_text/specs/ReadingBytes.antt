@@ -10,8 +10,8 @@ use Rattle.stream_text.specs.declared.refusal.LineFault.{LineFault}
 use Rattle.stream_text.specs.declared.refusal.ScriptRefusal.{ScriptRefusal}
 use Rattle.stream_text.specs.declared.refusal.ReadScript.{ReadScript}
 use Rattle.stream_text.specs.declared.refusal.ReadScript.TheVariants as read
-use Rattle.stream_text.specs.declared.added_lines.LineError.{LineError}
-use Rattle.stream_text.specs.declared.added_lines.LineError.TheVariants as stop
+use Rattle.stream_text.specs.declared.refusal.LineError.{LineError}
+use Rattle.stream_text.specs.declared.refusal.LineError.TheVariants as stop
 
 -- what the whole script is, if these bytes are the rest
 abbrev pub goes_on_from : ℕ → ℕ → Script → List ℕ → List ℕ → Result Script ScriptRefusal

@@ -5,20 +5,11 @@ ghost use Rattle.stream_text.specs.WholeScript.{after_text};
 ghost use Rattle.stream_text.specs.ReadingBytes.{StopsLine, IsAdded};
 
 use crate::asked::{Asked, asked_of};
-use crate::refusal::LineFault;
+use crate::refusal::{LineError, LineFault};
 use crate::streams::Streams;
 
 /// How many requests a script may have.
 const MOST_REQUESTS: u64 = 65536;
-
-/// Why a line adds nothing.
-#[derive(Clone, Copy, Debug, PartialEq, Eq)]
-pub enum LineError {
-    /// The line has this fault.
-    Fault(LineFault),
-    /// Memory ran out.
-    Memory,
-}
 
 // How many requests a line asks for.
 fn requests_asked(asked: &Asked) -> u64
@@ -63,8 +54,8 @@ pub(crate) fn add_line(streams: &mut Streams, count: u64, text: &[u8]) -> Result
     if text.is_empty() || text[0] == b'#' {
         return Ok(count);
     }
-    match asked_of(text) {
+    match asked_of(streams.alloc(), text) {
         Ok(asked) => add_asked(streams, count, asked),
-        Err(fault) => Err(LineError::Fault(fault)),
+        Err(stop) => Err(stop),
     }
 }

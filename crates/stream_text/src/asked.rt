@@ -1,13 +1,14 @@
 ghost use Rattle.std.specs.Prelude.{◌≡◌, ◌<◌, [], ◌∷◌, IfOk};
 ghost use Rattle.stream_text.specs.LineWords.{extent_of, stream_number, address_number, count_number, block_of_word};
 ghost use Rattle.stream_text.specs.LineFaults.{both as both_of};
-ghost use Rattle.stream_text.specs.LineGrammar.{write_asked, discard_asked, asked_of_words, asked_of_line, stream_asked};
+ghost use Rattle.stream_text.specs.LineGrammar.{write_asked, discard_asked, asked_of_words, asked_of_line, stream_asked, SaysAsked};
 
 use crate::blocks::block_of;
 use crate::cuts::cut;
 use crate::numbers::{both, number_within};
-use crate::refusal::LineFault;
-use blk_base::{Lba, Request};
+use crate::refusal::{LineError, LineFault};
+use blk_base::{Block, Lba, Request};
+use std::alloc::Global;
 
 /// What a line asks for.
 #[derive(Drop)]
@@ -69,13 +70,19 @@ fn of_three(stream: &[u8], command: &[u8], address: &[u8]) -> Result<Asked, Line
     Ok(Asked::One { stream, request })
 }
 
-fn write_of(stream: &[u8], address: &[u8], runs: &[u8]) -> Result<Asked, LineFault>
+// The block that is written stands in the box that is given.
+fn write_of(
+    stream: &[u8],
+    address: &[u8],
+    runs: &[u8],
+    room: Box<Block>,
+) -> Result<Asked, LineFault>
     ensures asked { result ≡ write_asked (both_of
         (stream_number stream.now)
         (both_of (address_number address.now) (block_of_word runs.now))) }
     ensures stream { IfOk result (λ asked. stream_asked asked < 16) }
 {
-    let named = both(address_of(address), block_of(runs));
+    let named = both(address_of(address), block_of(runs, room));
     let (stream, (at, block)) = both(stream_of(stream), named)?;
     let at = Lba(at);
     let request = Request::Write {
@@ -96,40 +103,61 @@ fn discard_of(stream: &[u8], address: &[u8], count: &[u8]) -> Result<Asked, Line
     Ok(Asked::Discards { stream, at, last })
 }
 
-fn of_four(stream: &[u8], command: &[u8], address: &[u8], last: &[u8]) -> Result<Asked, LineFault>
-    ensures asked { result
-        ≡ asked_of_words (stream.now ∷ command.now ∷ address.now ∷ last.now ∷ []) }
+// What is said of a line whose memory was there.
+fn said(asked: Result<Asked, LineFault>) -> Result<Asked, LineError>
+    ensures asked { SaysAsked result asked }
+    ensures stream { IfOk asked (λ asked. stream_asked asked < 16)
+        → IfOk result (λ asked. stream_asked asked < 16) }
+{
+    match asked {
+        Ok(asked) => Ok(asked),
+        Err(fault) => Err(LineError::Fault(fault)),
+    }
+}
+
+fn of_four(
+    alloc: Global,
+    stream: &[u8],
+    command: &[u8],
+    address: &[u8],
+    last: &[u8],
+) -> Result<Asked, LineError>
+    ensures asked { SaysAsked result
+        (asked_of_words (stream.now ∷ command.now ∷ address.now ∷ last.now ∷ [])) }
     ensures stream { IfOk result (λ asked. stream_asked asked < 16) }
 {
     if command == b"write".as_slice() {
-        return write_of(stream, address, last);
+        let Ok(room) = Box::new(alloc, Block::zero()) else {
+            return Err(LineError::Memory);
+        };
+        return said(write_of(stream, address, last, room));
     }
     if command == b"discard".as_slice() {
-        return discard_of(stream, address, last);
+        return said(discard_of(stream, address, last));
     }
-    Err(LineFault::Word)
+    Err(LineError::Fault(LineFault::Word))
 }
 
-/// What a line asks for, or its first fault.
-pub(crate) fn asked_of(line: &[u8]) -> Result<Asked, LineFault>
-    ensures asked { result ≡ asked_of_line line.now }
+/// What a line asks for, or its first fault. It fails with `Memory` where memory runs out.
+pub(crate) fn asked_of(alloc: Global, line: &[u8]) -> Result<Asked, LineError>
+    ensures asked { SaysAsked result (asked_of_line line.now) }
     ensures stream { IfOk result (λ asked. stream_asked asked < 16) }
 {
     let (stream, rest) = cut(b' ', line);
     let Some(rest) = rest else {
-        return Err(LineFault::Word);
+        return Err(LineError::Fault(LineFault::Word));
     };
     let (command, rest) = cut(b' ', rest);
     let Some(rest) = rest else {
-        return of_two(stream, command);
+        return said(of_two(stream, command));
     };
     let (address, rest) = cut(b' ', rest);
     let Some(rest) = rest else {
-        return of_three(stream, command, address);
+        return said(of_three(stream, command, address));
     };
     let (last, rest) = cut(b' ', rest);
     match rest {
-        Some(_) => Err(LineFault::Word),
-        None => of_four(stream, command, address, last),
+        Some(_) => Err(LineError::Fault(LineFault::Word)),
+        None => of_four(alloc, stream, command, address, last),
     }
 }

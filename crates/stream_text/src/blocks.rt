@@ -10,7 +10,7 @@ ghost use Rattle.stream_text.specs.RunParts.{run_said, behind, bytes_of_run, Hol
 use crate::cuts::cut_near;
 use crate::numbers::{both, number_within};
 use crate::refusal::LineFault;
-use blk_base::Block;
+use blk_base::{Block, BoxedBlock};
 
 /// So many times the same byte.
 #[derive(Clone, Copy, Debug, PartialEq, Eq)]
@@ -166,14 +166,14 @@ fn fill(word: &[u8], block: &mut [u8]) -> Result<usize, LineFault>
     }
 }
 
-/// The block whose bytes a word writes as runs.
-pub(crate) fn block_of(word: &[u8]) -> Result<Block, LineFault>
+/// The block whose bytes a word writes as runs. It stands in the box that is given, whatever this held.
+pub(crate) fn block_of(word: &[u8], room: Box<Block>) -> Result<BoxedBlock, LineFault>
     ensures { result ≡ block_of_word word.now }
 {
-    let mut block = Block { bytes: [0; 4096] };
+    let mut block = room;
     let filled = fill(word, &mut block.bytes)?;
     if filled != 4096 {
         return Err(LineFault::BlockLength);
     }
-    Ok(block)
+    Ok(BoxedBlock::of_box(block))
 }

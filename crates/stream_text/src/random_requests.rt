@@ -2,7 +2,7 @@ ghost use Rattle.std.specs.Prelude.{◌≡◌, ◌<◌, ◌≤◌, IfOk};
 ghost use Rattle.stream_text.specs.Workloads.{next_state, number_of_state, filled_block, drawn_block, drawn_kind, drawn_request, workload_of};
 
 use crate::streams::Streams;
-use blk_base::{Block, Lba, Request};
+use blk_base::{Block, BoxedBlock, Lba, Request};
 use std::alloc::{AllocError, Global};
 use vdo_model::Requests;
 
@@ -39,48 +39,48 @@ fn filled(byte: u8) -> Block
 }
 
 // A request of this kind, 0 to 7.
-fn draw_kind(kind: u32, at: Lba, state: u64) -> Drawn
-    ensures { result ≡ drawn_kind kind at.0 state }
+fn draw_kind(alloc: Global, kind: u32, at: Lba, state: u64) -> Result<Drawn, AllocError>
+    ensures { IfOk result (λ drawn. drawn ≡ drawn_kind kind at.0 state) }
 {
     if kind < 4 {
         let state = next(state);
-        let block = filled((number(state) % 32) as u8);
+        let block = BoxedBlock::new(alloc, filled((number(state) % 32) as u8))?;
         let request = Request::Write {
             at,
             block,
             fua: false,
         };
-        return Drawn { state, request };
+        return Ok(Drawn { state, request });
     }
     let request = if kind < 7 {
         Request::Read(at)
     } else {
         Request::Discard(at)
     };
-    Drawn { state, request }
+    Ok(Drawn { state, request })
 }
 
 // A request below the logical size.
-fn draw_block(logical: u32, state: u64) -> Drawn
+fn draw_block(alloc: Global, logical: u32, state: u64) -> Result<Drawn, AllocError>
     requires { 0 < logical }
-    ensures { result ≡ drawn_block logical state }
+    ensures { IfOk result (λ drawn. drawn ≡ drawn_block logical state) }
 {
     let first = next(state);
     let second = next(first);
     let at = Lba(number(second) % logical);
-    draw_kind(number(first) % 8, at, second)
+    draw_kind(alloc, number(first) % 8, at, second)
 }
 
 // The request of this number.
-fn draw(logical: u32, i: u32, state: u64) -> Drawn
+fn draw(alloc: Global, logical: u32, i: u32, state: u64) -> Result<Drawn, AllocError>
     requires { 0 < logical }
-    ensures { result ≡ drawn_request logical i state }
+    ensures { IfOk result (λ drawn. drawn ≡ drawn_request logical i state) }
 {
     if i > 0 && i % 64 == 0 {
         let request = Request::Flush;
-        return Drawn { state, request };
+        return Ok(Drawn { state, request });
     }
-    draw_block(logical, state)
+    draw_block(alloc, logical, state)
 }
 
 /// The requests that a seed gives: so many, dealt out to 1 to 16 streams, at addresses below the logical size. They come as
@@ -100,7 +100,7 @@ pub fn workload(
     let mut rows = Streams::new(alloc)?;
     let mut state = seed;
     for i in 0..requests {
-        let drawn = draw(logical, i, state);
+        let drawn = draw(alloc, logical, i, state)?;
         state = drawn.state;
         rows.push((i % u32::from(streams)) as u8, drawn.request)?;
     }

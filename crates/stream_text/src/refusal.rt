@@ -34,6 +34,15 @@ pub struct ScriptRefusal {
     pub fault: LineFault,
 }
 
+/// Why a line adds nothing to the requests.
+#[derive(Clone, Copy, Debug, PartialEq, Eq)]
+pub enum LineError {
+    /// The line has this fault.
+    Fault(LineFault),
+    /// Memory ran out.
+    Memory,
+}
+
 /// Why the requests of a script could not be read.
 #[derive(Clone, Copy, Debug, PartialEq, Eq, Error)]
 pub enum ReadScript {

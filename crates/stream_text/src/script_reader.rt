@@ -5,8 +5,8 @@ ghost use Rattle.stream_text.specs.WholeScript.{whole_script};
 ghost use Rattle.stream_text.specs.ReadingBytes.{refusal_said, IsWholeScript, RefusesScript};
 ghost use Rattle.stream_text.specs.ReadingState.{bytes_read, comes_to, IsReading, OneLine};
 
-use crate::added_lines::{LineError, add_line};
-use crate::refusal::{LineFault, ReadScript, ScriptRefusal};
+use crate::added_lines::add_line;
+use crate::refusal::{LineError, LineFault, ReadScript, ScriptRefusal};
 use crate::streams::Streams;
 use arrayvec::ArrayVec;
 use disk_model::Source;

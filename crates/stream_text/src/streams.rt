@@ -35,6 +35,11 @@ impl Streams {
         Ok(Streams { rows })
     }
 
+    /// The allocator of the requests.
+    pub(crate) fn alloc(&self) -> Global {
+        *self.rows.allocator()
+    }
+
     /// One more request of a stream. It fails where memory runs out, and then changes nothing.
     pub(crate) fn push(&mut self, stream: u8, request: Request) -> Result<(), AllocError>
         requires { stream < length self.old }
