@@ -59,8 +59,9 @@ fn vio_of(sizes: &Sizes, request: Writer, asked: &Request) -> Option<Vio>
             block,
             fua: false,
         } => {
-            let mut bytes = Block::zero();
-            bytes.copy_from(block);
+            let bytes = Block {
+                bytes: block.get().bytes,
+            };
             Some(begun_vio(sizes, request, Asks::Write, *at, bytes))
         }
         Request::Discard(at) => {
