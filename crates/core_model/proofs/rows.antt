@@ -15,7 +15,6 @@ pub mod LimitRows
 pub mod ZoneLimitRows
 pub mod CountRows
 pub mod PortRows
-pub mod SlotRows
 pub mod WaiterRows
 mod LegalRows
 mod PageRows

@@ -9,7 +9,6 @@ pub mod CountUpdates
 pub mod Superblocks
 pub mod LogicalData
 pub mod JournalData
-pub mod SlotOrder
 pub mod DeskRules
 pub mod LogicalRules
 pub mod Waiters
