@@ -4,22 +4,22 @@ use blk_base::{Block, DataPlace, Geometry, Half, Layout, Pbn, Point};
 const DEFAULT_NEEDED: u32 = 154;
 
 // Sequences 0, 1, 7, 8 and 15.
-const DEFAULT_JOURNAL: [u32; 5] = [1, 2, 8, 1, 8];
+static DEFAULT_JOURNAL: [u32; 5] = [1, 2, 8, 1, 8];
 
 // The first and the last, here and below.
-const DEFAULT_ROOTS: [u32; 2] = [9, 68];
+static DEFAULT_ROOTS: [u32; 2] = [9, 68];
 
-const DEFAULT_INDEX: [u32; 2] = [69, 84];
+static DEFAULT_INDEX: [u32; 2] = [69, 84];
 
-const DEFAULT_DATA: [u32; 2] = [85, 148];
+static DEFAULT_DATA: [u32; 2] = [85, 148];
 
 const DEFAULT_REFERENCES: u32 = 149;
 
 // Sequences 0, 3 and 4.
-const DEFAULT_SLAB_JOURNAL: [u32; 3] = [150, 153, 150];
+static DEFAULT_SLAB_JOURNAL: [u32; 3] = [150, 153, 150];
 
 // With two slabs: how many blocks there are, and the first and the last data block of the second slab.
-const TWO_SLABS: [u32; 3] = [223, 154, 217];
+static TWO_SLABS: [u32; 3] = [223, 154, 217];
 
 #[test]
 fn the_default_journal(rt: HostRuntime) {

@@ -79,7 +79,7 @@ const THIRD_WRITE: PlannedFault = (CallKind::Write, 0, 2, false);
 const THIRD_WRITE_WITH_EFFECT: PlannedFault = (CallKind::Write, 0, 2, true);
 
 // Each row: two faults, the number of the call that fails alone (9: none), and the first bytes of the blocks then.
-const ROWS: [(PlannedFault, PlannedFault, usize, [u8; 2]); 13] = [
+static ROWS: [(PlannedFault, PlannedFault, usize, [u8; 2]); 13] = [
     (NEVER, NEVER, 9, [4, 3]),
     ((CallKind::Write, 0, 0, false), NEVER, 0, [4, 3]),
     (THIRD_WRITE, NEVER, 3, [2, 3]),

@@ -3,7 +3,7 @@ use byte_fields::{
 };
 
 // Each field in turn, and 2 of 0xee. The numbers' bytes are written out by hand.
-const WRITTEN: [u8; 24] = [
+static WRITTEN: [u8; 24] = [
     1, 2, 3, 4, 5, 6, 7, 8, 10, 11, 12, 13, 14, 15, 16, 86, 74, 83, 49, 0, 0, 0, 0xee, 0xee,
 ];
 

@@ -10,7 +10,7 @@ const HEAD: Super = Super {
 };
 
 // The first 64 bytes of a superblock with these sizes, computed by tools/superblock.py.
-const DEFAULT_BYTES: [u8; 64] = [
+static DEFAULT_BYTES: [u8; 64] = [
     0x52, 0x56, 0x44, 0x4f, 0x53, 0x42, 0x30, 0x31, 0x01, 0x00, 0x00, 0x00, 0x02, 0x00, 0x00, 0x00,
     0x01, 0x00, 0x00, 0x00, 0x00, 0x00, 0x00, 0x00, 0xe8, 0x03, 0x00, 0x00, 0x01, 0x00, 0x00, 0x00,
     0x40, 0x00, 0x00, 0x00, 0x08, 0x00, 0x00, 0x00, 0x10, 0x00, 0x00, 0x00, 0x04, 0x00, 0x00, 0x00,
@@ -33,7 +33,7 @@ const OTHER: Super = Super {
     start: (1 << 54) - 1,
 };
 
-const OTHER_BYTES: [u8; 64] = [
+static OTHER_BYTES: [u8; 64] = [
     0x52, 0x56, 0x44, 0x4f, 0x53, 0x42, 0x30, 0x31, 0x01, 0x00, 0x00, 0x00, 0x03, 0x00, 0x00, 0x00,
     0x88, 0x77, 0x66, 0x55, 0x44, 0x33, 0x22, 0x11, 0x04, 0x03, 0x02, 0x01, 0x02, 0x00, 0x00, 0x00,
     0x00, 0x80, 0x00, 0x00, 0x00, 0x04, 0x00, 0x00, 0x0c, 0x00, 0x00, 0x00, 0x40, 0x00, 0x00, 0x00,
@@ -44,7 +44,7 @@ const OTHER_BYTES: [u8; 64] = [
 type Row = (usize, u8, SuperFault);
 
 // One row for each check but that of the device's blocks, in the order of the checks.
-const FIRST_ROWS: [Row; 14] = [
+static FIRST_ROWS: [Row; 14] = [
     (0, 0x53, NotAnImage),
     (8, 2, Version(2)),
     (12, 4, BadField(Field::Height)),
@@ -62,7 +62,7 @@ const FIRST_ROWS: [Row; 14] = [
 ];
 
 // More of them: the other end of a range, the last byte of a field.
-const MORE_ROWS: [Row; 15] = [
+static MORE_ROWS: [Row; 15] = [
     (7, 0x32, NotAnImage),
     (11, 1, Version(0x0100_0001)),
     (12, 1, BadField(Field::Height)),
@@ -195,7 +195,7 @@ fn sized(height: u32, logical: u32) -> Super {
 // A height, a logical size, and whether it is accepted: the greatest of each height is.
 type LogicalRow = (u32, u32, bool);
 
-const LOGICAL_ROWS: [LogicalRow; 8] = [
+static LOGICAL_ROWS: [LogicalRow; 8] = [
     (2, 0, false),
     (2, 1, true),
     (2, 39_560_640, true),
@@ -258,7 +258,7 @@ fn mappings(rt: HostRuntime) {
     assert_eq!(rt; mapped, [[two, two, nine, none], [one, none, none, none]]);
 }
 
-const FIELD_NAMES: [(Field, &str); 12] = [
+static FIELD_NAMES: [(Field, &str); 12] = [
     (Field::Height, "height"),
     (Field::Nonce, "nonce"),
     (Field::Logical, "logical"),
@@ -290,7 +290,7 @@ fn names_of_fields(rt: HostRuntime) {
     assert_eq!(rt; not_shown(rt.alloc(), &FIELD_NAMES), None);
 }
 
-const SUPER_TEXTS: [(SuperFault, &str); 3] = [
+static SUPER_TEXTS: [(SuperFault, &str); 3] = [
     (NotAnImage, "not an image"),
     (Version(7), "version 7"),
     (BadField(Field::Journal), "field journal"),

@@ -258,7 +258,7 @@ fn a_prefix_ends(rt: HostRuntime) {
 // on; its first entry has an old block and no new one.
 type FieldRow = (usize, u8, bool);
 
-const FIELD_ROWS: [FieldRow; 26] = [
+static FIELD_ROWS: [FieldRow; 26] = [
     (0, 1, false), // nonce
     (7, 1, false), // nonce
     (8, 1, true), // sequence 1548

@@ -172,7 +172,7 @@ fn refusal(block: &Block) -> Refusal {
     refusal_and_head(block).0
 }
 
-const HEAD_PLACES: [usize; 14] = [0, 3, 4, 11, 12, 19, 20, 21, 22, 23, 24, 27, 28, 35];
+static HEAD_PLACES: [usize; 14] = [0, 3, 4, 11, 12, 19, 20, 21, 22, 23, 24, 27, 28, 35];
 
 // How the leaf with another byte in its head is refused, though its first slot has a fault too; and its last slot.
 fn another_page(at: usize) -> (Refusal, Slot) {
@@ -191,7 +191,7 @@ fn another_head(rt: HostRuntime) {
 
 // A byte of the leaf that is changed, the slot that it is of, and the fault. Slots 0 and 405 lead to blocks, and slot 811
 // to zeros.
-const SLOT_ROWS: [(usize, u8, u16, PageFault); 14] = [
+static SLOT_ROWS: [(usize, u8, u16, PageFault); 14] = [
     (36, 2, 0, Compressed(0)),
     (36, 0x12, 0, Compressed(0)),
     (36, 0, 0, OutOfRange(0)), // unmapped, with a block
@@ -234,7 +234,7 @@ fn a_fault_of_one_slot(rt: HostRuntime) {
 }
 
 // The first bytes of slots 3 and 7, and the fault.
-const TWO_SLOT_ROWS: [(u8, u8, PageFault); 3] = [
+static TWO_SLOT_ROWS: [(u8, u8, PageFault); 3] = [
     (2, 0x10, Compressed(3)),
     (0x10, 2, OutOfRange(3)),
     (0x10, 0x10, OutOfRange(3)),
@@ -301,7 +301,7 @@ fn links_of_a_root(rt: HostRuntime) {
 // A slot, and what it is read as where sector 0 is from an empty page, and the others aren't.
 type TornRow = (u16, Slot);
 
-const TORN_ROWS: [TornRow; 4] = [
+static TORN_ROWS: [TornRow; 4] = [
     (90, Ok(Mapping::Unmapped)),
     (95, Err(OutOfRange(95))),
     (96, Ok(Mapping::Zero)),
@@ -325,7 +325,7 @@ fn a_torn_page(rt: HostRuntime) {
     assert_eq!(rt; read_torn(TORN_ROWS), TORN_ROWS);
 }
 
-const TEXTS: [(PageFault, &str); 3] = [
+static TEXTS: [(PageFault, &str); 3] = [
     (Header, "header"),
     (Compressed(3), "slot 3 compressed"),
     (OutOfRange(811), "slot 811 out of range"),

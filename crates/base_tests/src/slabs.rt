@@ -86,7 +86,7 @@ fn any_bytes_are_counters(rt: HostRuntime) {
 // An offset, and the block, the sector and the place in it where its counter stands.
 type PlaceRow = (u32, u32, u16, u16);
 
-const PLACE_ROWS: [PlaceRow; 6] = [
+static PLACE_ROWS: [PlaceRow; 6] = [
     (0, 0, 0, 0),
     (503, 0, 0, 503),
     (504, 0, 1, 0),
@@ -284,7 +284,7 @@ fn a_sector_by_itself(rt: HostRuntime) {
 // sector has two entries: an even point at offset 60, and an odd one at 61.
 type FieldRow = (usize, u8, bool);
 
-const FIELD_ROWS: [FieldRow; 27] = [
+static FIELD_ROWS: [FieldRow; 27] = [
     (0, 1, false), // nonce
     (7, 1, false), // nonce
     (8, 1, true), // sequence

@@ -48,7 +48,7 @@ fn filling(alloc: Global, zones: Zones) -> Result<Vec<Ask>, AllocError> {
 
 /// What is asked where no block is free. A new block finds none, whatever its address has; zeros need none; and the block that
 /// a discard frees goes to the next write, and to no other.
-const FULL: [Ask; 9] = [
+static FULL: [Ask; 9] = [
     Ask::Write(90, 0xa0),
     Ask::Write(0, 0xa1),
     Ask::Write(91, 0),
@@ -60,7 +60,7 @@ const FULL: [Ask; 9] = [
     Ask::Read(92),
 ];
 
-const FULL_GIVES: [Given; 9] = [
+static FULL_GIVES: [Given; 9] = [
     Given::NoSpace,
     Given::NoSpace,
     Given::Ok,
@@ -267,7 +267,7 @@ struct Row {
 
 /// The requests draw places in the order of their streams, and a write asks from the zone of its place on. So the writes to even
 /// addresses have blocks of the first of two zones.
-const ROWS: [Row; 8] = [
+static ROWS: [Row; 8] = [
     // Two tickets in one zone, and then a block: the first to ask gets it.
     Row {
         zones: Zones::One,

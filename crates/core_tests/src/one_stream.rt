@@ -21,7 +21,7 @@ struct Row {
     gives: &'static [Given],
 }
 
-const ROWS: [Row; 9] = [
+static ROWS: [Row; 9] = [
     Row {
         asks: &[Ask::Write(5, 0x61), Ask::Read(5)],
         fails: None,
@@ -174,7 +174,7 @@ fn one_request_after_the_other(rt: HostRuntime) -> Result<(), Fail> {
     Ok(())
 }
 
-const PLACES: [Placed; 2] = [
+static PLACES: [Placed; 2] = [
     Placed {
         request: Writer {
             stream: 0,

@@ -21,7 +21,7 @@ const STREAMS: u32 = 3;
 /// How many requests a stream has: more than six of ten are writes.
 const ASKS: u32 = 25;
 
-const ADDRESSES: [u32; 5] = [0, 7, 31, 62, 99];
+static ADDRESSES: [u32; 5] = [0, 7, 31, 62, 99];
 
 /// A run makes more calls than so many.
 const CALLS: u64 = 140;

@@ -11,7 +11,7 @@ use vdo_core::Setup;
 use vdo_model::{RunReport, ShownAnswer};
 
 // Streams over two logical zones: addresses from 812 on are of the second. No two writes of a plan have the same byte.
-const PLANS: [Plan; 5] = [
+static PLANS: [Plan; 5] = [
     Plan {
         trees: Trees::Low,
         setup: Setup {
@@ -282,7 +282,7 @@ fn each_call_fails_in_taller_trees(rt: HostRuntime) -> Result<(), Fail> {
     Ok(())
 }
 
-const ADDRESSES: [u32; 4] = [5, 6, 900, 901];
+static ADDRESSES: [u32; 4] = [5, 6, 900, 901];
 
 // They are read one after another, once the image is opened again.
 fn reads_on(plan: &Plan) -> Plan {

@@ -11,7 +11,7 @@ const SETUP: Setup = Setup {
 };
 
 // Addresses below 812 are of logical zone 0 of two, and those from there on of zone 1.
-const ASKS: [&[Ask]; 2] = [
+static ASKS: [&[Ask]; 2] = [
     &[
         Ask::Write(5, 0x61),
         Ask::Write(900, 0x62),
@@ -31,7 +31,7 @@ const ASKS: [&[Ask]; 2] = [
     ],
 ];
 
-const GIVES_0: [Given; 7] = [
+static GIVES_0: [Given; 7] = [
     Given::Ok,
     Given::Ok,
     Given::Bytes(0x61),
@@ -41,7 +41,7 @@ const GIVES_0: [Given; 7] = [
     Given::Bytes(0x63),
 ];
 
-const GIVES_1: [Given; 6] = [
+static GIVES_1: [Given; 6] = [
     Given::Ok,
     Given::Bytes(0x71),
     Given::Ok,

@@ -4,7 +4,7 @@ use crate::rows::{Opened, other_opening};
 use std::test::Fail;
 
 // The counters of a slab.
-const COUNTERS: [Opened; 22] = [
+static COUNTERS: [Opened; 22] = [
     // The commit point, below, at or above the one update in the slab's journal, which is of block 75.
     (&[(89, 0, 8, 0)], Err(Counts(75, 2, 1))),
     (&[(89, 0, 8, 2_989)], Err(Counts(75, 2, 1))),
@@ -33,7 +33,7 @@ const COUNTERS: [Opened; 22] = [
 ];
 
 // The head of a sector of the slab's journal, whose entry is an update past the commit point where it is valid.
-const HEADS: [Opened; 37] = [
+static HEADS: [Opened; 37] = [
     // Its nonce.
     (&[(90, 32, 8, 3_002)], Err(Counts(75, 2, 1))),
     (&[(90, 32, 8, 3_002), (90, 0, 8, 0)], Ok(3)),
@@ -111,7 +111,7 @@ const HEADS: [Opened; 37] = [
 ];
 
 // An entry of that sector.
-const ENTRIES: [Opened; 30] = [
+static ENTRIES: [Opened; 30] = [
     // Its point, at the commit point and past it; of an odd one the half is 1, and it takes away.
     (&[(90, 32, 8, 0)], Ok(3)),
     (&[(90, 32, 8, 3_000)], Ok(3)),

@@ -4,7 +4,7 @@ use crate::rows::{Recovered, other_recovery};
 use std::test::Fail;
 
 // The head of the first sector of the journal's last block: where it is wrong there is no window.
-const HEADS: [Recovered; 47] = [
+static HEADS: [Recovered; 47] = [
     // Its nonce, and its sequence: that of the slot, from the superblock's start on.
     (&[(7, 0, 8, 0)], Ok(Some(0))),
     (&[(7, 0, 8, 2)], Ok(Some(0))),
@@ -71,7 +71,7 @@ const HEADS: [Recovered; 47] = [
 ];
 
 // Its other sectors, and those of the block before it.
-const SECTORS: [Recovered; 42] = [
+static SECTORS: [Recovered; 42] = [
     // The sector behind a full one, of the last block: what isn't of it is left out.
     (&[(7, 540, 1, 0)], Ok(Some(2))),
     (&[(7, 538, 2, 1)], Ok(Some(2))),
@@ -175,7 +175,7 @@ const SECTORS: [Recovered; 42] = [
 ];
 
 // An entry that maps an address anew: where its form is wrong there is no window either.
-const ENTRIES: [Recovered; 57] = [
+static ENTRIES: [Recovered; 57] = [
     // Its kind. A page of which no address is beside the logical size, and one that is another page.
     (&[(7, 32, 1, 1)], Ok(Some(0))),
     (&[(7, 32, 1, 2)], Ok(Some(0))),
@@ -246,7 +246,7 @@ const ENTRIES: [Recovered; 57] = [
 ];
 
 // What else an image has that isn't closed.
-const OTHERS: [Recovered; 16] = [
+static OTHERS: [Recovered; 16] = [
     // Counts that leave their range by the counter, by an increment and by a decrement.
     (&[(89, 8, 1, 255)], Err(Counter(73, 3_000))),
     (&[(89, 11, 1, 253)], Ok(Some(2))),

@@ -4,7 +4,7 @@ use crate::rows::{Recovered, other_recovery};
 use std::test::Fail;
 
 // The entry of a new leaf of tree 1, at block 77: where its form is wrong there is no window.
-const LEAVES: [Recovered; 58] = [
+static LEAVES: [Recovered; 58] = [
     (&[], Ok(Some(2))),
     // Its kind. The other one has no tree.
     (&[(7, 32, 1, 0)], Ok(Some(0))),
@@ -85,7 +85,7 @@ const LEAVES: [Recovered; 58] = [
 ];
 
 // The entries of two new pages of tree 1 at height 3, at blocks 79 and 78.
-const HIGH_PAGES: [Recovered; 38] = [
+static HIGH_PAGES: [Recovered; 38] = [
     (&[], Ok(Some(2))),
     // The tree of the first page and of the second.
     (&[(7, 33, 1, 0)], Err(Header(79))),

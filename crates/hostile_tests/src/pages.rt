@@ -5,7 +5,7 @@ use std::test::Fail;
 
 // Numbers that no head of a page of the images has: its first bytes, its nonce, its block, its tree, its level, its zeros,
 // its index, and zeros again. Each with its byte, and how many bytes it has.
-const HEADS: [(usize, u32, u64); 26] = [
+static HEADS: [(usize, u32, u64); 26] = [
     (0, 4, 0),
     (0, 4, 827_346_261),
     (0, 4, 827_346_263),
@@ -35,7 +35,7 @@ const HEADS: [(usize, u32, u64); 26] = [
 ];
 
 // An image, the block of a page, and that page: a root, the last root, and a leaf; and a root, an inner page and a leaf.
-const HEADED: [(Image, u32); 6] = [
+static HEADED: [(Image, u32); 6] = [
     (CLOSED, 9),
     (CLOSED, 68),
     (CLOSED, 73),
@@ -45,7 +45,7 @@ const HEADED: [(Image, u32); 6] = [
 ];
 
 // A root. Where a slot has another block there is no such page.
-const ROOTS: [Opened; 44] = [
+static ROOTS: [Opened; 44] = [
     // Its block, its tree and its level, and those of the last root.
     (&[(9, 12, 8, 8)], Err(Header(9))),
     (&[(9, 12, 8, 10)], Err(Header(9))),
@@ -97,7 +97,7 @@ const ROOTS: [Opened; 44] = [
 ];
 
 // A page between a root and a leaf, at height 3.
-const INNER: [Opened; 38] = [
+static INNER: [Opened; 38] = [
     // Its block, its tree and its level.
     (&[(77, 12, 8, 76)], Err(Header(77))),
     (&[(77, 12, 8, 78)], Err(Header(77))),
@@ -143,7 +143,7 @@ const INNER: [Opened; 38] = [
 ];
 
 // The root above it, and the leaf below it.
-const HIGH_ENDS: [Opened; 31] = [
+static HIGH_ENDS: [Opened; 31] = [
     // The root: its level is 2.
     (&[(9, 12, 8, 8)], Err(Header(9))),
     (&[(9, 12, 8, 10)], Err(Header(9))),
@@ -180,7 +180,7 @@ const HIGH_ENDS: [Opened; 31] = [
 ];
 
 // A leaf.
-const LEAVES: [Opened; 51] = [
+static LEAVES: [Opened; 51] = [
     // Its block, its tree and its level.
     (&[(73, 12, 8, 72)], Err(Header(73))),
     (&[(73, 12, 8, 74)], Err(Header(73))),

@@ -12,7 +12,7 @@ const IMAGES: u64 = 500;
 
 /// The blocks of which one is changed in every other image: the superblock, the journal's last one, a root, the leaf, the
 /// counters and the slab's journal.
-const READ: [usize; 6] = [0, 7, 9, 73, 89, 90];
+static READ: [usize; 6] = [0, 7, 9, 73, 89, 90];
 
 // How many images were opened or recovered; how many were refused, in the order of the faults, and because the last session
 // wasn't closed; and how many were answered otherwise.

@@ -7,7 +7,7 @@ use image_layout::Field::{
 };
 use std::test::Fail;
 
-const FIELDS: [Opened; 40] = [
+static FIELDS: [Opened; 40] = [
     (&[], Ok(3)),
     // The superblock's first bytes and its version.
     (&[(0, 0, 1, 0)], Err(NoImage)),
@@ -61,7 +61,7 @@ const FIELDS: [Opened; 40] = [
     (&[(88, 4088, 8, 18_446_744_073_709_551_615)], Ok(3)),
 ];
 
-const SIZES: [Opened; 42] = [
+static SIZES: [Opened; 42] = [
     // Mappings past the logical size count too.
     (&[(0, 24, 4, 0)], Err(Super(Logical))),
     (&[(0, 24, 4, 1)], Ok(3)),
@@ -108,7 +108,7 @@ const SIZES: [Opened; 42] = [
     (&[(0, 44, 4, 4_294_967_295)], Err(Super(SlabJournal))),
 ];
 
-const HIGH_SIZES: [Opened; 10] = [
+static HIGH_SIZES: [Opened; 10] = [
     (&[], Ok(4)),
     // At height 2 the roots have another level.
     (&[(0, 12, 4, 1)], Err(Super(Height))),
@@ -123,7 +123,7 @@ const HIGH_SIZES: [Opened; 10] = [
 ];
 
 // The superblock of an image that wasn't closed, where the window's block has the sequence 6.
-const STARTS: [Recovered; 12] = [
+static STARTS: [Recovered; 12] = [
     (&[], Ok(Some(2))),
     (&[(0, 48, 4, 1)], Ok(None)),
     (&[(0, 48, 4, 2)], Err(Super(Clean))),

@@ -32,7 +32,7 @@ const FIRST: Mapping = Mapping::At(Pbn(85));
 
 const SECOND: Mapping = Mapping::At(Pbn(86));
 
-const ROWS: [(Written, Counted); 9] = [
+static ROWS: [(Written, Counted); 9] = [
     (([0, 1, 254, 3], &[], &[]), Ok(([0, 1, 254, 3], COMMIT))),
     // Below the commit point, at it, and above it.
     (

@@ -5,7 +5,7 @@ use image_model::ImageFault;
 use page_codec::PageFault;
 use std::fmt::Display;
 
-const LAYOUT: [(LayoutFault, &str); 5] = [
+static LAYOUT: [(LayoutFault, &str); 5] = [
     (
         LayoutFault::TooSmall {
             needed: 154,
@@ -22,7 +22,7 @@ const LAYOUT: [(LayoutFault, &str); 5] = [
     ),
 ];
 
-const FORMAT: [(FormatFault, &str); 2] = [
+static FORMAT: [(FormatFault, &str); 2] = [
     (
         FormatFault::Layout(LayoutFault::LogicalTooLarge),
         "logical too large",
@@ -30,7 +30,7 @@ const FORMAT: [(FormatFault, &str); 2] = [
     (FormatFault::Device, "device fault"),
 ];
 
-const IMAGE: [(ImageFault, &str); 13] = [
+static IMAGE: [(ImageFault, &str); 13] = [
     (ImageFault::Super(SuperFault::NotAnImage), "not an image"),
     (ImageFault::Super(SuperFault::Version(7)), "version 7"),
     (

@@ -34,7 +34,7 @@ const BLOCKS: u32 = 92;
 const CALLS: u64 = 80;
 
 // What stands in all blocks at first.
-const FILL: [u8; 4096] = [7; 4096];
+static FILL: [u8; 4096] = [7; 4096];
 
 // What an image is.
 #[derive(Clone, Copy, Debug, PartialEq, Eq)]
@@ -152,7 +152,7 @@ fn make(device: &mut MemDisk, wanted: &Geometry, older: &Layout) -> Made {
 }
 
 // Sizes, the blocks of the device, and what then is made.
-const SIZES: [(Geometry, u32, Made); 6] = [
+static SIZES: [(Geometry, u32, Made); 6] = [
     (DEFAULT, 154, (None, 94, Judged::Empty)),
     (DEFAULT, 155, (None, 94, Judged::Empty)),
     (
@@ -253,7 +253,7 @@ fn stops_leave_the_older_image_or_none_or_an_empty_one(rt: HostRuntime) -> Resul
 }
 
 // At each end, the image of what was certain, that of all that was written since, and one of both.
-const STOPS: [(Stop, Judged); 11] = [
+static STOPS: [(Stop, Judged); 11] = [
     ((0, 0), Judged::Older),
     ((0, 1), Judged::NoImage),
     ((1, 0), Judged::Older),
@@ -286,7 +286,7 @@ fn known_stops(rt: HostRuntime) -> Result<(), Fail> {
 }
 
 // Calls that fail, how many calls stand in the log then, and what may be read.
-const FAULTS: [(CallKind, u32, u32, bool, usize, Judged); 8] = [
+static FAULTS: [(CallKind, u32, u32, bool, usize, Judged); 8] = [
     (CallKind::Write, 0, 0, false, 1, Judged::Older),
     (CallKind::Write, 0, 0, true, 1, Judged::NoImage),
     (CallKind::Flush, 0, 0, false, 2, Judged::NoImage),

@@ -35,7 +35,7 @@ fn with_fuse(alloc: Global, passes: u64) -> Result<([bool; 6], usize), AllocErro
 }
 
 // Fuses, and which calls go on.
-const ROWS: [(u64, [bool; 6]); 5] = [
+static ROWS: [(u64, [bool; 6]); 5] = [
     (0, [false, false, false, false, false, false]),
     (1, [true, false, false, false, false, false]),
     (3, [true, true, true, false, false, false]),

@@ -19,10 +19,10 @@ const SMALL: Geometry = Geometry {
 const BLOCKS: u32 = 149;
 
 // What stands in the blocks of the device at first.
-const FILL: [u8; 4096] = [7; 4096];
+static FILL: [u8; 4096] = [7; 4096];
 
 // The sizes that are asked for one after the other, how many addresses and slabs, and what is answered.
-const GROWTHS: [(u32, u32, Result<Grown, GrowFault>); 7] = [
+static GROWTHS: [(u32, u32, Result<Grown, GrowFault>); 7] = [
     (999, 1, Err(Smaller(Field::Logical))),
     (1000, 0, Err(Smaller(Field::Slabs))),
     (

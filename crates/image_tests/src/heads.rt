@@ -16,7 +16,7 @@ const HEAD: Super = Super {
 };
 
 // A device of so many blocks, of which so many calls go on; its first block is this superblock, if there is one.
-const ROWS: [((u32, Option<Super>, u64), Read); 6] = [
+static ROWS: [((u32, Option<Super>, u64), Read); 6] = [
     ((154, Some(HEAD), 9), (Ok(HEAD), 1)),
     ((200, Some(HEAD), 9), (Ok(HEAD), 1)),
     (

@@ -6,7 +6,7 @@ use std::alloc::{AllocError, Global};
 use std::test::Fail;
 
 // A number, and the byte of each sector of each of four blocks in the image that it picks, computed by tools/picks.py.
-const PICKED: [(u64, [u8; 32]); 5] = [
+static PICKED: [(u64, [u8; 32]); 5] = [
     (
         0,
         [
@@ -45,7 +45,7 @@ const PICKED: [(u64, [u8; 32]); 5] = [
 ];
 
 // A write that fails, and one more.
-const FAULTS: [FaultAt; 2] = [
+static FAULTS: [FaultAt; 2] = [
     FaultAt {
         kind: CallKind::Write,
         at: Pbn(2),

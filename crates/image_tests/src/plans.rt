@@ -65,7 +65,7 @@ const FITTING: Geometry = Geometry {
 };
 
 // Sizes, the blocks of the device, and why they can't be had; in the order of the checks.
-const ORDER: [(Geometry, u32, Option<LayoutFault>); 10] = [
+static ORDER: [(Geometry, u32, Option<LayoutFault>); 10] = [
     (NONE, 0, Some(Size(Field::Height))),
     (HIGH, 0, Some(Size(Field::Nonce))),
     (NAMED, 0, Some(Size(Field::Logical))),
@@ -86,7 +86,7 @@ const ORDER: [(Geometry, u32, Option<LayoutFault>); 10] = [
 ];
 
 // The ends of ranges, and devices of one block more or less than are needed.
-const ENDS: [(Geometry, u32, Option<LayoutFault>); 14] = [
+static ENDS: [(Geometry, u32, Option<LayoutFault>); 14] = [
     (SIZES, 154, None),
     (SIZES, 155, None),
     (

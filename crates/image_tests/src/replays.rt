@@ -660,7 +660,7 @@ fn images_are_replayed(rt: HostRuntime) -> Result<(), Fail> {
 }
 
 // After so many calls the next one fails: of the journal's 8 blocks, of the 60 roots, or the last one, of a leaf.
-const CUTS: [u64; 4] = [0, 7, 8, 69];
+static CUTS: [u64; 4] = [0, 7, 8, 69];
 
 // The first cut of which something else is told.
 fn other_failure(alloc: Global) -> Result<Option<(u64, Replayed, usize)>, AllocError> {

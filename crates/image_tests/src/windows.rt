@@ -81,7 +81,7 @@ fn find(alloc: Global, start: u64, clean: bool, journal: &[Block; 8]) -> Option<
 const USED_UP: Found = Err(ImageFault::Super(SuperFault::BadField(Field::Start)));
 
 // The superblock's first sequence and whether the last session was closed, the journal's blocks, and what is found.
-const ROWS: [(u64, bool, &[Written], Found); 16] = [
+static ROWS: [(u64, bool, &[Written], Found); 16] = [
     (1, false, &[], Ok((0, 0))),
     (7, true, &[], Ok((6, 0))),
     (
@@ -330,7 +330,7 @@ fn read_from(alloc: Global, passes: u64) -> Result<(Found, usize), AllocError> {
 }
 
 // Each block is read once, and the first read that fails is the last one.
-const READS: [(u64, Found, usize); 3] = [
+static READS: [(u64, Found, usize); 3] = [
     (0, Err(ImageFault::Device), 1),
     (7, Err(ImageFault::Device), 8),
     (8, Ok((2, 3)), 8),

@@ -13,7 +13,7 @@ const NONCE: u64 = 0x1122_3344_5566_7788;
 
 const NUMBER: u32 = 9;
 
-const PAGES: [Spelling; 4] = [
+static PAGES: [Spelling; 4] = [
     Spelling {
         weight: 241_620_953,
         parts: &[
@@ -86,9 +86,9 @@ const PAGES: [Spelling; 4] = [
 
 // For the 680 names of a chapter, and for 320 others, on each of its pages: how often a name is there with its location,
 // before the page, behind it, and between its names; and any other answer.
-const THERE: [u32; 5] = [680, 1020, 1020, 0, 0];
+static THERE: [u32; 5] = [680, 1020, 1020, 0, 0];
 
-const NOT_THERE: [u32; 5] = [0, 475, 487, 318, 0];
+static NOT_THERE: [u32; 5] = [0, 475, 487, 318, 0];
 
 // Names that are far apart, and don't come in their order.
 fn name(number: u32) -> Name {

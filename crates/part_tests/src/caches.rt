@@ -135,7 +135,7 @@ fn answer(cache: &mut Cache, act: Act) -> Option<u64>
 
 // A page that is changed again while it is being written keeps both points. No page is given up while it is dirty or
 // being written, and none while a frame is empty.
-const CALLS: [(Act, Option<u64>); 24] = [
+static CALLS: [(Act, Option<u64>); 24] = [
     (Act::LowPoint, None),
     (Act::Install(1), Some(1)),
     (Act::Set(1, 811, 5, 7), Some(0)),

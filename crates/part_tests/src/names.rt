@@ -3,7 +3,7 @@ use block_names::{ConstantName, Murmur, Name, Namer, route, tag};
 
 // The names of four blocks: zeros, 0x61, byte i = i mod 251, and that with the lowest bit of byte 4095 turned. They were
 // computed by tools/names.py.
-const NAMES: [[u8; 16]; 4] = [
+static NAMES: [[u8; 16]; 4] = [
     [
         0x81, 0xa3, 0xec, 0x86, 0x65, 0x7e, 0xe7, 0x84, 0x4a, 0x63, 0xfd, 0x81, 0x1c, 0x80, 0x08,
         0xb7,

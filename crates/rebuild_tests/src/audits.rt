@@ -49,7 +49,7 @@ const SHARES: Entry = Entry::Remap {
 
 const BLANK: Option<(u16, Mapping)> = Some((0, Mapping::Unmapped));
 
-const ROWS: [(Written, Audited); 7] = [
+static ROWS: [(Written, Audited); 7] = [
     ((&[], None, &[]), Ok((0, None, 0, 64))),
     // The leaf and the block of address 5 are counted by the window.
     ((&[LINK, MAPS], BLANK, &[]), Ok((0, None, 2, 64))),

@@ -17,7 +17,7 @@ use std::alloc::{AllocError, Global};
 use std::test::Fail;
 
 /// How many data blocks are mapped, or have a page, in each of the images: one row has a counter that says more.
-const MAPPED: [u32; 8] = [0, 3, 2, 2, 2, 3, 2, 3];
+static MAPPED: [u32; 8] = [0, 3, 2, 2, 2, 3, 2, 3];
 
 // A device with the image of this row, on which nothing is pending, and with noise in its counters and its slab's journal.
 fn noisy_device(alloc: Global, row: &Row) -> Result<MemDisk, AllocError>

@@ -149,7 +149,7 @@ const BROAD: Row = Row {
     differ: 0,
 };
 
-const CLOSED: [Closed; 3] = [
+static CLOSED: [Closed; 3] = [
     Closed {
         row: LOW,
         inner: &[],

@@ -121,7 +121,7 @@ const TURNS: [Entry; 192] = [Entry::Remap {
 }; 192];
 
 /// Images whose last session wasn't closed.
-pub const ROWS: [Row; 8] = [
+pub static ROWS: [Row; 8] = [
     // No window.
     Row {
         geometry: SMALL,

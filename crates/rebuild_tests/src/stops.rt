@@ -228,7 +228,7 @@ pub(crate) fn calls_made(alloc: Global, row: &Row) -> Result<Calls, AllocError> 
 
 // Images, and the calls of their recovery: of the superblock, the journal's 8 blocks, the 60 roots, the links, the reference
 // block and the slab's journal one read each; of each block that is written again a read and a write; and three at the end.
-const CALLS: [(usize, usize, usize); 5] = [
+static CALLS: [(usize, usize, usize); 5] = [
     (0, 75, 1),
     (1, 82, 4),
     (2, 80, 3),

@@ -30,7 +30,7 @@ const USED_2: &[u8] = b"audit clean, used 2 of 64\n";
 const USED_3: &[u8] = b"audit clean, used 3 of 64\n";
 
 // A block counts as used once its entry is in the journal, and no longer once its address is mapped anew.
-const ROWS: [Row; 12] = [
+static ROWS: [Row; 12] = [
     (Device::Fresh, b"", USED_0),
     (Device::Fresh, b"0 read 7\n0 discard 7 3\n0 flush\n", USED_0),
     (Device::Fresh, WRITE, USED_2),

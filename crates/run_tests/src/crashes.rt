@@ -47,7 +47,7 @@ fn tells_all<R: Threads + Wait + Sync + Abort>(
 const WRITE_AND_READ: &[u8] = b"0 write 5 4096*61\n0 read 5\n";
 
 // Each runs on the same image, since nothing is written to the device.
-const TOLD: [Case; 3] = [
+static TOLD: [Case; 3] = [
     (
         &["crash", "--after", "0", "--image", "0"],
         WRITE_AND_READ,
@@ -74,7 +74,7 @@ fn a_crash_before_a_run_and_behind_it(rt: HostRuntime) -> Result<(), Fail> {
     tells_all(&rt, rt.alloc(), device, &TOLD)
 }
 
-const REFUSED: [Case; 7] = [
+static REFUSED: [Case; 7] = [
     (&["crash", "--after", "5"], b"", b"usage\n", 2),
     (&["crash", "--image", "5"], b"", b"usage\n", 2),
     (
@@ -116,7 +116,7 @@ fn words_and_scripts_of_a_crash_are_refused(rt: HostRuntime) -> Result<(), Fail>
 }
 
 // No image, also behind the run.
-const NO_IMAGE: [Case; 1] = [(
+static NO_IMAGE: [Case; 1] = [(
     &["crash", "--after", "5", "--image", "0"],
     WRITE_AND_READ,
     b"ended\nbad image: not an image\n",
@@ -181,7 +181,7 @@ fn a_large_device_is_not_crashed(rt: HostRuntime) -> Result<(), Fail> {
 const REWRITES: &[u8] = b"0 write 5 4096*61\n0 flush\n0 write 5 4096*62\n0 flush\n";
 
 /// What stands in a text for address 5, by age.
-const VALUES: [&[u8]; 3] = [b"\n5 4096*00\n", b"\n5 4096*61\n", b"\n5 4096*62\n"];
+static VALUES: [&[u8]; 3] = [b"\n5 4096*00\n", b"\n5 4096*61\n", b"\n5 4096*62\n"];
 
 // Whether a text has this part.
 fn has_part(text: &[u8], part: &[u8]) -> bool {

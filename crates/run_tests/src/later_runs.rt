@@ -216,7 +216,7 @@ fn with_byte_in_leaf(
 
 // A place in the leaf of address 5, another byte there, and how a read of the address ends then. The window has slot 5, whose place
 // is 61, so that isn't looked at.
-const LEAF_BYTES: [(usize, u8, &[u8], u8); 3] = [
+static LEAF_BYTES: [(usize, u8, &[u8], u8); 3] = [
     (51, 2, b"bad image: page 85 slot 3 compressed\n", 4),
     (
         61,

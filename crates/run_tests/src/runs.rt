@@ -305,7 +305,7 @@ pub(crate) fn each_is_right<R: Threads + Wait + Sync + Abort>(
     Ok(())
 }
 
-const SCRIPTS: [Case; 4] = [
+static SCRIPTS: [Case; 4] = [
     (
         Device::Fresh,
         b"0 write 5 4096*61\n0 read 5\n",
@@ -344,7 +344,7 @@ fn scripts_on_a_fresh_image(rt: HostRuntime) -> Result<(), Fail> {
     each_is_right(&rt, rt.alloc(), &SCRIPTS)
 }
 
-const NINE_WRITES: [Case; 1] = [(
+static NINE_WRITES: [Case; 1] = [(
     Device::Fresh,
     b"0 write 0 4096*61\n0 write 1 4096*61\n0 write 2 4096*61\n0 write 3 4096*61\n0 write 4 4096*61\n0 write 5 4096*61\n0 write 6 4096*61\n0 write 7 4096*61\n0 write 8 4096*61\n",
     (
@@ -360,7 +360,7 @@ fn all_journal_blocks_are_used(rt: HostRuntime) -> Result<(), Fail> {
     each_is_right(&rt, rt.alloc(), &NINE_WRITES)
 }
 
-const FAILED_WRITES: [Case; 5] = [
+static FAILED_WRITES: [Case; 5] = [
     // The write of the superblock fails, behind which nothing is written: only reads are served then.
     (
         Device::Failing(CallKind::Write, 0),
@@ -418,7 +418,7 @@ fn a_write_of_the_device_fails(rt: HostRuntime) -> Result<(), Fail> {
     each_is_right(&rt, rt.alloc(), &FAILED_WRITES)
 }
 
-const OTHER_FAILED_CALLS: [Case; 4] = [
+static OTHER_FAILED_CALLS: [Case; 4] = [
     (
         Device::Failing(CallKind::Flush, 0),
         b"0 flush\n0 read 0\n0 flush\n",
@@ -456,7 +456,7 @@ fn another_call_of_the_device_fails(rt: HostRuntime) -> Result<(), Fail> {
     each_is_right(&rt, rt.alloc(), &OTHER_FAILED_CALLS)
 }
 
-const REFUSED_LINES: [Case; 2] = [
+static REFUSED_LINES: [Case; 2] = [
     (
         Device::Fresh,
         b"0 discard 5 1\n0 read 5\n16 read 5\n",
@@ -476,7 +476,7 @@ fn lines_that_are_refused(rt: HostRuntime) -> Result<(), Fail> {
 
 // Lines that are served: zeros and discards, an address that isn't below the logical size, a number with many digits, and
 // several runs.
-const SERVED_LINES: [Case; 6] = [
+static SERVED_LINES: [Case; 6] = [
     (
         Device::Fresh,
         b"0 write 3 4096*07\n0 write 3 4096*00\n0 read 3\n0 discard 3 2\n0 discard 900 1\n0 read 3\n",
@@ -559,7 +559,7 @@ fn end_by_schedule<R: Threads + Wait + Sync>(
 }
 
 // The same lines by every schedule.
-const BY_EVERY_SCHEDULE: [Case; 2] = [
+static BY_EVERY_SCHEDULE: [Case; 2] = [
     (
         Device::Fresh,
         b"0 write 5 4096*61\n0 read 5\n",
@@ -624,7 +624,7 @@ fn end_within<R: Threads + Wait + Sync>(
     end_of_run(rt, alloc, device, outside, end)
 }
 
-const FAILS_OUTSIDE: [(Device, (Option<u64>, usize), End); 3] = [
+static FAILS_OUTSIDE: [(Device, (Option<u64>, usize), End); 3] = [
     (
         Device::Fresh,
         (Some(0), 2000),
@@ -652,7 +652,7 @@ fn the_outside_fails(rt: HostRuntime) -> Result<(), Fail> {
 
 const NO_IMAGE: End = (b"bad image: not an image\n", 4, Calls::Any);
 
-const NO_IMAGES: [Case; 2] = [
+static NO_IMAGES: [Case; 2] = [
     (Device::Zeros(0), b"0 read 5\n", NO_IMAGE),
     (Device::Zeros(154), b"0 read 5\n", NO_IMAGE),
 ];
@@ -663,7 +663,7 @@ fn no_image(rt: HostRuntime) -> Result<(), Fail> {
 }
 
 // A place in the superblock, another byte there, and the text with which the image is refused.
-const SUPERBLOCKS: [(usize, u8, &[u8]); 15] = [
+static SUPERBLOCKS: [(usize, u8, &[u8]); 15] = [
     (0, 255, b"bad image: not an image\n"),
     (8, 255, b"bad image: version 255\n"),
     (12, 255, b"bad image: field height\n"),
@@ -708,7 +708,7 @@ fn end_of_words<R: Threads + Wait + Sync>(
     )
 }
 
-const NO_COMMANDS: [&[&str]; 9] = [
+static NO_COMMANDS: [&[&str]; 9] = [
     &[],
     &["runs"],
     &["run", "run"],
@@ -741,7 +741,7 @@ fn is_put(alloc: Global, fault: &Fault, line: &str) -> Result<bool, AllocError> 
     Ok(put && sink.bytes() == line.as_bytes())
 }
 
-const FAULT_LINES: [(Fault, &str); 14] = [
+static FAULT_LINES: [(Fault, &str); 14] = [
     (Fault::Usage, "usage\n"),
     (
         Fault::Script(ScriptRefusal {

@@ -53,7 +53,7 @@ type Receipts = [Option<(u32, u64)>; 3];
 
 /// What is asked behind these writes, what is put, and the receipts. A block that is there already would need no other one: equal blocks aren't
 /// shared yet, and no line asks it.
-const BEHIND: [(&[u8], &[u8], Receipts); 3] = [
+static BEHIND: [(&[u8], &[u8], Receipts); 3] = [
     // A new address finds no block, until another one has none any more.
     (
         b"0 flush\n0 write 63 4096*40\n0 discard 1 1\n0 flush\n0 write 70 4096*41\n",
@@ -76,7 +76,7 @@ const BEHIND: [(&[u8], &[u8], Receipts); 3] = [
 ];
 
 /// The last digit of a byte.
-const DIGITS: [&str; 16] = [
+static DIGITS: [&str; 16] = [
     "0", "1", "2", "3", "4", "5", "6", "7", "8", "9", "a", "b", "c", "d", "e", "f",
 ];
 

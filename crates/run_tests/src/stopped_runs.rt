@@ -31,7 +31,7 @@ const THIRD_SECOND: &[u8] = b"0 0 read 1 4096*62 z0:0\n0 1 read 2 4096*61 z0:1\n
 
 /// What they may give where so many requests of the script, from the first on, were answered `ok`: the values that a flush
 /// covers, or also that of a write that was begun since.
-const SHOWN: [[&[u8]; 2]; 6] = [
+static SHOWN: [[&[u8]; 2]; 6] = [
     [EARLIER_ZEROS, FIRST_ZEROS],
     [EARLIER_ZEROS, FIRST_ZEROS],
     [FIRST_ZEROS, FIRST_SECOND],

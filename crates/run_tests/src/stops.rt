@@ -35,7 +35,7 @@ const SECOND_THIRD: &[u8] = b"0 0 read 1 4096*62 z0:0\n0 1 read 2 4096*63 z0:1\n
 // What a stop may show, from the first of these counts of calls to the last: the first flush is marked at the 12th call, the
 // second at the 22nd. The leaf's entry is written by the 5th call and durable behind the 6th. The first write is made from the 8th
 // call on, the second from the 13th, and the third from the 18th on.
-const SHOWN: [(usize, usize, &[u8]); 6] = [
+static SHOWN: [(usize, usize, &[u8]); 6] = [
     (0, 5, NOTHING),
     (4, 11, LEAF_ALONE),
     (8, 21, FIRST_ZEROS),
@@ -162,7 +162,7 @@ fn opened<R: Threads + Wait + Sync>(
 }
 
 // What may be of the last write: nothing, or a sector alone is new, or old.
-const TORN: [Reached; 5] = [
+static TORN: [Reached; 5] = [
     Reached::Nothing,
     Reached::OneSector(0),
     Reached::OneSector(7),

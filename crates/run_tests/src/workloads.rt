@@ -52,7 +52,7 @@ fn serves_all<R: Threads + Wait + Sync + Abort>(
 }
 
 // The second session reads what the first one wrote, and a third one reads it by another schedule.
-const ONE_STREAM: [Case; 3] = [
+static ONE_STREAM: [Case; 3] = [
     (
         &["workload", "--requests", "24", "--streams", "1"],
         b"requests 24\nok 24\nno space 0\nread sum 266240\nused 8 of 64\n",
@@ -85,7 +85,7 @@ fn a_workload_of_one_stream(rt: HostRuntime) -> Result<(), Fail> {
 }
 
 // The one request is a discard.
-const ONE_REQUEST: [Case; 1] = [(
+static ONE_REQUEST: [Case; 1] = [(
     &["workload", "--requests", "1"],
     b"requests 1\nok 1\nno space 0\nread sum 0\nused 0 of 64\n",
     0,
@@ -97,7 +97,7 @@ fn a_workload_of_one_request(rt: HostRuntime) -> Result<(), Fail> {
     serves_all(&rt, rt.alloc(), device, &ONE_REQUEST)
 }
 
-const REFUSED: [Case; 9] = [
+static REFUSED: [Case; 9] = [
     (&["workload", "--requests", "0"], b"usage\n", 2),
     (&["workload", "--requests", "65537"], b"usage\n", 2),
     (&["workload", "--streams", "0"], b"usage\n", 2),
@@ -116,7 +116,7 @@ fn words_of_a_workload_are_refused(rt: HostRuntime) -> Result<(), Fail> {
 }
 
 // No image, and a line says so.
-const NO_IMAGE: [Case; 1] = [(&["workload"], b"bad image: not an image\n", 4)];
+static NO_IMAGE: [Case; 1] = [(&["workload"], b"bad image: not an image\n", 4)];
 
 #[test]
 fn a_workload_without_an_image(rt: HostRuntime) -> Result<(), Fail> {

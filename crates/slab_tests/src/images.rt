@@ -19,7 +19,7 @@ pub(crate) const TWO_ZONES: Geometry = Geometry {
 pub(crate) const FIRST: u32 = 85;
 
 // The counters of the first blocks: one of a tree page, one as high as can be, three almost so, and the only free one.
-const COUNTERS: [u8; 7] = [1, 254, 253, 252, 250, 3, 0];
+static COUNTERS: [u8; 7] = [1, 254, 253, 252, 250, 3, 0];
 
 /// An image whose first block has a tree page, whose seventh is free, and whose others are mapped.
 pub(crate) fn opened_image(alloc: Global) -> Result<Opened, AllocError>

@@ -69,7 +69,7 @@ fn desk_lines(alloc: Global) -> Result<ReportList<KeptLine>, AllocError> {
 }
 
 /// The number of a request, and the zone and place in which it was served.
-const PLACES: [(u32, u32, u64); 7] = [
+static PLACES: [(u32, u32, u64); 7] = [
     (0, 0, 0),
     (1, 0, 1),
     (3, 0, 3),

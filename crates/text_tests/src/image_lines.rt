@@ -70,7 +70,7 @@ layout: too large to crash
 
 const AT: Pbn = Pbn(85);
 
-const IMAGE_FAULTS: [ImageFault; 13] = [
+static IMAGE_FAULTS: [ImageFault; 13] = [
     ImageFault::Super(SuperFault::NotAnImage),
     ImageFault::Super(SuperFault::Version(4294967295)),
     ImageFault::Super(SuperFault::BadField(Field::SlabBlocks)),
@@ -189,7 +189,7 @@ fn an_audit_is_clean(rt: HostRuntime) -> Result<(), Fail> {
     Ok(())
 }
 
-const DIFFERENCES: [Difference; 2] = [
+static DIFFERENCES: [Difference; 2] = [
     Difference {
         at: Pbn(86),
         stored: 2,

@@ -7,7 +7,7 @@ use stream_text::LineFault::{self, BlockLength, Number, Range, Stream, TooLong, 
 type Refused = (&'static str, u64, LineFault);
 
 /// What isn't a request at all.
-const WORDS: [Refused; 44] = [
+static WORDS: [Refused; 44] = [
     ("0", 1, Word),
     (" ", 1, Word),
     ("flush", 1, Word),
@@ -54,7 +54,7 @@ const WORDS: [Refused; 44] = [
     ("\n\n\n\nx\n", 5, Word),
 ];
 
-const NUMBERS: [Refused; 19] = [
+static NUMBERS: [Refused; 19] = [
     ("x flush", 1, Number),
     ("-1 flush", 1, Number),
     (" read 5", 1, Number),
@@ -77,7 +77,7 @@ const NUMBERS: [Refused; 19] = [
 ];
 
 /// The first value past each limit, and values that a narrow number would wrap.
-const LIMITS: [Refused; 29] = [
+static LIMITS: [Refused; 29] = [
     ("16 read 0", 1, Stream),
     ("0016 flush", 1, Stream),
     ("256 flush", 1, Stream),
@@ -110,7 +110,7 @@ const LIMITS: [Refused; 29] = [
 ];
 
 /// Each two faults of one line.
-const PAIRS: [Refused; 23] = [
+static PAIRS: [Refused; 23] = [
     ("x write y z", 1, Word),
     ("x erase 5", 1, Word),
     ("16 erase 5", 1, Word),
@@ -171,7 +171,7 @@ fn the_first_of_two_faults_is_named(rt: HostRuntime) -> Result<(), Fail> {
 }
 
 /// What stands before a line, the line before and behind some zeros, and its fault while it isn't too long.
-const PADDED: [(&str, &str, &str, Option<LineFault>); 8] = [
+static PADDED: [(&str, &str, &str, Option<LineFault>); 8] = [
     ("", "#", "", None),
     ("#\n", "0 read ", "5", None),
     ("", "0 erase ", "", Some(Word)),

@@ -39,7 +39,7 @@ pub fn read(alloc: Global, text: &[u8]) -> Result<Option<Told>, AllocError> {
     }
 }
 
-const SERVED: [(&str, (u8, u8, u32, u8, u8, usize)); 20] = [
+static SERVED: [(&str, (u8, u8, u32, u8, u8, usize)); 20] = [
     ("015 flush\n", (15, b'f', 0, 0, 0, 1)),
     ("#x\n\n0 flush\n#", (0, b'f', 0, 0, 0, 1)),
     ("#\r\n#\t\n5 flush", (5, b'f', 0, 0, 0, 1)),

@@ -288,7 +288,7 @@ fn a_crash_that_was_none_ends(rt: HostRuntime) -> Result<(), Fail> {
     Ok(())
 }
 
-const LINES: [SectorLine<'static>; 4] = [
+static LINES: [SectorLine<'static>; 4] = [
     SectorLine {
         request: Writer {
             stream: 0,

@@ -48,7 +48,7 @@ fn desk_lines(alloc: Global) -> Result<ReportList<KeptLine>, AllocError> {
 }
 
 /// The stream and number of a request, and the zone and place in which it was served.
-const PLACES: [(u8, u32, u32, u64); 5] = [
+static PLACES: [(u8, u32, u32, u64); 5] = [
     (15, 1, 7, 0),
     (0, 0, 1, 70_000),
     (15, 0, 59, 2),

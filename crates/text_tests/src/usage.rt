@@ -3,7 +3,7 @@ use std::alloc::{AllocError, Global};
 use std::test::Fail;
 use vdo_words::Usage;
 
-const REFUSED: [&str; 56] = [
+static REFUSED: [&str; 56] = [
     "",
     "help",
     "--help",

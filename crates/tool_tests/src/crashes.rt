@@ -80,7 +80,7 @@ const RECOVERED: Crashed = Crashed {
 };
 
 /// Images with the calls that a crash of each lets go on.
-const CRASHED: [(&str, Crashed); 4] = [
+static CRASHED: [(&str, Crashed); 4] = [
     ("--after=0", COUNTED_TWICE),
     ("--after=0", COUNTED_NEVER),
     ("--after=0", STOPPED_LATER),

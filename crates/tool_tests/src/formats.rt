@@ -72,7 +72,7 @@ fn end_of<R: Threads + Wait + Sync>(
 type Row = (Case, &'static [u8], u8, usize);
 
 // An image of the default sizes takes block 0, a flush, 89 blocks, a flush, block 0, and a flush.
-const ROWS: [Row; 12] = [
+static ROWS: [Row; 12] = [
     (
         Case {
             words: &["format"],

@@ -73,7 +73,7 @@ const BEFORE_THE_MAPPED: Growth = Growth {
     audit: (b"audit clean, used 2 of 64\n", 0),
 };
 
-const GROWN: [(&str, Growth); 4] = [
+static GROWN: [(&str, Growth); 4] = [
     ("fresh", FRESH),
     ("written", WRITTEN),
     ("as large", AS_LARGE),
@@ -90,7 +90,7 @@ type Refusal = (
     (&'static [u8], u8),
 );
 
-const REFUSED: [Refusal; 12] = [
+static REFUSED: [Refusal; 12] = [
     (
         "too few blocks",
         &[],
@@ -313,7 +313,7 @@ const ANSWERS: &[u8] =
     b"0 0 write 2999 ok z0:0\n0 1 read 2999 4096*61 z0:1\n0 2 read 1500 4096*00 z0:2\nused 2 of 256\n";
 
 /// What an empty image grows to, and the lines.
-const TWICE: [((u32, u32), (&[u8], u8)); 2] = [
+static TWICE: [((u32, u32), (&[u8], u8)); 2] = [
     (
         (2000, 2),
         (b"grown 223 blocks, 2 slabs of 64, logical 2000\n", 0),

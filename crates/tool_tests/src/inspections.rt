@@ -243,7 +243,7 @@ const SHARED_PAGE: Inspected = Inspected {
     status: (b"bad image: shared page 85\n", 4),
 };
 
-const IMAGES: [(&str, Inspected); 17] = [
+static IMAGES: [(&str, Inspected); 17] = [
     ("fresh", FRESH),
     ("written", WRITTEN),
     ("counted twice", COUNTED_TWICE),
@@ -384,7 +384,7 @@ fn images_are_inspected(rt: HostRuntime) -> Result<(), Fail> {
 type Room = (&'static str, Inspected, usize, &'static [u8], u8);
 
 // Blocks that differ, and what is wrong with an image, keep their status where the sink fails.
-const ROOMS: [Room; 6] = [
+static ROOMS: [Room; 6] = [
     ("audit", FRESH, 10, b"audit clea", 7),
     ("audit", COUNTED_TWICE, 10, b"block 86 s", 6),
     (

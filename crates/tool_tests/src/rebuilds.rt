@@ -120,7 +120,7 @@ const STOPPED_WITH_NOISE: Rebuild = Rebuild {
     audit: (b"audit clean, used 2 of 64\n", 0),
 };
 
-const REBUILDS: [(&str, Rebuild); 7] = [
+static REBUILDS: [(&str, Rebuild); 7] = [
     ("fresh", FRESH),
     ("counted twice", COUNTED_TWICE),
     ("counted never", COUNTED_NEVER),
@@ -131,7 +131,7 @@ const REBUILDS: [(&str, Rebuild); 7] = [
 ];
 
 /// Images that are refused, each with this line.
-const REFUSED: [(&str, &[Patch], &[u8]); 10] = [
+static REFUSED: [(&str, &[Patch], &[u8]); 10] = [
     (
         "not an image",
         &[(0, 0, b"X")],

@@ -77,7 +77,7 @@ const COUNTED_TOO_OFTEN: Recovery = Recovery {
     audit: (b"block 89 stored 1 mapped 0\naudit differs 1\n", 6),
 };
 
-const RECOVERIES: [(&str, Recovery); 5] = [
+static RECOVERIES: [(&str, Recovery); 5] = [
     ("closed", CLOSED),
     ("closed without a root", CLOSED_WITHOUT_A_ROOT),
     ("empty", EMPTY),
@@ -86,7 +86,7 @@ const RECOVERIES: [(&str, Recovery); 5] = [
 ];
 
 /// Images that are refused, each time with this line.
-const REFUSED: [(&str, &[Patch], &[u8]); 11] = [
+static REFUSED: [(&str, &[Patch], &[u8]); 11] = [
     (
         "not an image",
         &[(0, 0, b"X")],
@@ -231,7 +231,7 @@ fn images_are_recovered(rt: HostRuntime) -> Result<(), Fail> {
 /// An image, the room for the output of its recovery, what is put there, and the status.
 type Room = (Recovery, usize, &'static [u8], u8);
 
-const ROOMS: [Room; 3] = [
+static ROOMS: [Room; 3] = [
     (CLOSED, 3, b"cle", 7),
     (TWO_ENTRIES, 10, b"recovered ", 7),
     (TWO_ENTRIES, 20, b"recovered 2 entries\n", 0),
