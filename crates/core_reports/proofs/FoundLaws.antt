@@ -106,13 +106,12 @@ entries_more script log progress places n other old new within few is adds =
     ∙ ap (λ (es : List HistoryEntry). one ++ es) is
     ∙ ap (λ (ps : List Placed). histories_of script log progress ps) (sym next)
 
--- the same of the same log, room and entries
-pub found_same : (log log' : List DeskLine) (room room' : List ℕ) (entries entries' : List Logged) (progress : Progress) (places : List Placed) → log ≡ log' → room ≡ room'
-    → entries ≡ entries' → AreFound log room entries progress places → AreFound log' room' entries' progress places
-found_same log log' room room' entries entries' progress places same_log same_room same_entries found =
-    subst (λ (lines : List DeskLine). AreFound lines room' entries' progress places) same_log
-    (subst (λ (counts : List ℕ). AreFound log counts entries' progress places) same_room
-    (subst (λ (es : List Logged). AreFound log room es progress places) same_entries found))
+-- the same of the same log and room
+pub found_same : (log log' : List DeskLine) (room room' : List ℕ) (entries : List Logged) (progress : Progress) (places : List Placed) → log ≡ log' → room ≡ room'
+    → AreFound log room entries progress places → AreFound log' room' entries progress places
+found_same log log' room room' entries progress places same_log same_room found =
+    subst (λ (lines : List DeskLine). AreFound lines room' entries progress places) same_log
+    (subst (λ (counts : List ℕ). AreFound log counts entries progress places) same_room found)
 
 -- a zone that is a desk keeps one desk
 abbrev desk_in : Desk → ZoneData → Desk

@@ -1,6 +1,7 @@
 -- What the zones of a small core have of its report, and the requests that are found: each clause is met, and is broken
 -- alone.
-use Rattle.std.proofs.Common.{ℕ, zero, suc, ◌≡◌, ◌+◌, false, true, Option, Some, None, List, [], ◌∷◌, replicate, slice_get, sym, ap, ◌∙◌, refl, arith}
+use Rattle.std.proofs.Common.{ℕ, zero, suc, ◌≡◌, ◌<◌, ◌+◌, false, true, Option, Some, None, List, [], ◌∷◌, get_or, replicate, slice_get, sym, ap, ◌∙◌, refl, arith}
+use Rattle.std.proofs.lemmas.Bool.{false≢true}
 use Rattle.std.proofs.lemmas.List.{length-replicate}
 use Rattle.std.proofs.lemmas.Option.{same_Some}
 use Rattle.std.specs.List.{AllByRecursion}
@@ -32,7 +33,7 @@ use Rattle.core_model.specs.declared.zones.ZoneData.{ZoneData}
 use Rattle.core_model.specs.declared.zones.ZoneData.TheVariants as at
 use Rattle.core_model.proofs.rows.PhaseRows.{desk, device, empty_log, journal, logical, nothing, one, physical, slab_with, zone_with}
 use Rattle.core_model.proofs.rows.WorkedTraces.{block, first, of_first, other, place, script, second, writer}
-use Rattle.core_reports.specs.Found.{AreFound, AreNoted, IsFound}
+use Rattle.core_reports.specs.Found.{AreEntered, AreFound, AreNoted, IsFound, entered_in}
 use Rattle.core_reports.specs.Listed.{HasDamage, HasDesk, HasEntered, HasGeometry, places_at, places_of_all, used_by, used_by_all}
 use Rattle.core_reports.specs.Rooms.{IsRoomFor}
 
@@ -250,3 +251,22 @@ other_handed is = absurd (let handed = is.handed first refl in cc)
 
 not_found : AreFound (Begin first ∷ []) (1 ∷ []) (Remaps of_first ∷ []) progress (drawn ∷ []) → ⊥
 not_found is = unanswered is.found.0
+
+-- it is noted that the entry of one request was handed in
+told_first : (stream number : ℕ) → number < get_or (1 ∷ []) stream 0
+    → entered_in ((true ∷ []) ∷ []) (writer stream number) ≡ is_there (logged_of (remappings (Remaps of_first ∷ [])) (writer stream number))
+told_first zero zero within = refl
+told_first zero (suc number) within = absurd (omega (arith, within))
+told_first (suc stream) number within = absurd (omega (arith, within))
+
+are_entered : AreEntered (Remaps of_first ∷ []) (1 ∷ []) ((true ∷ []) ∷ [])
+are_entered = record { room_is = refl; told = λ w within. told_first w.stream w.number within }
+
+no_room_for_two : AreEntered (Remaps of_first ∷ []) (2 ∷ []) ((true ∷ []) ∷ []) → ⊥
+no_room_for_two is = let same = ap (λ (room : List ℕ). get_or room 0 0) is.room_is in absurd (omega (arith, same))
+
+entry_not_noted : AreEntered (Remaps of_first ∷ []) (1 ∷ []) ((false ∷ []) ∷ []) → ⊥
+entry_not_noted is = absurd (false≢true (is.told first (omega arith)))
+
+not_entered : entered_in [] first ≡ false
+not_entered = refl

@@ -1,5 +1,5 @@
 -- The answers of a core's requests, found by notes.
-use Rattle.std.specs.Prelude.{ℕ, ◌≡◌, ◌<◌, ◌≤◌, IsSome, List, [], Option, Some, length, get_or, reverse}
+use Rattle.std.specs.Prelude.{ℕ, ◌≡◌, ◌<◌, ◌≤◌, Bool, IsSome, List, [], Option, Some, false, length, get_or, map, reverse}
 use Rattle.std.specs.List.{AllByRecursion}
 use Rattle.blk_base.specs.declared.request.Answer.TheVariants.{Stopped}
 use Rattle.blk_base.specs.declared.request.Writer.{Writer}
@@ -16,6 +16,15 @@ use Rattle.data_vio.specs.declared.logged.Logged.{Logged}
 -- each stream's answers among these lines are noted
 abbrev pub AreNoted : List DeskLine → List (List (Option ℕ)) → Type 0
 AreNoted lines notes = (stream : ℕ) → stream < most_streams → NotesAnswers lines (reverse lines) stream (get_or notes stream [])
+
+-- whether the entry of a request is noted
+abbrev pub entered_in : List (List Bool) → Writer → Bool
+entered_in entered w = get_or (get_or entered w.stream []) w.number false
+
+-- with room for so many requests of each stream, it is noted of each of them whether its entry is among these
+pub record AreEntered (entries : List Logged) (room : List ℕ) (entered : List (List Bool)) : Type 0 where
+  pub room_is : map length entered ≡ room
+  pub told : (w : Writer) → w.number < get_or room w.stream 0 → entered_in entered w ≡ is_there (logged_of (remappings entries) w)
 
 -- a request that is answered, where there is room to note so many answers of each stream
 pub record IsFound (log : List DeskLine) (room : List ℕ) (w : Writer) : Type 0 where

@@ -5,18 +5,17 @@ ghost use Rattle.vdo_model.specs.Histories.{Progress, entry_of, histories_of, ma
 ghost use Rattle.vdo_model.specs.Scripts.{request_at};
 ghost use Rattle.vdo_model.specs.declared.report.Mark.{Mark as Marked};
 ghost use Rattle.core_model.specs.DeskData.{Desk as DeskData};
-ghost use Rattle.core_model.specs.Reports.{is_there};
-ghost use Rattle.core_model.specs.Trace.{logged_of, remappings};
 ghost use Rattle.data_vio.specs.declared.logged.Logged.{Logged as Entered};
-ghost use Rattle.core_reports.specs.Found.{AreFound, AreNoted, IsFound};
+ghost use Rattle.core_reports.specs.Found.{AreEntered, AreFound, AreNoted, IsFound, entered_in};
 ghost use Rattle.core_reports.specs.Listed.{HasDesk, HasEntered};
 
+use crate::entered::{StreamEntries, is_entered, note_entries};
 use crate::lists::entries;
 use crate::marks::mark;
 use crate::notes::{StreamNotes, note_streams, noted_line};
 use blk_base::{Lba, Request, Writer};
 use core_model::{Zone, ZoneData};
-use data_vio::{Logged, REQUEST_ROOM, Register};
+use data_vio::{REQUEST_ROOM, Register};
 use vdo_model::{HistoryEntry, KeptLine, Placed, Requests};
 
 // The address that a request changes, where it is a write or a discard.
@@ -39,13 +38,13 @@ fn add_entry(
     requests: &Requests,
     desk: &[KeptLine],
     notes: &[StreamNotes],
-    entries: &[Logged],
+    entered: &[StreamEntries],
     request: Writer,
     histories: &mut Register<HistoryEntry, REQUEST_ROOM>,
 )
     ensures { (progress : Progress) →
         (answer_of (reverse desk.now) request ≡ Some Stopped → progress.is_handed request
-        ≡ is_there (logged_of (remappings (reverse entries.now)) request)) →
+        ≡ entered_in entered.now request) →
         AreNoted desk.now notes.now
         → IsFound (reverse desk.now) (map length notes.now) request →
         length histories.old < REQUEST_ROOM
@@ -59,7 +58,11 @@ fn add_entry(
         return;
     };
     if histories.len() < REQUEST_ROOM {
-        let mark = mark(desk, noted_line(notes, request), entries, request);
+        let mark = mark(
+            desk,
+            noted_line(notes, request),
+            is_entered(entered, request),
+        );
         histories.push(HistoryEntry { at, request, mark });
     }
 }
@@ -69,19 +72,19 @@ fn add_entries(
     requests: &Requests,
     desk: &[KeptLine],
     notes: &[StreamNotes],
-    entries: &[Logged],
+    entered: &[StreamEntries],
     places: &[Placed],
     histories: &mut Register<HistoryEntry, REQUEST_ROOM>,
 )
-    ensures { (progress : Progress) → histories.old ≡ [] → AreNoted desk.now notes.now
+    ensures { (progress : Progress) (entries : List Entered) → histories.old ≡ []
+        → AreNoted desk.now notes.now → AreEntered entries (map length notes.now) entered.now
         →
-        AreFound (reverse desk.now) (map length notes.now) (reverse entries.now) progress
-        (reverse places.now)
+        AreFound (reverse desk.now) (map length notes.now) entries progress (reverse places.now)
         →
         histories.new ≡ histories_of requests.now (reverse desk.now) progress (reverse places.now) }
 {
     for placed in places {
-        add_entry(requests, desk, notes, entries, placed.request, histories);
+        add_entry(requests, desk, notes, entered, placed.request, histories);
     }
 }
 
@@ -90,10 +93,12 @@ pub(crate) fn list_histories(
     zones: &[Zone],
     places: &[Placed],
     notes: &mut [StreamNotes],
+    entered: &mut [StreamEntries],
     histories: &mut Register<HistoryEntry, REQUEST_ROOM>,
 )
     ensures { (desk : DeskData) (entries : List Entered) (progress : Progress) →
         HasDesk desk zones.now → HasEntered entries zones.now → histories.old ≡ []
+        → AreEntered [] (map length notes.old) entered.old
         → AreFound desk.log (map length notes.old) entries progress (reverse places.now)
         → histories.new ≡ histories_of desk.requests desk.log progress (reverse places.now) }
 {
@@ -103,13 +108,7 @@ pub(crate) fn list_histories(
     if let ZoneData::Desk(desk) = &zone.keeps {
         let lines = desk.lines();
         note_streams(lines, notes);
-        add_entries(
-            desk.requests(),
-            lines,
-            notes,
-            entries(zones),
-            places,
-            histories,
-        );
+        note_entries(entered, entries(zones));
+        add_entries(desk.requests(), lines, notes, entered, places, histories);
     }
 }

@@ -1,52 +1,23 @@
-ghost use Rattle.std.specs.Prelude.{◌≡◌, ◌∷◌, ◌||◌, Bool, List, Some, reverse};
+ghost use Rattle.std.specs.Prelude.{◌≡◌, Bool, Some, reverse};
 ghost use Rattle.blk_base.specs.declared.request.Answer.{Answer as Reply};
+ghost use Rattle.blk_base.specs.declared.request.Writer.{Writer};
 ghost use Rattle.answer_notes.specs.Notes.{NotesAnswer};
 ghost use Rattle.vdo_model.specs.DeskLog.{answer_of};
 ghost use Rattle.vdo_model.specs.Histories.{mark_of};
 ghost use Rattle.vdo_model.specs.KeptLines.{shown_answer};
-ghost use Rattle.core_model.specs.Reports.{is_there};
-ghost use Rattle.core_model.specs.Trace.{logged_of, remappings};
-ghost use Rattle.data_vio.specs.declared.logged.Logged.{Logged as Entered};
 
-use blk_base::Writer;
-use data_vio::Logged;
 use vdo_model::{KeptLine, Mark, ShownAnswer, ShownLine};
-
-// Whether an entry maps the address of this request anew.
-fn is_of(logged: &Logged, request: Writer) -> bool
-    ensures { (older : List Entered) →
-        is_there (logged_of (remappings (logged.now ∷ older)) request)
-        ≡ (result || is_there (logged_of (remappings older) request)) }
-{
-    match logged {
-        Logged::Remaps(remapping) => remapping.request == request,
-        Logged::Makes(_) => false,
-    }
-}
-
-// Whether the entry of a write is among these.
-fn has_entry(entries: &[Logged], request: Writer) -> bool
-    ensures { result ≡ is_there (logged_of (remappings (reverse entries.now)) request) }
-{
-    let mut found = false;
-    for logged in entries {
-        found = is_of(logged, request) || found;
-    }
-    found
-}
 
 // The mark of a write by its answer.
 // A stopped write whose entry was handed in is unsettled, whether or not that reached the device.
-fn mark_by(answer: ShownAnswer, entries: &[Logged], request: Writer) -> Mark
+fn mark_by(answer: ShownAnswer, is_entered: bool) -> Mark
     ensures { (is_set : Bool) →
-        result
-        ≡ mark_of (Some (shown_answer answer.entry)) is_set
-        (is_there (logged_of (remappings (reverse entries.now)) request)) }
+        result ≡ mark_of (Some (shown_answer answer.entry)) is_set is_entered }
 {
     match answer {
         ShownAnswer::Ok => Mark::Settled,
         ShownAnswer::Stopped => {
-            if has_entry(entries, request) {
+            if is_entered {
                 Mark::Unsettled
             } else {
                 Mark::Refused
@@ -61,20 +32,13 @@ fn mark_by(answer: ShownAnswer, entries: &[Logged], request: Writer) -> Mark
     }
 }
 
-/// The mark of a write or discard, by the note of its answer; `Refused` where it has none.
-pub(crate) fn mark(
-    desk: &[KeptLine],
-    noted: Option<usize>,
-    entries: &[Logged],
-    request: Writer,
-) -> Mark
-    ensures { (is_set : Bool) (answer : Reply) →
+/// The mark of a write or discard, by the note of its answer, and whether its entry was handed in; `Refused` where it has
+/// no answer.
+pub(crate) fn mark(desk: &[KeptLine], noted: Option<usize>, is_entered: bool) -> Mark
+    ensures { (is_set : Bool) (answer : Reply) (request : Writer) →
         NotesAnswer desk.now (reverse desk.now) request noted →
         answer_of (reverse desk.now) request ≡ Some answer
-        →
-        result
-        ≡ mark_of (Some answer) is_set
-        (is_there (logged_of (remappings (reverse entries.now)) request)) }
+        → result ≡ mark_of (Some answer) is_set is_entered }
 {
     let Some(at) = noted else {
         return Mark::Refused;
@@ -83,7 +47,7 @@ pub(crate) fn mark(
         return Mark::Refused;
     };
     match line.show() {
-        ShownLine::Answer { answer, .. } => mark_by(answer, entries, request),
+        ShownLine::Answer { answer, .. } => mark_by(answer, is_entered),
         ShownLine::Begin { .. } => Mark::Refused,
     }
 }

@@ -32,6 +32,13 @@ impl StreamNotes {
         Ok(StreamNotes { lines })
     }
 
+    /// For how many requests there is room.
+    pub(crate) fn len(&self) -> usize
+        ensures { result ≡ length self.now }
+    {
+        self.lines.len()
+    }
+
     // Notes the answers of a stream.
     fn note(&mut self, desk: &[KeptLine], stream: u8)
         ensures length { length self.new ≡ length self.old }

@@ -12,11 +12,11 @@ use crate::room::ReportRoom;
 use core_model::Zone;
 use vdo_model::RunReport;
 
-/// The report of a core that is done: its requests, desk log, marks and receipts are moved out of the desk, its places are those
-/// of the zones, one zone's behind the other's, its histories have an entry for each write that has a place, its damage is what the
-/// device's zone found first, and its used blocks are those that the physical zones count. It asks
-/// for no memory; its time is linear in the requests, for each of the 16 streams. Of a core that isn't legal, or isn't
-/// done, it gives some report.
+/// The report of a core that is done: its requests, desk log, marks and receipts are moved out of the desk, its places
+/// are those of the zones, one zone's behind the other's, its histories have an entry for each write that has a place,
+/// its damage is what the device's zone found first, and its used blocks are those that the physical zones count. It
+/// asks for no memory; its time is linear in the requests, for each of the 16 streams, and in the entries. Of a core
+/// that isn't legal, or isn't done, it gives some report.
 pub fn report(zones: Vec<Zone>, room: ReportRoom) -> RunReport
     ensures { (s : Session) (t : Trace) → IsSession s →
         Legal s (record { zones = zones.items; trace = t }) → AllAnswered s.script (lines t)
@@ -26,9 +26,16 @@ pub fn report(zones: Vec<Zone>, room: ReportRoom) -> RunReport
         mut places,
         mut histories,
         mut notes,
+        mut entered,
     } = room;
     list_places(&zones, &mut places);
-    list_histories(&zones, places.as_slice(), &mut notes, &mut histories);
+    list_histories(
+        &zones,
+        places.as_slice(),
+        &mut notes,
+        &mut entered,
+        &mut histories,
+    );
     let damage = damage(&zones);
     let used = used_space(&zones);
     let total = total_space(&zones);

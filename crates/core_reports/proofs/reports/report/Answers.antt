@@ -1,4 +1,4 @@
-use Rattle.std.proofs.Common.{ℕ, List, Option, ◌≡◌, ◌<◌, ◌≤◌, ◌^◌, ◌∙◌, ap, length, map, reverse, subst, sym}
+use Rattle.std.proofs.Common.{ℕ, Bool, List, [], Option, ◌≡◌, ◌<◌, ◌≤◌, ◌^◌, ◌∙◌, ap, length, map, reverse, subst, sym}
 use Rattle.vdo_model.specs.declared.report.DeskLine.{DeskLine}
 use Rattle.vdo_model.specs.declared.report.Placed.{Placed}
 use Rattle.vdo_model.specs.Histories.{histories_of}
@@ -6,7 +6,7 @@ use Rattle.core_model.specs.Reports.{progress_of}
 use Rattle.core_model.specs.SessionLimits.{most_requests}
 use Rattle.core_model.specs.Trace.{damage_in, journaled}
 use Rattle.core_model.specs.declared.zones.Zone.{Zone}
-use Rattle.core_reports.specs.Found.{AreFound}
+use Rattle.core_reports.specs.Found.{AreEntered, AreFound}
 use Rattle.core_reports.specs.Listed.{HasDamage, HasDesk, HasEntered, HasGeometry, places_of_all, used_by_all}
 use Rattle.core_reports.specs.Rooms.{IsRoomFor}
 use Rattle.core_reports.proofs.ReportLaws.{all_used, its_damage, its_desk, its_entries, its_geometry, places_few_enough, places_found, report_is}
@@ -23,7 +23,7 @@ returns c s t session legal answered for =
     -- the places
     let fits : length (places_of_all c.deref.result.now) ≤ most_requests
     = subst (λ (zs : List Zone). length (places_of_all zs) ≤ most_requests) (sym c.deref.ensures.value) (places_few_enough s t zones session legal) in
-    let placed : listed ≡ places_of_all zones = c.list_places.ensures c.room.invariant.0 fits ∙ ap places_of_all c.deref.ensures.value in
+    let placed : listed ≡ places_of_all zones = c.list_places.ensures c.room.invariant.places fits ∙ ap places_of_all c.deref.ensures.value in
     -- the histories
     let room_is : c.args.room ≡ room = sym c.room.view_is ∙ ap (λ (notes : List (List (Option ℕ))). map length notes) (sym c.deref_mut.ensures.value) in
     let enough : IsRoomFor room s.script = subst (λ (counts : List ℕ). IsRoomFor counts s.script) room_is for in
@@ -33,8 +33,11 @@ returns c s t session legal answered for =
     let has : HasDesk desk.desk c.deref-2.result.now = subst (λ (zs : List Zone). HasDesk desk.desk zs) (sym c.deref-2.ensures.value) desk.has in
     let entries : HasEntered (journaled t) c.deref-2.result.now
     = subst (λ (zs : List Zone). HasEntered (journaled t) zs) (sym c.deref-2.ensures.value) (its_entries s t zones session legal) in
+    let unset : AreEntered [] room c.deref_mut-2.result.now
+    = subst (λ (entered : List (List Bool)). AreEntered [] room entered) (sym c.deref_mut-2.ensures.value)
+    (subst (λ (notes : List (List (Option ℕ))). AreEntered [] (map length notes) c.room.inside.entered.items) (sym c.deref_mut.ensures.value) c.room.invariant.entered) in
     let histories : c.list_histories.new.histories ≡ histories_of desk.desk.requests desk.desk.log (progress_of t) listed
-    = c.list_histories.ensures desk.desk (journaled t) (progress_of t) has entries c.room.invariant.1 found
+    = c.list_histories.ensures desk.desk (journaled t) (progress_of t) has entries c.room.invariant.histories unset found
     ∙ ap (λ (ps : List Placed). histories_of desk.desk.requests desk.desk.log (progress_of t) ps) (sym c.as_slice.ensures) in
     let damaged : HasDamage (damage_in t) c.deref-3.result.now = subst (λ (zs : List Zone). HasDamage (damage_in t) zs) (sym c.deref-3.ensures.value) (its_damage s t zones session legal) in
     let few : used_by_all c.deref-4.result.now < 2 ^ 32
