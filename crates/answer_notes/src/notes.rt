@@ -1,7 +1,7 @@
 ghost use Rattle.std.specs.Prelude.{◌≡◌, Some, length, reverse, slice_set};
 ghost use Rattle.answer_notes.specs.Notes.{NotesAnswers, NotesPlaces};
 
-use vdo_model::{KeptLine, Placed, ShownLine};
+use vdo_model::{DeskLine, Placed};
 
 // Notes this of a request, if there is room for a request of this number.
 fn note<T: Copy>(notes: &mut [Option<T>], number: u32, item: T)
@@ -14,15 +14,15 @@ fn note<T: Copy>(notes: &mut [Option<T>], number: u32, item: T)
 }
 
 /// Notes for each request of a stream that there is room for which line is its newest answer.
-pub fn note_answers(desk: &[KeptLine], stream: u8, notes: &mut [Option<usize>])
+pub fn note_answers(desk: &[DeskLine], stream: u8, notes: &mut [Option<usize>])
     ensures length { length notes.new ≡ length notes.old }
     ensures notes { NotesAnswers desk.now (reverse desk.now) stream notes.new }
 {
     notes.fill(None);
     for (at, line) in desk.iter().enumerate() {
-        match line.show() {
-            ShownLine::Begin { .. } => {}
-            ShownLine::Answer { request, .. } => {
+        match line {
+            DeskLine::Begin { .. } => {}
+            DeskLine::Answer { request, .. } => {
                 if request.stream == stream {
                     note(notes, request.number, at);
                 }

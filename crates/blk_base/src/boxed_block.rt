@@ -41,4 +41,11 @@ impl BoxedBlock {
     {
         &self.block
     }
+
+    /// Takes over the bytes of another block, in the same box.
+    pub fn copy_from(&mut self, other: &Block)
+        ensures { self.new ≡ other.now }
+    {
+        self.block.copy_from(other);
+    }
 }

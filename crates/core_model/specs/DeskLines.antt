@@ -1,9 +1,9 @@
 -- What a line of the desk log counts for.
 use Rattle.std.specs.Prelude.{ℕ, ◌≤◌, List, [], ◌∷◌}
 use Rattle.plain_laws.specs.Sums.{total}
-use Rattle.vdo_model.specs.KeptLines.{gives_bytes}
 use Rattle.vdo_model.specs.declared.report.DeskLine.{DeskLine}
 use Rattle.vdo_model.specs.declared.report.DeskLine.TheVariants.{Begin, Answer}
+use Rattle.data_vio.specs.AnswerRooms.{gives_bytes}
 
 -- a request that is begun, and one that is answered
 abbrev pub is_begin : DeskLine → ℕ

@@ -1,4 +1,5 @@
-ghost use Rattle.std.specs.Prelude.{◌≡◌, ◌+◌, ◌*◌, ◌-◌, ◌^◌, ◌<◌, ◌≤◌, [], ◌∷◌, ◌++◌, IfOk, IfSome, IfNone, length, reverse, vec_len, vec_capacity};
+ghost use Rattle.std.specs.Prelude.{◌≡◌, ◌+◌, ◌*◌, ◌-◌, ◌^◌, ◌<◌, ◌≤◌, [], ◌∷◌, ◌++◌, Some, IfOk, IfSome, IfNone, IsSome, length, reverse, vec_len, vec_capacity};
+ghost use Rattle.blk_base.specs.declared.request.Answer.{Answer as Given};
 ghost use Rattle.blk_base.specs.declared.request.Answer.TheVariants.{NoSpace as Lacking, Ok as Done};
 ghost use Rattle.vdo_model.specs.DeskLog.{answered, begun};
 ghost use Rattle.vdo_model.specs.declared.report.DeskLine.TheVariants.{Answer as Answered, Begin};
@@ -11,11 +12,13 @@ ghost use Rattle.plain_laws.specs.Sums.{total};
 use crate::counts::StreamCounts;
 use crate::scripts::{count_reads, count_requests};
 use blk_base::{Answer, Block, Lba, Mapping, Writer, ZoneId};
-use data_vio::{Asks, BoxedVio, Fifo, HeldTickets, LANE_ROOM, MOST_UNDER_WAY, Phase, Vio};
+use data_vio::{
+    AnswerBoxes, Asks, BoxedVio, Fifo, HeldTickets, LANE_ROOM, MOST_UNDER_WAY, Phase, Vio,
+};
 use slab_counts::Receipt;
 use std::alloc::{AllocError, Global};
 use std::marker::Model;
-use vdo_model::{AnswerBoxes, FlushMark, KeptLine, NoSpaceReceipt, ReportList, Requests};
+use vdo_model::{DeskLine, FlushMark, NoSpaceReceipt, ReportList, Requests};
 
 /// Where requests begin and are answered. It has the boxes of all requests that aren't under way.
 #[derive(Drop)]
@@ -23,8 +26,8 @@ pub struct Desk {
     requests: Requests,
     // How many requests there are.
     count: usize,
-    lines: Vec<KeptLine>,
-    // Room for the bytes of the reads.
+    lines: Vec<DeskLine>,
+    // A box for each read whose bytes go into the log, in place of the one that they leave in.
     boxes: AnswerBoxes,
     // How many requests of each stream are begun, and how many are answered.
     begun: StreamCounts,
@@ -75,7 +78,7 @@ impl Model for Desk {
 #[derive(Drop)]
 pub struct DeskReport {
     pub requests: Requests,
-    pub log: ReportList<KeptLine>,
+    pub log: ReportList<DeskLine>,
     pub marks: ReportList<FlushMark>,
     pub receipts: ReportList<NoSpaceReceipt>,
 }
@@ -181,7 +184,7 @@ impl Desk {
     }
 
     /// The lines of the desk log, the oldest first.
-    pub fn lines(&self) -> &[KeptLine]
+    pub fn lines(&self) -> &[DeskLine]
         ensures { self.now.log ≡ reverse result.now }
     {
         &self.lines
@@ -222,34 +225,39 @@ impl Desk {
         let request = vio.request;
         self.begun.raise(vio.request.stream);
         boxed.put(vio);
-        self.lines.push_reserved(KeptLine::begin(request));
+        self.lines.push_reserved(DeskLine::Begin { request });
         boxed
     }
 
     /// A request is begun, and answered at once.
     pub fn answer_at_once(&mut self, request: Writer, answer: Answer)
-        requires lines { length self.old.log ≤ 2 * requests_in self.old.requests }
-        requires bytes { total is_bytes self.old.log ≤ reads_in self.old.requests }
+        requires { length self.old.log ≤ 2 * requests_in self.old.requests }
         ensures { self.new
             ≡ record self.old { log = Answered request answer ∷ Begin request ∷ self.old.log } }
     {
         self.begun.raise(request.stream);
         self.answered.raise(request.stream);
-        self.lines.push_reserved(KeptLine::begin(request));
-        let line = KeptLine::answer(request, answer, &mut self.boxes);
-        self.lines.push_reserved(line);
+        self.lines.push_reserved(DeskLine::Begin { request });
+        self.lines
+            .push_reserved(DeskLine::Answer { request, answer });
     }
 
-    /// A request is answered, and its box is spare again.
-    pub fn answer(&mut self, vio: BoxedVio, answer: Answer)
+    /// A request is answered with what it has, and its box is spare again.
+    pub fn answer(&mut self, mut vio: BoxedVio)
+        requires answered { IsSome vio.answer }
         requires lines { length self.old.log ≤ 2 * requests_in self.old.requests + 1 }
         requires bytes { total is_bytes self.old.log ≤ reads_in self.old.requests }
-        ensures { self.new ≡ record self.old { log = Answered vio.request answer ∷ self.old.log } }
+        ensures { (given : Given) →
+            vio.answer ≡ Some given →
+            self.new ≡ record self.old { log = Answered vio.request given ∷ self.old.log } }
     {
         let request = vio.get().request;
+        let Some(answer) = vio.take_answer(&mut self.boxes) else {
+            unreachable!();
+        };
         self.answered.raise(request.stream);
-        let line = KeptLine::answer(request, answer, &mut self.boxes);
-        self.lines.push_reserved(line);
+        self.lines
+            .push_reserved(DeskLine::Answer { request, answer });
         if self.spare.len() < MOST_UNDER_WAY {
             self.spare.push_reserved(vio);
         }
@@ -270,7 +278,7 @@ impl Desk {
         let request = vio.get().request;
         let calls = vio.get().calls;
         self.marks.push_reserved(FlushMark { request, calls });
-        self.answer(vio, Answer::Ok);
+        self.answer(vio.end(Phase::Reply, Answer::Ok));
     }
 
     /// A request that found no block is answered so, with its receipt.
@@ -289,7 +297,7 @@ impl Desk {
         let step = step_in(&vio.get().receipt);
         self.receipts
             .push_reserved(NoSpaceReceipt { request, step });
-        self.answer(vio, Answer::NoSpace);
+        self.answer(vio.end(Phase::Reply, Answer::NoSpace));
     }
 
     /// A request waits until the stop notice of every zone has come.

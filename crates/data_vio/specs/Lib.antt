@@ -2,3 +2,4 @@ pub mod Zones
 pub mod Held
 pub mod Phases
 pub mod Vios
+pub mod AnswerRooms

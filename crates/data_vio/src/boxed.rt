@@ -1,26 +1,43 @@
-ghost use Rattle.std.specs.Prelude.{◌≡◌, ◌<◌, ◌∷◌, [], None, Some, IfOk, IfSome, IfNone, length};
+ghost use Rattle.std.specs.Prelude.{◌≡◌, ◌≤◌, ◌<◌, ◌+◌, ◌∷◌, [], None, Some, IfOk, IfSome, IfNone, IsSome, length};
 ghost use Rattle.blk_base.specs.declared.request.Answer.TheVariants as reply;
 ghost use Rattle.data_vio.specs.declared.items.Phase.TheVariants as phase;
+ghost use Rattle.data_vio.specs.AnswerRooms.{HasRoom, blocks_of};
 ghost use Rattle.data_vio.specs.Vios.{claiming, ended, entry_of, gives_up, has_leaf, holding, logged, made, makes, reads_leaf, refused, remapping, turned, withdrawing};
 
-use crate::{Logged, NewPage, Phase, Remapping, Vio};
-use blk_base::{Answer, Block, Entry, Mapping, PageId, Pbn};
+use crate::{AnswerBoxes, Logged, NewPage, Phase, Remapping, Vio};
+use blk_base::{Answer, Block, BoxedBlock, Entry, Mapping, PageId, Pbn};
 use slab_counts::{Claim, Receipt, Ticket};
 use std::alloc::{AllocError, Global};
 use std::marker::Model;
 
-/// A request under way in its box, by which the zones pass it on. A contract sees the request.
+/// A request under way in its box, by which the zones pass it on. It has room for the bytes of its answer, so that no zone
+/// takes memory for them. A contract sees the request.
 #[derive(Drop)]
 pub struct BoxedVio {
     vio: Box<Vio>,
+    // A box for the bytes of its answer, while that has none.
+    room: Option<BoxedBlock>,
 }
 
 impl Model for BoxedVio {
+    ghost use Rattle.data_vio.specs.AnswerRooms.{HasRoom};
     ghost use Rattle.data_vio.specs.declared.items.Vio.{Vio};
 
     ghost Value = { Vio };
 
     ghost view = { λ b. b.vio.value };
+
+    ghost invariant = { λ b. HasRoom b.room b.vio.value.answer };
+}
+
+// The box of an answer that is given up is the room again.
+fn free(answer: Option<Answer>, room: &mut Option<BoxedBlock>)
+    requires { HasRoom room.old answer }
+    ensures { IsSome room.new }
+{
+    if let Some(Answer::Bytes(bytes)) = answer {
+        *room = Some(bytes);
+    }
 }
 
 impl BoxedVio {
@@ -28,8 +45,10 @@ impl BoxedVio {
     pub fn new(alloc: Global, vio: Vio) -> Result<BoxedVio, AllocError>
         ensures { IfOk result (λ boxed. boxed ≡ vio) }
     {
+        let room = BoxedBlock::new(alloc, Block::zero())?;
         Ok(BoxedVio {
             vio: Box::new(alloc, vio)?,
+            room: Some(room),
         })
     }
 
@@ -44,6 +63,7 @@ impl BoxedVio {
     pub fn put(&mut self, vio: Vio)
         ensures { self.new ≡ vio }
     {
+        free(self.vio.answer.take(), &mut self.room);
         *self.vio = vio;
     }
 
@@ -59,8 +79,23 @@ impl BoxedVio {
     pub fn end(mut self, phase: Phase, answer: Answer) -> BoxedVio
         ensures { result ≡ ended phase answer self }
     {
+        free(self.vio.answer.take(), &mut self.room);
         self.vio.phase = phase;
         self.vio.answer = Some(answer);
+        self
+    }
+
+    /// A read is to be answered with the bytes that it got.
+    pub fn give(mut self) -> BoxedVio
+        ensures { result ≡ ended phase.Reply (reply.Bytes self.bytes) self }
+    {
+        free(self.vio.answer.take(), &mut self.room);
+        let Some(mut room) = self.room.take() else {
+            unreachable!();
+        };
+        room.copy_from(&self.vio.bytes);
+        self.vio.phase = Phase::Reply;
+        self.vio.answer = Some(Answer::Bytes(room));
         self
     }
 
@@ -206,18 +241,25 @@ impl BoxedVio {
         ensures { result
             ≡ record self { phase = phase.Reply; answer = Some reply.Ok; calls = calls } }
     {
+        free(self.vio.answer.take(), &mut self.room);
         self.vio.phase = Phase::Reply;
         self.vio.answer = Some(Answer::Ok);
         self.vio.calls = calls;
         self
     }
 
-    /// What it is to be answered with, which leaves it.
-    pub fn take_answer(&mut self) -> Option<Answer>
+    /// What it is to be answered with, which leaves it. For the box of its bytes it gets one of these.
+    pub fn take_answer(&mut self, boxes: &mut AnswerBoxes) -> Option<Answer>
+        requires { blocks_of self.old.answer ≤ boxes.old }
         ensures answer { result ≡ self.old.answer }
         ensures left { self.new ≡ record self.old { answer = None } }
+        ensures boxes { boxes.old ≡ boxes.new + blocks_of self.old.answer }
     {
-        self.vio.answer.take()
+        let answer = self.vio.answer.take();
+        if let Some(Answer::Bytes(_)) = &answer {
+            self.room = Some(boxes.take());
+        }
+        answer
     }
 
     /// The entry that it hands in, as the journal has it.

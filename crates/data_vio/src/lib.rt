@@ -2,11 +2,12 @@
 //! which zones keep such boxes.
 //!
 //! `specs/Phases` has a line for each phase, `specs/Zones` the zones by their names and numbers, `specs/Vios` what becomes
-//! of a request.
+//! of a request, `specs/AnswerRooms` where the bytes of its answer stand.
 //!
 //! Only tested: as part of the core.
 #![tactic(auto)]
 
+mod answer_boxes;
 mod boxed;
 mod fifo;
 mod held_tickets;
@@ -16,6 +17,7 @@ mod logged;
 mod register;
 mod sizes;
 
+pub use answer_boxes::AnswerBoxes;
 pub use boxed::BoxedVio;
 pub use fifo::Fifo;
 pub use held_tickets::HeldTickets;

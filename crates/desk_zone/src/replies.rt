@@ -43,7 +43,7 @@ fn is_stopped(answer: &Answer) -> bool
 }
 
 // A request that need not wait is answered.
-fn reply(sizes: &Sizes, desk: &mut Desk, mut vio: BoxedVio)
+fn reply(sizes: &Sizes, desk: &mut Desk, vio: BoxedVio)
     requires phase { vio.phase ≡ Reply }
     requires answered { IsSome vio.answer }
     requires within { IsDeskWithin desk.old }
@@ -52,15 +52,15 @@ fn reply(sizes: &Sizes, desk: &mut Desk, mut vio: BoxedVio)
     ensures { (made : Trace) × rows.DeskServes sizes.now desk.old vio desk.new made [] }
 {
     let asks = vio.get().asks;
-    let Some(given) = vio.take_answer() else {
+    let Some(given) = &vio.get().answer else {
         unreachable!();
     };
-    if is_marked(asks, &given) {
+    if is_marked(asks, given) {
         desk.mark(vio);
-    } else if is_no_space(&given) {
+    } else if is_no_space(given) {
         desk.lack(vio);
     } else {
-        desk.answer(vio, given);
+        desk.answer(vio);
     }
 }
 

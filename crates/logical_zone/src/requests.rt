@@ -268,12 +268,7 @@ fn give(sizes: &Sizes, zone: &mut LogicalZone, vio: BoxedVio, posts: &mut Posts)
         (Gives (vios.gift vio) ∷ []) posts.new }
 {
     let at = vio.get().at;
-    let mut bytes = Block::zero();
-    bytes.copy_from(&vio.get().bytes);
-    posts.first(
-        ZoneId::Desk,
-        Item::Request(vio.end(Phase::Reply, Answer::Bytes(bytes))),
-    );
+    posts.first(ZoneId::Desk, Item::Request(vio.give()));
     release(zone, at, posts);
 }
 

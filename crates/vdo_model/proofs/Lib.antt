@@ -3,7 +3,6 @@ pub mod ZoneOrderLaws
 pub mod Example
 pub mod ScriptRows
 pub mod DeskLogRows
-pub mod KeptLineRows
 pub mod PlaceRows
 pub mod HistoryRows
 pub mod ReadRows

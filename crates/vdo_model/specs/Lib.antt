@@ -1,6 +1,5 @@
 pub mod Scripts
 pub mod DeskLog
-pub mod KeptLines
 pub mod Places
 pub mod ZoneOrder
 pub mod Histories

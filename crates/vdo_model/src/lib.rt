@@ -8,13 +8,11 @@
 //! Only tested: one row each of its lists.
 #![tactic(auto)]
 
-mod kept_line;
 mod report;
 mod report_list;
 mod requests;
 mod zone_order;
 
-pub use kept_line::{AnswerBoxes, KeptLine, ShownAnswer, ShownLine};
 pub use report::{
     Damage, DeskLine, FlushMark, HistoryEntry, Mark, NoSpaceReceipt, Placed, RunReport,
 };

@@ -1,4 +1,4 @@
-use crate::{KeptLine, ReportList, Requests};
+use crate::{ReportList, Requests};
 use blk_base::{Answer, Lba, Pbn, Writer};
 use page_codec::PageFault;
 
@@ -67,7 +67,7 @@ pub enum Damage {
 pub struct RunReport {
     pub requests: Requests,
     /// The desk log, in the desk's order.
-    pub desk: ReportList<KeptLine>,
+    pub desk: ReportList<DeskLine>,
     /// The marks of the flushes that were answered Ok.
     pub marks: ReportList<FlushMark>,
     /// The receipts of the requests that were answered `no space`.

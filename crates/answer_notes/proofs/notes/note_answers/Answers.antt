@@ -1,6 +1,5 @@
-use Rattle.std.proofs.Common.{◌∙◌, ap, sym, subst, reverse, take, List}
+use Rattle.std.proofs.Common.{◌∙◌, sym, subst, reverse, take, List}
 use Rattle.vdo_model.specs.declared.report.DeskLine.{DeskLine}
-use Rattle.vdo_model.specs.KeptLines.{shown_answer, shown_line}
 use Rattle.answer_notes.specs.Notes.{NotesAnswers}
 use Rattle.answer_notes.proofs.NoteLaws.{one_more, line_there, step-begin, step-other, step-answer}
 use Rattle.answer_notes.proofs.notes.note_answers.Goals.{in-Begin, in-Answer+then-request-stream, in-Answer+else-request-stream}
@@ -15,17 +14,16 @@ loop-at-preserved c =
     let next = one_more desk at line c.loop-at-test.true c.index-desk-at.is in
     let there = line_there desk at line c.loop-at-test.true c.index-desk-at.is in
     let before = c.loop-at.invariant.notes in
-    let shown = c.show.ensures in
     record {
-      length = c.match-show.auto.notes ∙ c.loop-at.invariant.length;
-      notes = subst (λ (older : List DeskLine). NotesAnswers desk older c.args.stream c.match-show.notes) (sym next)
-          (elim c.match-show.branch [
-            | in-Begin w ↦ step-begin desk older c.args.stream c.loop-at.notes c.match-show.notes line w.in-Begin.request (sym shown ∙ ap shown_line w.in-Begin.is) w.notes-is before
+      length = c.match-line.auto.notes ∙ c.loop-at.invariant.length;
+      notes = subst (λ (older : List DeskLine). NotesAnswers desk older c.args.stream c.match-line.notes) (sym next)
+          (elim c.match-line.branch [
+            | in-Begin w ↦ step-begin desk older c.args.stream c.loop-at.notes c.match-line.notes line w.in-Begin.request w.in-Begin.is w.notes-is before
             | in-Answer+then-request-stream w ↦
-                step-answer desk older c.args.stream c.loop-at.notes c.match-show.notes line w.in-Answer.request (shown_answer w.in-Answer.answer) at
-                (sym shown ∙ ap shown_line w.in-Answer.is) w.if-request-stream.true there (w.notes-is ∙ w.note.ensures) before
+                step-answer desk older c.args.stream c.loop-at.notes c.match-line.notes line w.in-Answer.request w.in-Answer.answer at
+                w.in-Answer.is w.if-request-stream.true there (w.notes-is ∙ w.note.ensures) before
             | in-Answer+else-request-stream w ↦
-                step-other desk older c.args.stream c.loop-at.notes c.match-show.notes line w.in-Answer.request (shown_answer w.in-Answer.answer)
-                (sym shown ∙ ap shown_line w.in-Answer.is) w.if-request-stream.false w.notes-is before
+                step-other desk older c.args.stream c.loop-at.notes c.match-line.notes line w.in-Answer.request w.in-Answer.answer
+                w.in-Answer.is w.if-request-stream.false w.notes-is before
           ]);
     }

@@ -15,8 +15,8 @@ invariant_of-self c = record {
   few = search rules;
   lines_room = search rules;
   boxes = grind (arith, common_steps);
-  begun = let now = answers_none_begun _ c.push_reserved.new.self.items c.args.request c.args.answer (rw (c.push_reserved.ensures.items, c.begin.ensures) (begins _ c.self.inside.lines.items c.args.request c.self.invariant.begun)) in rw (c.raise.ensures, c.push_reserved-2.ensures.items, c.answer-line.ensures.line) now;
-  answered = let now = answers _ c.push_reserved.new.self.items c.args.request c.args.answer (rw (c.push_reserved.ensures.items, c.begin.ensures) (begins_none_answered _ c.self.inside.lines.items c.args.request c.self.invariant.answered)) in rw (c.raise-2.ensures, c.push_reserved-2.ensures.items, c.answer-line.ensures.line) now;
+  begun = let now = answers_none_begun _ c.push_reserved.new.self.items c.args.request c.args.answer (rw (c.push_reserved.ensures.items) (begins _ c.self.inside.lines.items c.args.request c.self.invariant.begun)) in rw (c.raise.ensures, c.push_reserved-2.ensures.items) now;
+  answered = let now = answers _ c.push_reserved.new.self.items c.args.request c.args.answer (rw (c.push_reserved.ensures.items) (begins_none_answered _ c.self.inside.lines.items c.args.request c.self.invariant.answered)) in rw (c.raise-2.ensures, c.push_reserved-2.ensures.items) now;
   marks_room = search rules;
   receipts_room = search rules;
   few_spare = search rules;

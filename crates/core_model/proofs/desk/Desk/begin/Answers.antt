@@ -12,8 +12,8 @@ invariant_of-self c = record {
   few = search rules;
   lines_room = search rules;
   boxes = grind (arith, common_steps);
-  begun = let now = begins _ c.self.inside.lines.items c.args.vio.request c.self.invariant.begun in rw (c.raise.ensures, c.push_reserved.ensures.items, c.begin.ensures) now;
-  answered = let now = begins_none_answered _ c.self.inside.lines.items c.args.vio.request c.self.invariant.answered in rw (c.push_reserved.ensures.items, c.begin.ensures) now;
+  begun = let now = begins _ c.self.inside.lines.items c.args.vio.request c.self.invariant.begun in rw (c.raise.ensures, c.push_reserved.ensures.items) now;
+  answered = let now = begins_none_answered _ c.self.inside.lines.items c.args.vio.request c.self.invariant.answered in rw c.push_reserved.ensures.items now;
   marks_room = search rules;
   receipts_room = search rules;
   few_spare = search rules;
