@@ -1,6 +1,6 @@
 -- For each call on the counts of a slab what it does, and what it doesn't do: a case that each clause accepts, and one that
 -- breaks it alone.
-use Rattle.std.specs.Prelude.{ℕ, zero, suc, ◌≡◌, true, false, [], ◌∷◌, slice_index, slice_index_or}
+use Rattle.std.specs.Prelude.{ℕ, ◌≡◌, false, [], ◌∷◌, slice_index, slice_index_or}
 use Rattle.std.proofs.Common.{ap, subst, arith, refl}
 use Rattle.std.proofs.lemmas.Bool.{false≢true}
 use Rattle.blk_base.specs.declared.place.Pbn.{Pbn}
@@ -8,7 +8,6 @@ use Rattle.blk_base.specs.declared.point.Half.TheVariants.{Increment, Decrement}
 use Rattle.blk_base.proofs.Example.{small}
 use Rattle.slab_counts.specs.Calls.{Applied, Does, Dropped, Extended, FreeClaimed, LeadTo, PageSpent, Refused, Shared, Spent, one_of}
 use Rattle.slab_counts.specs.Counts.{Counts, IsClaimed, claimed, claims_of, counter_of, mapped, offset_of, unclaimed, unmapped, with_page}
-use Rattle.slab_counts.specs.Opening.{AreAmong, IsAmong}
 
 abbrev at : ℕ → Pbn
 at n = record { 0 = n }
@@ -39,26 +38,6 @@ the_same = refl
 
 another : one_of (at 85) (at 86) ≡ 0
 another = refl
-
--- IsAmong: the first one alone
-is_among : IsAmong 1 (at 85 ∷ at 86 ∷ []) 85
-is_among = (0, omega arith, refl)
-
-is_behind : IsAmong 1 (at 85 ∷ at 86 ∷ []) 86 → ⊥
-is_behind (zero, first, same) = omega (arith, ap (λ (b : Pbn). b.0) same)
-is_behind (suc k, first, same) = omega (arith, first)
-
--- AreAmong: of the blocks 85 and 86
-are_among : AreAmong 1 85 (true ∷ false ∷ []) (at 85 ∷ at 86 ∷ [])
-are_among zero inside = ((λ marked. is_among), (λ among. refl))
-are_among (suc zero) inside = ((λ marked. absurd (false≢true marked)), (λ among. absurd (is_behind among)))
-are_among (suc (suc k)) inside = absurd (omega (arith, inside))
-
-one_is_not_marked : AreAmong 1 85 (false ∷ []) (at 85 ∷ []) → ⊥
-one_is_not_marked are = false≢true ((are 0 (omega arith)).1 (0, omega arith, refl))
-
-another_is_marked : AreAmong 1 85 (true ∷ true ∷ []) (at 85 ∷ at 86 ∷ []) → ⊥
-another_is_marked are = is_behind ((are 1 (omega arith)).0 refl)
 
 -- Does: the lowest free block is claimed
 claims_first : Does (FreeClaimed (at 85)) some (claimed some (at 85))

@@ -2,4 +2,3 @@ pub mod Counts
 pub mod Kept
 pub mod Viewed
 pub mod Calls
-pub mod Opening

@@ -1,13 +1,14 @@
-ghost use Rattle.std.specs.Prelude.{◌≡◌, ◌+◌, ◌<◌, ◌≤◌, ◌⊎◌, ◌↔◌, ◌*◌, All, length, false, IsTrue, IfOk, IfErr, IfSome, IfNone, OnOk, OnErr};
+ghost use Rattle.std.specs.Prelude.{ℕ, ◌≡◌, ◌+◌, ◌<◌, ◌≤◌, ◌⊎◌, ◌↔◌, ◌*◌, All, List, [], length, false, IsTrue, IfOk, IfErr, IfSome, IfNone, OnOk, OnErr};
 ghost use Rattle.blk_base.specs.Counters.{limit_of};
 ghost use Rattle.blk_base.specs.Limits.{IsGeometry};
+ghost use Rattle.blk_base.specs.declared.geometry.Geometry.{Geometry};
 ghost use Rattle.slab_counts.specs.Counts.{IsOpening, IsOfSlab, IsFree, IsPage, IsClaimed, HasRoom, HasNoFree, ClaimsFree, Shares, IsRefused, Takes, IsStray, offset_of, counter_of, used_of, claimed, unclaimed, with_page};
 ghost use Rattle.lane_kernels.specs.Kernels.{IsFreeAt, IsLeastFree};
 ghost use Rattle.slab_counts.specs.Kept.{IsWithin, NoneFreeBelow};
 ghost use Rattle.slab_counts.specs.declared.refusals.Refusal.TheVariants.{Full};
 ghost use Rattle.blk_base.specs.declared.point.Half.TheVariants.{Increment, Decrement};
 
-use crate::opening_counts::{opening_counters, opening_pages, repeated};
+use crate::opening_counts::{opening_counters, repeated};
 use crate::{Claim, Refusal, Stray};
 use blk_base::{Geometry, Half, Layout, Opened, Pbn};
 use lane_kernels::first_free;
@@ -44,6 +45,7 @@ impl Model for SlabCounts {
 impl SlabCounts {
     /// The counters of a slab below the number of slabs, as an image of these sizes is opened, with no claim. `opened` has
     /// the counter of each data block, at most the limit of the image. Takes the room for three bytes for each data block.
+    /// It goes through all tree pages of the image: for all slabs of one see `without_pages`.
     pub fn new(
         alloc: Global,
         geometry: &Geometry,
@@ -60,12 +62,31 @@ impl SlabCounts {
             (IsOpening geometry.now slab opened.now.counters.items opened.now.tree_pages.items) }
         ensures within { IfOk result IsWithin }
     {
+        let mut counts = SlabCounts::without_pages(alloc, geometry, slab, &opened.counters)?;
+        note_pages(&mut counts, &opened.tree_pages);
+        Ok(counts)
+    }
+
+    /// The same, of the counters of all data blocks, where no tree page was found as yet: `note_page` takes them.
+    pub fn without_pages(
+        alloc: Global,
+        geometry: &Geometry,
+        slab: u32,
+        counters: &[u8],
+    ) -> Result<SlabCounts, AllocError>
+        requires geometry { IsGeometry geometry.now }
+        requires slab { slab < geometry.now.slabs }
+        requires counters { length counters.now ≡ geometry.now.slabs * geometry.now.slab_blocks }
+        requires limit { All (λ counter. counter ≤ limit_of geometry.now) counters.now }
+        ensures opening { IfOk result (IsOpening geometry.now slab counters.now []) }
+        ensures within { IfOk result IsWithin }
+    {
         let layout = Layout::of(geometry);
         let start = layout.data_block(slab, 0).0;
         let count = geometry.slab_blocks;
-        let counters = opening_counters(alloc, &opened.counters, slab, count)?;
+        let counters = opening_counters(alloc, counters, slab, count)?;
         let claims = repeated(alloc, 0, count)?;
-        let pages = opening_pages(alloc, &opened.tree_pages, start, count)?;
+        let pages = repeated(alloc, false, count)?;
         Ok(SlabCounts {
             layout,
             slab,
@@ -75,6 +96,21 @@ impl SlabCounts {
             pages,
             mark: 0,
         })
+    }
+
+    /// A tree page of the opened image stands at this block. Nothing changes where that is no block of this slab.
+    pub fn note_page(&mut self, at: Pbn)
+        ensures own { IsOfSlab self.old at → self.new ≡ with_page self.old at }
+        ensures foreign { (¬ IsOfSlab self.old at) → self.new ≡ self.old }
+        ensures within { IsWithin self.new }
+    {
+        if at.0 < self.start {
+            return;
+        }
+        let offset = (at.0 - self.start) as usize;
+        if offset < self.pages.len() {
+            self.pages[offset] = true;
+        }
     }
 
     /// Claims the lowest free block; `None` exactly where none is free.
@@ -303,6 +339,19 @@ impl SlabCounts {
         } else {
             None
         }
+    }
+}
+
+// The tree pages of the opened image stand at these blocks.
+fn note_pages(counts: &mut SlabCounts, among: &[Pbn])
+    requires { IsWithin counts.old }
+    ensures opening { (geometry : Geometry) (slab : ℕ) (counters : List ℕ) →
+        IsOpening geometry slab counters [] counts.old →
+        IsOpening geometry slab counters among.now counts.new }
+    ensures within { IsWithin counts.new }
+{
+    for at in among {
+        counts.note_page(*at);
     }
 }
 

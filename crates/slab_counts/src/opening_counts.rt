@@ -1,7 +1,5 @@
-ghost use Rattle.std.specs.Prelude.{◌≡◌, ◌+◌, ◌-◌, ◌*◌, ◌≤◌, ◌<◌, ◌^◌, false, true, length, take, drop, replicate, slice_set, IfOk};
-ghost use Rattle.slab_counts.specs.Opening.{AreAmong};
+ghost use Rattle.std.specs.Prelude.{◌≡◌, ◌+◌, ◌*◌, ◌≤◌, ◌<◌, ◌^◌, length, take, drop, replicate, IfOk};
 
-use blk_base::Pbn;
 use std::alloc::{AllocError, Global};
 
 /// The counters of so many data blocks for each slab, of those the ones of this slab.
@@ -17,35 +15,6 @@ pub(crate) fn opening_counters(
 {
     let first = slab as usize * count as usize;
     counters[first..first + count as usize].to_vec(alloc)
-}
-
-/// Which of so many blocks from this one on are among these.
-pub(crate) fn opening_pages(
-    alloc: Global,
-    among: &[Pbn],
-    start: u32,
-    count: u32,
-) -> Result<Vec<bool>, AllocError>
-    ensures size { IfOk result (λ list. length list.items ≡ count) }
-    ensures pages { IfOk result (λ list. AreAmong (length among.now) start list.items among.now) }
-{
-    let mut pages = repeated(alloc, false, count)?;
-    for at in among {
-        mark_page(&mut pages, start, *at);
-    }
-    Ok(pages)
-}
-
-// Marks a block, if it is one of those from this one on.
-fn mark_page(pages: &mut Vec<bool>, start: u32, at: Pbn)
-    ensures inside { start ≤ at.0 → at.0 - start < length pages.old.items →
-        pages.new.items ≡ slice_set pages.old.items (at.0 - start) true }
-    ensures outside { (start ≤ at.0 → at.0 - start < length pages.old.items → ⊥) →
-        pages.new.items ≡ pages.old.items }
-{
-    if at.0 >= start && ((at.0 - start) as usize) < pages.len() {
-        pages[(at.0 - start) as usize] = true;
-    }
 }
 
 /// A list of so many equal values.

@@ -4,6 +4,7 @@ pub mod ZoneLaws
 pub mod OpeningLaws
 pub mod CallLaws
 pub mod ClaimLaws
+pub mod PageNotes
 pub mod Rows
 pub mod UsedLaws
 pub mod SlabSums

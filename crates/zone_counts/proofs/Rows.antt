@@ -288,7 +288,7 @@ served_the_fifth = refl
 served_none : served_ticket nothing_is_free ≡ None
 served_none = refl
 
--- AreOpened, IsOpeningZone: of an image with these sizes
+-- AreOpenedWith, AreOpened, IsOpeningZone: of an image with these sizes
 abbrev just_opened : Zone
 just_opened = record some { desk = empty_desk 0 3 }
 

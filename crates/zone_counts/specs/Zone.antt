@@ -126,11 +126,14 @@ BeginsStep old new step = (free : Bool) × BeginsBehind free old new step
 abbrev pub slabs_of_zone : Geometry → ℕ → ℕ → ℕ
 slabs_of_zone g zone zones = (g.slabs + zones - 1 - zone) / zones
 
--- the first so many slabs of the zone, as an image with these counters and tree pages is opened
-pub record AreOpened (opened : Opened) (zone zones count : ℕ) (slabs : List Counts) : Type 0 where
+-- the first so many slabs of the zone, as an image of these sizes with these counters and tree pages is opened
+pub record AreOpenedWith (g : Geometry) (counters : List ℕ) (pages : List Pbn) (zone zones count : ℕ) (slabs : List Counts) : Type 0 where
   pub length_is : length slabs ≡ count
-  pub each : (k : ℕ) → k < count
-      → IsOpening opened.head.geometry (k * zones + zone) opened.counters.items opened.tree_pages.items (slab_at slabs k) × IsWithin (slab_at slabs k)
+  pub each : (k : ℕ) → k < count → IsOpening g (k * zones + zone) counters pages (slab_at slabs k) × IsWithin (slab_at slabs k)
+
+-- the same, of an opened image
+abbrev pub AreOpened : Opened → ℕ → ℕ → ℕ → List Counts → Type 0
+AreOpened opened zone zones count slabs = AreOpenedWith opened.head.geometry opened.counters.items opened.tree_pages.items zone zones count slabs
 
 -- how a zone is opened: all its slabs, no ticket, and no step
 pub record IsOpeningZone (opened : Opened) (number zones' room : ℕ) (z : Zone) : Type 0 where

@@ -1,13 +1,19 @@
-use Rattle.std.proofs.Common.{◌+◌, ◌∙◌, List, subst, sym}
-use Rattle.slab_counts.specs.Counts.{Counts}
-use Rattle.zone_counts.specs.Zone.{AreOpened}
-use Rattle.zone_counts.proofs.OpeningLaws.{opened_more}
+use Rattle.std.proofs.Common.{[], List, subst, sym}
+use Rattle.blk_base.specs.declared.geometry.Geometry.{Geometry}
+use Rattle.blk_base.specs.declared.place.Pbn.{Pbn}
+use Rattle.zone_counts.specs.Zone.{AreOpenedWith, slabs_of_zone}
 use Rattle.zone_counts.proofs.opened_slabs.opening_slabs.Goals as goal
 
-pub loop-k-preserved : goal.loop-k-preserved
-loop-k-preserved c =
-    record {
-      opened = subst (λ (xs : List Counts). AreOpened c.args.opened.now c.args.zone c.args.zones (c.loop-k.k + 1) xs) (sym c.push_reserved.ensures.items)
-          (opened_more c.args.opened.now c.args.zone c.args.zones c.loop-k.k c.loop-k.slabs.items c.in_ok-slab.slab c.loop-k.invariant.opened c.in_ok-slab.ensures.opening c.in_ok-slab.ensures.within);
-      capacity = c.push_reserved.ensures.capacity ∙ c.loop-k.invariant.capacity;
-    }
+pub returns : goal.returns
+returns c =
+    let opened = c.args.opened.now in
+    let g = opened.head.geometry in
+    let counters = opened.counters.items in
+    let zone = c.args.zone in
+    let zones = c.args.zones in
+    let count = slabs_of_zone g zone zones in
+    let slabs = c.note_pages.new.slabs.items in
+    let first : AreOpenedWith c.of-layout.result.geometry counters [] zone zones count c.in_ok-slabs.slabs.items
+    = subst (λ (h : Geometry). AreOpenedWith h counters [] zone zones count c.in_ok-slabs.slabs.items) (sym c.of-layout.ensures) c.in_ok-slabs.ensures in
+    subst (λ (pages : List Pbn). AreOpenedWith g counters pages zone zones count slabs) c.deref.ensures.value
+    (subst (λ (h : Geometry). AreOpenedWith h counters c.deref.result.now zone zones count slabs) c.of-layout.ensures (c.note_pages.ensures counters count first))
