@@ -16,7 +16,7 @@ use crate::notes::{StreamNotes, note_streams, noted_line};
 use blk_base::{Lba, Request, Writer};
 use core_model::{Zone, ZoneData};
 use data_vio::{REQUEST_ROOM, Register};
-use vdo_model::{HistoryEntry, KeptLine, Placed, Requests};
+use vdo_model::{DeskLine, HistoryEntry, Placed, Requests};
 
 // The address that a request changes, where it is a write or a discard.
 fn changed(requests: &Requests, request: Writer) -> Option<Lba>
@@ -36,7 +36,7 @@ fn changed(requests: &Requests, request: Writer) -> Option<Lba>
 // Adds what a request that has a place adds to the histories, while there is room for it.
 fn add_entry(
     requests: &Requests,
-    desk: &[KeptLine],
+    desk: &[DeskLine],
     notes: &[StreamNotes],
     entered: &[StreamEntries],
     request: Writer,
@@ -70,7 +70,7 @@ fn add_entry(
 // Adds what the requests of these places add to the histories, in the order of the places.
 fn add_entries(
     requests: &Requests,
-    desk: &[KeptLine],
+    desk: &[DeskLine],
     notes: &[StreamNotes],
     entered: &[StreamEntries],
     places: &[Placed],

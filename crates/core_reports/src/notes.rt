@@ -7,7 +7,7 @@ use blk_base::Writer;
 use data_vio::MOST_STREAMS;
 use std::alloc::{AllocError, Global};
 use std::marker::Model;
-use vdo_model::KeptLine;
+use vdo_model::DeskLine;
 
 /// Where the newest answers of one stream's requests stand in a desk log: for each number the line, from 0.
 #[derive(Drop)]
@@ -40,7 +40,7 @@ impl StreamNotes {
     }
 
     // Notes the answers of a stream.
-    fn note(&mut self, desk: &[KeptLine], stream: u8)
+    fn note(&mut self, desk: &[DeskLine], stream: u8)
         ensures length { length self.new ≡ length self.old }
         ensures notes { NotesAnswers desk.now (reverse desk.now) stream self.new }
     {
@@ -59,7 +59,7 @@ impl StreamNotes {
 }
 
 // Notes the answers of a stream where there is room for any.
-fn note_stream(desk: &[KeptLine], stream: u8, notes: &mut [StreamNotes])
+fn note_stream(desk: &[DeskLine], stream: u8, notes: &mut [StreamNotes])
     ensures room { map length notes.new ≡ map length notes.old }
     ensures noted { NotesAnswers desk.now (reverse desk.now) stream (get_or notes.new stream []) }
     ensures others { (other : ℕ) → other ≢ stream →
@@ -72,7 +72,7 @@ fn note_stream(desk: &[KeptLine], stream: u8, notes: &mut [StreamNotes])
 }
 
 /// Notes where the answers of all streams stand.
-pub(crate) fn note_streams(desk: &[KeptLine], notes: &mut [StreamNotes])
+pub(crate) fn note_streams(desk: &[DeskLine], notes: &mut [StreamNotes])
     ensures room { map length notes.new ≡ map length notes.old }
     ensures noted { AreNoted desk.now notes.new }
 {
