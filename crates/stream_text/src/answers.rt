@@ -11,7 +11,7 @@ use blk_base::Request;
 use disk_model::{Failed, Sink};
 use std::alloc::{AllocError, Global};
 use std::marker::Model;
-use vdo_model::{KeptLine, Placed, Requests, RunReport, ShownLine};
+use vdo_model::{DeskLine, Placed, Requests, RunReport};
 
 /// Room to note where the answers and the places of one stream stand. A contract sees for how many requests it is.
 #[derive(Drop)]
@@ -53,7 +53,7 @@ impl AnswerRoom {
 
 // Puts the line of a request whose answer was noted.
 fn put_noted<K: Sink>(
-    desk: &[KeptLine],
+    desk: &[DeskLine],
     noted: Option<usize>,
     place: Option<Placed>,
     stream: u8,
@@ -70,15 +70,15 @@ fn put_noted<K: Sink>(
     let Some(at) = noted else {
         return Ok(());
     };
-    match desk[at].show() {
-        ShownLine::Answer { answer, .. } => put_line(stream, number, request, answer, place, out),
-        ShownLine::Begin { .. } => unreachable!(),
+    match &desk[at] {
+        DeskLine::Answer { answer, .. } => put_line(stream, number, request, answer, place, out),
+        DeskLine::Begin { .. } => unreachable!(),
     }
 }
 
 // Puts the lines of a stream, whose answers and places were noted.
 fn put_noted_stream<K: Sink>(
-    desk: &[KeptLine],
+    desk: &[DeskLine],
     places: &[Placed],
     answers: &[Option<usize>],
     placed: &[Option<Placed>],
@@ -104,7 +104,7 @@ fn put_noted_stream<K: Sink>(
 
 // Notes where the answers and places of a stream stand, and puts its lines.
 fn put_stream<K: Sink>(
-    desk: &[KeptLine],
+    desk: &[DeskLine],
     places: &[Placed],
     stream: u8,
     requests: &[Request],

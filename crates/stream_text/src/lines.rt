@@ -1,13 +1,12 @@
 ghost use Rattle.std.specs.Prelude.{◌++◌, Some, codes, decimal};
 ghost use Rattle.disk_model.specs.Streams.{Puts};
-ghost use Rattle.vdo_model.specs.KeptLines.{shown_answer};
 ghost use Rattle.stream_text.specs.Texts.{request_text, answer_text, place_text, line_text, writer};
 
 use crate::puts::put_all;
 use crate::runs::put_runs;
-use blk_base::{Lba, Request};
+use blk_base::{Answer, Lba, Request};
 use disk_model::{Failed, Sink};
-use vdo_model::{Placed, ShownAnswer};
+use vdo_model::Placed;
 
 fn put_command<K: Sink>(command: &[u8], at: Lba, out: &mut K) -> Result<(), Failed>
     ensures { Puts K.tells
@@ -33,18 +32,18 @@ fn put_request<K: Sink>(request: &Request, out: &mut K) -> Result<(), Failed>
     }
 }
 
-fn put_answer<K: Sink>(answer: ShownAnswer, out: &mut K) -> Result<(), Failed>
-    ensures { Puts K.tells (answer_text (shown_answer answer.entry)) (K.seen out.old) (K.seen out.new) result }
+fn put_answer<K: Sink>(answer: &Answer, out: &mut K) -> Result<(), Failed>
+    ensures { Puts K.tells (answer_text answer.now) (K.seen out.old) (K.seen out.new) result }
 {
     let word: &[u8] = match answer {
-        ShownAnswer::Bytes(block) => return put_runs(&block.bytes, out),
-        ShownAnswer::Ok => b"ok",
-        ShownAnswer::Range => b"range",
-        ShownAnswer::NoSpace => b"no space",
-        ShownAnswer::Full => b"full",
-        ShownAnswer::ReadFault => b"read fault",
-        ShownAnswer::Stopped => b"stopped",
-        ShownAnswer::Damaged => b"damaged",
+        Answer::Bytes(block) => return put_runs(&block.get().bytes, out),
+        Answer::Ok => b"ok",
+        Answer::Range => b"range",
+        Answer::NoSpace => b"no space",
+        Answer::Full => b"full",
+        Answer::ReadFault => b"read fault",
+        Answer::Stopped => b"stopped",
+        Answer::Damaged => b"damaged",
     };
     out.put(word)
 }
@@ -99,12 +98,12 @@ pub(crate) fn put_line<K: Sink>(
     stream: u8,
     number: usize,
     request: &Request,
-    answer: ShownAnswer,
+    answer: &Answer,
     place: Option<Placed>,
     out: &mut K,
 ) -> Result<(), Failed>
     ensures { Puts K.tells
-        (line_text (writer stream number) request.now (Some (shown_answer answer.entry)) place)
+        (line_text (writer stream number) request.now (Some answer.now) place)
         (K.seen out.old) (K.seen out.new) result }
 {
     put_name(stream, number, out)?;
