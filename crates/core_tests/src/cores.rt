@@ -1,10 +1,10 @@
-ghost use Rattle.std.specs.Prelude.{◌≡◌, ◌++◌, [], ◌∷◌, IfOk, OnOk};
+ghost use Rattle.std.specs.Prelude.{◌≡◌, ◌++◌, [], ◌∷◌, IfOk, OnOk, length};
 ghost use Rattle.std.specs.List.{AllByRecursion};
 ghost use Rattle.core_model.specs.Sessions.{IsServed};
 ghost use Rattle.device_zone.specs.DeviceCalls.{Fits};
 
 use crate::sessions::open_over;
-use blk_base::{Block, Lba, Request, Writer};
+use blk_base::{Block, BoxedBlock, Lba, Request, Writer};
 use core_model::{Zone, ZoneData};
 use disk_model::Disk;
 use std::alloc::{AllocError, Global};
@@ -57,20 +57,30 @@ pub(crate) fn push<T: Drop>(items: &mut Vec<T>, item: T) -> Result<(), AllocErro
     }
 }
 
-fn request(ask: Ask) -> Request
-    ensures { IsServed result }
+// A block of this byte.
+fn filled(alloc: Global, byte: u8) -> Result<BoxedBlock, AllocError>
+    ensures { IfOk result (λ block. length block ≡ 4096) }
+{
+    BoxedBlock::new(
+        alloc,
+        Block {
+            bytes: [byte; 4096],
+        },
+    )
+}
+
+fn request(alloc: Global, ask: Ask) -> Result<Request, AllocError>
+    ensures { IfOk result IsServed }
 {
     match ask {
-        Ask::Read(at) => Request::Read(Lba(at)),
-        Ask::Write(at, byte) => Request::Write {
+        Ask::Read(at) => Ok(Request::Read(Lba(at))),
+        Ask::Write(at, byte) => Ok(Request::Write {
             at: Lba(at),
-            block: Block {
-                bytes: [byte; 4096],
-            },
+            block: filled(alloc, byte)?,
             fua: false,
-        },
-        Ask::Discard(at) => Request::Discard(Lba(at)),
-        Ask::Flush => Request::Flush,
+        }),
+        Ask::Discard(at) => Ok(Request::Discard(Lba(at))),
+        Ask::Flush => Ok(Request::Flush),
     }
 }
 
@@ -80,7 +90,7 @@ pub(crate) fn requests(alloc: Global, asks: &[Ask]) -> Result<Vec<Request>, Allo
 {
     let mut requests = Vec::new(alloc);
     for &ask in asks {
-        push(&mut requests, request(ask))?;
+        push(&mut requests, request(alloc, ask)?)?;
     }
     Ok(requests)
 }

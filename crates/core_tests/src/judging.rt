@@ -86,7 +86,7 @@ fn written(report: &RunReport, request: Writer, at: Lba) -> Option<u8> {
                 block,
                 ..
             },
-        ) if there.0 == at.0 => byte_of(block),
+        ) if there.0 == at.0 => byte_of(block.get()),
         Some(Request::Discard(there)) if there.0 == at.0 => Some(0),
         _ => None,
     }

@@ -1,7 +1,7 @@
 use crate::images::blocks_of;
 use crate::rows::{Row, SMALL};
 use blk_base::Mapping::{At, Unmapped, Zero};
-use blk_base::{Block, Entry, Layout, Lba, PageId, Pbn, Request};
+use blk_base::{Block, BoxedBlock, Entry, Layout, Lba, PageId, Pbn, Request};
 use command_text::AddressValue;
 use crash_images::{addresses_of, copy_of, read_map, value_at, values_of};
 use disk_model::{Call, Disk, MemDisk};
@@ -74,6 +74,7 @@ fn device_with_data(alloc: Global, row: &Row, clean: bool) -> Result<MemDisk, Al
 
 // The requests of two streams; block 0 to write, since no value matters.
 fn script(alloc: Global) -> Result<Requests, AllocError> {
+    let block = BoxedBlock::new(alloc, Block::zero())?;
     let mut first = Vec::with_capacity(alloc, 4)?;
     let mut second = Vec::with_capacity(alloc, 3)?;
     let mut streams = Vec::with_capacity(alloc, 2)?;
@@ -81,7 +82,7 @@ fn script(alloc: Global) -> Result<Requests, AllocError> {
     first.push_reserved(Request::Flush);
     first.push_reserved(Request::Write {
         at: Lba(7),
-        block: Block::zero(),
+        block,
         fua: false,
     });
     first.push_reserved(Request::Read(Lba(1000)));

@@ -1,6 +1,6 @@
 //! The answers of one stream, as they are put.
 use crate::reports::{Put, report_of};
-use blk_base::{Answer, Block, Lba, Request, Writer};
+use blk_base::{Answer, Block, BoxedBlock, Lba, Request, Writer};
 use disk_model::{Failed, MemSink, MemSource};
 use std::alloc::{AllocError, Global};
 use std::test::Fail;
@@ -8,34 +8,34 @@ use stream_text::{AnswerRoom, put_answers, read_script};
 use test_images::first_other;
 use vdo_model::{DeskLine, KeptLine, Placed, ReportList, Requests, RunReport};
 
-fn block(first: u8, rest: u8) -> Block {
+fn boxed(alloc: Global, first: u8, rest: u8) -> Result<BoxedBlock, AllocError> {
     let mut block = Block {
         bytes: [rest; 4096],
     };
     block.bytes[0] = first;
-    block
+    BoxedBlock::new(alloc, block)
 }
 
-fn write(address: u32) -> Request {
-    Request::Write {
+fn write(alloc: Global, address: u32) -> Result<Request, AllocError> {
+    Ok(Request::Write {
         at: Lba(address),
-        block: block(1, 2),
+        block: boxed(alloc, 1, 2)?,
         fua: false,
-    }
+    })
 }
 
 fn requests(alloc: Global) -> Result<Requests, AllocError> {
     let mut requests = Vec::new(alloc);
     for request in [
-        write(5),
+        write(alloc, 5)?,
         Request::Read(Lba(5)),
         Request::Flush,
         Request::Read(Lba(5)),
         Request::Read(Lba(5)),
         Request::Discard(Lba(7)),
         Request::Read(Lba(4000)),
-        write(8),
-        write(8),
+        write(alloc, 8)?,
+        write(alloc, 8)?,
         Request::Flush,
     ] {
         requests.push(request)?;
@@ -52,9 +52,9 @@ fn desk_lines(alloc: Global) -> Result<ReportList<KeptLine>, AllocError> {
     let mut lines = Vec::new(alloc);
     for (number, answer) in [
         (0, Answer::Ok),
-        (1, Answer::Bytes(block(97, 97))),
+        (1, Answer::Bytes(boxed(alloc, 97, 97)?)),
         (2, Answer::Stopped),
-        (3, Answer::Bytes(block(65, 0))),
+        (3, Answer::Bytes(boxed(alloc, 65, 0)?)),
         (4, Answer::ReadFault),
         (5, Answer::Damaged),
         (6, Answer::Range),
@@ -133,8 +133,7 @@ fn written(alloc: Global, text: &[u8]) -> Result<Block, AllocError> {
     let mut source = MemSource::new(Vec::from_slice(alloc, text)?, None);
     if let Ok(script) = read_script(alloc, &mut source) {
         if let Some(Request::Write { block: found, .. }) = script.stream(0).first() {
-            let bytes = found.bytes;
-            block.bytes = bytes;
+            block.copy_from(found.get());
         }
     }
     Ok(block)
@@ -147,7 +146,7 @@ fn one_read(alloc: Global, block: Block) -> Result<RunReport, AllocError> {
     let requests = Requests::of_stream(alloc, requests)?;
     let mut lines = Vec::new(alloc);
     let request = name(0);
-    let answer = Answer::Bytes(block);
+    let answer = Answer::Bytes(BoxedBlock::new(alloc, block)?);
     lines.push(KeptLine::begin(request))?;
     lines.push(KeptLine::of_line(alloc, DeskLine::Answer { request, answer })?)?;
     let desk = ReportList::from_vec(lines);

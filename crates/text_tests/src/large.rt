@@ -1,6 +1,6 @@
 //! As many requests as a script may have, read and put; and one more.
 use crate::reports::report_of;
-use blk_base::{Answer, Block, Writer};
+use blk_base::{Answer, Block, BoxedBlock, Writer};
 use disk_model::{Failed, MemSource, Sink};
 use std::alloc::{AllocError, Global};
 use std::test::Fail;
@@ -56,14 +56,14 @@ fn name(line: u32) -> Writer {
     }
 }
 
-fn answer(line: u32) -> Answer {
-    if line / 16 % 4 == 0 {
-        Answer::Bytes(Block {
-            bytes: [(line % 256) as u8; 4096],
-        })
-    } else {
-        Answer::Ok
+fn answer(alloc: Global, line: u32) -> Result<Answer, AllocError> {
+    if line / 16 % 4 != 0 {
+        return Ok(Answer::Ok);
     }
+    let block = Block {
+        bytes: [(line % 256) as u8; 4096],
+    };
+    Ok(Answer::Bytes(BoxedBlock::new(alloc, block)?))
 }
 
 /// Each read is answered with bytes, and all others with ok.
@@ -71,7 +71,7 @@ fn desk(alloc: Global, lines: u32) -> Result<ReportList<KeptLine>, AllocError> {
     let mut desk = Vec::with_capacity(alloc, lines as usize)?;
     for line in 0..lines {
         let request = name(line);
-        let answer = answer(line);
+        let answer = answer(alloc, line)?;
         desk.push(KeptLine::of_line(alloc, DeskLine::Answer { request, answer })?)?;
     }
     Ok(ReportList::from_vec(desk))

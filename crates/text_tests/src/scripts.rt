@@ -14,7 +14,10 @@ pub type Told = Result<(u8, u8, u32, u8, u8, usize), (u64, LineFault)>;
 fn told_request(request: &Request) -> (u8, u32, u8, u8) {
     match request {
         Request::Read(at) => (b'r', at.0, 0, 0),
-        Request::Write { at, block, .. } => (b'w', at.0, block.bytes[0], block.bytes[4095]),
+        Request::Write { at, block, .. } => {
+            let bytes = &block.get().bytes;
+            (b'w', at.0, bytes[0], bytes[4095])
+        }
         Request::Discard(at) => (b'd', at.0, 0, 0),
         Request::Flush => (b'f', 0, 0, 0),
     }

@@ -1,7 +1,7 @@
 //! What the commands print that serve requests: `run`, `workload` and `crash`.
 use crate::reports::{Put, report_of};
 use audit::{Difference, Report};
-use blk_base::{Answer, Block, Lba, Pbn, Request, Writer};
+use blk_base::{Answer, Block, BoxedBlock, Lba, Pbn, Request, Writer};
 use command_text::{
     AddressValue, Crash, CrashStop, DamagedPlace, RunNotes, SectorAnswer, SectorAsked, SectorLine,
     Space, Summary, Tally, put_crash, put_crash_stop, put_run, put_sectors, put_summary,
@@ -61,7 +61,11 @@ fn places(alloc: Global) -> Result<ReportList<Placed>, AllocError> {
 /// The report of a run whose first read was answered with bytes, and after it nothing but stops.
 fn report(alloc: Global) -> Result<RunReport, AllocError> {
     let requests = requests(alloc)?;
-    let answers = [Answer::Bytes(filled(97)), Answer::Stopped, Answer::Stopped];
+    let answers = [
+        Answer::Bytes(BoxedBlock::new(alloc, filled(97))?),
+        Answer::Stopped,
+        Answer::Stopped,
+    ];
     let desk = desk(alloc, Vec::from_array(alloc, answers)?)?;
     let places = places(alloc)?;
     Ok(report_of(alloc, requests, desk, places))

@@ -1,7 +1,7 @@
 //! The answers of several streams, put where they stand.
 use crate::reports::{Put, report_of};
 use answer_notes::{note_answers, note_places};
-use blk_base::{Answer, Block, Lba, Request, Writer};
+use blk_base::{Answer, Block, BoxedBlock, Lba, Request, Writer};
 use disk_model::{Failed, MemSink};
 use std::alloc::{AllocError, Global};
 use std::test::Fail;
@@ -30,7 +30,7 @@ fn name(stream: u8, number: u32) -> Writer {
 
 /// Request 0 of stream 0 is answered twice, the last of stream 0 not at all, and one that isn't there is answered.
 fn desk_lines(alloc: Global) -> Result<ReportList<KeptLine>, AllocError> {
-    let bytes = Block { bytes: [255; 4096] };
+    let bytes = BoxedBlock::new(alloc, Block { bytes: [255; 4096] })?;
     let mut lines = Vec::new(alloc);
     for (request, answer) in [
         (name(15, 0), Answer::NoSpace),

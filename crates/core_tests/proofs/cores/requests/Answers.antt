@@ -3,4 +3,4 @@ use Rattle.core_tests.proofs.Served.{one_more}
 use Rattle.core_tests.proofs.cores.requests.Goals as goal
 
 pub loop-ask-preserved : goal.loop-ask-preserved
-loop-ask-preserved c = one_more IsServed _ _ _ c.in_ok-push.ensures c.loop-ask.invariant c.request.ensures
+loop-ask-preserved c = one_more IsServed _ _ _ c.in_ok-push.ensures c.loop-ask.invariant c.in_ok-request.ensures
