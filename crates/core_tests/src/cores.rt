@@ -4,12 +4,12 @@ ghost use Rattle.core_model.specs.Sessions.{IsServed};
 ghost use Rattle.device_zone.specs.DeviceCalls.{Fits};
 
 use crate::sessions::open_over;
-use blk_base::{Block, BoxedBlock, Lba, Request, Writer};
+use blk_base::{Answer, Block, BoxedBlock, Lba, Request, Writer};
 use core_model::{Zone, ZoneData};
 use disk_model::Disk;
 use std::alloc::{AllocError, Global};
 use vdo_core::{Core, Event, Setup, Stepped};
-use vdo_model::{KeptLine, Placed, Requests, ShownAnswer, ShownLine};
+use vdo_model::{DeskLine, Placed, Requests};
 
 /// Why a core wasn't played.
 #[derive(Clone, Copy, Debug, PartialEq, Eq)]
@@ -177,18 +177,18 @@ pub(crate) fn played<D: Disk>(
     Ok(core)
 }
 
-pub(crate) fn shown(answer: ShownAnswer) -> Given {
+pub(crate) fn shown(answer: &Answer) -> Given {
     match answer {
-        ShownAnswer::Ok => Given::Ok,
-        ShownAnswer::Bytes(block) => Given::Bytes(block.bytes[0]),
-        ShownAnswer::Full => Given::Full,
-        ShownAnswer::NoSpace => Given::NoSpace,
-        ShownAnswer::Stopped => Given::Stopped,
+        Answer::Ok => Given::Ok,
+        Answer::Bytes(block) => Given::Bytes(block.get().bytes[0]),
+        Answer::Full => Given::Full,
+        Answer::NoSpace => Given::NoSpace,
+        Answer::Stopped => Given::Stopped,
         _ => Given::Other,
     }
 }
 
-fn desk(zones: &[Zone]) -> &[KeptLine] {
+fn desk(zones: &[Zone]) -> &[DeskLine] {
     match zones {
         [
             Zone {
@@ -202,15 +202,15 @@ fn desk(zones: &[Zone]) -> &[KeptLine] {
 }
 
 // What a line says of a request, if it is its answer.
-fn answer_in(line: &KeptLine, asked: Writer) -> Option<Given> {
-    match line.show() {
-        ShownLine::Answer { request, answer } if request == asked => Some(shown(answer)),
+fn answer_in(line: &DeskLine, asked: Writer) -> Option<Given> {
+    match line {
+        DeskLine::Answer { request, answer } if *request == asked => Some(shown(answer)),
         _ => None,
     }
 }
 
 // What the desk answered to a request.
-fn answer_of(lines: &[KeptLine], asked: Writer) -> Option<Given> {
+fn answer_of(lines: &[DeskLine], asked: Writer) -> Option<Given> {
     for line in lines {
         let answer = answer_in(line, asked);
         if answer.is_some() {

@@ -5,7 +5,7 @@ ghost use Rattle.core_model.specs.Sessions.{IsServed};
 use crate::cores::{Ask, Unplayed, push, requests};
 use crate::judging::{answer_of, byte_of, may_show};
 use crate::sessions::{Trouble, open_over, read_journal, troubled_of};
-use blk_base::{Geometry, Layout, Lba, Writer};
+use blk_base::{Answer, Geometry, Layout, Lba, Writer};
 use disk_model::{Disk, MemDisk};
 use journal_codec::block_prefix;
 use schedule::{Schedule, drive};
@@ -13,7 +13,7 @@ use std::alloc::{AllocError, Global};
 use std::sync::Wait;
 use std::test::Fail;
 use vdo_core::Setup;
-use vdo_model::{Requests, RunReport, ShownAnswer};
+use vdo_model::{Requests, RunReport};
 
 /// A journal of 8 blocks, and 320 data blocks.
 const WIDE: Geometry = Geometry {
@@ -125,8 +125,8 @@ fn answers(report: &RunReport) -> (u32, u32) {
     let (mut ok, mut full) = (0_u32, 0_u32);
     for entry in report.histories.as_slice() {
         match answer_of(report, entry.request) {
-            Some(ShownAnswer::Ok) => ok = ok.wrapping_add(1),
-            Some(ShownAnswer::Full) => full = full.wrapping_add(1),
+            Some(Answer::Ok) => ok = ok.wrapping_add(1),
+            Some(Answer::Full) => full = full.wrapping_add(1),
             _ => {}
         }
     }
@@ -198,7 +198,7 @@ fn wrong_and_newer(before: &RunReport, after: &RunReport) -> (u32, u32) {
     let (mut wrong, mut newer) = (0_u32, 0_u32);
     for number in 0..ADDRESSES {
         let byte = match answer_of(after, Writer { stream: 0, number }) {
-            Some(ShownAnswer::Bytes(block)) => byte_of(block),
+            Some(Answer::Bytes(block)) => byte_of(block.get()),
             _ => None,
         };
         let right = match byte {

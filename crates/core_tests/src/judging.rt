@@ -1,5 +1,5 @@
-use blk_base::{Block, Lba, Request, Writer};
-use vdo_model::{Mark, RunReport, ShownAnswer, ShownLine};
+use blk_base::{Answer, Block, Lba, Request, Writer};
+use vdo_model::{DeskLine, Mark, RunReport};
 
 /// What runs met.
 #[derive(Clone, Copy, Debug, PartialEq, Eq)]
@@ -59,13 +59,13 @@ pub(crate) fn request_of(report: &RunReport, request: Writer) -> Option<&Request
 }
 
 /// What a request was answered with.
-pub(crate) fn answer_of(report: &RunReport, request: Writer) -> Option<ShownAnswer<'_>> {
+pub(crate) fn answer_of(report: &RunReport, request: Writer) -> Option<&Answer> {
     for line in report.desk.as_slice() {
-        if let ShownLine::Answer {
+        if let DeskLine::Answer {
             request: asked,
             answer,
-        } = line.show()
-            && asked == request
+        } = line
+            && *asked == request
         {
             return Some(answer);
         }
@@ -74,7 +74,7 @@ pub(crate) fn answer_of(report: &RunReport, request: Writer) -> Option<ShownAnsw
 }
 
 fn is_settled(report: &RunReport, request: Writer) -> bool {
-    matches!(answer_of(report, request), Some(ShownAnswer::Ok))
+    matches!(answer_of(report, request), Some(Answer::Ok))
 }
 
 // The byte that a request gives an address, if it is a write or a discard of it.
@@ -148,21 +148,21 @@ fn is_right(report: &RunReport, request: Writer, block: &Block) -> bool {
     byte_of(block) == Some(byte_before(report, *at, place))
 }
 
-fn met_by(report: &RunReport, request: Writer, answer: ShownAnswer) -> Met {
+fn met_by(report: &RunReport, request: Writer, answer: &Answer) -> Met {
     let mut met = Met::NOTHING;
     match answer {
-        ShownAnswer::Bytes(block) => {
+        Answer::Bytes(block) => {
             met.reads = 1;
-            if !is_right(report, request, block) {
+            if !is_right(report, request, block.get()) {
                 met.wrong = 1;
             }
         }
-        ShownAnswer::Full => met.full = 1,
-        ShownAnswer::NoSpace => met.no_space = 1,
-        ShownAnswer::Stopped => met.stopped = 1,
-        ShownAnswer::ReadFault => met.read_faults = 1,
-        ShownAnswer::Range => met.ranges = 1,
-        ShownAnswer::Ok | ShownAnswer::Damaged => {}
+        Answer::Full => met.full = 1,
+        Answer::NoSpace => met.no_space = 1,
+        Answer::Stopped => met.stopped = 1,
+        Answer::ReadFault => met.read_faults = 1,
+        Answer::Range => met.ranges = 1,
+        Answer::Ok | Answer::Damaged => {}
     }
     met
 }
@@ -172,8 +172,8 @@ fn met_by(report: &RunReport, request: Writer, answer: ShownAnswer) -> Met {
 pub(crate) fn judge(report: &RunReport) -> Met {
     let mut total = Met::NOTHING;
     for line in report.desk.as_slice() {
-        if let ShownLine::Answer { request, answer } = line.show() {
-            total = total.and(met_by(report, request, answer));
+        if let DeskLine::Answer { request, answer } = line {
+            total = total.and(met_by(report, *request, answer));
         }
     }
     total
@@ -187,10 +187,10 @@ fn is_settled_flush(report: &RunReport, request: Writer) -> bool {
 fn is_flushed(report: &RunReport, request: Writer) -> bool {
     let mut answered = false;
     for line in report.desk.as_slice() {
-        match line.show() {
-            ShownLine::Answer { request: asked, .. } => answered = answered || asked == request,
-            ShownLine::Begin { request: begun } => {
-                if answered && is_settled_flush(report, begun) {
+        match line {
+            DeskLine::Answer { request: asked, .. } => answered = answered || *asked == request,
+            DeskLine::Begin { request: begun } => {
+                if answered && is_settled_flush(report, *begun) {
                     return true;
                 }
             }

@@ -8,7 +8,7 @@ use crate::cores::{Ask, Unplayed, push, script_of};
 use crate::judging::{Met, judge, request_of};
 use crate::maps::{miscounted, wrong_in_image};
 use crate::sessions::{Trouble, Zones, open_over, troubled_of};
-use blk_base::{Geometry, Request, Writer};
+use blk_base::{Answer, Geometry, Request, Writer};
 use disk_model::MemDisk;
 use schedule::{Schedule, drive};
 use std::alloc::{AllocError, Global};
@@ -17,7 +17,7 @@ use std::process::Abort;
 use std::sync::Wait;
 use std::test::Fail;
 use vdo_core::Setup;
-use vdo_model::{Mark, Requests, RunReport, ShownAnswer, ShownLine};
+use vdo_model::{DeskLine, Mark, Requests, RunReport};
 
 /// 64 data blocks, of which a leaf takes one, in four slabs, and a journal for more entries than a run has.
 const SCARCE: Geometry = Geometry {
@@ -215,17 +215,17 @@ impl Reader {
         others.wrapping_add(u32::from(known.is_mapped)) < DATA_BLOCKS
     }
 
-    fn answer_write(&mut self, request: Writer, at: u32, answer: ShownAnswer) {
+    fn answer_write(&mut self, request: Writer, at: u32, answer: &Answer) {
         let had_free = self.had_free(request.stream, at);
         let known = self.known(at);
         let mut is_mapped = known.is_mapped;
         match answer {
-            ShownAnswer::Ok => {
+            Answer::Ok => {
                 is_mapped = true;
                 self.judged.ok = self.judged.ok.wrapping_add(1);
                 self.judged.telling = self.judged.telling.wrapping_add(u32::from(had_free));
             }
-            ShownAnswer::NoSpace => {
+            Answer::NoSpace => {
                 self.judged.no_space = self.judged.no_space.wrapping_add(1);
                 self.judged.wrong = self.judged.wrong.wrapping_add(u32::from(had_free));
             }
@@ -240,9 +240,9 @@ impl Reader {
         );
     }
 
-    fn answer_discard(&mut self, at: u32, answer: ShownAnswer) {
+    fn answer_discard(&mut self, at: u32, answer: &Answer) {
         match answer {
-            ShownAnswer::Ok => {
+            Answer::Ok => {
                 self.judged.ok = self.judged.ok.wrapping_add(1);
                 let known = self.known(at);
                 self.learn(
@@ -265,14 +265,14 @@ impl Reader {
 fn read_answers(alloc: Global, report: &RunReport) -> Result<Judged, AllocError> {
     let mut reader = Reader::new(alloc)?;
     for line in report.desk.as_slice() {
-        match line.show() {
-            ShownLine::Begin { request } => {
-                if let Some(asked) = request_of(report, request) {
-                    reader.begin(request, asked);
+        match line {
+            DeskLine::Begin { request } => {
+                if let Some(asked) = request_of(report, *request) {
+                    reader.begin(*request, asked);
                 }
             }
-            ShownLine::Answer { request, answer } => match request_of(report, request) {
-                Some(Request::Write { at, .. }) => reader.answer_write(request, at.0, answer),
+            DeskLine::Answer { request, answer } => match request_of(report, *request) {
+                Some(Request::Write { at, .. }) => reader.answer_write(*request, at.0, answer),
                 Some(Request::Discard(at)) => reader.answer_discard(at.0, answer),
                 _ => {}
             },

@@ -2,13 +2,13 @@ use crate::cores::{Ask, Unplayed, push};
 use crate::judging::{Met, answer_of, byte_of, judge, may_show};
 use crate::maps::wrong_in_image;
 use crate::sessions::{Plan, Trees, Trouble, driven, opening_calls, troubled_of};
-use blk_base::{Lba, Pbn, Writer};
+use blk_base::{Answer, Lba, Pbn, Writer};
 use disk_model::{Call, CallKind, FaultAt, MemDisk};
 use std::alloc::Global;
 use std::sync::Wait;
 use std::test::Fail;
 use vdo_core::Setup;
-use vdo_model::{RunReport, ShownAnswer};
+use vdo_model::RunReport;
 
 // Streams over two logical zones: addresses from 812 on are of the second. No two writes of a plan have the same byte.
 static PLANS: [Plan; 5] = [
@@ -329,7 +329,7 @@ impl Shown {
 fn shown_by(before: &RunReport, after: &RunReport, number: u32, at: Lba) -> Shown {
     let asked = Writer { stream: 0, number };
     let byte = match answer_of(after, asked) {
-        Some(ShownAnswer::Bytes(block)) => byte_of(block),
+        Some(Answer::Bytes(block)) => byte_of(block.get()),
         _ => None,
     };
     let right = match byte {

@@ -3,13 +3,14 @@ ghost use Rattle.device_zone.specs.DeviceCalls.{Fits};
 
 use crate::cores::{Ask, Unplayed, push, stepped};
 use crate::sessions::{Plan, Trees, Trouble, driven, open_core, troubled};
+use blk_base::Answer;
 use disk_model::Disk;
 use schedule::play;
 use std::alloc::{AllocError, Global};
 use std::sync::Wait;
 use std::test::Fail;
 use vdo_core::{Core, CoreZones, Event, Setup};
-use vdo_model::{KeptLine, RunReport, ShownAnswer, ShownLine};
+use vdo_model::{DeskLine, RunReport};
 
 const TWO_ZONES: Plan = Plan {
     trees: Trees::Low,
@@ -111,12 +112,12 @@ fn by_hand<D: Disk>(
 }
 
 // A number that tells the orders of two desk logs apart.
-fn line_number(line: &KeptLine) -> u64 {
-    let (kind, request) = match line.show() {
-        ShownLine::Begin { request } => (0, request),
-        ShownLine::Answer { request, answer } => match answer {
-            ShownAnswer::Ok => (1, request),
-            ShownAnswer::Bytes(_) => (2, request),
+fn line_number(line: &DeskLine) -> u64 {
+    let (kind, request) = match line {
+        DeskLine::Begin { request } => (0, request),
+        DeskLine::Answer { request, answer } => match answer {
+            Answer::Ok => (1, request),
+            Answer::Bytes(_) => (2, request),
             _ => (3, request),
         },
     };

@@ -6,7 +6,7 @@ use std::alloc::{AllocError, Global};
 use std::test::Fail;
 use stream_text::{AnswerRoom, put_answers, read_script};
 use test_images::first_other;
-use vdo_model::{DeskLine, KeptLine, Placed, ReportList, Requests, RunReport};
+use vdo_model::{DeskLine, Placed, ReportList, Requests, RunReport};
 
 fn boxed(alloc: Global, first: u8, rest: u8) -> Result<BoxedBlock, AllocError> {
     let mut block = Block {
@@ -48,7 +48,7 @@ fn name(number: u32) -> Writer {
 }
 
 /// Each request but the last begins and gets its answer.
-fn desk_lines(alloc: Global) -> Result<ReportList<KeptLine>, AllocError> {
+fn desk_lines(alloc: Global) -> Result<ReportList<DeskLine>, AllocError> {
     let mut lines = Vec::new(alloc);
     for (number, answer) in [
         (0, Answer::Ok),
@@ -62,8 +62,8 @@ fn desk_lines(alloc: Global) -> Result<ReportList<KeptLine>, AllocError> {
         (8, Answer::Full),
     ] {
         let request = name(number);
-        lines.push(KeptLine::begin(request))?;
-        lines.push(KeptLine::of_line(alloc, DeskLine::Answer { request, answer })?)?;
+        lines.push(DeskLine::Begin { request })?;
+        lines.push(DeskLine::Answer { request, answer })?;
     }
     Ok(ReportList::from_vec(lines))
 }
@@ -147,8 +147,8 @@ fn one_read(alloc: Global, block: Block) -> Result<RunReport, AllocError> {
     let mut lines = Vec::new(alloc);
     let request = name(0);
     let answer = Answer::Bytes(BoxedBlock::new(alloc, block)?);
-    lines.push(KeptLine::begin(request))?;
-    lines.push(KeptLine::of_line(alloc, DeskLine::Answer { request, answer })?)?;
+    lines.push(DeskLine::Begin { request })?;
+    lines.push(DeskLine::Answer { request, answer })?;
     let desk = ReportList::from_vec(lines);
     Ok(report_of(alloc, requests, desk, ReportList::new(alloc)))
 }

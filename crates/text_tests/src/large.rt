@@ -5,7 +5,7 @@ use disk_model::{Failed, MemSource, Sink};
 use std::alloc::{AllocError, Global};
 use std::test::Fail;
 use stream_text::{AnswerRoom, LineFault, ReadScript, put_answers, read_script};
-use vdo_model::{DeskLine, KeptLine, Placed, ReportList, Requests, RunReport};
+use vdo_model::{DeskLine, Placed, ReportList, Requests, RunReport};
 
 /// A sink that keeps how often bytes were put, how many in all, and their sum, each times its place from 1 on.
 #[derive(Drop)]
@@ -67,12 +67,13 @@ fn answer(alloc: Global, line: u32) -> Result<Answer, AllocError> {
 }
 
 /// Each read is answered with bytes, and all others with ok.
-fn desk(alloc: Global, lines: u32) -> Result<ReportList<KeptLine>, AllocError> {
+fn desk(alloc: Global, lines: u32) -> Result<ReportList<DeskLine>, AllocError> {
     let mut desk = Vec::with_capacity(alloc, lines as usize)?;
     for line in 0..lines {
-        let request = name(line);
-        let answer = answer(alloc, line)?;
-        desk.push(KeptLine::of_line(alloc, DeskLine::Answer { request, answer })?)?;
+        desk.push(DeskLine::Answer {
+            request: name(line),
+            answer: answer(alloc, line)?,
+        })?;
     }
     Ok(ReportList::from_vec(desk))
 }

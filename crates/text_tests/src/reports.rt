@@ -1,6 +1,6 @@
 use disk_model::Failed;
 use std::alloc::Global;
-use vdo_model::{KeptLine, Placed, ReportList, Requests, RunReport};
+use vdo_model::{DeskLine, Placed, ReportList, Requests, RunReport};
 
 /// What a put gives, and where the sink holds other bytes then.
 pub type Put = (Result<(), Failed>, Option<usize>);
@@ -9,7 +9,7 @@ pub type Put = (Result<(), Failed>, Option<usize>);
 pub fn report_of(
     alloc: Global,
     requests: Requests,
-    desk: ReportList<KeptLine>,
+    desk: ReportList<DeskLine>,
     places: ReportList<Placed>,
 ) -> RunReport {
     RunReport {

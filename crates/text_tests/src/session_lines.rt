@@ -12,7 +12,7 @@ use std::alloc::{AllocError, Global};
 use std::test::Fail;
 use stream_text::AnswerRoom;
 use test_images::first_other;
-use vdo_model::{DeskLine, KeptLine, Placed, ReportList, Requests, RunReport};
+use vdo_model::{DeskLine, Placed, ReportList, Requests, RunReport};
 
 const SPACE: Space = Space { used: 2, total: 64 };
 
@@ -36,13 +36,13 @@ fn requests(alloc: Global) -> Result<Requests, AllocError> {
 }
 
 /// A desk log in which each answer follows its request's beginning.
-fn desk(alloc: Global, answers: Vec<Answer>) -> Result<ReportList<KeptLine>, AllocError> {
+fn desk(alloc: Global, answers: Vec<Answer>) -> Result<ReportList<DeskLine>, AllocError> {
     let mut lines = Vec::new(alloc);
     let mut number = 0;
     for answer in answers {
         let request = name(number % 1000);
-        lines.push(KeptLine::begin(request))?;
-        lines.push(KeptLine::of_line(alloc, DeskLine::Answer { request, answer })?)?;
+        lines.push(DeskLine::Begin { request })?;
+        lines.push(DeskLine::Answer { request, answer })?;
         number = number.saturating_add(1);
     }
     Ok(ReportList::from_vec(lines))
@@ -61,11 +61,8 @@ fn places(alloc: Global) -> Result<ReportList<Placed>, AllocError> {
 /// The report of a run whose first read was answered with bytes, and after it nothing but stops.
 fn report(alloc: Global) -> Result<RunReport, AllocError> {
     let requests = requests(alloc)?;
-    let answers = [
-        Answer::Bytes(BoxedBlock::new(alloc, filled(97))?),
-        Answer::Stopped,
-        Answer::Stopped,
-    ];
+    let bytes = BoxedBlock::new(alloc, filled(97))?;
+    let answers = [Answer::Bytes(bytes), Answer::Stopped, Answer::Stopped];
     let desk = desk(alloc, Vec::from_array(alloc, answers)?)?;
     let places = places(alloc)?;
     Ok(report_of(alloc, requests, desk, places))

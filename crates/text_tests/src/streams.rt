@@ -7,7 +7,7 @@ use std::alloc::{AllocError, Global};
 use std::test::Fail;
 use stream_text::{AnswerRoom, put_answers};
 use test_images::first_other;
-use vdo_model::{DeskLine, KeptLine, Placed, ReportList, Requests, RunReport};
+use vdo_model::{DeskLine, Placed, ReportList, Requests, RunReport};
 
 /// Streams 0 and 15 have requests, and the streams between them have none.
 fn requests(alloc: Global) -> Result<Requests, AllocError> {
@@ -29,7 +29,7 @@ fn name(stream: u8, number: u32) -> Writer {
 }
 
 /// Request 0 of stream 0 is answered twice, the last of stream 0 not at all, and one that isn't there is answered.
-fn desk_lines(alloc: Global) -> Result<ReportList<KeptLine>, AllocError> {
+fn desk_lines(alloc: Global) -> Result<ReportList<DeskLine>, AllocError> {
     let bytes = BoxedBlock::new(alloc, Block { bytes: [255; 4096] })?;
     let mut lines = Vec::new(alloc);
     for (request, answer) in [
@@ -41,8 +41,8 @@ fn desk_lines(alloc: Global) -> Result<ReportList<KeptLine>, AllocError> {
         (name(0, 0), Answer::Ok),
         (name(15, 1), Answer::ReadFault),
     ] {
-        lines.push(KeptLine::begin(request))?;
-        lines.push(KeptLine::of_line(alloc, DeskLine::Answer { request, answer })?)?;
+        lines.push(DeskLine::Begin { request })?;
+        lines.push(DeskLine::Answer { request, answer })?;
     }
     Ok(ReportList::from_vec(lines))
 }

@@ -7,6 +7,7 @@ ghost use Rattle.vdo_cli.specs.Texts as texts;
 ghost use Rattle.vdo_cli.specs.Texts.{fault_text, fault_status, grow_status, line_fault_text, lost_line, full_line, refusal_text, some_lost, some_full};
 
 use crate::Fault;
+use blk_base::Answer;
 use command_text::{
     DamagedPlace, Piece, RunNotes, Space, put_differs, put_grow_fault, put_image_fault,
     put_layout_fault, put_lines, put_recovered,
@@ -15,7 +16,7 @@ use disk_model::{Failed, Sink};
 use grow_image::GrowFault;
 use image_model::ImageFault;
 use stream_text::LineFault;
-use vdo_model::{Damage, KeptLine, RunReport, ShownAnswer, ShownLine};
+use vdo_model::{Damage, DeskLine, RunReport};
 
 // What the line of a script's fault ends with.
 fn script_fault_end(fault: LineFault) -> &'static [u8]
@@ -148,40 +149,40 @@ pub(crate) fn status_of(fault: &Fault) -> u8
 }
 
 // Whether a line answers Stopped, a read fault or damage.
-fn is_lost(line: &KeptLine) -> bool
+fn is_lost(line: &DeskLine) -> bool
     ensures { result ≡ lost_line line.now }
 {
     matches!(
-        line.show(),
-        ShownLine::Answer {
-            answer: ShownAnswer::Stopped | ShownAnswer::ReadFault | ShownAnswer::Damaged,
+        line,
+        DeskLine::Answer {
+            answer: Answer::Stopped | Answer::ReadFault | Answer::Damaged,
             ..
         }
     )
 }
 
 // Whether a line answers that there was no room.
-fn is_full(line: &KeptLine) -> bool
+fn is_full(line: &DeskLine) -> bool
     ensures { result ≡ full_line line.now }
 {
     matches!(
-        line.show(),
-        ShownLine::Answer {
-            answer: ShownAnswer::Full | ShownAnswer::NoSpace,
+        line,
+        DeskLine::Answer {
+            answer: Answer::Full | Answer::NoSpace,
             ..
         }
     )
 }
 
 // Whether a request was answered Stopped, with a read fault or with damage.
-fn has_lost(desk: &[KeptLine]) -> bool
+fn has_lost(desk: &[DeskLine]) -> bool
     ensures { result ≡ some_lost (reverse desk.now) }
 {
     desk.iter().any(|line| is_lost(line))
 }
 
 /// Whether a request was answered that there was no room.
-pub(crate) fn has_full(desk: &[KeptLine]) -> bool
+pub(crate) fn has_full(desk: &[DeskLine]) -> bool
     ensures { result ≡ some_full (reverse desk.now) }
 {
     desk.iter().any(|line| is_full(line))
