@@ -1,9 +1,9 @@
 ghost use Rattle.std.specs.Prelude.{◌≡◌, ◌≤◌, length, reverse};
 ghost use Rattle.std.specs.List.{sum};
-ghost use Rattle.vdo_model.specs.KeptLines.{shown_answer};
 ghost use Rattle.command_text.specs.Tallies.{with_answer, with_line, tally_of, HasRoom, GrowsLittle};
 
-use vdo_model::{KeptLine, ShownAnswer, ShownLine};
+use blk_base::Answer;
+use vdo_model::DeskLine;
 
 /// How the requests of a run were answered.
 #[derive(Clone, Copy, Debug, PartialEq, Eq)]
@@ -29,40 +29,37 @@ fn byte_sum(bytes: &[u8]) -> u128
 }
 
 impl Tally {
-    fn count_answer(self, answer: ShownAnswer) -> Tally
+    fn count_answer(self, answer: &Answer) -> Tally
         requires { HasRoom self }
-        ensures counted { result ≡ with_answer (shown_answer answer.entry) self }
+        ensures counted { result ≡ with_answer answer.now self }
         ensures little { GrowsLittle self result }
     {
         let mut counted = self;
         match answer {
-            ShownAnswer::Ok => counted.ok += 1,
-            ShownAnswer::Bytes(block) => {
+            Answer::Ok => counted.ok += 1,
+            Answer::Bytes(block) => {
                 counted.ok += 1;
-                counted.read_sum += byte_sum(&block.bytes);
+                counted.read_sum += byte_sum(&block.get().bytes);
             }
-            ShownAnswer::NoSpace | ShownAnswer::Full => counted.no_space += 1,
-            ShownAnswer::Range
-            | ShownAnswer::ReadFault
-            | ShownAnswer::Stopped
-            | ShownAnswer::Damaged => {}
+            Answer::NoSpace | Answer::Full => counted.no_space += 1,
+            Answer::Range | Answer::ReadFault | Answer::Stopped | Answer::Damaged => {}
         }
         counted
     }
 
-    fn count_line(self, line: &KeptLine) -> Tally
+    fn count_line(self, line: &DeskLine) -> Tally
         requires { HasRoom self }
         ensures counted { result ≡ with_line line.now self }
         ensures little { GrowsLittle self result }
     {
-        match line.show() {
-            ShownLine::Begin { .. } => self,
-            ShownLine::Answer { answer, .. } => self.count_answer(answer),
+        match line {
+            DeskLine::Begin { .. } => self,
+            DeskLine::Answer { answer, .. } => self.count_answer(answer),
         }
     }
 
     /// How the requests of a desk log were answered, of which the oldest line stands first.
-    pub fn of_desk(desk: &[KeptLine]) -> Tally
+    pub fn of_desk(desk: &[DeskLine]) -> Tally
         ensures { result ≡ tally_of (reverse desk.now) }
     {
         let mut tally = Tally {
