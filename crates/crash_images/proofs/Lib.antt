@@ -6,6 +6,7 @@ pub mod CopyRows
 pub mod MapRows
 pub mod ValueRows
 pub mod SearchLaws
+pub mod LeafLaws
 pub mod CutLaws
 pub mod SoundAudits
 pub mod AuditedValues

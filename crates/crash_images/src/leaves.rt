@@ -1,10 +1,15 @@
-ghost use Rattle.std.specs.Prelude.{◌≡◌, ◌<◌};
+ghost use Rattle.std.specs.Prelude.{◌≡◌, ◌<◌, IfOk};
+ghost use Rattle.std.specs.BTreeMap.{get};
+ghost use Rattle.blk_base.specs.Pages.{page_order};
+ghost use Rattle.blk_base.specs.declared.place.PageId.{PageId as Page};
 ghost use Rattle.blk_base.specs.declared.sizes.TheConstants.{PAGE_SLOTS as SLOTS};
 ghost use Rattle.image_model.specs.Pages.{leaf_of, slot_of_address};
 ghost use Rattle.crash_images.specs.Values.{LinkTo};
 
 use blk_base::{Lba, PAGE_SLOTS, PageId, Pbn, TREES};
 use replay_map::Link;
+use std::alloc::{AllocError, Global};
+use std::collections::BTreeMap;
 
 // The leaf of an address.
 pub(crate) fn leaf_of(at: Lba) -> PageId
@@ -36,4 +41,16 @@ pub(crate) fn find_block(links: &[Link], page: PageId) -> Option<Pbn>
         }
     }
     None
+}
+
+// The blocks at which the pages of these links stand. It goes over them once.
+pub(crate) fn blocks_of(alloc: Global, links: &[Link]) -> Result<BTreeMap<PageId, Pbn>, AllocError>
+    ensures { IfOk result (λ blocks.
+        (page : Page) → LinkTo links.now page (get page_order blocks page)) }
+{
+    let mut blocks = BTreeMap::new(alloc);
+    for link in links {
+        blocks.insert(link.page, link.at)?;
+    }
+    Ok(blocks)
 }

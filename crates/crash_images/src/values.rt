@@ -8,7 +8,7 @@ ghost use Rattle.image_model.specs.Windows.{LeadsToData};
 ghost use Rattle.crash_images.specs.Maps.{Fits, OfMap};
 ghost use Rattle.crash_images.specs.Values.{AreRefused, IsNoDamage, IsRefused, LinkTo, address_of, value_in};
 
-use crate::leaves::{find_block, leaf_of, slot_of_address};
+use crate::leaves::{blocks_of, find_block, leaf_of, slot_of_address};
 use crate::{ImageMap, ValueFault};
 use blk_base::{Block, Lba, Mapping, Mappings, Pbn};
 use command_text::AddressValue;
@@ -17,7 +17,8 @@ use page_codec::PageHead;
 use replay_map::read_page;
 use std::alloc::Global;
 
-/// The bytes at each of these addresses, as [`value_at`] reads them, in their order. Nothing is written.
+/// The bytes at each of these addresses, as [`value_at`] reads them, in their order. It goes over the linked pages once.
+/// Nothing is written.
 ///
 /// It fails with the first fault that is found, and with `Memory` only for want of memory, before any read.
 pub fn values_of<D: Disk>(
@@ -38,11 +39,15 @@ pub fn values_of<D: Disk>(
         OfMap D.tells D.honest (D.seen device.old) found.now (λ image. IsNoDamage why)) }
     ensures untouched { IsUntouched D.tells (D.seen device.old) (D.seen device.new) }
 {
+    let Ok(blocks) = blocks_of(alloc, &found.pages.links) else {
+        return Err(ValueFault::Memory);
+    };
     let Ok(mut values) = Vec::with_capacity(alloc, addresses.len()) else {
         return Err(ValueFault::Memory);
     };
     for at in addresses {
-        let block = value_at(device, found, *at)?;
+        let leaf = blocks.get(&leaf_of(*at)).copied();
+        let block = read_value(device, found, leaf, *at)?;
         values.push_reserved(AddressValue { at: *at, block });
     }
     Ok(values)
@@ -66,7 +71,30 @@ pub fn value_at<D: Disk>(device: &mut D, found: &ImageMap, at: Lba) -> Result<Bl
         OfMap D.tells D.honest (D.seen device.old) found.now (λ image. IsNoDamage why)) }
     ensures untouched { IsUntouched D.tells (D.seen device.old) (D.seen device.new) }
 {
-    let mapping = read_mapping(device, found, at)?;
+    let leaf = find_block(&found.pages.links, leaf_of(at));
+    read_value(device, found, leaf, at)
+}
+
+// The same, by the block at which the leaf of the address stands, where that is linked.
+fn read_value<D: Disk>(
+    device: &mut D,
+    found: &ImageMap,
+    leaf: Option<Pbn>,
+    at: Lba,
+) -> Result<Block, ValueFault>
+    requires fits { Fits found.now }
+    requires room { needed_blocks found.now.head.geometry ≤ (D.seen device.old).size }
+    requires leaf { LinkTo found.now.pages.links.items (leaf_of at.0) leaf }
+    ensures value { IfOk result (λ block.
+        OfMap D.tells D.honest (D.seen device.old) found.now
+        (λ image. block ≡ value_of image at.0)) }
+    ensures refused { IfErr result
+        (IsRefused found.now at.0 (D.seen device.old) (D.seen device.new)) }
+    ensures undamaged { IfErr result (λ why.
+        OfMap D.tells D.honest (D.seen device.old) found.now (λ image. IsNoDamage why)) }
+    ensures untouched { IsUntouched D.tells (D.seen device.old) (D.seen device.new) }
+{
+    let mapping = read_mapping(device, found, leaf, at)?;
     match read_mapped(device, found, mapping) {
         Ok(block) => Ok(block),
         Err(Failed) => Err(ValueFault::Device),
@@ -74,9 +102,15 @@ pub fn value_at<D: Disk>(device: &mut D, found: &ImageMap, at: Lba) -> Result<Bl
 }
 
 // What an address is mapped to: its leaf is read, where it is linked.
-fn read_mapping<D: Disk>(device: &mut D, found: &ImageMap, at: Lba) -> Result<Mapping, ValueFault>
+fn read_mapping<D: Disk>(
+    device: &mut D,
+    found: &ImageMap,
+    leaf: Option<Pbn>,
+    at: Lba,
+) -> Result<Mapping, ValueFault>
     requires fits { Fits found.now }
     requires room { needed_blocks found.now.head.geometry ≤ (D.seen device.old).size }
+    requires leaf { LinkTo found.now.pages.links.items (leaf_of at.0) leaf }
     ensures mapping { IfOk result (λ mapping.
         OfMap D.tells D.honest (D.seen device.old) found.now
         (λ image. mapping ≡ mapping_of image at.0)) }
@@ -87,7 +121,7 @@ fn read_mapping<D: Disk>(device: &mut D, found: &ImageMap, at: Lba) -> Result<Ma
         OfMap D.tells D.honest (D.seen device.old) found.now (λ image. IsNoDamage why)) }
     ensures untouched { IsUntouched D.tells (D.seen device.old) (D.seen device.new) }
 {
-    match find_block(&found.pages.links, leaf_of(at)) {
+    match leaf {
         Some(leaf) => read_slot(device, found, at, leaf),
         None => Ok(Mapping::Unmapped),
     }
