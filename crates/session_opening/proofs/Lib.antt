@@ -1,4 +1,5 @@
 pub mod PlaceLaws
+pub mod BelowLaws
 pub mod PageLaws
 pub mod ListedLaws
 pub mod StartLaws

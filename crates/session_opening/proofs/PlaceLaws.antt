@@ -1,20 +1,16 @@
 -- Where linked pages stand, link by link.
-use Rattle.std.proofs.Common.{ℕ, suc, ◌≡◌, ◌⊎◌, ◌+◌, ◌<◌, ◌==◌, ◌&&◌, cond, Bool, true, false, not, Option, Some, None, IsSome, List, [], ◌∷◌, ◌++◌, All, length, reverse, take, get_or, Contains, slice_index_or, slice_set, refl, sym, ◌∙◌, ap, ap₂, subst, inl, inr, arith}
+use Rattle.std.proofs.Common.{ℕ, suc, ◌≡◌, ◌⊎◌, ◌+◌, ◌<◌, ◌==◌, ◌&&◌, cond, Bool, true, false, not, Option, Some, None, IsSome, List, [], ◌∷◌, ◌++◌, All, length, reverse, take, get_or, Contains, slice_index_or, refl, sym, ◌∙◌, ap, ap₂, subst, inl, inr, arith}
 use Rattle.std.specs.BTreeMap.{get}
 use Rattle.std.specs.Cmp.{unsigned_ties}
 use Rattle.std.specs.Option.{is_some}
 use Rattle.std.specs.Ordering.{nat_cmp, ordering_then, is_eq}
-use Rattle.std.proofs.lemmas.Bool.{cases_lt}
 use Rattle.std.proofs.lemmas.Cmp.{nat_eq_equiv}
 use Rattle.std.proofs.lemmas.List.{take_more}
-use Rattle.std.proofs.lemmas.List.{get_or-set_same, get_or-set_other, reverse-append}
+use Rattle.std.proofs.lemmas.List.{reverse-append}
 use Rattle.std.proofs.lemmas.List.Elements.{Contains-append_left, Contains-append_right, Contains-append_cases, Contains-get_or}
 use Rattle.std.proofs.lemmas.List.Quantifiers.{all_pairs_push}
-use Rattle.blk_base.specs.declared.place.Mapping.{Mapping}
-use Rattle.blk_base.specs.declared.place.Mapping.TheVariants.{Unmapped}
 use Rattle.blk_base.specs.declared.place.PageId.{PageId}
 use Rattle.blk_base.specs.declared.place.Pbn.{Pbn}
-use Rattle.blk_base.specs.declared.sizes.TheConstants.{PAGE_SLOTS}
 use Rattle.blk_base.specs.Pages.{page_order}
 use Rattle.image_model.proofs.CountLaws.{is_first_or_behind, none_in_nothing}
 use Rattle.image_model.specs.Pages.{is_page}
@@ -22,7 +18,7 @@ use Rattle.replay_map.proofs.OwnLaws.{page_tells}
 use Rattle.replay_map.specs.declared.links.Link.{Link}
 use Rattle.replay_map.proofs.ChangeLaws.{both, apart_of}
 use Rattle.session_opening.specs.declared.places.Places.{Places}
-use Rattle.session_opening.specs.Places.{AreInner, AreLeading, ArePlaces, LeadsTo, block_by}
+use Rattle.session_opening.specs.Places.{AreInner, ArePlaces, block_by}
 
 -- The order of pages.
 
@@ -164,26 +160,6 @@ none_placed places empty none = record {
 
 pub inner_levels : (links : List Link) (places : Places) → ArePlaces links places → All (λ (link : Link). 0 < link.page.level) places.inner.items
 inner_levels links places are k d inside = (are.inner.each (slice_index_or places.inner.items k d) (Contains-get_or places.inner.items k d inside)).0
-
--- Slots.
-
-pub leading_more : (links : List Link) (page : PageId) (slot : ℕ) (old new : List Mapping) (mapping : Mapping) → slot < PAGE_SLOTS → AreLeading links page slot old
-    → new ≡ slice_set old slot mapping → length new ≡ PAGE_SLOTS → LeadsTo links page slot mapping → AreLeading links page (slot + 1) new
-leading_more links page slot old new mapping inside were grown size here = record {
-  size = size;
-  each = λ i below. elim (cases_lt i slot) [
-    | inl earlier ↦
-        subst (LeadsTo links page i)
-        (sym (ap (λ (ms : List Mapping). slice_index_or ms i Unmapped) grown ∙ get_or-set_other old slot i mapping Unmapped (λ same. absurd (omega (arith, earlier, same)))))
-        (were.each i earlier)
-    | inr most ↦
-        let same : slot ≡ i = omega (arith, most, below) in
-        let old_size = were.size in
-        subst (λ (n : ℕ). LeadsTo links page n (slice_index_or new n Unmapped)) same
-        (subst (LeadsTo links page slot)
-        (sym (ap (λ (ms : List Mapping). slice_index_or ms slot Unmapped) grown ∙ get_or-set_same old slot mapping Unmapped (omega (arith, inside, old_size)))) here)
-  ];
-}
 
 -- what an insertion gave back, and whether it was nothing
 pub nothing_back : (o : Option Pbn) (fresh : Bool) → is_some o ≡ not fresh → fresh ≡ true → o ≡ None

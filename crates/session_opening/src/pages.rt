@@ -4,8 +4,8 @@ ghost use Rattle.replay_map.specs.declared.links.Link.{Link as Linked};
 ghost use Rattle.session_opening.specs.Pages.{AreAdded, ArePages, roots_below};
 ghost use Rattle.session_opening.specs.Places.{ArePlaces, AreLeading};
 
-use crate::places::{Places, mapping_below, places_of};
-use blk_base::{Layout, Mappings, OpenedPage, PAGE_SLOTS, PageId, TREES};
+use crate::places::{Places, places_of};
+use blk_base::{Layout, Mapping, Mappings, OpenedPage, PAGE_SLOTS, PageId, TREES};
 use replay_map::Link;
 use std::alloc::{AllocError, Global};
 
@@ -66,15 +66,25 @@ fn push_page(pages: &mut Vec<OpenedPage>, places: &Places, link: Link) -> Result
     Ok(())
 }
 
-// The mappings of a page that is no leaf.
+// The mappings of a page that is no leaf. One search finds the linked pages below it.
 fn mappings_of(places: &Places, page: PageId) -> Mappings
     requires { 0 < page.level }
     ensures { (links : List Linked) → ArePlaces links places.now →
         AreLeading links page PAGE_SLOTS result }
 {
     let mut mappings = Mappings::new();
-    for slot in 0..PAGE_SLOTS {
-        mappings.set(slot, mapping_below(places, page, slot));
+    // Pages have numbers of 32 bits, and there is none for a page below this one.
+    if page.index > u32::MAX / u32::from(PAGE_SLOTS) {
+        return mappings;
+    }
+    let first = page.child(0);
+    let last = PageId {
+        tree: first.tree,
+        level: first.level,
+        index: first.index.saturating_add(u32::from(PAGE_SLOTS - 1)),
+    };
+    for (below, at) in places.blocks.range(first..=last) {
+        mappings.set(below.parent_slot(), Mapping::At(*at));
     }
     mappings
 }

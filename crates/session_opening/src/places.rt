@@ -1,9 +1,8 @@
-ghost use Rattle.std.specs.Prelude.{◌<◌, ◌∷◌, List, reverse, IfOk, OnOk};
-ghost use Rattle.blk_base.specs.declared.sizes.TheConstants.{PAGE_SLOTS};
+ghost use Rattle.std.specs.Prelude.{◌∷◌, List, reverse, IfOk, OnOk};
 ghost use Rattle.replay_map.specs.declared.links.Link.{Link as Page};
-ghost use Rattle.session_opening.specs.Places.{ArePlaces, LeadsTo};
+ghost use Rattle.session_opening.specs.Places.{ArePlaces};
 
-use blk_base::{Mapping, PAGE_SLOTS, PageId, Pbn};
+use blk_base::{PageId, Pbn};
 use replay_map::Link;
 use std::alloc::{AllocError, Global};
 use std::collections::BTreeMap;
@@ -41,20 +40,4 @@ fn add(places: &mut Places, link: Link) -> Result<(), AllocError>
         places.inner.push(link)?;
     }
     Ok(())
-}
-
-// Where a slot of a page that is no leaf leads.
-pub(crate) fn mapping_below(places: &Places, page: PageId, slot: u16) -> Mapping
-    requires inner { 0 < page.level }
-    requires inside { slot < PAGE_SLOTS }
-    ensures { (links : List Page) → ArePlaces links places.now → LeadsTo links page slot result }
-{
-    let index = u64::from(page.index) * u64::from(PAGE_SLOTS) + u64::from(slot);
-    if index > u64::from(u32::MAX) {
-        return Mapping::Unmapped;
-    }
-    match places.blocks.get(&page.child(slot)) {
-        Some(at) => Mapping::At(*at),
-        None => Mapping::Unmapped,
-    }
 }
