@@ -3,6 +3,8 @@ ghost use Rattle.blk_base.specs.declared.request.Answer.{Answer as Given};
 ghost use Rattle.blk_base.specs.declared.request.Answer.TheVariants.{NoSpace as Lacking, Ok as Done};
 ghost use Rattle.vdo_model.specs.DeskLog.{answered, begun};
 ghost use Rattle.vdo_model.specs.declared.report.DeskLine.TheVariants.{Answer as Answered, Begin};
+ghost use Rattle.vdo_model.specs.Scripts.{request_at, value_written};
+ghost use Rattle.data_vio.specs.Beginnings.{under_way};
 ghost use Rattle.core_model.specs.DeskRules.{mark_of_vio, receipt_of_vio, receipt_step};
 ghost use Rattle.core_model.specs.Limits.{HasRoomToBegin};
 ghost use Rattle.core_model.specs.SessionLimits.{most_requests, most_streams, most_under_way, reads_in, requests_in};
@@ -13,7 +15,7 @@ use crate::counts::StreamCounts;
 use crate::scripts::{count_reads, count_requests};
 use blk_base::{Answer, Block, Lba, Mapping, Writer, ZoneId};
 use data_vio::{
-    AnswerBoxes, Asks, BoxedVio, Fifo, HeldTickets, LANE_ROOM, MOST_UNDER_WAY, Phase, Vio,
+    AnswerBoxes, Asks, Begun, BoxedVio, Fifo, HeldTickets, LANE_ROOM, MOST_UNDER_WAY, Phase, Vio,
 };
 use slab_counts::Receipt;
 use std::alloc::{AllocError, Global};
@@ -213,18 +215,20 @@ impl Desk {
         self.notices
     }
 
-    /// A request is begun, as it is under way.
-    pub fn begin(&mut self, vio: Vio) -> BoxedVio
-        requires { HasRoomToBegin self.old }
-        ensures desk { self.new ≡ record self.old { log = Begin vio.request ∷ self.old.log } }
-        ensures vio { result ≡ vio }
+    /// A request of the script is begun, as it is under way: it has the bytes that it asks to write.
+    pub fn begin(&mut self, begun: Begun) -> BoxedVio
+        requires room { HasRoomToBegin self.old }
+        requires known { IsSome (request_at self.old.requests begun.request) }
+        ensures desk { self.new ≡ record self.old { log = Begin begun.request ∷ self.old.log } }
+        ensures vio { result ≡ under_way begun (value_written (request_at self.old.requests begun.request)) }
     {
         let Some(mut boxed) = self.spare.pop() else {
             unreachable!();
         };
-        let request = vio.request;
-        self.begun.raise(vio.request.stream);
-        boxed.put(vio);
+        let request = begun.request;
+        self.begun.raise(request.stream);
+        let requests = self.requests.stream(request.stream);
+        boxed.begin(begun, &requests[request.number as usize]);
         self.lines.push_reserved(DeskLine::Begin { request });
         boxed
     }

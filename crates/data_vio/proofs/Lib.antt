@@ -1,1 +1,2 @@
 mod RoomRows
+mod BeginningRows

@@ -3,3 +3,4 @@ pub mod Held
 pub mod Phases
 pub mod Vios
 pub mod AnswerRooms
+pub mod Beginnings

@@ -1,11 +1,14 @@
 ghost use Rattle.std.specs.Prelude.{◌≡◌, ◌≤◌, ◌<◌, ◌+◌, ◌∷◌, [], None, Some, IfOk, IfSome, IfNone, IsSome, length};
 ghost use Rattle.blk_base.specs.declared.request.Answer.TheVariants as reply;
 ghost use Rattle.data_vio.specs.declared.items.Phase.TheVariants as phase;
+ghost use Rattle.blk_base.specs.Sectors.{zero_block};
+ghost use Rattle.vdo_model.specs.Scripts.{value_written};
 ghost use Rattle.data_vio.specs.AnswerRooms.{HasRoom, blocks_of};
+ghost use Rattle.data_vio.specs.Beginnings.{under_way};
 ghost use Rattle.data_vio.specs.Vios.{claiming, ended, entry_of, gives_up, has_leaf, holding, logged, made, makes, reads_leaf, refused, remapping, turned, withdrawing};
 
-use crate::{AnswerBoxes, Logged, NewPage, Phase, Remapping, Vio};
-use blk_base::{Answer, Block, BoxedBlock, Entry, Mapping, PageId, Pbn};
+use crate::{AnswerBoxes, Begun, HeldTickets, Logged, NewPage, Phase, Remapping, Vio};
+use blk_base::{Answer, Block, BoxedBlock, Entry, Mapping, PageId, Pbn, Request};
 use slab_counts::{Claim, Receipt, Ticket};
 use std::alloc::{AllocError, Global};
 use std::marker::Model;
@@ -40,6 +43,24 @@ fn free(answer: Option<Answer>, room: &mut Option<BoxedBlock>)
     }
 }
 
+// Each byte becomes 0, where the block stands.
+#[tactic(auto, unfolding(blk_base::specs::Sectors::zero_block))]
+fn clear(block: &mut Block)
+    ensures { block.new ≡ zero_block }
+{
+    block.bytes = [0; 4096];
+}
+
+// The bytes that a request begins with: those of a write, and zeros for the others.
+fn fill(block: &mut Block, asked: &Request)
+    ensures { block.new ≡ value_written (Some asked.now) }
+{
+    match asked {
+        Request::Write { block: written, .. } => block.copy_from(written.get()),
+        Request::Read(_) | Request::Discard(_) | Request::Flush => clear(block),
+    }
+}
+
 impl BoxedVio {
     /// A box with this request.
     pub fn new(alloc: Global, vio: Vio) -> Result<BoxedVio, AllocError>
@@ -59,12 +80,28 @@ impl BoxedVio {
         &self.vio
     }
 
-    /// Another request in the same box.
-    pub fn put(&mut self, vio: Vio)
-        ensures { self.new ≡ vio }
+    /// Another request begins in the same box, with the bytes that it asks to write.
+    pub fn begin(&mut self, begun: Begun, asked: &Request)
+        ensures { self.new ≡ under_way begun (value_written (Some asked.now)) }
     {
         free(self.vio.answer.take(), &mut self.room);
-        *self.vio = vio;
+        let vio = &mut *self.vio;
+        vio.request = begun.request;
+        vio.asks = begun.asks;
+        vio.at = begun.at;
+        vio.home = begun.home;
+        vio.phase = begun.phase;
+        vio.page = None;
+        vio.leaf = None;
+        fill(&mut vio.bytes, asked);
+        vio.place = 0;
+        vio.old = Mapping::Unmapped;
+        vio.latest = None;
+        vio.new = Mapping::Unmapped;
+        vio.claim = None;
+        vio.tickets = HeldTickets::new();
+        vio.receipt = None;
+        vio.calls = 0;
     }
 
     /// It goes on to another phase.

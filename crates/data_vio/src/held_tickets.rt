@@ -4,7 +4,7 @@ use slab_counts::Ticket;
 use std::marker::Model;
 
 /// The tickets that a request holds, the oldest first: four at most, since there are no more physical zones. It needs no room
-/// but its own, so that a request is written to its box as a whole.
+/// but its own.
 #[derive(Drop)]
 pub struct HeldTickets {
     // What stands behind one that isn't there counts for nothing.

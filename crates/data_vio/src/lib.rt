@@ -2,12 +2,13 @@
 //! which zones keep such boxes.
 //!
 //! `specs/Phases` has a line for each phase, `specs/Zones` the zones by their names and numbers, `specs/Vios` what becomes
-//! of a request, `specs/AnswerRooms` where the bytes of its answer stand.
+//! of a request, `specs/Beginnings` how it begins, `specs/AnswerRooms` where the bytes of its answer stand.
 //!
 //! Only tested: as part of the core.
 #![tactic(auto)]
 
 mod answer_boxes;
+mod begun;
 mod boxed;
 mod fifo;
 mod held_tickets;
@@ -18,6 +19,7 @@ mod register;
 mod sizes;
 
 pub use answer_boxes::AnswerBoxes;
+pub use begun::Begun;
 pub use boxed::BoxedVio;
 pub use fifo::Fifo;
 pub use held_tickets::HeldTickets;

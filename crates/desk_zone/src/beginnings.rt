@@ -1,4 +1,4 @@
-ghost use Rattle.std.specs.Prelude.{◌≡◌, ◌<◌, ◌+◌, ◌∷◌, [], ℕ, IsTrue, IfSome, IfNone, false, length};
+ghost use Rattle.std.specs.Prelude.{◌≡◌, ◌<◌, ◌+◌, ◌∷◌, [], ℕ, None, Some, IsTrue, IfSome, IfNone, IsSome, false, length};
 ghost use Rattle.vdo_model.specs.DeskLog.{IsNextLine};
 ghost use Rattle.vdo_model.specs.declared.report.DeskLine.TheVariants as line;
 ghost use Rattle.data_vio.specs.declared.items.Item.TheVariants as item;
@@ -7,72 +7,61 @@ ghost use Rattle.core_model.specs.DeskRules as rows;
 ghost use Rattle.core_model.specs.Limits.{HasRoomToBegin};
 ghost use Rattle.core_model.specs.Steps.{MayBegin};
 ghost use Rattle.core_model.specs.Trace.{Trace};
-ghost use Rattle.data_vio.specs.Vios as vios;
+ghost use Rattle.data_vio.specs.Beginnings.{under_way};
+ghost use Rattle.blk_base.specs.declared.place.ZoneId.TheVariants as id;
+ghost use Rattle.data_vio.specs.declared.items.Phase.TheVariants as phase;
+ghost use Rattle.data_vio.specs.declared.items.Vio.{Vio};
+ghost use Rattle.vdo_model.specs.Places.{zone_of};
+ghost use Rattle.vdo_model.specs.Scripts.{request_at, value_written};
 ghost use Rattle.step_parts.specs.Acts.{ActsAlone};
 ghost use Rattle.desk_zone.specs.Begins.{CanBegin};
 
 use crate::replies::is_notified;
-use blk_base::{Answer, Block, Lba, Mapping, Request, Writer, ZoneId};
+use blk_base::{Answer, Lba, Request, Writer, ZoneId};
 use core_model::Desk;
-use data_vio::{Asks, HeldTickets, Item, Phase, Sizes, Vio};
+use data_vio::{Asks, Begun, Item, Phase, Sizes, Vio};
 use step_parts::{Posts, home_of};
 
 // A request for an address when it is begun.
-fn begun_vio(sizes: &Sizes, request: Writer, asks: Asks, at: Lba, bytes: Block) -> Vio
+fn arriving(sizes: &Sizes, request: Writer, asks: Asks, at: Lba) -> Begun
     requires { 0 < sizes.now.zones }
-    ensures { result ≡ vios.begun_vio sizes.now request asks at bytes }
+    ensures { result
+        ≡ record {
+          request = request;
+          asks = asks;
+          at = at;
+          home = id.Logical (zone_of sizes.now.zones at.0);
+          phase = phase.Arrive;
+        } }
 {
-    Vio {
+    Begun {
         request,
         asks,
         at,
         home: home_of(sizes, at),
         phase: Phase::Arrive,
-        page: None,
-        leaf: None,
-        bytes,
-        place: 0,
-        old: Mapping::Unmapped,
-        latest: None,
-        new: Mapping::Unmapped,
-        claim: None,
-        tickets: HeldTickets::new(),
-        receipt: None,
-        answer: None,
-        calls: 0,
     }
 }
 
-// The request as it is under way, where it is served.
+// The request when it is begun, where it is served; its bytes aren't copied yet.
 // A write that forces its block out isn't served by the core yet.
-fn vio_of(sizes: &Sizes, request: Writer, asked: &Request) -> Option<Vio>
+fn begun_of(sizes: &Sizes, request: Writer, asked: &Request) -> Option<Begun>
     requires { 0 < sizes.now.zones }
-    ensures { result ≡ rows.vio_of sizes.now request asked.now }
+    ensures some { IfSome result (λ begun.
+        rows.vio_of sizes.now request asked.now
+        ≡ Some (under_way begun (value_written (Some asked.now)))) }
+    ensures none { IfNone result (rows.vio_of sizes.now request asked.now ≡ None) }
 {
     match asked {
-        Request::Read(at) => {
-            let zeros = Block::zero();
-            Some(begun_vio(sizes, request, Asks::Read, *at, zeros))
+        Request::Read(at) => Some(arriving(sizes, request, Asks::Read, *at)),
+        Request::Write { at, fua: false, .. } => {
+            Some(arriving(sizes, request, Asks::Write, *at))
         }
-        Request::Write {
-            at,
-            block,
-            fua: false,
-        } => {
-            let bytes = Block {
-                bytes: block.get().bytes,
-            };
-            Some(begun_vio(sizes, request, Asks::Write, *at, bytes))
-        }
-        Request::Discard(at) => {
-            let zeros = Block::zero();
-            Some(begun_vio(sizes, request, Asks::Discard, *at, zeros))
-        }
+        Request::Discard(at) => Some(arriving(sizes, request, Asks::Discard, *at)),
         Request::Flush => {
-            let zeros = Block::zero();
-            let mut vio = begun_vio(sizes, request, Asks::Flush, Lba(0), zeros);
-            vio.phase = Phase::Flush;
-            Some(vio)
+            let mut begun = arriving(sizes, request, Asks::Flush, Lba(0));
+            begun.phase = Phase::Flush;
+            Some(begun)
         }
         Request::Write { fua: true, .. } => None,
     }
@@ -172,15 +161,18 @@ pub fn may_begin(sizes: &Sizes, desk: &Desk) -> bool
 }
 
 // A request is begun, and sent on.
-fn send(desk: &mut Desk, vio: Vio, posts: &mut Posts)
+fn send(desk: &mut Desk, begun: Begun, posts: &mut Posts)
     requires room { HasRoomToBegin desk.old }
+    requires known { IsSome (request_at desk.old.requests begun.request) }
     requires none { posts.old ≡ [] }
-    ensures desk { desk.new ≡ record desk.old { log = line.Begin vio.request ∷ desk.old.log } }
-    ensures posts { posts.new ≡ (rows.first_zone vio, item.Request vio) ∷ [] }
+    ensures desk { desk.new ≡ record desk.old { log = line.Begin begun.request ∷ desk.old.log } }
+    ensures posts { (vio : Vio) →
+        vio ≡ under_way begun (value_written (request_at desk.old.requests begun.request)) →
+        posts.new ≡ (rows.first_zone vio, item.Request vio) ∷ [] }
 {
-    let to = first_zone(&vio);
-    let boxed = desk.begin(vio);
-    posts.first(to, Item::Request(boxed));
+    let vio = desk.begin(begun);
+    let to = first_zone(vio.get());
+    posts.first(to, Item::Request(vio));
 }
 
 // A request is begun, and answered at once or sent on.
@@ -192,12 +184,12 @@ fn begin_one(sizes: &Sizes, desk: &mut Desk, request: Writer, posts: &mut Posts)
 {
     let notified = is_notified(sizes, desk);
     let requests = desk.requests().stream(request.stream);
-    let Some(vio) = vio_of(sizes, request, &requests[request.number as usize]) else {
+    let Some(begun) = begun_of(sizes, request, &requests[request.number as usize]) else {
         unreachable!();
     };
-    match at_once(sizes, notified, vio.asks, vio.at) {
+    match at_once(sizes, notified, begun.asks, begun.at) {
         Some(given) => desk.answer_at_once(request, given),
-        None => send(desk, vio, posts),
+        None => send(desk, begun, posts),
     }
 }
 
