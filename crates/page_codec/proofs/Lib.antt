@@ -4,4 +4,5 @@ pub mod HeadLaws
 pub mod TornLaws
 pub mod HeldLaws
 mod RunLaws
+mod WriteLaws
 mod RunRows

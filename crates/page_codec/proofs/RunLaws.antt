@@ -19,7 +19,7 @@ passed_on (Ok x) P fault is why = tt
 passed_on (Err e) P fault is why = subst P (sym is) why
 
 -- five zeros spell that a slot is unmapped
-zeros_unmapped : replicate 5 0 ≡ mapping_bytes Unmapped
+pub zeros_unmapped : replicate 5 0 ≡ mapping_bytes Unmapped
 unfolding mapping_bytes le
 zeros_unmapped = refl
 

@@ -6,19 +6,10 @@ ghost use Rattle.byte_fields.specs.Mappings.{state_of, target_of};
 ghost use Rattle.page_codec.specs.Grammar.{HoldsMapping, IsPage, HasHead, IsSlot, IsSlotFault, IsPageFault};
 ghost use Rattle.page_codec.specs.Runs.{AreReadTo, HasZeros};
 
-use crate::encoder::{HEAD, WIDTH, put_head};
+use crate::encoder::{HEAD, RUN, RUN_BYTES, RUNS, WIDTH, put_head};
 use crate::{MapPage, PageFault, PageHead};
 use blk_base::{Block, Layout, Mapping, Mappings, PAGE_SLOTS, Pbn};
 use byte_fields::{read_u8, read_u32};
-
-/// How many slots of a page are looked at at once: all of them are so many runs.
-const RUN: u16 = 28;
-
-/// How many runs a page has.
-const RUNS: u16 = 29;
-
-/// How many bytes a run has.
-const RUN_BYTES: usize = 140;
 
 // Which numbers are data blocks is a question of the sizes, so it asks for some within their limits.
 /// Reads a page. The fault is that the block begins as another page does, or else that of the least slot that has one.

@@ -1,4 +1,6 @@
-ghost use Rattle.std.specs.Prelude.{◌≡◌, ◌+◌, ◌*◌, ◌≤◌, ◌++◌, length, take, flat_map};
+ghost use Rattle.std.specs.Prelude.{◌≡◌, ◌*◌, ◌≤◌, length, take, replicate, flat_map};
+ghost use Rattle.std.specs.Bool.{OnTrue};
+ghost use Rattle.blk_base.specs.declared.place.Mapping.TheVariants.{Unmapped};
 ghost use Rattle.byte_fields.specs.Mappings.{mapping_bytes};
 ghost use Rattle.page_codec.specs.Spelling.{head_bytes, page_bytes};
 
@@ -12,12 +14,23 @@ pub(crate) const HEAD: usize = 36;
 /// How many bytes a slot has.
 pub(crate) const WIDTH: usize = 5;
 
+/// How many slots of a page are looked at at once: all of them are so many runs.
+pub(crate) const RUN: u16 = 28;
+
+/// How many runs a page has.
+pub(crate) const RUNS: u16 = 29;
+
+/// How many bytes a run has.
+pub(crate) const RUN_BYTES: usize = 140;
+
 /// Writes the page's bytes, as the tables of this crate say.
 pub fn encode(page: &MapPage, into: &mut Block)
     ensures { into.new ≡ page_bytes page.now.head page.now.mappings }
 {
-    put_head(&mut into.bytes, &page.head);
-    put_slots(&mut into.bytes, page.mappings.as_slice());
+    into.bytes = [0; 4096];
+    let (head, slots) = into.bytes.split_at_mut(HEAD);
+    put_head(head, &page.head);
+    put_slots(slots, page.mappings.as_slice());
 }
 
 /// Writes the first bytes of a page.
@@ -36,12 +49,41 @@ pub(crate) fn put_head(page: &mut [u8], head: &PageHead)
     put_u64(page, 28, 0);
 }
 
+// Writes all slots of a page over zeros.
+// Most pages have few mappings, so what is unmapped is passed over by runs.
 fn put_slots(page: &mut [u8], mappings: &[Mapping])
-    requires { 36 + 5 * length mappings.now ≤ length page.old }
-    ensures { take (36 + 5 * length mappings.now) page.new
-        ≡ take 36 page.old ++ flat_map mapping_bytes mappings.now }
+    requires zeros { page.old ≡ replicate 4060 0 }
+    requires count { length mappings.now ≡ 812 }
+    ensures { page.new ≡ flat_map mapping_bytes mappings.now }
 {
-    for (slot, mapping) in mappings.iter().enumerate() {
-        put_mapping(page, HEAD + WIDTH * slot, *mapping);
+    for run in 0..RUNS {
+        let first = (RUN * run) as usize;
+        let slots = &mappings[first..first + RUN as usize];
+        if !are_unmapped(slots) {
+            let at = RUN_BYTES * run as usize;
+            put_run(&mut page[at..at + RUN_BYTES], slots);
+        }
+    }
+}
+
+// Whether each slot is unmapped. No slot ends the loop, so it takes about one instruction for each.
+#[inline(always)]
+fn are_unmapped(slots: &[Mapping]) -> bool
+    ensures { OnTrue result (slots.now ≡ replicate (length slots.now) Unmapped) }
+{
+    let mut unmapped = true;
+    for mapping in slots {
+        unmapped &= matches!(mapping, Mapping::Unmapped);
+    }
+    unmapped
+}
+
+// Writes the slots of a run.
+fn put_run(run: &mut [u8], slots: &[Mapping])
+    requires { length run.old ≡ 5 * length slots.now }
+    ensures { run.new ≡ flat_map mapping_bytes slots.now }
+{
+    for (slot, mapping) in slots.iter().enumerate() {
+        put_mapping(run, WIDTH * slot, *mapping);
     }
 }

@@ -29,7 +29,7 @@
 //! An entry may cross two sectors. After a stop within the write of a page such an entry may be a mixture, and so each
 //! slot can be read by itself.
 //!
-//! Most pages have few mappings: a reader passes over 28 slots at once where all their bytes are zeros.
+//! Most pages have few mappings: reader and writer pass over 28 slots at once where all of them are unmapped.
 //!
 //! Only tested: vectors that another program computed; a page for each fault.
 #![tactic(auto)]
