@@ -1,5 +1,6 @@
 //! Tests of the crates that speak of blocks, devices and reports, and of the formats, with bytes that another program
-//! computed: each public call on known input.
+//! computed: each public call on known input. And of a file as a device: a real one, and one that gives and takes a few
+//! bytes at a time, is interrupted, and fails.
 #![tactic(auto)]
 
 #[cfg(test)]
@@ -9,12 +10,18 @@ mod devices;
 #[cfg(test)]
 mod fields;
 #[cfg(test)]
+mod file_reads;
+#[cfg(test)]
 mod images;
 #[cfg(test)]
 mod journals;
 #[cfg(test)]
 mod pages;
 #[cfg(test)]
+mod real_files;
+#[cfg(test)]
 mod reports;
 #[cfg(test)]
 mod slabs;
+#[cfg(test)]
+mod slow_files;

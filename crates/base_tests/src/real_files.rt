@@ -1,4 +1,4 @@
-use crate::reading::reads;
+use crate::file_reads::reads;
 use blk_base::{Block, Pbn};
 use disk_model::{Disk, Failed};
 use file_disk::{Access, open_disk};
