@@ -13,11 +13,15 @@ fn note<T: Copy>(notes: &mut [Option<T>], number: u32, item: T)
     }
 }
 
-/// Notes for each request of a stream that there is room for which line is its newest answer.
+/// Notes for each request of a stream that there is room for which line is its newest answer. Where there is room for none
+/// it doesn't look at the lines.
 pub fn note_answers(desk: &[DeskLine], stream: u8, notes: &mut [Option<usize>])
     ensures length { length notes.new ≡ length notes.old }
     ensures notes { NotesAnswers desk.now (reverse desk.now) stream notes.new }
 {
+    if notes.is_empty() {
+        return;
+    }
     notes.fill(None);
     for (at, line) in desk.iter().enumerate() {
         match line {
