@@ -1,11 +1,11 @@
-use blk_base::{Block, Entry, Lba, Mapping, PageId, Pbn};
+use blk_base::{Block, Entry, JOURNAL_ENTRIES, Lba, Mapping, PageId, Pbn};
 use journal_codec::{Entries, JournalBlock, block_prefix, encode, sector};
 use test_images::{Spelling, difference, with_added};
 
 // The spellings of these tests were computed by tools/journal.py.
 const NONCE: u64 = 0x1122_3344_5566_7788;
 
-fn spelled(nonce: u64, sequence: u64, head: u64, entries: Entries<192>) -> Block {
+fn spelled(nonce: u64, sequence: u64, head: u64, entries: Entries<JOURNAL_ENTRIES>) -> Block {
     let block = JournalBlock {
         nonce,
         sequence,
@@ -18,7 +18,7 @@ fn spelled(nonce: u64, sequence: u64, head: u64, entries: Entries<192>) -> Block
     into
 }
 
-fn add(entries: &mut Entries<192>, entry: Entry) {
+fn add(entries: &mut Entries<JOURNAL_ENTRIES>, entry: Entry) {
     if !entries.is_full() {
         entries.push(entry);
     }
@@ -41,7 +41,7 @@ fn remap(k: u32) -> Entry {
     }
 }
 
-fn first_entries(count: u32) -> Entries<192> {
+fn first_entries(count: u32) -> Entries<JOURNAL_ENTRIES> {
     let mut entries = Entries::new();
     for k in 0..count {
         add(&mut entries, remap(k));
@@ -83,7 +83,7 @@ const ONE_ENTRY: Spelling = Spelling {
     ],
 };
 
-fn one_entry() -> Entries<192> {
+fn one_entry() -> Entries<JOURNAL_ENTRIES> {
     let mut entries = Entries::new();
     entries.push(Entry::Remap {
         at: Lba(5),
@@ -146,7 +146,7 @@ const GREATEST_NUMBERS: Spelling = Spelling {
     ],
 };
 
-fn greatest_entries() -> Entries<192> {
+fn greatest_entries() -> Entries<JOURNAL_ENTRIES> {
     let mut entries = Entries::new();
     entries.push(Entry::NewPage {
         page: PageId {

@@ -1,6 +1,7 @@
 ghost use Rattle.std.specs.Prelude.{◌≡◌, ◌<◌, ◌^◌, ℕ, length};
 ghost use Rattle.blk_base.specs.Points.{point_of, half_of, IsBefore, raised};
 ghost use Rattle.blk_base.specs.declared.point.Half.{Half};
+ghost use Rattle.blk_base.specs.declared.sizes.TheConstants.{JOURNAL_ENTRIES};
 
 /// Which half of a journal entry: the reference count that it adds, or the one that it takes away.
 #[derive(Clone, Copy, Debug, PartialEq, Eq)]
@@ -15,16 +16,16 @@ pub enum Half {
 pub struct Point(pub u64);
 
 impl Point {
-    /// The point of a half of an entry. A journal block has at most 192 entries.
+    /// The point of a half of an entry. The sequence is below 2^55, and a journal block has at most 192 entries.
     pub fn of(sequence: u64, entry: u16, half: Half) -> Point
         requires sequence { sequence < 2 ^ 55 }
-        requires entry { entry < 192 }
+        requires entry { entry < JOURNAL_ENTRIES }
         ensures number { result.0 ≡ point_of sequence entry half }
 
         // Points are ordered as their triples.
-        ensures rises { (s e : ℕ) (h : Half) → e < 192 → IsBefore sequence entry half s e h →
+        ensures rises { (s e : ℕ) (h : Half) → e < JOURNAL_ENTRIES → IsBefore sequence entry half s e h →
             result.0 < point_of s e h }
-        ensures falls { (s e : ℕ) (h : Half) → e < 192 → result.0 < point_of s e h →
+        ensures falls { (s e : ℕ) (h : Half) → e < JOURNAL_ENTRIES → result.0 < point_of s e h →
             IsBefore sequence entry half s e h }
     {
         let half_number = match half {

@@ -50,6 +50,7 @@ use Rattle.core_model.specs.CountUpdates.{replaced_in}
 use Rattle.data_vio.specs.Zones.{counts_in, zone_number, zone_count, notified_zones, logical_number, device_number}
 use Rattle.core_model.specs.RightTraces.{WasRefused, HearingMayFollow, IsLeafy, IsLinkedAt, IsOpen, IsReported, IsPending, MapsTo, NeedsBlock, Quiet, IsCommitted, AllBelow, HasPlace, HasBelow, HasCause}
 use Rattle.core_model.specs.Sessions.{Session, IsFair, OnBlock, NewReads, NewStands, ReadsAs, AtRest, OnItsWay, ReadsBlock, mapping_by, said_by, value_at}
+use Rattle.blk_base.specs.declared.sizes.TheConstants.{JOURNAL_ENTRIES}
 use Rattle.block_map_tree.specs.Tree.{Tree, IsLinkable}
 use Rattle.blk_base.specs.Pages.{above}
 use Rattle.blk_base.specs.declared.place.PageId.{PageId}
@@ -369,7 +370,7 @@ pub record IsSealed (s : Session) (t : Trace) (vios : List Vio) (at : ℕ) : Typ
   pub sealed_is : sealed t ≡ all_logged vios ∷ older
   pub committed_is : durable t ≡ all_of older
   pub some : 0 < length vios
-  pub few : length vios ≤ 192
+  pub few : length vios ≤ JOURNAL_ENTRIES
   pub sequence : at ≡ s.sizes.start + length older
   pub left : length older + 1 < s.sizes.geometry.journal
 
@@ -591,7 +592,7 @@ IsSound s (at.Desk desk) = IsSoundDesk s desk
 IsSound s (at.Logical l) = IsSoundLogical s l
 IsSound s (at.Physical p) = IsSoundPhysical s p
 -- the block being filled has no more entries than a block may; while no block goes round none is filled, and nobody waits
-IsSound s (at.Journal j) = (length j.filling ≤ 192) × (j.busy ≡ false → IsUnused j.filling j.waiting)
+IsSound s (at.Journal j) = (length j.filling ≤ JOURNAL_ENTRIES) × (j.busy ≡ false → IsUnused j.filling j.waiting)
 IsSound s other = Unit {0}
 
 -- While no block is under way all that was sealed is committed; and where the session is fair, it stands on the device.

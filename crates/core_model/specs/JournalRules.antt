@@ -7,6 +7,7 @@ use Rattle.blk_base.specs.declared.place.PageId.{PageId}
 use Rattle.blk_base.specs.declared.place.ZoneId.TheVariants as id
 use Rattle.blk_base.specs.declared.request.Answer.{Answer}
 use Rattle.blk_base.specs.declared.request.Answer.TheVariants as reply
+use Rattle.blk_base.specs.declared.sizes.TheConstants.{JOURNAL_ENTRIES}
 use Rattle.data_vio.specs.declared.items.Item.TheVariants as item
 use Rattle.data_vio.specs.declared.items.Phase.TheVariants as phase
 use Rattle.data_vio.specs.declared.items.SealedBlock.{SealedBlock}
@@ -32,7 +33,7 @@ has_block j = nat_lt (j.log.sequence + 1) (head_of j.log + j.log.size)
 
 -- and it has room for one more entry
 abbrev pub has_room : JournalZone → Bool
-has_room j = nat_lt (length j.log.filling) 192
+has_room j = nat_lt (length j.log.filling) JOURNAL_ENTRIES
 
 -- the block being filled, with these requests; it names the least sequence that is needed as its head
 abbrev pub next_block : JournalZone → Stage → List Vio → SealedBlock

@@ -1,6 +1,7 @@
 -- How long each list of a zone gets: each has room for that from the start.
 use Rattle.std.specs.Prelude.{ℕ, ◌+◌, ◌*◌, ◌^◌, ◌<◌, ◌≤◌, List, length}
 use Rattle.std.specs.List.{AllByRecursion}
+use Rattle.blk_base.specs.declared.sizes.TheConstants.{JOURNAL_ENTRIES}
 use Rattle.core_model.specs.DeskData.{Desk}
 pub use Rattle.core_model.specs.SessionLimits.{IsLimited, most_depth, most_entries, most_items, most_notices, most_physical, most_requests, most_streams, most_under_way, most_zones, reads_in, requests_in}
 use Rattle.core_model.specs.DeskLines.{AreBegunFirst, is_answer, is_begin, is_bytes}
@@ -51,7 +52,7 @@ pub record IsLogicalWithin (steps : ℕ) (l : LogicalZone) : Type 0 where
 -- Those of the journal: each request hands in one entry for its address at most, and one for each page of its path. The sequence of the block being filled can be spelled.
 pub record IsJournalWithin (j : JournalZone) : Type 0 where
   pub sequence : j.log.sequence < 2 ^ 55
-  pub filling : length j.filling ≤ 192
+  pub filling : length j.filling ≤ JOURNAL_ENTRIES
   pub waiting : IsShort j.waiting
   pub entered : length j.entered ≤ most_entries
   pub committed : length j.committed ≤ most_entries

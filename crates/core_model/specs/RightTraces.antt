@@ -8,6 +8,7 @@ use Rattle.blk_base.specs.declared.place.Mapping.{Mapping}
 use Rattle.blk_base.specs.declared.place.Mapping.TheVariants.{Unmapped, Zero, At}
 use Rattle.blk_base.specs.declared.place.PageId.{PageId}
 use Rattle.blk_base.specs.declared.place.Pbn.{Pbn}
+use Rattle.blk_base.specs.declared.sizes.TheConstants.{JOURNAL_ENTRIES}
 use Rattle.blk_base.specs.declared.request.Answer.{Answer}
 use Rattle.blk_base.specs.declared.request.Answer.TheVariants as reply
 use Rattle.blk_base.specs.declared.request.Request.{Request}
@@ -216,7 +217,7 @@ pub record EntryMayFollow (s : Session) (e : Remapping) (t : Trace) : Type 0 whe
   pub below : AllBelow t e.at.0 e.place
   -- a block of the journal is left for it, and that has room
   pub left : length (sealed t) + 1 < s.sizes.geometry.journal
-  pub room : length (filled t) < 192
+  pub room : length (filled t) < JOURNAL_ENTRIES
   -- it maps its address to a data block, or to none
   pub new_data : OnBlock (λ x. IsDataBlock s.sizes.geometry x.0) e.new
   -- which nobody maps, where the session is fair; and the page that has its slot is there
@@ -235,7 +236,7 @@ pub record PageMayFollow (s : Session) (p : NewPage) (t : Trace) : Type 0 where
   pub once : page_in s.links (journaled t) p.page ≡ None
   -- a block of the journal is left for it, and that has room
   pub left : length (sealed t) + 1 < s.sizes.geometry.journal
-  pub room : length (filled t) < 192
+  pub room : length (filled t) < JOURNAL_ENTRIES
   pub new_data : IsDataBlock s.sizes.geometry p.at.0
   -- which nobody maps, where the session is fair
   pub unused : IsFair s t → IsUnused s t p.at

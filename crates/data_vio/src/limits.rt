@@ -1,3 +1,5 @@
+use blk_base::JOURNAL_ENTRIES;
+
 /// How many streams a script may have.
 pub const MOST_STREAMS: usize = 16;
 
@@ -27,8 +29,8 @@ pub const MOST_NOTICES: u32 = 9;
 /// damage from each physical zone.
 pub const MOST_ITEMS: usize = 2 * MOST_UNDER_WAY + MOST_NOTICES as usize + 1 + MOST_PHYSICAL;
 
-/// How many entries a block of the journal has at most.
-pub const BLOCK_ENTRIES: u32 = 192;
+/// How many entries a block of the journal has at most, as the room of a list.
+pub const BLOCK_ENTRIES: u32 = JOURNAL_ENTRIES as u32;
 
 /// The room of the list of what one step posts: each request that the zone keeps, those of a block, and a few items more.
 pub const POST_ROOM: u32 = MOST_ITEMS as u32 + 2 * BLOCK_ENTRIES + 16;

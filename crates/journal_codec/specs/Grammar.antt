@@ -4,7 +4,7 @@ use Rattle.blk_base.specs.declared.place.Mapping.TheVariants.{At}
 use Rattle.blk_base.specs.declared.journal_entry.Entry.{Entry}
 use Rattle.blk_base.specs.declared.journal_entry.Entry.TheVariants.{Remap, NewPage}
 use Rattle.blk_base.specs.Sectors.{sector}
-use Rattle.blk_base.specs.declared.sizes.TheConstants.{TREES}
+use Rattle.blk_base.specs.declared.sizes.TheConstants.{JOURNAL_ENTRIES, TREES}
 use Rattle.byte_fields.specs.Mappings.{HoldsMapping}
 use Rattle.journal_codec.specs.Spelling.{sector_bytes, entries_in}
 
@@ -17,7 +17,7 @@ HoldsEntry (NewPage page at) = (page.tree < TREES) × (page.level < 2 ^ 8) × (p
 pub record HoldsBlock (sequence head : ℕ) (entries : List Entry) : Type 0 where
   pub named : (1 ≤ sequence) × (sequence < 2 ^ 55)
   pub head_below : head ≤ sequence
-  pub few : length entries ≤ 192
+  pub few : length entries ≤ JOURNAL_ENTRIES
   pub each : All HoldsEntry entries
 
 -- The 512 bytes are a valid sector with this number, and say this sequence, this head and these entries: they are

@@ -6,6 +6,7 @@ use Rattle.blk_base.specs.Regions.{journal_slot_of}
 use Rattle.blk_base.specs.Sectors.{sector}
 use Rattle.blk_base.specs.declared.geometry.Geometry.{Geometry}
 use Rattle.blk_base.specs.declared.journal_entry.Entry.{Entry}
+use Rattle.blk_base.specs.declared.sizes.TheConstants.{JOURNAL_ENTRIES}
 use Rattle.disk_model.specs.declared.call.Call.{Call}
 use Rattle.disk_model.specs.Log.{Blocks, settled}
 use Rattle.image_model.specs.Windows.{IsOfImage}
@@ -44,7 +45,7 @@ IsTornOver g sequence block content =
 abbrev pub StandWhole : Blocks → List Call → Geometry → ℕ → ℕ → List Sealed → Type 0
 StandWhole opening log g start from [] = Unit {0}
 StandWhole opening log g start from (block ∷ older) =
-    (from ≤ next_of start older → (length block.entries ≤ 192) × All (IsOfImage g) block.entries
+    (from ≤ next_of start older → (length block.entries ≤ JOURNAL_ENTRIES) × All (IsOfImage g) block.entries
     × Surely opening log (place_of g (next_of start older)) (IsWhole g (next_of start older) block))
     × StandWhole opening log g start from older
 

@@ -1,6 +1,7 @@
 ghost use Rattle.std.specs.Prelude.{◌≡◌, ◌≤◌, ◌<◌, ◌+◌, ◌++◌, ◌^◌, ◌↔◌, List, IsTrue, IfSome, IfNone, IfOk, IfErr, OnOk, All, length, reverse};
 ghost use Rattle.std.specs.Bool.{OnTrue, OnFalse};
 ghost use Rattle.blk_base.specs.declared.journal_entry.Entry.{Entry};
+ghost use Rattle.blk_base.specs.declared.sizes.TheConstants.{JOURNAL_ENTRIES};
 ghost use Rattle.image_model.specs.Windows.{IsOfImage, IsReplayable, with_points};
 ghost use Rattle.journal_window.specs.Newest.{AreReplayed};
 ghost use Rattle.journal_window.specs.Replays.{IsStopped, CantReplay};
@@ -107,7 +108,7 @@ fn push_with_points(
     block: &[Entry],
 ) -> Result<(), AllocError>
     requires sequence { sequence < 2 ^ 55 }
-    requires few { length block.now ≤ 192 }
+    requires few { length block.now ≤ JOURNAL_ENTRIES }
     ensures { OnOk result
         (entries.new.items ≡ entries.old.items ++ with_points sequence 0 block.now) }
 {

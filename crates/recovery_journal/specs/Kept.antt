@@ -1,11 +1,12 @@
 -- What is true of a recovery journal at every moment.
 use Rattle.std.specs.Prelude.{ℕ, ◌+◌, ◌*◌, ◌/◌, ◌%◌, ◌^◌, ◌<◌, ◌≤◌, List, [], ◌∷◌, length, All}
 use Rattle.blk_base.specs.declared.journal_entry.CommittedEntry.{CommittedEntry}
+use Rattle.blk_base.specs.declared.sizes.TheConstants.{JOURNAL_ENTRIES}
 use Rattle.recovery_journal.specs.Log.{Log, IsNamed, IsNeeded, point_at, head_of, unhanded}
 
 -- how many places of blocks stand before a point: each block has 192
 abbrev pub rank : ℕ → ℕ
-rank point = point / 512 * 192 + point % 512 / 2
+rank point = point / 512 * JOURNAL_ENTRIES + point % 512 / 2
 
 -- the entries have the points of places that rise, from this rank on and below that one
 abbrev pub AreRising : ℕ → List CommittedEntry → ℕ → Type 0
@@ -22,7 +23,7 @@ pub record IsKept (log : Log) : Type 0 where
   pub first : 1 ≤ log.committed
   pub number : log.sequence ≤ 2 ^ 55
   pub number_filling : 0 < length log.filling → log.sequence < 2 ^ 55
-  pub rising : AreRising 0 log.entries (log.sequence * 192)
+  pub rising : AreRising 0 log.entries (log.sequence * JOURNAL_ENTRIES)
   pub named : All IsNamed log.entries
   pub handed : log.handed ≤ length log.entries
   pub committed : (log.committed ≤ log.sequence) × (log.sequence ≤ log.committed + 1)

@@ -8,6 +8,7 @@ use Rattle.blk_base.specs.declared.point.Half.TheVariants.{Increment}
 use Rattle.blk_base.specs.declared.journal_entry.Entry.{Entry}
 use Rattle.journal_codec.specs.declared.forms.JournalBlock.{JournalBlock}
 use Rattle.blk_base.specs.declared.journal_entry.CommittedEntry.{CommittedEntry}
+use Rattle.blk_base.specs.declared.sizes.TheConstants.{JOURNAL_ENTRIES}
 
 -- `size` is how many blocks the ring on the device has. `sequence` is that of the block being filled, and `filling` its
 -- entries. `entries` are those of sealed blocks that some zone still needs, in the order of their points; the first
@@ -70,12 +71,12 @@ pub record IsHead (log : Log) (head : ℕ) : Type 0 where
 
 -- the block being filled takes one more entry, and its slot in the ring has a block that nobody needs
 pub record HasRoom (log : Log) : Type 0 where
-  pub fewer : length log.filling < 192
+  pub fewer : length log.filling < JOURNAL_ENTRIES
   pub ring : log.sequence + 2 ≤ head_of log + log.size
 
 -- it doesn't
 abbrev pub HasNoRoom : Log → Type 0
-HasNoRoom log = (length log.filling ≡ 192) ⊎ (head_of log + log.size < log.sequence + 2)
+HasNoRoom log = (length log.filling ≡ JOURNAL_ENTRIES) ⊎ (head_of log + log.size < log.sequence + 2)
 
 -- a sealed block isn't committed yet
 abbrev pub IsWriting : Log → Type 0

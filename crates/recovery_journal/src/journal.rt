@@ -38,6 +38,7 @@ impl Model for Journal {
 
     ghost Value = { Log };
 
+    ghost use Rattle.blk_base.specs.declared.sizes.TheConstants.{JOURNAL_ENTRIES};
     ghost use Rattle.recovery_journal.specs.Kept.{IsKept};
     ghost use Rattle.recovery_journal.specs.Viewed.{log_of};
 
@@ -45,7 +46,7 @@ impl Model for Journal {
 
     ghost invariant = { λ j. record {
       kept : IsKept (log_of j);
-      room : j.size * 192 ≤ deque_capacity j.entries;
+      room : j.size * JOURNAL_ENTRIES ≤ deque_capacity j.entries;
     } };
 }
 

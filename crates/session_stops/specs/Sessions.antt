@@ -10,7 +10,7 @@ use Rattle.blk_base.specs.declared.layout.DataPlace.{DataPlace}
 use Rattle.blk_base.specs.declared.place.Mapping.{Mapping}
 use Rattle.blk_base.specs.declared.place.PageId.{PageId}
 use Rattle.blk_base.specs.declared.place.Pbn.{Pbn}
-use Rattle.blk_base.specs.declared.sizes.TheConstants.{PAGE_SLOTS}
+use Rattle.blk_base.specs.declared.sizes.TheConstants.{JOURNAL_ENTRIES, PAGE_SLOTS}
 use Rattle.disk_model.specs.declared.call.Call.{Call}
 use Rattle.disk_model.specs.Log.{Blocks}
 use Rattle.image_model.specs.Maps as maps
@@ -36,7 +36,7 @@ entries_next start blocks block = entries_of (next_of start blocks) (block ∷ [
 
 -- each block has at most as many entries as a block of the journal holds
 abbrev pub AreFew : List Sealed → Type 0
-AreFew blocks = AllByRecursion (λ (block : Sealed). length block.entries ≤ 192) blocks
+AreFew blocks = AllByRecursion (λ (block : Sealed). length block.entries ≤ JOURNAL_ENTRIES) blocks
 
 -- What stands.
 
