@@ -2,11 +2,12 @@
 use Rattle.std.proofs.Common.{ℕ, suc, ◌≡◌, ◌+◌, ◌==◌, Bool, true, false, if◌then◌else◌, List, [], ◌∷◌, refl, ◌∙◌, ap, inl, inr}
 use Rattle.std.proofs.lemmas.Bool.Decides.{eqb_tells}
 use Rattle.blk_base.specs.Sectors.{sector}
+use Rattle.disk_model.specs.Numbers.{state_after}
 use Rattle.disk_model.specs.declared.call.Call.{Call}
 use Rattle.disk_model.specs.declared.call.Call.TheVariants.{Read, Write, Flush}
 use Rattle.disk_model.specs.Images.{IsImage, OneOf}
 use Rattle.disk_model.specs.Log.{Blocks, block_at, contents, settled}
-use Rattle.disk_model.specs.Picks.{IsPicked, choice, content_of, numbers_before, pending, state_after, written}
+use Rattle.disk_model.specs.Picks.{IsPicked, choice, content_of, numbers_before, pending, written}
 
 written_is_settled : (opening : Blocks) (log : List Call) (b : ℕ) → OneOf (λ content. written (block_at opening b) log b ≡ content) (settled opening log b)
 written_is_settled opening [] b = inl refl

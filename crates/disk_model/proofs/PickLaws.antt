@@ -5,8 +5,9 @@ use Rattle.std.proofs.lemmas.Bool.{cases_lt}
 use Rattle.std.proofs.lemmas.Bool.Decides.{eqb_tells}
 use Rattle.std.proofs.lemmas.List.{get_or_append_left, get_or_push, drop-append-le, drop-drop, drop-take, drop_at, length-reverse, length-take-le, reverse-append, take-append-drop, take-append-le, take-take, take_at}
 use Rattle.blk_base.specs.Sectors.{sector, zero_block}
+use Rattle.disk_model.specs.Numbers.{next_state, number_in, state_after}
 use Rattle.disk_model.specs.declared.call.Call.{Call}
-use Rattle.disk_model.specs.Picks.{choice, content_of, next_state, number_in, numbers_before, pending, state_after}
+use Rattle.disk_model.specs.Picks.{choice, content_of, numbers_before, pending}
 use Rattle.disk_model.specs.Log.{Blocks, block_at}
 use Rattle.disk_model.specs.PickParts.{IsPickedUpTo, copied}
 

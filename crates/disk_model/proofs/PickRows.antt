@@ -1,11 +1,12 @@
 -- Picked images: each definition at a small log. The newest call stands first.
 use Rattle.std.proofs.Common.{ℕ, ◌≡◌, true, false, List, [], ◌∷◌, refl}
 use Rattle.blk_base.specs.declared.place.Pbn.{Pbn}
+use Rattle.disk_model.specs.Numbers.{next_state, number_in, state_after}
 use Rattle.disk_model.specs.declared.call.Call.{Call}
 use Rattle.disk_model.specs.declared.call.Call.TheVariants.{Read, Write, Flush}
 use Rattle.disk_model.specs.declared.fuse.Fuse.TheVariants.{Passes, Spent}
 use Rattle.disk_model.specs.Fuses.{is_cut, burnt}
-use Rattle.disk_model.specs.Picks.{choice, content_of, counted_log, next_state, number_in, numbers_before, pending, state_after}
+use Rattle.disk_model.specs.Picks.{choice, content_of, counted_log, numbers_before, pending}
 
 abbrev at : ℕ → Pbn
 at n = record { 0 = n }
@@ -41,6 +42,15 @@ never_written : content_of (7 ∷ []) log 1 0 ≡ 7 ∷ []
 never_written = refl
 
 -- The row of numbers from 0 on, and from another number on.
+next_of_zero : next_state 0 ≡ 1442695040888963407
+unfolding next_state
+next_of_zero = refl
+
+-- above 2 ^ 64 - 1 it wraps
+next_wraps : next_state 3 ≡ 2088359638719790806
+unfolding next_state
+next_wraps = refl
+
 first_number : number_in (state_after 0 1) ≡ 167951807
 unfolding next_state number_in
 first_number = refl

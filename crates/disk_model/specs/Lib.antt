@@ -7,6 +7,7 @@ pub mod Telling
 pub mod Since
 pub mod Plans
 pub mod Fuses
+pub mod Numbers
 pub mod Picks
 pub mod PickParts
 pub mod Memory

@@ -1,9 +1,10 @@
 -- Parts of a picked image, as far as they are made.
 use Rattle.std.specs.Prelude.{ℕ, suc, ◌≡◌, ◌+◌, ◌<◌, List, ◌++◌, length, take, drop}
+use Rattle.disk_model.specs.Numbers.{state_after}
 use Rattle.disk_model.specs.declared.call.Call.{Call}
 use Rattle.blk_base.specs.Sectors.{sector}
 use Rattle.disk_model.specs.Log.{Blocks, block_at}
-use Rattle.disk_model.specs.Picks.{choice, content_of, numbers_before, pending, state_after, written}
+use Rattle.disk_model.specs.Picks.{choice, content_of, numbers_before, pending, written}
 
 -- after these calls a block has this content of a number, the successful writes gave this, and so many are pending
 pub record Reached (before : List ℕ) (log : List Call) (b k : ℕ) (content given : List ℕ) (count : ℕ) : Type 0 where

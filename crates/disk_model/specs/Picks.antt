@@ -1,11 +1,12 @@
 -- The images that a number picks of those that a stop may leave.
-use Rattle.std.specs.Prelude.{ℕ, zero, suc, ◌≡◌, ◌<◌, ◌+◌, ◌-◌, ◌*◌, ◌/◌, ◌%◌, ◌^◌, ◌==◌, true, false, if◌then◌else◌, List, [], ◌∷◌, length, drop}
+use Rattle.std.specs.Prelude.{ℕ, zero, suc, ◌≡◌, ◌<◌, ◌+◌, ◌-◌, ◌%◌, ◌==◌, true, false, if◌then◌else◌, List, [], ◌∷◌, length, drop}
 use Rattle.blk_base.specs.Sectors.{sector}
 use Rattle.disk_model.specs.declared.call.Call.{Call}
 use Rattle.disk_model.specs.declared.call.Call.TheVariants.{Read, Write, Flush}
 use Rattle.disk_model.specs.declared.fuse.Fuse.{Fuse}
 use Rattle.disk_model.specs.declared.fuse.Fuse.TheVariants.{Unset, Passes, Spent}
 use Rattle.disk_model.specs.Log.{Blocks, block_at}
+use Rattle.disk_model.specs.Numbers.{number_in, state_after}
 
 -- The calls that a stop leaves something of: of those that failed by a fuse the first alone.
 abbrev pub counted_log : Fuse → List Call → List Call
@@ -38,17 +39,6 @@ content_of before (Flush true ∷ older) b k = written before older b
 content_of before (Flush false ∷ older) b k = content_of before older b k
 content_of before (Write at bytes _ ∷ older) b k =
     if at.0 == b then (if pending older b + 1 == k then bytes else content_of before older b k) else content_of before older b k
-
--- A row of numbers from a number on: a state, and of each state but the first one its high bits.
-unfoldable pub next_state : ℕ → ℕ
-next_state x = (x * 6364136223846793005 + 1442695040888963407) % 2 ^ 64
-
-abbrev pub state_after : ℕ → ℕ → ℕ
-state_after seed zero = seed
-state_after seed (suc n) = next_state (state_after seed n)
-
-unfoldable pub number_in : ℕ → ℕ
-number_in state = state / 2 ^ 33
 
 -- how many numbers of the row the sectors of the first blocks take: those of the blocks with such writes
 abbrev pub numbers_before : List Call → ℕ → ℕ

@@ -1,12 +1,13 @@
 ghost use Rattle.std.specs.Prelude.{◌≡◌, ◌≢◌, ◌≤◌, ◌<◌, ◌+◌, ◌-◌, ◌∷◌, ◌^◌, ◌%◌, ◌==◌, if◌then◌else◌, ℕ, suc, List, IfOk, length, reverse};
 ghost use Rattle.blk_base.specs.Sectors.{sector};
+ghost use Rattle.disk_model.specs.Numbers.{state_after};
 ghost use Rattle.disk_model.specs.declared.call.Call.{Call};
 ghost use Rattle.disk_model.specs.Images.{IsImage};
 ghost use Rattle.disk_model.specs.Log.{Blocks};
-ghost use Rattle.disk_model.specs.Picks.{IsPicked, choice, content_of, counted_log, next_state, pending, state_after};
+ghost use Rattle.disk_model.specs.Picks.{IsPicked, choice, content_of, counted_log, pending};
 ghost use Rattle.disk_model.specs.PickParts.{Reached, copied};
 
-use crate::{Call, Fuse};
+use crate::{Call, Fuse, next_state, number_in};
 use blk_base::Block;
 use std::alloc::{AllocError, Global};
 
@@ -96,24 +97,14 @@ fn copy_bytes(into: &mut [u8], from: &[u8], start: usize)
     into[start..start + 512].copy_from_slice(&from[start..start + 512]);
 }
 
-// The next state of a row of numbers.
-#[tactic(auto, unfolding(crate::specs::Picks::next_state))]
-fn next_state(x: u64) -> u64
-    ensures { result ≡ next_state x }
-{
-    x.wrapping_mul(6_364_136_223_846_793_005)
-        .wrapping_add(1_442_695_040_888_963_407)
-}
-
 // The content that a number chooses for a sector of a block with so many writes.
-#[tactic(auto, unfolding(crate::specs::Picks::number_in))]
 fn choose(number: u64, writes: u64, state: u64) -> u64
     ensures { result ≡ choice number writes state }
 {
     match number {
         0 => 0,
         1 => writes,
-        _ => remainder(state / (1 << 33), writes),
+        _ => remainder(u64::from(number_in(state)), writes),
     }
 }
 

@@ -1,7 +1,7 @@
 -- What happens by the turns, and by the events up to the end, of a core of one desk that begins two flushes of one stream:
 -- that of the later one stands in front.
 use Rattle.std.proofs.Common.{◌≡◌, Bool, List, [], ◌∷◌, ◌++◌, refl, ap, inl, inr, arith}
-use Rattle.disk_model.specs.Picks.{next_state, number_in}
+use Rattle.disk_model.specs.Numbers.{next_state, number_in}
 use Rattle.disk_model.specs.Seen.{Seen}
 use Rattle.core_model.specs.declared.zones.Zone.{Zone}
 use Rattle.core_model.specs.Trace.{Says}

@@ -1,7 +1,7 @@
 -- The turns of a core of two zones: each clause with a case that it accepts and one that breaks it alone.
 use Rattle.std.proofs.Common.{ℕ, suc, ◌≡◌, ◌∙◌, ◌++◌, Bool, Some, List, [], ◌∷◌, length, slice_get, refl, sym, ap, subst, inl, inr, arith}
 use Rattle.std.proofs.lemmas.Option.{same_Some}
-use Rattle.disk_model.specs.Picks.{next_state, number_in}
+use Rattle.disk_model.specs.Numbers.{next_state, number_in}
 use Rattle.disk_model.specs.Seen.{Seen}
 use Rattle.data_vio.specs.declared.items.Item.{Item}
 use Rattle.data_vio.specs.declared.items.Item.TheVariants.{StopNotice}

@@ -1,6 +1,6 @@
 -- The turns of a core: which event each of them takes, and what becomes of the core.
 use Rattle.std.specs.Prelude.{ℕ, zero, suc, ◌≡◌, ◌⊎◌, ◌+◌, ◌-◌, ◌*◌, ◌/◌, ◌%◌, Bool, ltb, if◌then◌else◌, Some, List, [], ◌∷◌, ◌++◌, length, slice_get}
-use Rattle.disk_model.specs.Picks.{next_state, number_in}
+use Rattle.disk_model.specs.Numbers.{next_state, number_in}
 use Rattle.disk_model.specs.Seen.{Seen}
 use Rattle.data_vio.specs.declared.sizes.Sizes.{Sizes}
 use Rattle.core_model.specs.declared.zones.Zone.{Zone}

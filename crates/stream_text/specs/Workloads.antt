@@ -1,17 +1,10 @@
--- The requests of a seed, and the numbers that they are made of.
-use Rattle.std.specs.Prelude.{ℕ, zero, suc, ◌+◌, ◌*◌, ◌/◌, ◌%◌, ◌==◌, ◌&&◌, nat_lt, false, List, [], ◌∷◌, replicate, if◌then◌else◌}
+-- The requests of a seed, made of the row of numbers that begins with it.
+use Rattle.std.specs.Prelude.{ℕ, zero, suc, ◌%◌, ◌==◌, ◌&&◌, nat_lt, false, List, [], ◌∷◌, replicate, if◌then◌else◌}
 use Rattle.blk_base.specs.declared.request.Request.TheVariants.{Read, Write, Discard, Flush}
+use Rattle.disk_model.specs.Numbers.{next_state, number_in}
 use Rattle.vdo_model.specs.Scripts.{Script}
 use Rattle.stream_text.specs.declared.random_requests.Drawn.{Drawn}
 use Rattle.stream_text.specs.StreamRows.{no_requests, with_requests}
-
--- the state behind this one
-abbrev pub next_state : ℕ → ℕ
-next_state x = (x * 6364136223846793005 + 1442695040888963407) % 18446744073709551616
-
--- the number that a state gives
-abbrev pub number_of_state : ℕ → ℕ
-number_of_state x = x / 8589934592
 
 -- the block that a byte fills
 unfoldable pub filled_block : ℕ → List ℕ
@@ -19,7 +12,7 @@ filled_block byte = replicate 4096 byte
 
 -- a write of a block of one byte, which is drawn last
 abbrev pub drawn_write : ℕ → ℕ → Drawn
-drawn_write address x = record { state = next_state x; request = Write (record { 0 = address }) (filled_block (number_of_state (next_state x) % 32)) false }
+drawn_write address x = record { state = next_state x; request = Write (record { 0 = address }) (filled_block (number_in (next_state x) % 32)) false }
 
 -- the request of this kind, 0 to 7, at an address
 abbrev pub drawn_kind : ℕ → ℕ → ℕ → Drawn
@@ -30,7 +23,7 @@ drawn_kind kind address x =
 -- a request below the logical size
 abbrev pub drawn_block : ℕ → ℕ → Drawn
 drawn_block logical x =
-    drawn_kind (number_of_state (next_state x) % 8) (number_of_state (next_state (next_state x)) % logical) (next_state (next_state x))
+    drawn_kind (number_in (next_state x) % 8) (number_in (next_state (next_state x)) % logical) (next_state (next_state x))
 
 -- request `i`: each 64th but the first is a flush, and takes no number
 abbrev pub drawn_request : ℕ → ℕ → ℕ → Drawn

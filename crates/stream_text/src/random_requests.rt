@@ -1,8 +1,9 @@
 ghost use Rattle.std.specs.Prelude.{◌≡◌, ◌<◌, ◌≤◌, IfOk};
-ghost use Rattle.stream_text.specs.Workloads.{next_state, number_of_state, filled_block, drawn_block, drawn_kind, drawn_request, workload_of};
+ghost use Rattle.stream_text.specs.Workloads.{filled_block, drawn_block, drawn_kind, drawn_request, workload_of};
 
 use crate::streams::Streams;
 use blk_base::{Block, BoxedBlock, Lba, Request};
+use disk_model::{next_state, number_in};
 use std::alloc::{AllocError, Global};
 use vdo_model::Requests;
 
@@ -11,21 +12,6 @@ use vdo_model::Requests;
 pub struct Drawn {
     state: u64,
     request: Request,
-}
-
-fn next(state: u64) -> u64
-    ensures { result ≡ next_state state }
-{
-    state
-        .wrapping_mul(6364136223846793005)
-        .wrapping_add(1442695040888963407)
-}
-
-fn number(state: u64) -> u32
-    requires { state < 18446744073709551616 }
-    ensures { result ≡ number_of_state state }
-{
-    (state >> 33) as u32
 }
 
 // The block that a byte fills.
@@ -43,8 +29,8 @@ fn draw_kind(alloc: Global, kind: u32, at: Lba, state: u64) -> Result<Drawn, All
     ensures { IfOk result (λ drawn. drawn ≡ drawn_kind kind at.0 state) }
 {
     if kind < 4 {
-        let state = next(state);
-        let block = BoxedBlock::new(alloc, filled((number(state) % 32) as u8))?;
+        let state = next_state(state);
+        let block = BoxedBlock::new(alloc, filled((number_in(state) % 32) as u8))?;
         let request = Request::Write {
             at,
             block,
@@ -65,10 +51,10 @@ fn draw_block(alloc: Global, logical: u32, state: u64) -> Result<Drawn, AllocErr
     requires { 0 < logical }
     ensures { IfOk result (λ drawn. drawn ≡ drawn_block logical state) }
 {
-    let first = next(state);
-    let second = next(first);
-    let at = Lba(number(second) % logical);
-    draw_kind(alloc, number(first) % 8, at, second)
+    let first = next_state(state);
+    let second = next_state(first);
+    let at = Lba(number_in(second) % logical);
+    draw_kind(alloc, number_in(first) % 8, at, second)
 }
 
 // The request of this number.

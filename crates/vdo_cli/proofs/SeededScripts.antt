@@ -3,11 +3,12 @@ use Rattle.std.proofs.Common.{ℕ, zero, suc, ◌≡◌, ◌%◌, ◌<◌, ◌�
 use Rattle.std.proofs.Math.Nat.{mod-lt}
 use Rattle.std.proofs.lemmas.List.{length-replicate}
 use Rattle.blk_base.specs.declared.request.Request.TheVariants.{Read, Discard, Flush}
+use Rattle.disk_model.specs.Numbers.{next_state, number_in}
 use Rattle.stream_text.proofs.StreamLaws.{count-more, rows-kept}
 use Rattle.stream_text.proofs.WholeBlockLaws.{rows-with}
 use Rattle.stream_text.specs.ReadingBytes.{EachRequest, HasWholeBlock, IsWholeScript}
 use Rattle.stream_text.specs.StreamRows.{count_of}
-use Rattle.stream_text.specs.Workloads.{drawn_block, drawn_kind, drawn_request, drawn_write, filled_block, next_state, number_of_state, state_before, workload_of}
+use Rattle.stream_text.specs.Workloads.{drawn_block, drawn_kind, drawn_request, drawn_write, filled_block, state_before, workload_of}
 use Rattle.stream_text.specs.declared.random_requests.Drawn.{Drawn}
 use Rattle.vdo_model.specs.Scripts.{Script}
 use Rattle.vdo_words.specs.declared.commands.WorkloadOptions.{WorkloadOptions}
@@ -34,7 +35,7 @@ kind_whole kind address x =
 request_whole : (logical i x : ℕ) → IsWhole (drawn_request logical i x)
 request_whole logical i x =
     either (nat_lt 0 i && (i % 64 == 0)) (record { state = x; request = Flush }) (drawn_block logical x) tt
-    (kind_whole (number_of_state (next_state x) % 8) (number_of_state (next_state (next_state x)) % logical) (next_state (next_state x)))
+    (kind_whole (number_in (next_state x) % 8) (number_in (next_state (next_state x)) % logical) (next_state (next_state x)))
 
 module _ (seed streams logical : ℕ) where
   abbrev first : ℕ → Script

@@ -1,7 +1,8 @@
 use Rattle.std.proofs.Common.{ℕ, suc, ◌≡◌, ◌+◌, ◌<◌, ◌∙◌, reverse, ap, sym, subst, inl, inr, arith}
 use Rattle.std.proofs.lemmas.Bool.Decides.{eqb_tells}
 use Rattle.blk_base.specs.Sectors.{sector}
-use Rattle.disk_model.specs.Picks.{choice, content_of, next_state, pending, state_after}
+use Rattle.disk_model.specs.Numbers.{next_state, state_after}
+use Rattle.disk_model.specs.Picks.{choice, content_of, pending}
 use Rattle.disk_model.proofs.picks.pick_block.Goals as goal
 
 pub loop-i-preserved : goal.loop-i-preserved

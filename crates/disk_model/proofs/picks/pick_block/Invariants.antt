@@ -1,6 +1,7 @@
 use Rattle.std.proofs.Common.{ℕ, ◌≡◌, ◌<◌, suc, length, reverse}
 use Rattle.blk_base.specs.Sectors.{sector}
-use Rattle.disk_model.specs.Picks.{choice, content_of, pending, state_after}
+use Rattle.disk_model.specs.Numbers.{state_after}
+use Rattle.disk_model.specs.Picks.{choice, content_of, pending}
 use Rattle.disk_model.proofs.picks.pick_block.Given as goal
 
 abbrev pub invariant-loop-i : goal.invariant-loop-i

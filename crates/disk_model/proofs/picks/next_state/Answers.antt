@@ -1,8 +1,0 @@
-use Rattle.std.proofs.Common.{◌*◌}
-use Rattle.std.proofs.Math.Nat.{mod-add-mod}
-use Rattle.disk_model.specs.Picks.{next_state}
-use Rattle.disk_model.proofs.picks.next_state.Goals as goal
-
-pub returns : goal.returns
-unfolding next_state
-returns c = mod-add-mod (c.args.x * 6364136223846793005) 18446744073709551616 1442695040888963407
