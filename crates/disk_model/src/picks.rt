@@ -35,21 +35,14 @@ fn content(calls: &[Call], before: &Block, at: u32, k: u64) -> (Block, u64)
     for call in calls {
         count = make(call, at, k, count, &mut content, &mut given);
     }
-    whole(&content);
     (content, count)
-}
-
-// A block has 4096 bytes. It does nothing.
-fn whole(block: &Block)
-    ensures { length block.now ≡ 4096 }
-{
-    // What the checker knows of the array.
-    let _bytes = &block.bytes;
 }
 
 // Makes one call more.
 fn make(call: &Call, at: u32, k: u64, count: u64, content: &mut Block, given: &mut Block) -> u64
     requires room { count < 2 ^ 64 - 1 }
+    requires size { length content.old ≡ 4096 }
+    ensures size { length content.new ≡ 4096 }
     ensures reached { (before : List ℕ) (log : List Call) →
         Reached before log at k content.old given.old count
         → Reached before (call.now ∷ log) at k content.new given.new result }

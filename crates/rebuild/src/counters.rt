@@ -94,7 +94,5 @@ fn write_block<D: Disk>(
     let at = layout.reference_block(slab, i);
     let mut block = read_block(device, at)?;
     put_counts(&mut block, layout, slab, i, counts);
-    // Looked at for the proof alone: a block has 4096 bytes.
-    let _bytes = &block.bytes;
     put(device, at, &block)
 }

@@ -22,8 +22,9 @@ pub fn put_counts(block: &mut Block, layout: &Layout, slab: u32, i: u32, counts:
     requires inside { IsPlace layout.now.geometry (Reference slab i) }
     requires counts { length counts.now.counts.items ≡ all_blocks layout.now.geometry }
     requires sectors { length counts.now.sectors.items ≡ all_sectors layout.now.geometry }
-    ensures { AreCountsPut layout.now.geometry slab i counts.now.counts.items
+    ensures put { AreCountsPut layout.now.geometry slab i counts.now.counts.items
         counts.now.sectors.items block.old block.new }
+    ensures whole { length block.new ≡ 4096 }
 {
     let sectors = sectors_of(block, layout, slab, i, counts);
     encode_reference(&ReferenceBlock { sectors }, block);

@@ -22,7 +22,8 @@ pub fn sector_counters(layout: &Layout, counters: &[u8], n: u32) -> [u8; SECTOR_
 
 /// Writes the block's bytes, as the table of this crate says.
 pub fn encode_reference(sectors: &ReferenceBlock, into: &mut Block)
-    ensures { into.new ≡ reference_bytes sectors.now.sectors }
+    ensures bytes { into.new ≡ reference_bytes sectors.now.sectors }
+    ensures whole { length into.new ≡ 4096 }
 {
     put_sectors(&mut into.bytes, &sectors.sectors);
 }

@@ -5,4 +5,4 @@ use Rattle.force_rebuild.proofs.slabs.counters_block.Goals as goal
 
 pub returns : goal.returns
 unfolding counted_block
-returns c = c.encode_reference.ensures ∙ ap reference_bytes c.sectors_of-sectors.ensures
+returns c = c.encode_reference.ensures.bytes ∙ ap reference_bytes c.sectors_of-sectors.ensures

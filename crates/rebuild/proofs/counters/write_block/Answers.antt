@@ -1,4 +1,4 @@
-use Rattle.std.proofs.Common.{length, ap, arith}
+use Rattle.std.proofs.Common.{arith}
 use Rattle.rebuild.proofs.ActLaws.{read_stops}
 use Rattle.rebuild.proofs.TurnLaws.{block_written}
 use Rattle.rebuild.proofs.counters.write_block.Goals as goal
@@ -11,4 +11,4 @@ returns g c =
     block_written _ _ _ (g.D.Disk.seen c.read_block.new.device) _ _ _ _ c.reference_block-at.result _ _ c.in_ok-block.block c.put_counts.new.block c.put.result
     c.requires.inside c.reference_block-at.ensures.block
     (let inside = c.reference_block-at.ensures.inside in let room = c.requires.room in omega (arith, inside, room))
-    c.in_ok-block.ensures.read.told c.in_ok-block.ensures.read (omega (arith, ap length c.block.view_is)) c.put_counts.ensures c.put.ensures
+    c.in_ok-block.ensures.read.told c.in_ok-block.ensures.read c.put_counts.ensures.whole c.put_counts.ensures.put c.put.ensures
