@@ -19,9 +19,9 @@ pub use Rattle.blk_base.specs.declared.request.Writer.{Writer}
 pub use Rattle.core_model.proofs.FairLaws.{fair_before, fair_part}
 pub use Rattle.core_model.specs.Facts.{Answers, BlockOk, Carries, ClaimOk, DataOk, HasAddress, HasEarned, HasLists, HasPendingEntry, Holds, InLine, IsChange, IsDecrement, IsEarned, IsEntered, IsForBlock, IsInTurn, IsLogOf, IsPlaced, IsReport, IsSealed, IsToBlock, IsToData, IsToInside, IsUndrawn, ItemOk, JournalLists, KeptEach, KeptOk, LockOk, LocksOk, Looks, MapOk, MayReply, RestsAt, Rises, StandsAt, VioOk, WaitsOk, WasTold, ZoneOk, arrival, arriving, made_by, name_of, zone_at, zone_of_stage}
 pub use Rattle.core_model.specs.RightTraces.{AllBelow, CommitMayFollow, EntryMayFollow, FailureMayFollow, GiftMayFollow, GivesRight, HadNoFree, HasBelow, HasCause, HasFullJournal, HasPlace, IsCommitted, IsHeldBack, IsMadeFor, IsOpen, IsPending, IsReported, IsStoppedAtOnce, IsUnused, IsWrite, MapsTo, MayAnswer, MayFollow, NeedsBlock, PageMayFollow, PassMayFollow, PlaceMayFollow, Quiet, RightTrace, SealMayFollow, SlotMayFollow, StopsAtFailure, TakeMayFollow}
-pub use Rattle.core_model.specs.Sessions.{AreAllThere, AtRest, ComesLast, HasBlocks, HasHonestReads, IsAsOpened, IsFair, IsHonestRead, IsServed, IsSession, KeptStands, MapStands, NewReads, NewStands, OnBlock, OnItsWay, PagesStand, ReadsAs, ReadsBlock, Session, Shown, Stands, bytes_of, content_of, log, mapped_or, mapping_by, opened_at, opened_image, opened_uses, value_at, value_from}
+pub use Rattle.core_model.specs.Sessions.{AreAllThere, AtRest, ComesLast, HasBlocks, HasHonestReads, IsAsOpened, IsFair, IsHonestRead, IsSession, KeptStands, MapStands, NewReads, NewStands, OnBlock, OnItsWay, PagesStand, ReadsAs, ReadsBlock, Session, Shown, Stands, bytes_of, content_of, log, mapped_or, mapping_by, opened_at, opened_image, opened_uses, value_at, value_from}
 pub use Rattle.core_model.specs.Tokens.{AtMost, Balanced, Token, answers_of, as_items, begins_of, block_token, claim_token, claim_weight, damage_token, ended_at, entered_at, entry_token, given, has_entry, has_old, heard_at, held_at, holder_token, holder_weight, holds, idle_at, in_log, is_answer, is_begin, is_block, is_committed, is_entry, is_old, is_sealed, is_word, journal_token, kept_by, leads_to, lease_token, lock_weight, locks_at, notice_token, notified_by, of_vio, one_journal, owes, queued, report_token, request_token, room_token, waiter_token, waiter_weight, weight}
-pub use Rattle.core_model.specs.Trace.{Aborts, Adds, Calls, Commits, Draws, Drops, Enters, Fails, Flushes, Gift, Gives, Happening, Harms, Hears, Passes, Removes, Says, Seals, Sets, Strays, Takes, Trace, aborted, added, all_of, applied, calls, claimed, committed, done, dropped, durable, entered, entry_of, filled, gift_of, gifts, has_read_fault, has_stopped, has_taken, is_harmed, is_ok, is_read, journaled, lines, linked, logged_of, marks, moments, new_of, new_pages, newest, of_address, passed, places, remappings, removed, request_in, sealed, strayed, unclaimed}
+pub use Rattle.core_model.specs.Trace.{Aborts, Adds, Calls, Commits, Draws, Drops, Enters, Fails, Flushes, Gift, Gives, Happening, Harms, Hears, Passes, Removes, Says, Seals, Sets, Strays, Takes, Trace, aborted, added, all_of, applied, calls, claimed, committed, done, dropped, durable, entered, entry_of, filled, gift_of, gifts, has_read_fault, has_stopped, has_taken, is_harmed, is_read, journaled, lines, linked, logged_of, marks, moments, new_of, new_pages, newest, of_address, passed, places, remappings, removed, request_in, sealed, strayed, unclaimed}
 pub use Rattle.data_vio.specs.Vios.{Post, all_logged, asked, begun_vio, ended, gift, logged, remapping, request_of, staged, turned}
 pub use Rattle.data_vio.specs.Zones.{IsZone, desk_number, device_number, journal_number, logical_number, logical_zones, notified, notified_zones, physical_number, physical_zones, zone_count, zone_number}
 pub use Rattle.data_vio.specs.declared.items.Asks.{Asks}
@@ -45,11 +45,12 @@ pub use Rattle.core_model.specs.LogicalData.{LogicalZone}
 pub use Rattle.core_model.specs.declared.zones.PhysicalZone.{PhysicalZone}
 pub use Rattle.core_model.specs.declared.zones.Zone.{Zone}
 pub use Rattle.core_model.specs.declared.zones.ZoneData.{ZoneData}
+pub use Rattle.disk_model.specs.Log.{is_ok}
 pub use Rattle.disk_model.specs.declared.call.Call.{Call}
 pub use Rattle.vdo_model.proofs.NameLaws.{same_self, same_tells}
 pub use Rattle.vdo_model.specs.DeskLog.{AllAnswered, IsDeskLog, IsNextLine, answer_of, answered, before_begin, begun}
 pub use Rattle.vdo_model.specs.Places.{AreDrawn, Follows, IsAnsweredAtOnce, IsNextPlace, IsOfZone, drawn, place_of, zone_of}
-pub use Rattle.vdo_model.specs.Scripts.{Script, address_of, request_at, same_writer, value_written}
+pub use Rattle.vdo_model.specs.Scripts.{IsServed, Script, address_of, request_at, same_writer, value_written}
 pub use Rattle.vdo_model.specs.declared.report.DeskLine.{DeskLine}
 pub use Rattle.vdo_model.specs.declared.report.FlushMark.{FlushMark}
 pub use Rattle.vdo_model.specs.declared.report.HistoryEntry.{HistoryEntry}

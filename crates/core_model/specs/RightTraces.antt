@@ -14,6 +14,7 @@ use Rattle.blk_base.specs.declared.request.Answer.TheVariants as reply
 use Rattle.blk_base.specs.declared.request.Request.{Request}
 use Rattle.blk_base.specs.declared.request.Request.TheVariants as request
 use Rattle.blk_base.specs.declared.request.Writer.{Writer}
+use Rattle.disk_model.specs.Log.{is_ok}
 use Rattle.disk_model.specs.declared.call.Call.{Call}
 use Rattle.disk_model.specs.declared.call.Call.TheVariants as call
 use Rattle.page_codec.specs.Grammar.{IsPageFault}
@@ -43,7 +44,7 @@ use Rattle.core_model.specs.Uses.{IsFreeAt, NoneFree, NoneFreeIn, Waits, counted
 use Rattle.data_vio.specs.Zones.{physical_zone_of}
 use Rattle.slab_counts.specs.declared.tickets.Ticket.{Ticket}
 use Rattle.data_vio.specs.Vios.{asked}
-use Rattle.core_model.specs.Trace.{Happening, Says, Flushes, Draws, Enters, Passes, Seals, Commits, Sets, Gives, Takes, Asks as AsksIn, Withdraws, Drops, Adds, Removes, Strays, Hears, Aborts, Calls, Fails, Harms, Trace, Gift, added, removed, strayed, moments, lines, places, journaled, entered, new_of, remappings, filled, sealed, all_of, durable, committed, applied, done, dropped, aborted, gifts, has_taken, is_read, is_ok, has_stopped, has_read_fault, is_harmed, of_address, logged_of, request_in, gift_of}
+use Rattle.core_model.specs.Trace.{Happening, Says, Flushes, Draws, Enters, Passes, Seals, Commits, Sets, Gives, Takes, Asks as AsksIn, Withdraws, Drops, Adds, Removes, Strays, Hears, Aborts, Calls, Fails, Harms, Trace, Gift, added, removed, strayed, moments, lines, places, journaled, entered, new_of, remappings, filled, sealed, all_of, durable, committed, applied, done, dropped, aborted, gifts, has_taken, is_read, has_stopped, has_read_fault, is_harmed, of_address, logged_of, request_in, gift_of}
 
 -- a request is begun and not answered
 pub record IsOpen (t : Trace) (w : Writer) : Type 0 where

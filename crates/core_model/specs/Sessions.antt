@@ -1,5 +1,5 @@
 -- What a session is over, what stands on its device, and which values its addresses have.
-use Rattle.std.specs.Prelude.{ℕ, ◌+◌, ◌*◌, ◌≡◌, ◌⊎◌, ◌<◌, ◌≤◌, ◌^◌, true, false, Option, None, Some, List, [], ◌∷◌, ◌++◌, length, map, reverse, slice_index, IsSome, IsTrue}
+use Rattle.std.specs.Prelude.{ℕ, ◌+◌, ◌*◌, ◌≡◌, ◌⊎◌, ◌<◌, ◌≤◌, ◌^◌, true, Option, None, Some, List, [], ◌∷◌, ◌++◌, length, map, reverse, slice_index, IsSome, IsTrue}
 use Rattle.std.specs.List.{AllByRecursion}
 use Rattle.blk_base.specs.Counters.{limit_of}
 use Rattle.blk_base.specs.Limits.{IsGeometry}
@@ -11,8 +11,6 @@ use Rattle.blk_base.specs.declared.place.Mapping.{Mapping}
 use Rattle.blk_base.specs.declared.place.Mapping.TheVariants.{At}
 use Rattle.blk_base.specs.declared.place.PageId.{PageId}
 use Rattle.blk_base.specs.declared.place.Pbn.{Pbn}
-use Rattle.blk_base.specs.declared.request.Request.TheVariants as request
-use Rattle.blk_base.specs.declared.request.Request.{Request}
 use Rattle.disk_model.specs.Images.{IsMixOf}
 use Rattle.disk_model.specs.Log as device
 use Rattle.disk_model.specs.declared.call.Call.{Call}
@@ -22,7 +20,7 @@ use Rattle.image_model.specs.Counts.{HasMappings}
 use Rattle.image_model.specs.Sound.{AreUnshared}
 use Rattle.image_model.specs.Maps.{ArePagesGood, Image, image_with, mapping_of, page_at, value_of}
 use Rattle.stop_laws.specs.Journals.{Surely}
-use Rattle.vdo_model.specs.Scripts.{Script, request_at, value_written}
+use Rattle.vdo_model.specs.Scripts.{IsServed, Script, request_at, value_written}
 use Rattle.data_vio.specs.declared.sizes.Sizes.{Sizes}
 use Rattle.data_vio.specs.declared.logged.Logged.{Logged}
 use Rattle.data_vio.specs.declared.logged.Logged.TheVariants.{Remaps, Makes}
@@ -51,13 +49,6 @@ pub record Session : Type 0 where
   pub blocks : device.Blocks
   pub before : List Call
   pub image : device.Blocks
-
--- a request that is served as yet
-abbrev pub IsServed : Request → Type 0
-IsServed (request.Read at) = Unit {0}
-IsServed (request.Write at bytes fua) = (length bytes ≡ 4096) × (fua ≡ false)
-IsServed (request.Discard at) = Unit {0}
-IsServed request.Flush = Unit {0}
 
 -- how many mappings a block had when the session began
 abbrev pub opened_uses : Session → Pbn → ℕ

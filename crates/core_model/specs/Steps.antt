@@ -125,6 +125,9 @@ pub record Core : Type 0 where
   pub zones : List Zone
   pub trace : Trace
 
+abbrev pub core_with : List Zone → Trace → Core
+core_with zones t = record { zones = zones; trace = t }
+
 -- One zone steps, and all others stay.
 pub record StepOf (sizes : Sizes) (old new : Core) : Type 0 where
   pub number : ℕ

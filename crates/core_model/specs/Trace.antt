@@ -9,7 +9,7 @@ use Rattle.page_codec.specs.declared.fault.PageFault.{PageFault}
 use Rattle.blk_base.specs.declared.request.Answer.TheVariants.{NoSpace, Ok}
 use Rattle.blk_base.specs.declared.request.Writer.{Writer}
 use Rattle.disk_model.specs.declared.call.Call.{Call}
-use Rattle.disk_model.specs.declared.call.Call.TheVariants.{Read, Write, Flush}
+use Rattle.disk_model.specs.declared.call.Call.TheVariants.{Read}
 use Rattle.vdo_model.specs.declared.report.Damage.{Damage}
 use Rattle.vdo_model.specs.declared.report.Damage.TheVariants.{Page}
 use Rattle.vdo_model.specs.declared.report.DeskLine.{DeskLine}
@@ -245,15 +245,10 @@ has_taken [] w page = false
 has_taken (Takes v one x ∷ t) w page = (is_for one page && same_writer v w) || has_taken t w page
 has_taken (other ∷ t) w page = has_taken t w page
 
--- a call of the device that reads, and one that succeeds
+-- a call of the device that reads
 abbrev pub is_read : Call → Bool
 is_read (Read at bytes ok) = true
 is_read other = false
-
-abbrev pub is_ok : Call → Bool
-is_ok (Read at bytes ok) = ok
-is_ok (Write at bytes ok) = ok
-is_ok (Flush ok) = ok
 
 -- the session is stopped: a write or flush of the device failed, or a leaf that was read doesn't decode, or the device's zone
 -- was told of other damage

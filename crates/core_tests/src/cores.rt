@@ -1,6 +1,6 @@
 ghost use Rattle.std.specs.Prelude.{◌≡◌, ◌++◌, [], ◌∷◌, IfOk, OnOk, length};
 ghost use Rattle.std.specs.List.{AllByRecursion};
-ghost use Rattle.core_model.specs.Sessions.{IsServed};
+ghost use Rattle.vdo_model.specs.Scripts.{IsServed};
 ghost use Rattle.device_zone.specs.DeviceCalls.{Fits};
 
 use crate::sessions::open_over;

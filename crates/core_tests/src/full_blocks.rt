@@ -1,6 +1,6 @@
 ghost use Rattle.std.specs.Prelude.{IfOk};
 ghost use Rattle.std.specs.List.{AllByRecursion};
-ghost use Rattle.core_model.specs.Sessions.{IsServed};
+ghost use Rattle.vdo_model.specs.Scripts.{IsServed};
 
 use crate::cores::{Ask, Unplayed, push, requests};
 use crate::judging::{answer_of, byte_of, may_show};

@@ -2,7 +2,7 @@
 
 ghost use Rattle.std.specs.Prelude.{IfOk};
 ghost use Rattle.std.specs.List.{AllByRecursion};
-ghost use Rattle.core_model.specs.Sessions.{IsServed};
+ghost use Rattle.vdo_model.specs.Scripts.{IsServed};
 
 use crate::cores::{Ask, Unplayed, push, script_of};
 use crate::judging::{Met, judge, request_of};

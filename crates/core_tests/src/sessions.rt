@@ -2,7 +2,7 @@ ghost use Rattle.std.specs.Prelude.{◌≡◌, ◌≤◌, ◌<◌, IfOk};
 ghost use Rattle.std.specs.List.{AllByRecursion};
 ghost use Rattle.blk_base.specs.Limits.{IsGeometry};
 ghost use Rattle.blk_base.specs.Regions.{needed_blocks};
-ghost use Rattle.core_model.specs.Sessions.{IsServed};
+ghost use Rattle.vdo_model.specs.Scripts.{IsServed};
 ghost use Rattle.device_zone.specs.DeviceCalls.{Fits};
 ghost use Rattle.rebuild.specs.Openings.{Fits as HasItsSizes};
 

@@ -9,11 +9,11 @@ use Rattle.disk_model.specs.declared.faults.FaultAt.{FaultAt}
 use Rattle.disk_model.specs.declared.fuse.Fuse.{Fuse}
 use Rattle.disk_model.specs.declared.fuse.Fuse.TheVariants.{Passes, Spent, Unset}
 use Rattle.disk_model.specs.Fuses.{burnt, burnt_all, is_cut}
-use Rattle.disk_model.specs.Log.{Blocks}
+use Rattle.disk_model.specs.Log.{Blocks, is_ok}
 use Rattle.disk_model.specs.Memory.{Fails, Memory, Succeeds, is_to_fail, kind_of, one_more, place_of}
 use Rattle.disk_model.specs.Picks.{counted_log}
 use Rattle.disk_model.specs.Plans.{counted, named}
-use Rattle.crash_images.specs.Cuts.{IsCutDisk, IsCutOff, is_ok, logs_of}
+use Rattle.crash_images.specs.Cuts.{IsCutDisk, IsCutOff, logs_of}
 
 -- each call left one log
 count_logs : (log : List Call) → length (logs_of log) ≡ length log

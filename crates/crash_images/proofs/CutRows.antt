@@ -2,21 +2,11 @@
 use Rattle.std.proofs.Common.{◌≡◌, true, false, List, [], ◌∷◌, refl, arith}
 use Rattle.command_text.specs.declared.crashes.CrashStop.TheVariants.{Stopped, Ended}
 use Rattle.disk_model.specs.declared.call.Call.{Call}
-use Rattle.disk_model.specs.declared.call.Call.TheVariants.{Read, Write, Flush}
+use Rattle.disk_model.specs.declared.call.Call.TheVariants.{Flush}
 use Rattle.disk_model.specs.declared.faults.CallKind.TheVariants.{Flush as FlushKind}
 use Rattle.disk_model.specs.declared.fuse.Fuse.TheVariants.{Spent}
 use Rattle.disk_model.specs.Memory.{Memory, fresh}
-use Rattle.crash_images.specs.Cuts.{AreCutOff, IsCutDisk, IsCutOff, is_ok, logs_of, stop_of}
-
--- is_ok: as the call says
-read_ok : is_ok (Read (record { 0 = 3 }) [] true) ≡ true
-read_ok = refl
-
-write_failed : is_ok (Write (record { 0 = 3 }) [] false) ≡ false
-write_failed = refl
-
-flush_ok : is_ok (Flush true) ≡ true
-flush_ok = refl
+use Rattle.crash_images.specs.Cuts.{AreCutOff, IsCutDisk, IsCutOff, logs_of, stop_of}
 
 -- AreCutOff: one flush went on, and the next one failed
 abbrev one_and_one : List Call

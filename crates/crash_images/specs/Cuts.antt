@@ -1,9 +1,9 @@
 -- A device in memory that is cut off behind its first calls.
-use Rattle.std.specs.Prelude.{ℕ, ◌≡◌, nat_le, nat_lt, not, Bool, if◌then◌else◌, List, [], ◌∷◌, length}
+use Rattle.std.specs.Prelude.{ℕ, ◌≡◌, nat_le, nat_lt, not, if◌then◌else◌, List, [], ◌∷◌, length}
 use Rattle.disk_model.specs.declared.call.Call.{Call}
-use Rattle.disk_model.specs.declared.call.Call.TheVariants.{Read, Write, Flush}
 use Rattle.disk_model.specs.declared.fuse.Fuse.TheVariants.{Passes}
 use Rattle.disk_model.specs.Fuses.{burnt_all}
+use Rattle.disk_model.specs.Log.{is_ok}
 use Rattle.disk_model.specs.Memory.{Memory}
 use Rattle.command_text.specs.declared.crashes.CrashStop.{CrashStop}
 use Rattle.command_text.specs.declared.crashes.CrashStop.TheVariants.{Stopped, Ended}
@@ -12,12 +12,6 @@ use Rattle.command_text.specs.declared.crashes.CrashStop.TheVariants.{Stopped, E
 pub record Cut : Type 0 where
   pub disk : Memory
   pub passes : ℕ
-
--- whether a call succeeded
-abbrev pub is_ok : Call → Bool
-is_ok (Read at bytes ok) = ok
-is_ok (Write at bytes ok) = ok
-is_ok (Flush ok) = ok
 
 -- of these calls, the newest first, exactly those succeeded before which fewer than so many stood
 abbrev pub AreCutOff : ℕ → List Call → Type 0

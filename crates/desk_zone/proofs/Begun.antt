@@ -2,8 +2,7 @@
 use Rattle.std.proofs.Common.{ℕ, zero, suc, ◌≡◌, Some, None, [], ◌∷◌, true, false, ap, sym}
 use Rattle.std.specs.List.{AllByRecursion}
 use Rattle.plain_laws.proofs.ListLaws.{every-get}
-use Rattle.vdo_model.specs.Scripts.{Script, request_at, stream_of}
-use Rattle.core_model.specs.Sessions.{IsServed}
+use Rattle.vdo_model.specs.Scripts.{Script, request_at, stream_of, IsServed}
 use Rattle.std.proofs.lemmas.Option.{same_Some}
 use Rattle.blk_base.specs.declared.request.Request.{Request}
 use Rattle.blk_base.specs.declared.request.Request.TheVariants as request

@@ -6,7 +6,7 @@ use Rattle.core_model.specs.declared.zones.ZoneData.TheVariants as at
 use Rattle.core_model.specs.DeskData.{Desk}
 use Rattle.core_model.specs.Limits.{HasRoomToBegin, IsDeskWithin}
 use Rattle.core_model.specs.SessionLimits.{IsLimited}
-use Rattle.core_model.specs.Sessions.{IsServed}
+use Rattle.vdo_model.specs.Scripts.{IsServed}
 use Rattle.core_model.specs.Steps.{MayBegin}
 
 -- There is a logical zone, the script is no larger than it may be, each of its requests is served, and the desk keeps

@@ -7,7 +7,17 @@ use Rattle.blk_base.specs.declared.place.Pbn.{Pbn}
 use Rattle.disk_model.specs.declared.call.Call.{Call}
 use Rattle.disk_model.specs.declared.call.Call.TheVariants.{Read, Write, Flush}
 use Rattle.disk_model.specs.Images.{HasOneImage, IsImage, IsMixOf, OneOf}
-use Rattle.disk_model.specs.Log.{Blocks, block_at, contents}
+use Rattle.disk_model.specs.Log.{Blocks, block_at, contents, is_ok}
+
+-- is_ok: as the call says
+read_ok : is_ok (Read (record { 0 = 3 }) [] true) ≡ true
+read_ok = refl
+
+write_failed : is_ok (Write (record { 0 = 3 }) [] false) ≡ false
+write_failed = refl
+
+flush_ok : is_ok (Flush true) ≡ true
+flush_ok = refl
 
 abbrev first_block : Pbn
 first_block = record { 0 = 0 }

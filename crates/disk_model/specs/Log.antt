@@ -1,5 +1,5 @@
 -- The log of a device: the calls made, the newest first.
-use Rattle.std.specs.Prelude.{ℕ, ◌≡◌, ◌≢◌, ◌⊎◌, true, false, if◌then◌else◌, ◌==◌, List, [], ◌∷◌, get_or}
+use Rattle.std.specs.Prelude.{ℕ, ◌≡◌, ◌≢◌, ◌⊎◌, Bool, true, false, if◌then◌else◌, ◌==◌, List, [], ◌∷◌, get_or}
 use Rattle.blk_base.specs.Sectors.{zero_block}
 use Rattle.disk_model.specs.declared.call.Call.{Call}
 use Rattle.disk_model.specs.declared.call.Call.TheVariants.{Read, Write, Flush}
@@ -28,6 +28,12 @@ contents opening (Read _ _ _ ∷ older) b = contents opening older b
 contents opening (Flush true ∷ older) b = settled opening older b
 contents opening (Flush false ∷ older) b = contents opening older b
 contents opening (Write at bytes _ ∷ older) b = if at.0 == b then bytes ∷ contents opening older b else contents opening older b
+
+-- whether a call succeeded
+abbrev pub is_ok : Call → Bool
+is_ok (Read at bytes ok) = ok
+is_ok (Write at bytes ok) = ok
+is_ok (Flush ok) = ok
 
 -- a call that writes no block of this number
 abbrev pub Misses : Call → ℕ → Type 0

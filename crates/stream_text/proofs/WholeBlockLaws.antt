@@ -4,13 +4,13 @@ use Rattle.std.specs.List.{AllByRecursion, slice_split}
 use Rattle.std.proofs.Common.{sym, ◌∙◌, ap, subst, arith, inl, inr}
 use Rattle.std.proofs.lemmas.Bool.Decides.{eqb_tells}
 use Rattle.blk_base.specs.declared.request.Request.{Request}
-use Rattle.vdo_model.specs.Scripts.{Script}
+use Rattle.vdo_model.specs.Scripts.{Script, IsServed}
 use Rattle.stream_text.specs.LineFaults.{both}
 use Rattle.stream_text.specs.LineWords.{stream_number, address_number, count_number, extent_of, bytes_of_parts, block_of_bytes}
 use Rattle.stream_text.specs.LineGrammar.{stream_asked, flush_asked, read_asked, write_asked, discard_asked, asked_of_words, words_of, asked_of_line}
 use Rattle.stream_text.specs.StreamRows.{count_of, discards, requests_of, with_asked, with_requests}
 use Rattle.stream_text.specs.WholeScript.{is_passed_over, after_text}
-use Rattle.stream_text.specs.ReadingBytes.{goes_on_from, HasWholeBlock, EachRequest, IsAdded, IsReadingBytes, IsWholeScript}
+use Rattle.stream_text.specs.ReadingBytes.{goes_on_from, EachRequest, IsAdded, IsReadingBytes, IsWholeScript}
 use Rattle.stream_text.specs.declared.asked.Asked.{Asked}
 use Rattle.stream_text.specs.declared.asked.Asked.TheVariants.{One, Discards}
 use Rattle.stream_text.specs.declared.refusal.LineFault.{LineFault}
@@ -31,7 +31,7 @@ both-second P (Err one) (Err other) h = tt
 
 -- what asks for one request asks for one that has a whole block where it writes
 abbrev pub IsWhole : Asked → Type 0
-IsWhole (One stream request) = HasWholeBlock request
+IsWhole (One stream request) = IsServed request
 IsWhole (Discards stream at last) = Unit {0}
 
 block_whole : (bytes : Result (List ℕ) LineFault) → IfOk (block_of_bytes bytes) (λ block. length block ≡ 4096)
@@ -77,12 +77,12 @@ words_whole (stream ∷ command ∷ address ∷ last ∷ word ∷ words) = tt
 line_whole : (line : List ℕ) → IfOk (asked_of_line line) IsWhole
 line_whole line = words_whole (words_of line)
 
-discards_whole : (at count : ℕ) → AllByRecursion HasWholeBlock (discards at count)
+discards_whole : (at count : ℕ) → AllByRecursion IsServed (discards at count)
 discards_whole at zero = tt
 discards_whole at (suc count) = (tt, discards_whole (at + 1) count)
 
 -- the writes that are asked for have whole blocks
-asked_whole : (asked : Result Asked LineFault) → IfOk asked IsWhole → IfOk asked (λ a. AllByRecursion HasWholeBlock (requests_of a))
+asked_whole : (asked : Result Asked LineFault) → IfOk asked IsWhole → IfOk asked (λ a. AllByRecursion IsServed (requests_of a))
 asked_whole (Ok (One stream request)) whole = (whole, tt)
 asked_whole (Ok (Discards stream at last)) whole = discards_whole at _
 asked_whole (Err fault) whole = tt
@@ -107,10 +107,10 @@ each-after P script false (Ok asked) all more =
     if_else (EachRequest P) (nat_le (count_of new) 65536) (Ok new) (Err TooMany) (rows-with P script (stream_asked asked) (requests_of asked) all (more refl)) tt
 
 -- the writes have whole blocks behind a line too
-pub whole-after : (script new : Script) (text : List ℕ) → after_text script text ≡ Ok new → EachRequest HasWholeBlock script → EachRequest HasWholeBlock new
+pub whole-after : (script new : Script) (text : List ℕ) → after_text script text ≡ Ok new → EachRequest IsServed script → EachRequest IsServed new
 whole-after script new text is all =
-    subst (λ (r : Result Script LineFault). IfOk r (EachRequest HasWholeBlock)) is
-    (each-after HasWholeBlock script (is_passed_over text) (asked_of_line text) all (λ not. asked_whole (asked_of_line text) (line_whole text)))
+    subst (λ (r : Result Script LineFault). IfOk r (EachRequest IsServed)) is
+    (each-after IsServed script (is_passed_over text) (asked_of_line text) all (λ not. asked_whole (asked_of_line text) (line_whole text)))
 
 -- a line that is served ends
 pub goes-line : (number before size : ℕ) (script more : Script) (line text line' rest : List ℕ)
@@ -146,7 +146,7 @@ goes-last number before script more requests line text one some short within sam
     served-last number before script more line one some short within (ap (after_text script) (sym same) ∙ is) ∙ ap Ok (sym taken)
 
 -- the requests are those of a whole script
-pub whole-last : (count : ℕ) (script more requests : Script) (text : List ℕ) → EachRequest HasWholeBlock script → length more ≡ 16
+pub whole-last : (count : ℕ) (script more requests : Script) (text : List ℕ) → EachRequest IsServed script → length more ≡ 16
     → IsAdded (after_text script text) more count → requests ≡ more → IsWholeScript requests
 whole-last count script more requests text writes rows added taken =
     rw taken (record { rows = rows; few = omega (arith, added.counted, added.few); writes = whole-after script more text added.same writes })

@@ -1,36 +1,21 @@
--- Requests with whole blocks, and scripts of them: for each rule a case that it takes and one that it refuses.
-use Rattle.std.specs.Prelude.{ℕ, zero, suc, true, false, List, [], ◌∷◌, replicate, codes, refl}
+-- Scripts of requests with whole blocks: for each rule a case that it takes and one that it refuses.
+use Rattle.std.specs.Prelude.{ℕ, zero, suc, List, [], ◌∷◌, replicate, codes, refl}
 use Rattle.std.proofs.Common.{arith}
 use Rattle.std.proofs.lemmas.List.{length-replicate}
 use Rattle.blk_base.specs.declared.request.Request.{Request}
-use Rattle.blk_base.specs.declared.request.Request.TheVariants.{Write, Discard, Flush}
-use Rattle.vdo_model.specs.Scripts.{Script}
+use Rattle.blk_base.specs.declared.request.Request.TheVariants.{Discard, Flush}
+use Rattle.vdo_model.proofs.ScriptRows.{short_write, whole_write, zeros}
+use Rattle.vdo_model.specs.Scripts.{Script, IsServed}
 use Rattle.stream_text.specs.StreamRows.{no_requests, with_requests}
-use Rattle.stream_text.specs.ReadingBytes.{HasWholeBlock, EachRequest, IsReadingBytes, IsWholeScript}
+use Rattle.stream_text.specs.ReadingBytes.{EachRequest, IsReadingBytes, IsWholeScript}
 use Rattle.stream_text.proofs.StreamLaws.{count-more, rows-kept}
 use Rattle.stream_text.proofs.WholeBlockLaws.{rows-with}
 
--- a write of this many zeros
-abbrev pub zeros : ℕ → Request
-zeros n = Write (record { 0 = 5 }) (replicate n 0) false
-
-pub whole_write : HasWholeBlock (zeros 4096)
-whole_write = (length-replicate {A = ℕ} 4096 0, refl)
-
-pub short_write : HasWholeBlock (zeros 4095) → ⊥
-short_write whole = absurd (omega (arith, whole.0, length-replicate {A = ℕ} 4095 0))
-
-pub forced_write : HasWholeBlock (Write (record { 0 = 5 }) (replicate 4096 0) true) → ⊥
-forced_write whole = absurd (let forced = whole.1 in cc)
-
-pub discard_has_none : HasWholeBlock (Discard (record { 0 = 5 }))
-discard_has_none = tt
-
-pub each_flush : EachRequest HasWholeBlock ((Flush ∷ []) ∷ (Flush ∷ Flush ∷ []) ∷ [])
+pub each_flush : EachRequest IsServed ((Flush ∷ []) ∷ (Flush ∷ Flush ∷ []) ∷ [])
 each_flush = ((tt, tt), ((tt, (tt, tt)), tt))
 
 -- the last request of the last stream
-pub each_but_one : EachRequest HasWholeBlock ((Flush ∷ []) ∷ (Flush ∷ zeros 4095 ∷ []) ∷ []) → ⊥
+pub each_but_one : EachRequest IsServed ((Flush ∷ []) ∷ (Flush ∷ zeros 4095 ∷ []) ∷ []) → ⊥
 each_but_one each = short_write each.1.0.1.0
 
 each_of_none : (P : Request → Type 0) (n : ℕ) → EachRequest P (replicate n [])
@@ -48,7 +33,7 @@ pub whole_script_is : IsWholeScript (last_stream (zeros 4096 ∷ []))
 whole_script_is = record {
   rows = rows-kept no_requests 15 (zeros 4096 ∷ []);
   few = omega (arith, count-more no_requests 15 (zeros 4096 ∷ []) (omega arith));
-  writes = last_each HasWholeBlock (zeros 4096) whole_write;
+  writes = last_each IsServed (zeros 4096) whole_write;
 }
 
 pub fifteen_streams : IsWholeScript (replicate 15 []) → ⊥
@@ -70,7 +55,7 @@ reading_discard = record {
   one_line = ((λ e. absurd (omega (arith, e))), ((λ e. absurd (omega (arith, e))), ((λ e. absurd (omega (arith, e))), tt)));
   within = omega arith;
   numbered = omega arith;
-  writes = last_each HasWholeBlock (Discard (record { 0 = 5 })) tt;
+  writes = last_each IsServed (Discard (record { 0 = 5 })) tt;
 }
 
 pub reading_short : IsReadingBytes 1 2 14 (last_stream (zeros 4095 ∷ [])) (codes "0 f") → ⊥

@@ -1,9 +1,8 @@
 -- A script that is read in part: the streams so far, and the beginning of a line.
-use Rattle.std.specs.Prelude.{ℕ, ◌≡◌, ◌≢◌, ◌≤◌, ◌+◌, false, List, ◌++◌, length, Result, Ok, Err}
+use Rattle.std.specs.Prelude.{ℕ, ◌≡◌, ◌≢◌, ◌≤◌, ◌+◌, List, ◌++◌, length, Result, Ok, Err}
 use Rattle.std.specs.List.{AllByRecursion}
 use Rattle.blk_base.specs.declared.request.Request.{Request}
-use Rattle.blk_base.specs.declared.request.Request.TheVariants as request
-use Rattle.vdo_model.specs.Scripts.{Script}
+use Rattle.vdo_model.specs.Scripts.{IsServed, Script}
 use Rattle.stream_text.specs.StreamRows.{count_of}
 use Rattle.stream_text.specs.WholeScript.{lines_with_ends, script_from}
 use Rattle.stream_text.specs.declared.refusal.LineFault.{LineFault}
@@ -16,13 +15,6 @@ use Rattle.stream_text.specs.declared.refusal.LineError.TheVariants as stop
 -- what the whole script is, if these bytes are the rest
 abbrev pub goes_on_from : ℕ → ℕ → Script → List ℕ → List ℕ → Result Script ScriptRefusal
 goes_on_from number before script line rest = script_from number before script (lines_with_ends (line ++ rest))
-
--- a write has a whole block, and isn't forced
-abbrev pub HasWholeBlock : Request → Type 0
-HasWholeBlock (request.Read at) = Unit {0}
-HasWholeBlock (request.Write at bytes fua) = (length bytes ≡ 4096) × (fua ≡ false)
-HasWholeBlock (request.Discard at) = Unit {0}
-HasWholeBlock request.Flush = Unit {0}
 
 -- every request of every stream
 abbrev pub EachRequest : (Request → Type 0) → Script → Type 0
@@ -37,7 +29,7 @@ pub record IsReadingBytes (count number before : ℕ) (script : Script) (line : 
   pub one_line : AllByRecursion (λ byte. byte ≢ 10) line
   pub within : before + length line ≤ 134217728
   pub numbered : number ≤ before + 1
-  pub writes : EachRequest HasWholeBlock script
+  pub writes : EachRequest IsServed script
 
 -- what a refusal says of the script
 abbrev pub RefusesScript : ReadScript → Result Script ScriptRefusal → Type 0
@@ -65,4 +57,4 @@ refusal_said number stop.Memory = read.Memory
 pub record IsWholeScript (script : Script) : Type 0 where
   pub rows : length script ≡ 16
   pub few : count_of script ≤ 65536
-  pub writes : EachRequest HasWholeBlock script
+  pub writes : EachRequest IsServed script

@@ -24,14 +24,13 @@ use Rattle.plain_laws.specs.Sums.{Each}
 use Rattle.rebuild.specs.declared.forms.Recovered.{Recovered}
 use Rattle.slab_tickets.specs.Tickets.{Desk, empty_desk}
 use Rattle.step_parts.specs.DeviceLog.{HasCalled}
-use Rattle.stream_text.specs.ReadingBytes.{HasWholeBlock}
 use Rattle.stream_text.specs.StreamRows.{no_requests}
 use Rattle.stream_text.specs.WholeScript.{whole_script}
 use Rattle.vdo_core.specs.Cores.{CanBegin}
 use Rattle.vdo_core.specs.Done.{IsDone}
 use Rattle.vdo_core.proofs.SessionLaws as sessions
 use Rattle.vdo_core.specs.Plays.{core_with}
-use Rattle.vdo_model.specs.Scripts.{Script}
+use Rattle.vdo_model.specs.Scripts.{Script, IsServed}
 use Rattle.vdo_model.specs.declared.report.RunReport.{RunReport}
 use Rattle.zone_counts.proofs.FitLaws.{opened_claims}
 use Rattle.zone_counts.proofs.OpenedCounts.{opened_here}
@@ -164,7 +163,7 @@ no_request P = (tt, (tt, (tt, (tt, (tt, (tt, (tt, (tt, (tt, (tt, (tt, (tt, (tt, 
 module _ (tells honest : Bool) (schedule : ℕ) (found : Recovered) (start : Opened) (before opened : Seen) (ready : IsReady (trust tells honest) before opened found start)
     (unlinked : (page : PageId) → opened_page start.pages.items page ≡ None) (counts : Counters) (first : AreFirst start counts) where
   pub can : CanBegin (run_sizes start.head) no_requests start
-  can = can_begin _ start no_requests ready.opening.head ready.opening.fits (record { rows = refl; few = omega arith; writes = no_request HasWholeBlock })
+  can = can_begin _ start no_requests ready.opening.head ready.opening.fits (record { rows = refl; few = omega arith; writes = no_request IsServed })
 
   abbrev zones : List Zone
   zones = first_zones start no_requests counts

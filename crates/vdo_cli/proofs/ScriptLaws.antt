@@ -1,28 +1,13 @@
 -- A script that was read can be served over the image that was opened.
 use Rattle.std.proofs.Common.{ℕ, ◌≡◌, [], ◌∷◌, refl, arith}
-use Rattle.std.specs.List.{AllByRecursion}
 use Rattle.blk_base.specs.declared.opened.Opened.{Opened}
-use Rattle.blk_base.specs.declared.request.Request.{Request}
-use Rattle.blk_base.specs.declared.request.Request.TheVariants.{Read, Write, Discard, Flush}
 use Rattle.core_model.specs.SessionLimits.{requests_in}
-use Rattle.core_model.specs.Sessions.{IsServed}
-use Rattle.plain_laws.proofs.ListLaws.{every-map}
 use Rattle.rebuild.specs.Openings.{Fits, HasItsHead}
-use Rattle.stream_text.specs.ReadingBytes.{EachRequest, HasWholeBlock, IsWholeScript}
+use Rattle.stream_text.specs.ReadingBytes.{IsWholeScript}
 use Rattle.stream_text.specs.StreamRows.{count_of}
 use Rattle.vdo_core.specs.Cores.{CanBegin}
 use Rattle.vdo_model.specs.Scripts.{Script}
 use Rattle.vdo_cli.specs.Sessions.{run_sizes}
-
--- a request that has a whole block where it writes is served
-is_served : (r : Request) → HasWholeBlock r → IsServed r
-is_served (Read at) whole = tt
-is_served (Write at bytes fua) whole = whole
-is_served (Discard at) whole = tt
-is_served Flush whole = tt
-
-all_served : (script : Script) → EachRequest HasWholeBlock script → AllByRecursion (AllByRecursion IsServed) script
-all_served script whole = every-map (every-map is_served) script whole
 
 -- both count all requests
 same_count : (script : Script) → count_of script ≡ requests_in script
@@ -44,7 +29,7 @@ can_begin size start script head fits whole = record {
     zones = omega arith;
     physical = omega arith;
   };
-  served = all_served script whole.writes;
+  served = whole.writes;
   pages = fits.pages;
   counters = fits.counters;
   limit = fits.limit;

@@ -6,11 +6,11 @@ use Rattle.blk_base.specs.declared.request.Request.TheVariants.{Read, Discard, F
 use Rattle.disk_model.specs.Numbers.{next_state, number_in}
 use Rattle.stream_text.proofs.StreamLaws.{count-more, rows-kept}
 use Rattle.stream_text.proofs.WholeBlockLaws.{rows-with}
-use Rattle.stream_text.specs.ReadingBytes.{EachRequest, HasWholeBlock, IsWholeScript}
+use Rattle.stream_text.specs.ReadingBytes.{EachRequest, IsWholeScript}
 use Rattle.stream_text.specs.StreamRows.{count_of}
 use Rattle.stream_text.specs.Workloads.{drawn_block, drawn_kind, drawn_request, drawn_write, filled_block, state_before, workload_of}
 use Rattle.stream_text.specs.declared.random_requests.Drawn.{Drawn}
-use Rattle.vdo_model.specs.Scripts.{Script}
+use Rattle.vdo_model.specs.Scripts.{Script, IsServed}
 use Rattle.vdo_words.specs.declared.commands.WorkloadOptions.{WorkloadOptions}
 use Rattle.vdo_cli.specs.Commands.{IsWorkload}
 use Rattle.vdo_cli.specs.Workloads.{requests_for}
@@ -21,7 +21,7 @@ filled_long byte = length-replicate 4096 byte
 
 -- a request that was drawn has a whole block where it writes
 abbrev IsWhole : Drawn → Type 0
-IsWhole drawn = HasWholeBlock drawn.request
+IsWhole drawn = IsServed drawn.request
 
 either : (b : Bool) (x y : Drawn) → IsWhole x → IsWhole y → IsWhole (if b then x else y)
 either true x y first second = first
@@ -45,10 +45,10 @@ module _ (seed streams logical : ℕ) where
   sixteen zero = refl
   sixteen (suc i) = rows-kept (first i) (i % streams) _ ∙ sixteen i
 
-  all_whole : (n : ℕ) → EachRequest HasWholeBlock (first n)
+  all_whole : (n : ℕ) → EachRequest IsServed (first n)
   all_whole zero = (tt, (tt, (tt, (tt, (tt, (tt, (tt, (tt, (tt, (tt, (tt, (tt, (tt, (tt, (tt, (tt, tt))))))))))))))))
   all_whole (suc i) =
-      rows-with HasWholeBlock (first i) (i % streams) ((drawn_request logical i (state_before logical seed i)).request ∷ []) (all_whole i)
+      rows-with IsServed (first i) (i % streams) ((drawn_request logical i (state_before logical seed i)).request ∷ []) (all_whole i)
       (request_whole logical i (state_before logical seed i), tt)
 
   so_many : 1 ≤ streams → streams ≤ 16 → (n : ℕ) → count_of (first n) ≡ n

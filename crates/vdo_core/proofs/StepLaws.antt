@@ -2,7 +2,7 @@
 use Rattle.std.proofs.Common.{◌≡◌, ◌<◌, ◌≤◌, ◌+◌, ◌*◌, ◌++◌, ℕ, Some, List, [], ◌∷◌, length, length-append, take, drop, slice_get, refl, sym, subst, arith, inl, inr}
 use Rattle.std.proofs.lemmas.Nat.{mul-le}
 use Rattle.std.specs.List.{AllByRecursion}
-use Rattle.vdo_model.specs.Scripts.{Script}
+use Rattle.vdo_model.specs.Scripts.{Script, IsServed}
 use Rattle.vdo_model.specs.DeskLog.{IsDeskLog}
 use Rattle.vdo_model.specs.declared.report.DeskLine.{DeskLine}
 use Rattle.core_model.specs.DeskData.{Desk}
@@ -16,7 +16,7 @@ use Rattle.core_model.specs.Facts.{DataOk}
 use Rattle.core_model.specs.Legal.{Legal}
 use Rattle.core_model.specs.Limits.{HasRoomToBegin, IsDataWithin, IsDeskWithin, IsShort}
 use Rattle.core_model.specs.SessionLimits.{IsLimited}
-use Rattle.core_model.specs.Sessions.{IsServed, IsSession, Session}
+use Rattle.core_model.specs.Sessions.{IsSession, Session}
 use Rattle.core_model.specs.Steps.{Core, MayBegin}
 use Rattle.core_model.specs.Trace.{Trace, lines}
 use Rattle.core_model.specs.Views.{behind, core_of, with_batches}

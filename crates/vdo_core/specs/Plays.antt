@@ -4,7 +4,8 @@ use Rattle.disk_model.specs.Seen.{Seen}
 use Rattle.data_vio.specs.declared.items.Item.{Item}
 use Rattle.data_vio.specs.declared.sizes.Sizes.{Sizes}
 use Rattle.core_model.specs.declared.zones.Zone.{Zone}
-use Rattle.core_model.specs.Steps.{Core, IsIdle, ZoneStep, Leads, step_limit, with_inbox, with_outboxes}
+use Rattle.core_model.specs.Steps.{IsIdle, ZoneStep, Leads, step_limit, with_inbox, with_outboxes}
+pub use Rattle.core_model.specs.Steps.{core_with}
 use Rattle.core_model.specs.Trace.{Trace}
 use Rattle.step_parts.specs.DeviceLog.{HasCalled}
 use Rattle.vdo_core.specs.declared.stepped.Stepped.{Stepped}
@@ -12,9 +13,6 @@ use Rattle.vdo_core.specs.declared.stepped.Stepped.TheVariants.{Did, Idle}
 use Rattle.vdo_core.specs.Moves.{MovesNothing}
 use Rattle.vdo_core.specs.declared.events.Event.{Event}
 use Rattle.vdo_core.specs.declared.events.Event.TheVariants as event
-
-abbrev pub core_with : List Zone → Trace → Core
-core_with zones t = record { zones = zones; trace = t }
 
 -- one zone steps
 abbrev pub ZoneSteps : Bool → Bool → Sizes → Zone → Zone → Seen → Seen → Type 0

@@ -1,8 +1,10 @@
 -- Scripts, computed at rows.
-use Rattle.std.proofs.Common.{◌≡◌, true, false, Some, None, refl}
+use Rattle.std.proofs.Common.{ℕ, ◌≡◌, true, false, Some, None, replicate, refl, arith}
+use Rattle.std.proofs.lemmas.List.{length-replicate}
 use Rattle.blk_base.specs.Sectors.{zero_block}
+use Rattle.blk_base.specs.declared.request.Request.{Request}
 use Rattle.blk_base.specs.declared.request.Request.TheVariants.{Read, Write, Discard, Flush}
-use Rattle.vdo_model.specs.Scripts.{request_at, address_of, value_written, same_writer}
+use Rattle.vdo_model.specs.Scripts.{IsServed, request_at, address_of, value_written, same_writer}
 use Rattle.vdo_model.proofs.Example.{address, of_a, of_b, block, script}
 
 -- request_at: by stream and number
@@ -51,6 +53,22 @@ flush_writes_none = refl
 
 unknown_writes_none : value_written None ≡ zero_block
 unknown_writes_none = refl
+
+-- IsServed: a write of this many zeros
+abbrev pub zeros : ℕ → Request
+zeros n = Write (record { 0 = 5 }) (replicate n 0) false
+
+pub whole_write : IsServed (zeros 4096)
+whole_write = (length-replicate {A = ℕ} 4096 0, refl)
+
+pub short_write : IsServed (zeros 4095) → ⊥
+short_write served = absurd (omega (arith, served.0, length-replicate {A = ℕ} 4095 0))
+
+pub forced_write : IsServed (Write (record { 0 = 5 }) (replicate 4096 0) true) → ⊥
+forced_write served = absurd (let forced = served.1 in cc)
+
+pub discard_has_none : IsServed (Discard (record { 0 = 5 }))
+discard_has_none = tt
 
 -- same_writer: by stream and by number
 is_same : same_writer (of_a 1) (of_a 1) ≡ true

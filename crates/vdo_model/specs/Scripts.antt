@@ -1,5 +1,5 @@
 -- Scripts: each stream's list of requests.
-use Rattle.std.specs.Prelude.{ℕ, ◌==◌, ◌&&◌, Bool, List, [], Option, Some, None, slice_get, get_or}
+use Rattle.std.specs.Prelude.{ℕ, ◌≡◌, ◌==◌, ◌&&◌, Bool, false, List, [], length, Option, Some, None, slice_get, get_or}
 use Rattle.blk_base.specs.Sectors.{zero_block}
 use Rattle.blk_base.specs.declared.request.Request.{Request}
 use Rattle.blk_base.specs.declared.request.Request.TheVariants.{Read, Write, Discard, Flush}
@@ -31,6 +31,13 @@ value_written (Some (Read at)) = zero_block
 value_written (Some (Discard at)) = zero_block
 value_written (Some Flush) = zero_block
 value_written None = zero_block
+
+-- a request that is served as yet: a write has a whole block, and isn't forced
+abbrev pub IsServed : Request → Type 0
+IsServed (Read at) = Unit {0}
+IsServed (Write at bytes fua) = (length bytes ≡ 4096) × (fua ≡ false)
+IsServed (Discard at) = Unit {0}
+IsServed Flush = Unit {0}
 
 -- the same name
 abbrev pub same_writer : Writer → Writer → Bool

@@ -1,7 +1,7 @@
 -- What a thread does with its own zone is a step of the core, and what threads do with batches are moves of it.
 use Rattle.std.proofs.Common.{◌≡◌, ℕ, zero, suc, ◌+◌, Bool, true, false, List, [], ◌∷◌, ◌++◌, Some, slice_get, slice_set, nat_eq, refl, ap, sym, ◌∙◌, append_assoc, ◌≢◌, subst}
 use Rattle.core_laws.proofs.Common.{AllByRecursion, Item, Post, Session, Sizes, Trace, Zone, append-nil, get-put_same, same_Some, zone_number}
-use Rattle.core_model.specs.Steps.{posted, sent_to, sent, delivered, with_inbox, with_outboxes, ZoneStep, Core, StepOf, MoveOf}
+use Rattle.core_model.specs.Steps.{posted, sent_to, sent, delivered, with_inbox, with_outboxes, ZoneStep, Core, StepOf, MoveOf, core_with}
 use Rattle.core_model.specs.Views.{behind, with_batches, zones_of, core_of, View, PostsBatch, ReceivesBatch, TakesBatch, AreEmptyLanes, with_batch, zones_seen}
 use Rattle.core_model.specs.Start.{IsFirst}
 
@@ -129,13 +129,10 @@ behind_taken (b ∷ bs) [] to batch left h k = absurd cc
 behind_taken (b ∷ bs) (l ∷ ls) zero batch left h k = ap (λ (lane : List Item). lane ∷ behind bs ls) (same_Some _ _ k)
 behind_taken (b ∷ bs) (l ∷ ls) (suc to) batch left h k = ap (λ (lanes : List (List Item)). (b ++ l) ∷ lanes) (behind_taken bs ls to batch left h k)
 
-abbrev core_at : List Zone → Trace → Core
-core_at zones t = record { zones = zones; trace = t }
-
 -- A batch that is posted counts to the lane, as it counted to the outbox.
 pub posts_batch : (from to : ℕ) (views views' : List View) (lanes lanes' : List (List (List Item))) (t : Trace) → PostsBatch from to views views' lanes lanes'
     → core_of (zones_seen views') lanes' t ≡ core_of (zones_seen views) lanes t
-posts_batch from to views views' lanes lanes' t p = ap (λ (zones : List Zone). core_at zones t) zones_same
+posts_batch from to views views' lanes lanes' t p = ap (λ (zones : List Zone). core_with zones t) zones_same
   where
     sender' : Zone
     sender' = record p.sender.zone { ports = record p.sender.zone.ports { outboxes = slice_set p.sender.zone.ports.outboxes to [] } }
@@ -186,7 +183,7 @@ takes_batch from to views views' lanes lanes' t k = record {
   had_source = view_get (zones_seen views) lanes from k.sender.zone there;
   had_target = view_get (zones_seen views) lanes to k.receiver.zone (seen_get views to k.receiver k.had_receiver);
   outbox = subst (λ (row : List (List Item)). slice_get (behind row k.sender.zone.ports.outboxes) to ≡ Some (k.batch ++ k.left)) (sym row_is) (behind_get k.lane.row k.sender.zone.ports.outboxes to k.batch k.left k.lane.holds k.outbox);
-  has = ap (λ (zones : List Zone). core_at zones t) zones_moved;
+  has = ap (λ (zones : List Zone). core_with zones t) zones_moved;
 }
   where
     there : slice_get (zones_seen views) from ≡ Some k.sender.zone
@@ -240,4 +237,4 @@ zones_alone (z ∷ zs) (b ∷ bs) h =
 -- At the start they stand for the first core.
 pub first_views : (s : Session) (core : Core) (views : List View) (lanes : List (List (List Item))) → IsFirst s core → zones_seen views ≡ core.zones → AreEmptyLanes lanes → core_of (zones_seen views) lanes [] ≡ core
 first_views s core views lanes first seen empty =
-    ap (λ (zones : List Zone). core_of zones lanes []) seen ∙ ap (λ (zones : List Zone). core_at zones []) (zones_alone core.zones lanes empty) ∙ ap (λ (t : Trace). core_at core.zones t) (sym first.trace_is)
+    ap (λ (zones : List Zone). core_of zones lanes []) seen ∙ ap (λ (zones : List Zone). core_with zones []) (zones_alone core.zones lanes empty) ∙ ap (λ (t : Trace). core_with core.zones t) (sym first.trace_is)

@@ -1,4 +1,4 @@
-use Rattle.core_model.specs.Sessions.{IsServed}
+use Rattle.vdo_model.specs.Scripts.{IsServed}
 use Rattle.core_tests.proofs.Served.{one_more}
 use Rattle.core_tests.proofs.cores.requests.Goals as goal
 

@@ -1,5 +1,5 @@
 use Rattle.std.specs.List.{AllByRecursion}
-use Rattle.core_model.specs.Sessions.{IsServed}
+use Rattle.vdo_model.specs.Scripts.{IsServed}
 use Rattle.core_tests.proofs.cores.script.Given as goal
 
 abbrev pub invariant-loop-asks : goal.invariant-loop-asks

@@ -1,5 +1,5 @@
 use Rattle.std.specs.List.{AllByRecursion}
-use Rattle.core_model.specs.Sessions.{IsServed}
+use Rattle.vdo_model.specs.Scripts.{IsServed}
 use Rattle.core_tests.proofs.Served.{one_more, each_named}
 use Rattle.core_tests.proofs.full_blocks.all_writes.Goals as goal
 

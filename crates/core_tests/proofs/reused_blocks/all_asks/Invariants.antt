@@ -1,5 +1,5 @@
 use Rattle.std.specs.List.{AllByRecursion}
-use Rattle.core_model.specs.Sessions.{IsServed}
+use Rattle.vdo_model.specs.Scripts.{IsServed}
 use Rattle.core_tests.proofs.reused_blocks.all_asks.Given as goal
 
 abbrev pub invariant-loop-stream : goal.invariant-loop-stream
