@@ -1,7 +1,7 @@
 ghost use Rattle.std.specs.Prelude.{◌≡◌, ◌<◌, ◌+◌, ◌*◌, ◌^◌};
-ghost use Rattle.blk_base.specs.Pages.{above, page_below, root_page, slot_of};
+ghost use Rattle.blk_base.specs.Pages.{above, leaf_of, page_below, root_page, slot_of, slot_of_address};
 
-use crate::{Layout, PAGE_SLOTS, PageId};
+use crate::{Layout, Lba, PAGE_SLOTS, PageId, TREES};
 
 /// How many pages of the level below a page has.
 const SLOTS: u32 = PAGE_SLOTS as u32;
@@ -52,5 +52,27 @@ impl Layout {
             level: (self.geometry.height - 1) as u8,
             index: 0,
         }
+    }
+}
+
+impl Lba {
+    /// The leaf that has its slot. The leaves go round the trees.
+    pub fn leaf(self) -> PageId
+        ensures { result ≡ leaf_of self.0 }
+    {
+        let leaf = self.0 / SLOTS;
+        PageId {
+            tree: (leaf % u32::from(TREES)) as u8,
+            level: 0,
+            index: leaf / u32::from(TREES),
+        }
+    }
+
+    /// Its slot in its leaf, 0 to 811.
+    pub fn slot(self) -> u16
+        ensures value { result ≡ slot_of_address self.0 }
+        ensures inside { result < PAGE_SLOTS }
+    {
+        (self.0 % SLOTS) as u16
     }
 }

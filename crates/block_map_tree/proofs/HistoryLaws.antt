@@ -8,7 +8,7 @@ use Rattle.blk_base.specs.declared.place.Mapping.{Mapping}
 use Rattle.blk_base.specs.declared.place.Mapping.TheVariants.{Unmapped, At}
 use Rattle.blk_base.specs.declared.point.Point.{Point}
 use Rattle.blk_base.specs.Regions.{Root, block_of}
-use Rattle.blk_base.specs.Pages.{above, slot_of}
+use Rattle.blk_base.specs.Pages.{above, slot_of, page_above}
 use Rattle.plain_laws.proofs.LeadLaws.{leads_keep}
 use Rattle.page_codec.specs.declared.forms.MapPage.{MapPage}
 use Rattle.dirty_pages.specs.declared.marks.Marks.{Marks}
@@ -19,7 +19,7 @@ use Rattle.dirty_pages.proofs.HistoryLaws as dirty
 use Rattle.block_map_tree.specs.declared.forms.Forest.{Forest}
 use Rattle.block_map_tree.specs.declared.forms.Path.{Path}
 use Rattle.block_map_tree.specs.declared.forms.Found.TheVariants.{Missing}
-use Rattle.block_map_tree.specs.Pages.{IsTreeOf, IsOnPath, IsRoot, IsLower, IsInner, page_on, page_at}
+use Rattle.block_map_tree.specs.Pages.{IsTreeOf, IsOnPath, IsRoot, IsLower, IsInner, page_on}
 use Rattle.block_map_tree.specs.Tree.{Tree, IsTree, IsAt, as_root, by_link, IsThere, IsFound, IsLinkable, Links, Expires, IsWriting, number_of, marks_of, mappings_of, mapping_of}
 use Rattle.block_map_tree.specs.History.{Call, Link, HandOut, Write, Leads, LeadTo, event_of, events_of}
 use Rattle.dirty_pages.proofs.PageLists.{at_set}
@@ -217,11 +217,11 @@ not_out_before old new page point into expires out = let idle = expires.marks.du
 -- the highest page that a path of the logical size misses may be linked
 pub missing_linkable : (tree : Tree) (path : Path) (address level : ℕ) → IsTree tree → address < tree.forest.geometry.logical
     → IsTreeOf tree.forest path.tree
-    → ((l : ℕ) → l < tree.forest.geometry.height → page_on path tree.forest.geometry.height l ≡ page_at l address) → IsFound tree path (Missing level)
-    → IsLinkable tree (page_at level address) × IsThere tree (above (page_at level address))
+    → ((l : ℕ) → l < tree.forest.geometry.height → page_on path tree.forest.geometry.height l ≡ page_above l address) → IsFound tree path (Missing level)
+    → IsLinkable tree (page_above level address) × IsThere tree (above (page_above level address))
 missing_linkable tree path address level form inside own leads found =
     let f = tree.forest in
-    let page = page_at level address in
+    let page = page_above level address in
     let same = leads level found.0 in
     let on : IsOnPath f page = record {
       address = address;

@@ -6,9 +6,9 @@ use Rattle.std.proofs.lemmas.Nat.{div-add-mod', le-div, div-mul-add, mod-mul-add
 use Rattle.std.proofs.lemmas.Bool.Decides.{eqb_tells}
 use Rattle.blk_base.specs.declared.place.PageId.{PageId}
 use Rattle.blk_base.proofs.PageIdLaws.{same_page}
-use Rattle.blk_base.specs.Pages.{above, slot_of}
+use Rattle.blk_base.specs.Pages.{above, slot_of, page_above}
 use Rattle.block_map_tree.specs.declared.forms.Forest.{Forest}
-use Rattle.block_map_tree.specs.Pages.{IsForest, IsTreeOf, IsOnPath, IsRoot, IsLower, IsInner, page_at}
+use Rattle.block_map_tree.specs.Pages.{IsForest, IsTreeOf, IsOnPath, IsRoot, IsLower, IsInner}
 use Rattle.block_map_tree.specs.Tree.{trees_of, row_of, number_of, most_rows}
 
 -- the trees of a zone, and their numbers there
@@ -109,13 +109,13 @@ leaf_small f address sizes inside =
           inr (let h = sizes.sizes.height in omega (arith, other.1), omega arith)
     ]
 
-pub above_at : (level address : ℕ) → level < 2 → above (page_at level address) ≡ page_at (level + 1) address
-above_at zero address small = same_page (above (page_at 0 address)) (page_at 1 address) refl refl (omega arith)
-above_at (suc zero) address small = same_page (above (page_at 1 address)) (page_at 2 address) refl refl (omega arith)
+pub above_at : (level address : ℕ) → level < 2 → above (page_above level address) ≡ page_above (level + 1) address
+above_at zero address small = same_page (above (page_above 0 address)) (page_above 1 address) refl refl (omega arith)
+above_at (suc zero) address small = same_page (above (page_above 1 address)) (page_above 2 address) refl refl (omega arith)
 above_at (suc (suc level)) address small = absurd (omega arith)
 
 -- the number of a page on its level of the tree
-index_on_path : (page : PageId) (address : ℕ) → page ≡ page_at page.level address
+index_on_path : (page : PageId) (address : ℕ) → page ≡ page_above page.level address
     → (page.level ≡ 0 → page.index ≡ address / 812 / 60) × (page.level ≡ 1 → page.index ≡ address / 812 / 60 / 812)
     × (page.level ≡ 2 → page.index ≡ address / 812 / 60 / 659344)
 index_on_path page address there =

@@ -3,10 +3,11 @@
 use Rattle.std.proofs.Common.{ℕ, ◌≡◌, ◌<◌, ◌/◌, [], ◌∷◌, refl, ap, inl, inr, arith}
 use Rattle.std.proofs.lemmas.List.Elements.{All-cons, All-nil}
 use Rattle.blk_base.proofs.Example.{small, small_is}
+use Rattle.blk_base.specs.Pages.{page_above}
 use Rattle.blk_base.specs.declared.place.PageId.{PageId}
 use Rattle.block_map_tree.specs.declared.forms.Forest.{Forest}
 use Rattle.block_map_tree.specs.declared.forms.Path.{Path}
-use Rattle.block_map_tree.specs.Pages.{IsForest, IsInner, IsLower, IsOnPath, IsPath, IsRoot, IsTreeOf, digits_of, first_below, page_at, page_on, path_of, spelled_behind}
+use Rattle.block_map_tree.specs.Pages.{IsForest, IsInner, IsLower, IsOnPath, IsPath, IsRoot, IsTreeOf, digits_of, first_below, page_on, path_of, spelled_behind}
 
 abbrev page : ℕ → ℕ → ℕ → PageId
 page tree level index = record { tree = tree; level = level; index = index }
@@ -25,7 +26,7 @@ spelled_is = refl
 spelled_behind_one : spelled_behind 1 (2 ∷ []) ≡ 814
 spelled_behind_one = refl
 
--- path_of, page_on, page_at: address 9 of the leaf number 48787, which is number 813 of tree 7
+-- path_of, page_on: address 9 of the leaf number 48787, which is number 813 of tree 7
 
 path_is : path_of 3 39615053 ≡ record { tree = 7; slots = 1 ∷ 1 ∷ 9 ∷ [] }
 path_is = refl
@@ -38,9 +39,6 @@ path = record { tree = 7; slots = 1 ∷ 1 ∷ 9 ∷ [] }
 
 pages_on : (page_on path 3 2 ≡ page 7 2 0) × (page_on path 3 1 ≡ page 7 1 1) × (page_on path 3 0 ≡ page 7 0 813)
 pages_on = (refl, refl, refl)
-
-pages_at : (page_at 2 39615053 ≡ page 7 2 0) × (page_at 1 39615053 ≡ page 7 1 1) × (page_at 0 39615053 ≡ page 7 0 813)
-pages_at = (refl, refl, refl)
 
 -- IsPath
 
@@ -68,10 +66,10 @@ second_page_above : first_below (page 0 1 1) ≡ 39560640
 second_page_above = refl
 
 -- the page leads to that address, and not to the one before
-leads_there : page_at 1 39560640 ≡ page 0 1 1
+leads_there : page_above 1 39560640 ≡ page 0 1 1
 leads_there = refl
 
-one_before : page_at 1 39560639 ≡ page 59 1 0
+one_before : page_above 1 39560639 ≡ page 59 1 0
 one_before = refl
 
 -- IsForest: the default sizes, and the last of 60 zones

@@ -3,6 +3,7 @@ use Rattle.std.specs.Prelude.{ℕ, zero, suc, ◌≡◌, ◌<◌, ◌≤◌, ◌
 use Rattle.blk_base.specs.declared.sizes.TheConstants.{PAGE_SLOTS, TREES}
 use Rattle.blk_base.specs.declared.place.PageId.{PageId}
 use Rattle.blk_base.specs.Limits.{IsGeometry}
+use Rattle.blk_base.specs.Pages.{page_above}
 use Rattle.block_map_tree.specs.declared.forms.Forest.{Forest}
 use Rattle.block_map_tree.specs.declared.forms.Path.{Path}
 
@@ -38,14 +39,6 @@ page_on path height level = record {
   index = spelled_behind 0 (take (height - 1 - level) path.slots);
 }
 
--- the page of a level above an address
-abbrev pub page_at : ℕ → ℕ → PageId
-page_at level address = record {
-  tree = address / PAGE_SLOTS % TREES;
-  level = level;
-  index = address / PAGE_SLOTS / TREES / PAGE_SLOTS ^ level;
-}
-
 -- an image's sizes within their limits, and one of its zones
 pub record IsForest (f : Forest) : Type 0 where
   pub sizes : IsGeometry f.geometry
@@ -62,7 +55,7 @@ pub record IsOnPath (f : Forest) (page : PageId) : Type 0 where
   pub address : ℕ
   pub inside : address < f.geometry.logical
   pub level : page.level < f.geometry.height
-  pub there : page ≡ page_at page.level address
+  pub there : page ≡ page_above page.level address
   pub tree : IsTreeOf f page.tree
 
 -- the first of the addresses below a page

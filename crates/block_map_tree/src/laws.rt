@@ -8,12 +8,12 @@ ghost use Rattle.block_map_tree.specs.declared.forms.Forest.{Forest};
 ghost use Rattle.block_map_tree.specs.declared.forms.Found.{Found};
 ghost use Rattle.block_map_tree.specs.declared.forms.Found.TheVariants.{Missing};
 ghost use Rattle.block_map_tree.specs.declared.forms.Path.{Path};
-ghost use Rattle.block_map_tree.specs.Pages.{IsTreeOf, IsRoot, page_on, page_at};
+ghost use Rattle.block_map_tree.specs.Pages.{IsTreeOf, IsRoot, page_on};
 ghost use Rattle.block_map_tree.specs.Tree.{Tree, IsTree, IsAt, IsThere, IsFound, IsLinkable, Links, Expires, IsWriting, Writes, marks_of};
 ghost use Rattle.block_map_tree.specs.Opening.{IsOpened, all_trees};
 ghost use Rattle.block_map_tree.specs.History.{Call, Leads, LeadTo, events_of};
 ghost use Rattle.blk_base.specs.Regions.{IsDataBlock};
-ghost use Rattle.blk_base.specs.Pages.{above};
+ghost use Rattle.blk_base.specs.Pages.{above, page_above};
 ghost use Rattle.dirty_pages.specs.Marks.{IsLowPoint, AreClean, NoneIsDue};
 ghost use Rattle.dirty_pages.specs.History.{IsWaiting, IsUnwritten, IsUnreported, AtMost};
 
@@ -55,9 +55,9 @@ pub fn a_missing_page_may_be_linked()
         address < tree.forest.geometry.logical
         → IsTreeOf tree.forest path.tree →
         ((l : ℕ) → l < tree.forest.geometry.height →
-        page_on path tree.forest.geometry.height l ≡ page_at l address) →
+        page_on path tree.forest.geometry.height l ≡ page_above l address) →
         IsFound tree path (Missing level)
-        → IsLinkable tree (page_at level address) × IsThere tree (above (page_at level address)) }
+        → IsLinkable tree (page_above level address) × IsThere tree (above (page_above level address)) }
 {}
 
 /// A page that was handed out is being written until it is reported: over all calls from any tree on, and so it isn't

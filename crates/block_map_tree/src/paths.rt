@@ -1,8 +1,9 @@
-ghost use Rattle.std.specs.Prelude.{◌≡◌, ◌<◌, ◌≤◌, ◌-◌, ◌^◌, ◌∷◌, ◌++◌, [], ℕ};
+ghost use Rattle.std.specs.Prelude.{◌≡◌, ◌<◌, ◌≤◌, ◌-◌, ℕ};
+ghost use Rattle.blk_base.specs.Pages.{page_above};
 ghost use Rattle.blk_base.specs.Limits.{logical_limit};
-ghost use Rattle.block_map_tree.specs.Pages.{digits_of, path_of, IsPath, page_on, page_at};
+ghost use Rattle.block_map_tree.specs.Pages.{digits_of, path_of, IsPath, page_on};
 
-use crate::numbers::{SLOTS, TREES};
+use crate::numbers::SLOTS;
 use crate::{Path, Slots};
 use blk_base::Lba;
 
@@ -14,13 +15,15 @@ pub fn path(at: Lba, height: u32) -> Path
     ensures path { result ≡ path_of height at.0 }
     ensures form { IsPath height result }
     ensures leads { (level : ℕ) → level < height →
-        page_on result height level ≡ page_at level at.0 }
+        page_on result height level ≡ page_above level at.0 }
 {
-    let leaf = at.0 / SLOTS;
-    let tree = (leaf % TREES) as u8;
-    let mut slots = digits(leaf / TREES, height);
-    slots.push((at.0 % SLOTS) as u16);
-    Path { tree, slots }
+    let leaf = at.leaf();
+    let mut slots = digits(leaf.index, height);
+    slots.push(at.slot());
+    Path {
+        tree: leaf.tree,
+        slots,
+    }
 }
 
 // The slots that lead to a leaf: the digits of its number in its tree.

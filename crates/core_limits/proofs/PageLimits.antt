@@ -1,12 +1,13 @@
 -- How many entries of the journal there are: a request has one for its address, and makes one page of each level at most.
 use Rattle.std.proofs.Common.{ℕ, zero, suc, ◌≡◌, ◌+◌, ◌*◌, ◌<◌, ◌≤◌, ◌==◌, ◌⊎◌, ◌&&◌, true, false, Option, None, Some, IsNone, IsSome, List, [], ◌∷◌, length, length-append, if◌then◌else◌, refl, ap, sym, ◌∙◌, subst, inl, inr, arith}
 use Rattle.core_laws.proofs.Common.{AllByRecursion, Enters, IsSession, Logged, Pbn, Makes, NewPage, PageMayFollow, Remaps, RightTrace, Session, Trace, Writer, cases_Bool, durable, entered, passed, eq-eqb, eqb_tells, every-map, none_is, option_cases, some_of, journaled, remappings, new_pages, request_at, same_Some, same_tells, same_writer, some_is}
+use Rattle.blk_base.specs.Pages.{page_above}
 use Rattle.blk_base.specs.declared.request.Request.{Request}
 use Rattle.blk_base.specs.declared.request.Request.TheVariants as request
 use Rattle.core_model.specs.Limits.{requests_in}
 use Rattle.blk_base.specs.declared.place.PageId.{PageId}
 use Rattle.core_model.specs.PageLinks.{MayLack, page_in}
-use Rattle.image_model.specs.Pages.{is_page, page_above}
+use Rattle.image_model.specs.Pages.{is_page}
 use Rattle.core_laws.proofs.trace.DeskOfTrace.{durable_part}
 use Rattle.core_limits.proofs.DeskLimits.{asked_inside, requests_of}
 use Rattle.core_limits.proofs.StreamSums.{Apart, Inside, named, names_few, over_script}

@@ -3,7 +3,7 @@ use Rattle.std.proofs.Common.{ℕ, zero, suc, ◌+◌, ◌-◌, ◌<◌, ◌≡�
 use Rattle.std.proofs.lemmas.Bool.{and_parts, cases_Bool, eq-eqb, eqb-true}
 use Rattle.std.proofs.lemmas.Bool.Decides.{eqb_tells}
 use Rattle.std.proofs.lemmas.Option.{same_Some}
-use Rattle.blk_base.specs.Pages.{above, slot_of}
+use Rattle.blk_base.specs.Pages.{above, slot_of, page_above}
 use Rattle.blk_base.specs.declared.place.Mapping.{Mapping}
 use Rattle.blk_base.specs.declared.place.Mapping.TheVariants.{Unmapped, Zero, At}
 use Rattle.blk_base.specs.declared.place.PageId.{PageId}
@@ -11,12 +11,12 @@ use Rattle.blk_base.specs.declared.place.Pbn.{Pbn}
 use Rattle.blk_base.specs.declared.point.Point.{Point}
 use Rattle.block_map_tree.proofs.HistoryLaws.{link_here, link_others}
 use Rattle.block_map_tree.proofs.PageLaws.{lower_on_path, root_or_lower}
-use Rattle.block_map_tree.specs.Pages.{IsLower, IsOnPath, IsRoot, page_at, page_on}
+use Rattle.block_map_tree.specs.Pages.{IsLower, IsOnPath, IsRoot, page_on}
 use Rattle.block_map_tree.specs.Tree.{Tree, IsAt, IsFound, IsLinkable, IsThere, IsTree, Links, as_root, by_link, mapping_of}
 use Rattle.block_map_tree.specs.declared.forms.Found.TheVariants.{Leaf, Missing}
 use Rattle.block_map_tree.specs.declared.forms.Forest.{Forest}
 use Rattle.block_map_tree.specs.declared.forms.Path.{Path}
-use Rattle.image_model.specs.Pages.{is_page, page_above}
+use Rattle.image_model.specs.Pages.{is_page}
 use Rattle.core_model.specs.PageLinks.{block_in}
 use Rattle.core_model.specs.PageTrees.{HasPath, leaf_at, link_at, missing_at, missing_from}
 
@@ -115,7 +115,7 @@ first_missing (suc level) tree a missing form path low below none there = elim (
 
 -- where the path is that of the address
 abbrev IsPathOf : Tree → Path → ℕ → Type 0
-IsPathOf tree path a = (level : ℕ) → level < tree.forest.geometry.height → page_on path tree.forest.geometry.height level ≡ page_at level a
+IsPathOf tree path a = (level : ℕ) → level < tree.forest.geometry.height → page_on path tree.forest.geometry.height level ≡ page_above level a
 
 pub leaf_found : (tree : Tree) (path : Path) (a : ℕ) (at : Pbn) → IsTree tree → IsPathOf tree path a → IsFound tree path (Leaf at) → missing_at tree a ≡ None
 leaf_found tree path a at form leads found =
@@ -142,16 +142,16 @@ page_missed tree path a missing form has leads found =
     )
 
 -- So of the trees as a caller knows them.
-leads_by : (tree : Tree) (path : Path) (a height : ℕ) → height ≡ tree.forest.geometry.height → ((level : ℕ) → level < height → page_on path height level ≡ page_at level a) → IsPathOf tree path a
-leads_by tree path a height is leads = subst (λ (h : ℕ). (level : ℕ) → level < h → page_on path h level ≡ page_at level a) is leads
+leads_by : (tree : Tree) (path : Path) (a height : ℕ) → height ≡ tree.forest.geometry.height → ((level : ℕ) → level < height → page_on path height level ≡ page_above level a) → IsPathOf tree path a
+leads_by tree path a height is leads = subst (λ (h : ℕ). (level : ℕ) → level < h → page_on path h level ≡ page_above level a) is leads
 
 pub leaf_here : (known tree : Tree) (path : Path) (a height : ℕ) (at : Pbn) → tree ≡ known → IsTree tree → height ≡ tree.forest.geometry.height
-    → ((level : ℕ) → level < height → page_on path height level ≡ page_at level a) → IsFound tree path (Leaf at) → None ≡ missing_at known a
+    → ((level : ℕ) → level < height → page_on path height level ≡ page_above level a) → IsFound tree path (Leaf at) → None ≡ missing_at known a
 leaf_here known tree path a height at same form is leads found =
     sym (subst (λ (t : Tree). missing_at t a ≡ None) same (leaf_found tree path a at form (leads_by tree path a height is leads) found))
 
 pub missed_here : (known tree : Tree) (path : Path) (a height missing : ℕ) → tree ≡ known → IsTree tree → height ≡ tree.forest.geometry.height → HasPath known a
-    → ((level : ℕ) → level < height → page_on path height level ≡ page_at level a) → IsFound tree path (Missing missing)
+    → ((level : ℕ) → level < height → page_on path height level ≡ page_above level a) → IsFound tree path (Missing missing)
     → (missing < 2) × (Some (page_above missing a) ≡ missing_at known a)
 missed_here known tree path a height missing same form is has leads found =
     let both = page_missed tree path a missing form (subst (λ (t : Tree). HasPath t a) (sym same) has) (leads_by tree path a height is leads) found in
@@ -161,7 +161,7 @@ missed_here known tree path a height missing same form is has leads found =
 
 -- and the leaf that it finds, or none
 pub leaf_known : (known tree : Tree) (path : Path) (a height : ℕ) (at : Pbn) → tree ≡ known → IsTree tree → height ≡ tree.forest.geometry.height → HasPath known a
-    → ((level : ℕ) → level < height → page_on path height level ≡ page_at level a) → IsFound tree path (Leaf at) → Some at ≡ leaf_at known a
+    → ((level : ℕ) → level < height → page_on path height level ≡ page_above level a) → IsFound tree path (Leaf at) → Some at ≡ leaf_at known a
 leaf_known known tree path a height at same form is has leads found =
     let tall = form.forest.sizes.height in
     let none : missing_at known a ≡ None = sym (leaf_here known tree path a height at same form is leads found) in
@@ -169,6 +169,6 @@ leaf_known known tree path a height at same form is has leads found =
     rw none (sym (subst (λ (t : Tree). link_at t (page_above 0 a) ≡ Some at) same (linked_at tree (page_above 0 a) at (not_root tree a 0 (omega (arith, tall))) stands)))
 
 pub leaf_unknown : (known tree : Tree) (path : Path) (a height missing : ℕ) → tree ≡ known → IsTree tree → height ≡ tree.forest.geometry.height → HasPath known a
-    → ((level : ℕ) → level < height → page_on path height level ≡ page_at level a) → IsFound tree path (Missing missing) → None ≡ leaf_at known a
+    → ((level : ℕ) → level < height → page_on path height level ≡ page_above level a) → IsFound tree path (Missing missing) → None ≡ leaf_at known a
 leaf_unknown known tree path a height missing same form is has leads found =
     rw (sym (missed_here known tree path a height missing same form is has leads found).1) refl

@@ -1,5 +1,6 @@
 -- What the device zone does: one call of the device. A failed read has any bytes.
 use Rattle.std.specs.Prelude.{ℕ, ◌+◌, ◌≡◌, ◌<◌, Bool, true, false, Option, None, Some, List, [], ◌∷◌, map, replicate, slice_index_or, ◌⊎◌}
+use Rattle.blk_base.specs.Pages.{slot_of_address}
 use Rattle.blk_base.specs.Regions.{journal_slot_of, needed_blocks}
 use Rattle.blk_base.specs.declared.place.Mapping.{Mapping}
 use Rattle.blk_base.specs.declared.place.Mapping.TheVariants.{At, Unmapped}
@@ -8,7 +9,6 @@ use Rattle.blk_base.specs.declared.sizes.TheConstants.{PAGE_SLOTS}
 use Rattle.page_codec.specs.Grammar.{IsPage, IsPageFault}
 use Rattle.page_codec.specs.Spelling.{page_bytes}
 use Rattle.page_codec.specs.declared.fault.PageFault.{PageFault}
-use Rattle.image_model.specs.Pages.{slot_of_address}
 use Rattle.vdo_model.specs.declared.report.Damage.{Damage}
 use Rattle.vdo_model.specs.declared.report.Damage.TheVariants.{Page}
 use Rattle.blk_base.specs.declared.place.Pbn.{Pbn}

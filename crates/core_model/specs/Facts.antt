@@ -52,9 +52,9 @@ use Rattle.core_model.specs.RightTraces.{WasRefused, HearingMayFollow, IsLeafy, 
 use Rattle.core_model.specs.Sessions.{Session, IsFair, OnBlock, NewReads, NewStands, ReadsAs, AtRest, OnItsWay, ReadsBlock, mapping_by, said_by, value_at}
 use Rattle.blk_base.specs.declared.sizes.TheConstants.{JOURNAL_ENTRIES}
 use Rattle.block_map_tree.specs.Tree.{Tree, IsLinkable}
-use Rattle.blk_base.specs.Pages.{above}
+use Rattle.blk_base.specs.Pages.{above, leaf_of}
 use Rattle.blk_base.specs.declared.place.PageId.{PageId}
-use Rattle.image_model.specs.Pages.{is_page, leaf_of}
+use Rattle.image_model.specs.Pages.{is_page}
 use Rattle.core_model.specs.PageLinks.{IsThere, MayLack, block_in, page_in}
 use Rattle.core_model.specs.PageTrees.{IsMapTree, is_listed, link_at, missing_at}
 use Rattle.plain_laws.specs.Sums.{bit, total, Each}

@@ -1,7 +1,7 @@
 -- The trees of a logical zone, as it keeps them: which pages of the path of an address are linked.
 use Rattle.std.specs.Prelude.{ℕ, zero, suc, ◌-◌, ◌≡◌, ◌<◌, ◌/◌, ◌%◌, Bool, not, Option, None, Some, is_some, List, if◌then◌else◌}
 use Rattle.std.specs.List.{filter, list_any}
-use Rattle.blk_base.specs.Pages.{above, slot_of}
+use Rattle.blk_base.specs.Pages.{above, slot_of, leaf_of, page_above}
 use Rattle.blk_base.specs.declared.geometry.Geometry.{Geometry}
 use Rattle.blk_base.specs.declared.place.PageId.{PageId}
 use Rattle.blk_base.specs.declared.place.Pbn.{Pbn}
@@ -10,7 +10,7 @@ use Rattle.blk_base.specs.Regions.{IsDataBlock}
 use Rattle.blk_base.specs.declared.sizes.TheConstants.{PAGE_SLOTS, TREES}
 use Rattle.block_map_tree.specs.Pages.{IsTreeOf}
 use Rattle.block_map_tree.specs.Tree.{Tree, IsLinkable, IsThere, IsTree, mapping_of}
-use Rattle.image_model.specs.Pages.{is_page, leaf_of, page_above}
+use Rattle.image_model.specs.Pages.{is_page}
 use Rattle.data_vio.specs.declared.logged.Logged.{Logged}
 use Rattle.core_model.specs.PageLinks.{block_in, page_in}
 

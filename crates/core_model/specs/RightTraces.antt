@@ -30,9 +30,8 @@ use Rattle.data_vio.specs.declared.logged.Logged.{Logged}
 use Rattle.data_vio.specs.declared.logged.Logged.TheVariants.{Remaps, Makes}
 use Rattle.data_vio.specs.declared.logged.NewPage.{NewPage}
 use Rattle.data_vio.specs.declared.logged.Remapping.{Remapping}
-use Rattle.image_model.specs.Pages.{leaf_of}
 use Rattle.core_model.specs.PageLinks.{IsThere, Lacks, MayLack, leaf_head, page_in}
-use Rattle.blk_base.specs.Pages.{above}
+use Rattle.blk_base.specs.Pages.{above, leaf_of}
 use Rattle.data_vio.specs.declared.items.Asks.{Asks}
 use Rattle.data_vio.specs.declared.items.Asks.TheVariants as asks
 use Rattle.vdo_model.specs.declared.report.Damage.{Damage}

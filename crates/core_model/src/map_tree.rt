@@ -1,9 +1,9 @@
 ghost use Rattle.std.specs.Prelude.{◌≡◌, ◌<◌, None, Some};
 ghost use Rattle.block_map_tree.specs.Tree.{IsTree, Links};
 ghost use Rattle.core_model.specs.PageTrees.{HasPath, MayLink, leaf_at, least_point, missing_at};
-ghost use Rattle.image_model.specs.Pages.{page_above};
+ghost use Rattle.blk_base.specs.Pages.{page_above};
 
-use blk_base::{Lba, PAGE_SLOTS, PageId, Pbn, Point, TREES};
+use blk_base::{Lba, PageId, Pbn, Point};
 use block_map_tree::{Found, TreeNodes, path};
 use std::marker::Model;
 
@@ -76,15 +76,8 @@ fn page_above(level: u8, at: Lba) -> PageId
     requires { level < 2 }
     ensures { result ≡ page_above level at.0 }
 {
-    let leaf = at.0 / u32::from(PAGE_SLOTS);
-    let number = leaf / u32::from(TREES);
-    let index = match level {
-        0 => number,
-        _ => number / u32::from(PAGE_SLOTS),
-    };
-    PageId {
-        tree: (leaf % u32::from(TREES)) as u8,
-        level,
-        index,
+    match level {
+        0 => at.leaf(),
+        _ => at.leaf().parent(),
     }
 }

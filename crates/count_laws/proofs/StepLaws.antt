@@ -12,10 +12,10 @@ use Rattle.blk_base.specs.declared.place.Mapping.TheVariants.{At}
 use Rattle.blk_base.specs.declared.place.PageId.{PageId}
 use Rattle.blk_base.specs.declared.place.Pbn.{Pbn}
 use Rattle.blk_base.specs.declared.point.Point.{Point}
-use Rattle.blk_base.specs.Pages.{above}
+use Rattle.blk_base.specs.Pages.{above, leaf_of}
 use Rattle.image_model.specs.Counts.{count_after, leads_to, mapped_below}
 use Rattle.image_model.specs.Maps.{Image}
-use Rattle.image_model.specs.Pages.{address_count, is_page, leaf_of}
+use Rattle.image_model.specs.Pages.{address_count, is_page}
 use Rattle.journal_stops.specs.Mapped.{AreRooted, mapping_after, newest_for, newest_page, page_after, page_of}
 use Rattle.journal_stops.proofs.GrowLaws.{mapping_new, page_new, page_stays}
 use Rattle.journal_stops.proofs.NewestLaws.{page_equal}

@@ -1,6 +1,7 @@
 -- Entries that come in turn: the number of a block's mappings is the running count of their updates.
 use Rattle.std.proofs.Common.{ℕ, zero, suc, ◌≡◌, ◌⊎◌, ◌+◌, ◌*◌, ◌^◌, ◌≤◌, List, [], ◌∷◌, Option, Some, None, refl, sym, ◌∙◌, ap, subst, inl, inr, arith}
 use Rattle.std.proofs.lemmas.Bool.Decides.{eqb_tells}
+use Rattle.blk_base.specs.Pages.{leaf_of, slot_of_address}
 use Rattle.blk_base.specs.Counters.{limit_of}
 use Rattle.blk_base.specs.Limits.{IsGeometry, logical_limit}
 use Rattle.blk_base.specs.declared.geometry.Geometry.{Geometry}
@@ -14,7 +15,7 @@ use Rattle.blk_base.specs.declared.sizes.TheConstants.{PAGE_SLOTS, TREES}
 use Rattle.disk_model.specs.Log.{Blocks}
 use Rattle.image_model.specs.Counts.{HasMappings}
 use Rattle.image_model.specs.Maps.{Image, IsTreePage, mapping_of, page_at, says, slot_in}
-use Rattle.image_model.specs.Pages.{address_count, leaf_of, slot_of_address}
+use Rattle.image_model.specs.Pages.{address_count}
 use Rattle.image_model.specs.Sound.{AreUnshared}
 use Rattle.journal_stops.specs.Mapped.{ShowsEntries, later_image, mapping_after}
 use Rattle.journal_stops.proofs.GrowLaws.{by_leaf}

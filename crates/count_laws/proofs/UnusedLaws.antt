@@ -8,10 +8,10 @@ use Rattle.blk_base.specs.declared.place.Mapping.TheVariants.{At}
 use Rattle.blk_base.specs.declared.place.PageId.{PageId}
 use Rattle.blk_base.specs.declared.place.Pbn.{Pbn}
 use Rattle.blk_base.specs.declared.sizes.TheConstants.{PAGE_SLOTS, TREES}
-use Rattle.blk_base.specs.Pages.{above, slot_of}
+use Rattle.blk_base.specs.Pages.{above, slot_of, leaf_of, slot_of_address}
 use Rattle.image_model.specs.Counts.{leads_to, mapped_below}
 use Rattle.image_model.specs.Maps.{Image, target_of}
-use Rattle.image_model.specs.Pages.{address_count, leaf_of, slot_of_address}
+use Rattle.image_model.specs.Pages.{address_count}
 use Rattle.journal_stops.specs.Mapped.{linked_after, mapping_after, page_after, slot_after}
 use Rattle.journal_stops.proofs.GrowLaws.{by_leaf, by_link, in_range}
 use Rattle.plain_laws.specs.Sums.{bit}

@@ -9,10 +9,10 @@ use Rattle.blk_base.specs.declared.place.Mapping.{Mapping}
 use Rattle.blk_base.specs.declared.place.Mapping.TheVariants.{Unmapped, Zero, At}
 use Rattle.blk_base.specs.declared.place.PageId.{PageId}
 use Rattle.blk_base.specs.declared.place.Pbn.{Pbn}
-use Rattle.blk_base.specs.Pages.{above}
+use Rattle.blk_base.specs.Pages.{above, leaf_of}
 use Rattle.image_model.specs.Counts.{mapped_below}
 use Rattle.image_model.specs.Maps.{Image}
-use Rattle.image_model.specs.Pages.{IsBelowRoot, address_count, leaf_of}
+use Rattle.image_model.specs.Pages.{IsBelowRoot, address_count}
 use Rattle.journal_stops.specs.Mapped.{mapping_after, page_after}
 
 -- What stands after entries.

@@ -3,11 +3,11 @@ use Rattle.std.proofs.Common.{◌≡◌, ◌+◌, true, [], Err, inl, refl, arit
 use Rattle.disk_model.specs.Memory.{Memory}
 use Rattle.disk_model.specs.Seen.{Seen}
 use Rattle.image_model.proofs.CountLaws.{none_in_nothing}
-use Rattle.image_model.specs.Pages.{leaf_of}
 use Rattle.image_model.specs.declared.fault.ImageFault.{ImageFault}
 use Rattle.image_model.specs.declared.fault.ImageFault.TheVariants as image
 use Rattle.image_layout.specs.declared.fault.SuperFault.TheVariants.{NotAnImage}
 use Rattle.page_codec.specs.declared.fault.PageFault.TheVariants.{Header}
+use Rattle.blk_base.specs.Pages.{leaf_of}
 use Rattle.blk_base.specs.declared.place.Pbn.{Pbn}
 use Rattle.rebuild.specs.Recoveries.{IsRecovery}
 use Rattle.crash_images.specs.Shows.{IsNoPage, IsPickRefused, PickFails, ShowsNothing, ValueFails, image_fault_of, pick_fault_of}

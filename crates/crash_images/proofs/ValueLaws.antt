@@ -2,6 +2,7 @@
 use Rattle.std.proofs.Common.{ℕ, ◌≡◌, ◌+◌, ◌<◌, ◌≤◌, Bool, Option, Some, None, List, [], ◌∷◌, Contains, map, Result, Ok, Err, IfErr, IsErrAnd, slice_index_or, refl, sym, ◌∙◌, ap, subst, inl, inr, arith, mod-lt}
 use Rattle.std.proofs.Math.Nat.{add-zero}
 use Rattle.blk_base.proofs.RegionLaws.{data_block_high, data_block_inside}
+use Rattle.blk_base.specs.Pages.{leaf_of, slot_of_address}
 use Rattle.blk_base.specs.Regions.{IsDataBlock, needed_blocks}
 use Rattle.blk_base.specs.declared.journal_entry.CommittedEntry.{CommittedEntry}
 use Rattle.blk_base.specs.declared.place.Lba.{Lba}
@@ -21,7 +22,6 @@ use Rattle.image_model.proofs.LookedLaws.{looked_high, looked_in_place}
 use Rattle.image_model.specs.Faults.{HasFault}
 use Rattle.image_model.specs.Looked.{looked_in}
 use Rattle.image_model.specs.Maps.{Image, mapping_of, page_at, says, value_of, value_with}
-use Rattle.image_model.specs.Pages.{leaf_of, slot_of_address}
 use Rattle.image_model.specs.Sound.{image_of}
 use Rattle.page_codec.specs.declared.fault.PageFault.{PageFault}
 use Rattle.page_codec.specs.declared.forms.PageHead.{PageHead}

@@ -2,6 +2,7 @@
 use Rattle.std.specs.Prelude.{ℕ, ◌≡◌, ◌⊎◌, Bool, true, List, map, Some, Ok, Err}
 use Rattle.audit.specs.Audits.{AuditFails, IsAudited}
 use Rattle.audit.specs.declared.forms.Report.{Report}
+use Rattle.blk_base.specs.Pages.{leaf_of}
 use Rattle.blk_base.specs.declared.geometry.Super.{Super}
 use Rattle.blk_base.specs.declared.journal_entry.CommittedEntry.{CommittedEntry}
 use Rattle.command_text.specs.declared.crashes.AddressValue.{AddressValue}
@@ -12,7 +13,6 @@ use Rattle.disk_model.specs.Picks.{IsPicked, counted_log}
 use Rattle.disk_model.specs.Seen.{Seen}
 use Rattle.disk_model.specs.Since.{IsUntouched}
 use Rattle.image_model.specs.Maps.{ArePagesGood}
-use Rattle.image_model.specs.Pages.{leaf_of}
 use Rattle.image_model.specs.Sound.{Opens, image_of}
 use Rattle.image_model.specs.declared.fault.ImageFault.{ImageFault}
 use Rattle.image_model.specs.declared.fault.ImageFault.TheVariants as image

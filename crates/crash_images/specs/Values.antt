@@ -1,5 +1,6 @@
 -- The values that addresses have on an image whose map was read.
 use Rattle.std.specs.Prelude.{ℕ, ◌≡◌, Option, Some, None, List, Contains}
+use Rattle.blk_base.specs.Pages.{leaf_of}
 use Rattle.blk_base.specs.declared.place.Lba.{Lba}
 use Rattle.blk_base.specs.declared.place.PageId.{PageId}
 use Rattle.blk_base.specs.declared.place.Pbn.{Pbn}
@@ -7,7 +8,6 @@ use Rattle.command_text.specs.declared.crashes.AddressValue.{AddressValue}
 use Rattle.disk_model.specs.Causes.{Rose}
 use Rattle.disk_model.specs.Seen.{Seen}
 use Rattle.image_model.specs.Maps.{Image, value_of}
-use Rattle.image_model.specs.Pages.{leaf_of}
 use Rattle.replay_map.specs.declared.links.Link.{Link}
 use Rattle.crash_images.specs.declared.fault.ValueFault.{ValueFault}
 use Rattle.crash_images.specs.declared.fault.ValueFault.TheVariants.{Device, Page, Memory}

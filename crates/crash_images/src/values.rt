@@ -1,14 +1,14 @@
 ghost use Rattle.std.specs.Prelude.{◌≡◌, ◌≤◌, Some, IfOk, IfErr, map};
+ghost use Rattle.blk_base.specs.Pages.{leaf_of};
 ghost use Rattle.blk_base.specs.Regions.{needed_blocks};
 ghost use Rattle.disk_model.specs.Causes.{HasCause};
 ghost use Rattle.disk_model.specs.Since.{IsUntouched};
 ghost use Rattle.image_model.specs.Maps.{mapping_of, value_of, value_with};
-ghost use Rattle.image_model.specs.Pages.{leaf_of};
 ghost use Rattle.image_model.specs.Windows.{LeadsToData};
 ghost use Rattle.crash_images.specs.Maps.{Fits, OfMap};
 ghost use Rattle.crash_images.specs.Values.{AreRefused, IsNoDamage, IsRefused, LinkTo, address_of, value_in};
 
-use crate::leaves::{blocks_of, find_block, leaf_of, slot_of_address};
+use crate::leaves::{blocks_of, find_block};
 use crate::{ImageMap, ValueFault};
 use blk_base::{Block, Lba, Mapping, Mappings, Pbn};
 use command_text::AddressValue;
@@ -46,7 +46,7 @@ pub fn values_of<D: Disk>(
         return Err(ValueFault::Memory);
     };
     for at in addresses {
-        let leaf = blocks.get(&leaf_of(*at)).copied();
+        let leaf = blocks.get(&at.leaf()).copied();
         let block = read_value(device, found, leaf, *at)?;
         values.push_reserved(AddressValue { at: *at, block });
     }
@@ -71,7 +71,7 @@ pub fn value_at<D: Disk>(device: &mut D, found: &ImageMap, at: Lba) -> Result<Bl
         OfMap D.tells D.honest (D.seen device.old) found.now (λ image. IsNoDamage why)) }
     ensures untouched { IsUntouched D.tells (D.seen device.old) (D.seen device.new) }
 {
-    let leaf = find_block(&found.pages.links, leaf_of(at));
+    let leaf = find_block(&found.pages.links, at.leaf());
     read_value(device, found, leaf, at)
 }
 
@@ -152,12 +152,12 @@ fn read_slot<D: Disk>(
     };
     let head = PageHead {
         geometry: found.head.geometry,
-        page: leaf_of(at),
+        page: at.leaf(),
         at: leaf,
     };
     let mut mappings = Mappings::new();
     match read_page(&bytes, &head, &found.changes, &mut mappings) {
-        Ok(()) => Ok(mappings.get(slot_of_address(at))),
+        Ok(()) => Ok(mappings.get(at.slot())),
         Err(fault) => Err(ValueFault::Page { at: leaf, fault }),
     }
 }

@@ -1,5 +1,6 @@
 -- What a call leaves in the log of the device, as a part of the trace.
 use Rattle.std.proofs.Common.{◌≡◌, ◌<◌, ◌≤◌, Bool, true, false, List, [], ◌∷◌, ◌++◌, Result, Ok, Err, OnOk, OnErr, Some, IsTrue, ℕ, length, slice_index_or, refl, ap, sym, ◌∙◌, inl, inr, arith}
+use Rattle.blk_base.specs.Pages.{slot_of_address}
 use Rattle.blk_base.specs.declared.place.Pbn.{Pbn}
 use Rattle.blk_base.specs.declared.place.ZoneId.{ZoneId}
 use Rattle.blk_base.specs.declared.request.Writer.{Writer}
@@ -24,7 +25,6 @@ use Rattle.data_vio.specs.declared.items.Phase.TheVariants as phase
 use Rattle.blk_base.specs.declared.request.Answer.TheVariants as reply
 use Rattle.blk_base.specs.declared.place.Mapping.{Mapping}
 use Rattle.blk_base.specs.declared.place.Mapping.TheVariants.{Unmapped}
-use Rattle.image_model.specs.Pages.{slot_of_address}
 use Rattle.step_parts.specs.DeviceLog.{GivesSettled, HasCalled}
 use Rattle.device_zone.specs.DeviceCalls.{HasFailed, needs_call}
 

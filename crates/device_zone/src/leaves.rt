@@ -1,9 +1,9 @@
 ghost use Rattle.std.specs.Prelude.{◌≡◌, ◌<◌, List, IfOk, IfErr, Some, slice_index_or};
+ghost use Rattle.blk_base.specs.Pages.{slot_of_address};
 ghost use Rattle.blk_base.specs.Limits.{IsGeometry};
 ghost use Rattle.blk_base.specs.declared.place.Mapping.{Mapping as Mapped};
 ghost use Rattle.blk_base.specs.declared.place.Mapping.TheVariants.{Unmapped};
 ghost use Rattle.disk_model.specs.Seen.{Stays};
-ghost use Rattle.image_model.specs.Pages.{leaf_of, slot_of_address};
 ghost use Rattle.page_codec.specs.Grammar.{IsPage, IsPageFault};
 ghost use Rattle.core_model.specs.DeviceRules as rows;
 ghost use Rattle.core_model.specs.DeviceRules.{DeviceServes, IsReady};
@@ -15,25 +15,13 @@ ghost use Rattle.device_zone.specs.Served.{CanServe, MayServe};
 
 use crate::device_calls::read_block;
 use crate::harms::harm;
-use blk_base::{Answer, Block, Lba, Mapping, Mappings, PAGE_SLOTS, PageId, Pbn, TREES};
+use blk_base::{Answer, Block, Lba, Mapping, Mappings, Pbn};
 use core_model::DeviceZone;
 use data_vio::{BoxedVio, Item, Phase, Sizes};
 use disk_model::Disk;
 use page_codec::{MapPage, PageFault, PageHead, decode};
 use step_parts::Posts;
 use vdo_model::Damage;
-
-// The leaf of an address.
-fn leaf_of(at: Lba) -> PageId
-    ensures { result ≡ leaf_of at.0 }
-{
-    let leaf = at.0 / u32::from(PAGE_SLOTS);
-    PageId {
-        tree: (leaf % u32::from(TREES)) as u8,
-        level: 0,
-        index: leaf / u32::from(TREES),
-    }
-}
 
 // What the leaf of an address, which stands at this block, maps it to. It is read whole: one that doesn't decode says nothing.
 fn mapping_in(sizes: &Sizes, at: Lba, leaf: Pbn, bytes: &Block) -> Result<Mapping, PageFault>
@@ -46,7 +34,7 @@ fn mapping_in(sizes: &Sizes, at: Lba, leaf: Pbn, bytes: &Block) -> Result<Mappin
 {
     let want = PageHead {
         geometry: sizes.geometry,
-        page: leaf_of(at),
+        page: at.leaf(),
         at: leaf,
     };
     let mut page = MapPage {
@@ -54,8 +42,7 @@ fn mapping_in(sizes: &Sizes, at: Lba, leaf: Pbn, bytes: &Block) -> Result<Mappin
         mappings: Mappings::new(),
     };
     decode(bytes, &want, &mut page)?;
-    let slot = (at.0 % u32::from(PAGE_SLOTS)) as u16;
-    Ok(page.mappings.get(slot))
+    Ok(page.mappings.get(at.slot()))
 }
 
 // The leaf of an address, at this block.

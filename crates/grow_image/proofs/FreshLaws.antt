@@ -15,12 +15,11 @@ use Rattle.blk_base.specs.declared.place.Mapping.TheVariants.{Unmapped}
 use Rattle.blk_base.specs.declared.place.PageId.{PageId}
 use Rattle.blk_base.specs.declared.place.Pbn.{Pbn}
 use Rattle.blk_base.specs.declared.sizes.TheConstants.{PAGE_SLOTS}
-use Rattle.blk_base.specs.Pages.{above, page_below, slot_of}
+use Rattle.blk_base.specs.Pages.{above, page_below, slot_of, leaf_of, slot_of_address}
 use Rattle.block_map_tree.specs.Opening.{IsLed}
 use Rattle.disk_model.specs.Log.{block_at}
 use Rattle.image_model.proofs.MapLaws.{slot_says_its_mapping}
 use Rattle.image_model.specs.Maps.{Image, ArePagesGood, IsReadable, mapping_of, page_at, put_by, put_last, says, target_of}
-use Rattle.image_model.specs.Pages.{leaf_of, slot_of_address}
 use Rattle.image_model.specs.Windows.{IsOfImage}
 use Rattle.page_codec.proofs.ReadLaws.{no_slot_fault}
 use Rattle.page_codec.specs.Grammar.{IsSlot, IsSlotFault}

@@ -7,9 +7,8 @@ use Rattle.blk_base.specs.declared.place.Mapping.TheVariants.{Unmapped, At}
 use Rattle.blk_base.specs.declared.place.PageId.{PageId}
 use Rattle.blk_base.specs.declared.place.Pbn.{Pbn}
 use Rattle.blk_base.specs.declared.sizes.TheConstants.{PAGE_SLOTS, TREES}
-use Rattle.blk_base.specs.Pages.{above, page_below, slot_of}
+use Rattle.blk_base.specs.Pages.{above, page_below, slot_of, leaf_of}
 use Rattle.image_model.proofs.CountLaws.{none_in_nothing}
-use Rattle.image_model.specs.Pages.{leaf_of}
 use Rattle.replay_map.proofs.ShareLaws.{grown}
 use Rattle.replay_map.proofs.TakenLaws.{only_one}
 use Rattle.replay_map.proofs.UnderLaws.{page_is}

@@ -1,6 +1,7 @@
 -- The sizes that an image can get, the search for mapped addresses, and what is promised of it: for each clause a case that it
 -- accepts, and one that it refuses.
 use Rattle.std.proofs.Common.{ℕ, ◌≡◌, List, Some, None, refl, subst, arith}
+use Rattle.blk_base.specs.Pages.{leaf_of, slot_of_address}
 use Rattle.blk_base.specs.declared.place.Lba.{Lba}
 use Rattle.blk_base.specs.declared.place.Mapping.TheVariants.{Unmapped, Zero}
 use Rattle.image_layout.specs.Superblock.{is_within}
@@ -9,7 +10,6 @@ use Rattle.image_layout.specs.declared.fault.LayoutFault.TheVariants.{TooSmall}
 use Rattle.image_layout.proofs.PlanLaws.{planned_right}
 use Rattle.image_model.proofs.Example.{small}
 use Rattle.image_model.specs.Maps.{Image as WholeImage, mapping_of}
-use Rattle.image_model.specs.Pages.{leaf_of, slot_of_address}
 use Rattle.image_model.specs.declared.fault.ImageFault.TheVariants.{Unclean}
 use Rattle.page_codec.proofs.ReadLaws.{one_mapping}
 use Rattle.page_codec.specs.Grammar.{IsSlot}

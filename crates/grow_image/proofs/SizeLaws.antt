@@ -6,10 +6,10 @@ use Rattle.blk_base.specs.declared.place.Mapping.TheVariants.{Unmapped}
 use Rattle.blk_base.specs.declared.place.PageId.{PageId}
 use Rattle.blk_base.specs.declared.place.Pbn.{Pbn}
 use Rattle.blk_base.specs.declared.sizes.TheConstants.{TREES}
-use Rattle.blk_base.specs.Pages.{above, slot_of}
+use Rattle.blk_base.specs.Pages.{above, slot_of, leaf_of, slot_of_address}
 use Rattle.disk_model.specs.Log.{Blocks}
 use Rattle.image_model.specs.Maps.{Image, linked_at, mapping_of, page_at, says, target_of}
-use Rattle.image_model.specs.Pages.{address_count, leaf_of, slot_of_address}
+use Rattle.image_model.specs.Pages.{address_count}
 use Rattle.grow_image.specs.Sizes.{grown_sizes}
 
 module _ (g : Geometry) (logical slabs : ℕ) (blocks : Blocks) (window : List CommittedEntry) where

@@ -1,8 +1,7 @@
 ghost use Rattle.std.specs.Prelude.{◌≡◌, ◌+◌, ◌*◌, ◌<◌, ◌^◌, ℕ, IfSome, IfNone};
 ghost use Rattle.std.specs.Bool.{OnTrue, OnFalse};
 ghost use Rattle.blk_base.specs.declared.sizes.TheConstants.{PAGE_SLOTS as SLOTS, TREES as ALL_TREES};
-ghost use Rattle.blk_base.specs.Pages.{page_below};
-ghost use Rattle.image_model.specs.Pages.{leaf_of};
+ghost use Rattle.blk_base.specs.Pages.{page_below, leaf_of};
 ghost use Rattle.grow_image.specs.Searching.{IsWithin, address_in};
 
 use blk_base::{Lba, PAGE_SLOTS, PageId, TREES};

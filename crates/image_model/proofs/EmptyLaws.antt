@@ -18,7 +18,7 @@ use Rattle.blk_base.specs.declared.place.Mapping.TheVariants.{Unmapped}
 use Rattle.blk_base.specs.declared.place.PageId.{PageId}
 use Rattle.blk_base.specs.declared.place.Pbn.{Pbn}
 use Rattle.blk_base.specs.declared.sizes.TheConstants.{TREES}
-use Rattle.blk_base.specs.Pages.{above, slot_of}
+use Rattle.blk_base.specs.Pages.{above, slot_of, leaf_of}
 use Rattle.byte_fields.specs.Fields.{number_at}
 use Rattle.disk_model.specs.Log.{Blocks, block_at}
 use Rattle.image_layout.specs.Opened.{super_of_image}
@@ -37,7 +37,7 @@ use Rattle.slab_codec.specs.declared.forms.SlabEntry.{SlabEntry}
 use Rattle.image_model.specs.Counts.{HasMappings, IsKept, IsUpdate, Stores, block_of_data, commit_at, commit_of, count_from, counter_of, leads_to, mapped_below, reference_sector_at}
 use Rattle.image_model.specs.Empty.{IsEmpty, IsUnused, HasNothing, empty_root, empty_super, root_head}
 use Rattle.image_model.specs.Maps.{Image, ArePagesGood, IsTreePage, head_of, linked_at, mapping_in, mapping_of, page_at, says, target_of}
-use Rattle.image_model.specs.Pages.{address_count, leaf_of}
+use Rattle.image_model.specs.Pages.{address_count}
 use Rattle.image_model.specs.Sound.{AreUnshared, IsClosed, IsDataPlace, IsOfItsTime, IsSound, Opens, image_of}
 use Rattle.image_model.specs.Windows.{IsLast, IsThere, IsWindow}
 use Rattle.image_model.proofs.CountLaws.{none_in_nothing}

@@ -11,12 +11,12 @@ use Rattle.blk_base.specs.declared.place.Mapping.TheVariants.{Unmapped, Zero, At
 use Rattle.blk_base.specs.declared.place.PageId.{PageId}
 use Rattle.blk_base.specs.declared.place.Pbn.{Pbn}
 use Rattle.blk_base.specs.declared.sizes.TheConstants.{PAGE_SLOTS, TREES}
-use Rattle.blk_base.specs.Pages.{above, slot_of}
+use Rattle.blk_base.specs.Pages.{above, slot_of, leaf_of, slot_of_address}
 use Rattle.byte_fields.specs.Fields.{number_at}
 use Rattle.disk_model.specs.Log.{Blocks, block_at}
 use Rattle.page_codec.specs.Grammar.{HasHead, IsSlot}
 use Rattle.page_codec.specs.declared.forms.PageHead.{PageHead}
-use Rattle.image_model.specs.Pages.{leaf_of, slot_of_address, is_page}
+use Rattle.image_model.specs.Pages.{is_page}
 
 -- an image: its sizes, its blocks, and its window, the newest entry first
 pub record Image : Type 0 where

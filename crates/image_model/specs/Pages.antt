@@ -1,19 +1,9 @@
 -- The pages of the block map: 60 trees of them, whose leaves have a slot for each address.
-use Rattle.std.specs.Prelude.{ℕ, ◌≡◌, ◌⊎◌, ◌+◌, ◌-◌, ◌*◌, ◌/◌, ◌%◌, ◌^◌, ◌<◌, ◌≤◌, ◌==◌, ◌&&◌, Bool}
+use Rattle.std.specs.Prelude.{ℕ, ◌≡◌, ◌⊎◌, ◌+◌, ◌-◌, ◌*◌, ◌/◌, ◌^◌, ◌<◌, ◌≤◌, ◌==◌, ◌&&◌, Bool}
+use Rattle.blk_base.specs.Pages.{page_above}
 use Rattle.blk_base.specs.declared.geometry.Geometry.{Geometry}
 use Rattle.blk_base.specs.declared.place.PageId.{PageId}
 use Rattle.blk_base.specs.declared.sizes.TheConstants.{PAGE_SLOTS, TREES}
-
--- The page of a level above an address. The leaves go round the trees, and each page has 812 of the level below.
-abbrev pub page_above : ℕ → ℕ → PageId
-page_above level address = record { tree = address / PAGE_SLOTS % TREES; level = level; index = address / PAGE_SLOTS / TREES / PAGE_SLOTS ^ level }
-
--- the leaf of an address, and its slot there
-abbrev pub leaf_of : ℕ → PageId
-leaf_of address = page_above 0 address
-
-abbrev pub slot_of_address : ℕ → ℕ
-slot_of_address address = address % PAGE_SLOTS
 
 abbrev pub is_page : PageId → PageId → Bool
 is_page page other = (page.tree == other.tree) && (page.level == other.level) && (page.index == other.index)

@@ -7,9 +7,8 @@ use Rattle.blk_base.specs.declared.place.Mapping.TheVariants.{Unmapped, At}
 use Rattle.blk_base.specs.declared.place.PageId.{PageId}
 use Rattle.blk_base.specs.declared.place.Pbn.{Pbn}
 use Rattle.blk_base.specs.declared.sizes.TheConstants.{TREES}
-use Rattle.blk_base.specs.Pages.{above, slot_of}
+use Rattle.blk_base.specs.Pages.{above, slot_of, leaf_of, slot_of_address}
 use Rattle.image_model.specs.Maps.{Image, put_last, or_else, target_of, slot_in}
-use Rattle.image_model.specs.Pages.{leaf_of, slot_of_address}
 use Rattle.journal_stops.specs.Mapped.{slot_after, linked_after, page_after, mapping_after, newest_for, newest_page}
 use Rattle.journal_stops.proofs.MapLaws.{both, put_append}
 use Rattle.journal_stops.proofs.NewestLaws.{newest_same, newest_page_same, newest_is_block}

@@ -8,10 +8,9 @@ use Rattle.blk_base.specs.declared.place.Mapping.TheVariants.{Unmapped}
 use Rattle.blk_base.specs.declared.place.PageId.{PageId}
 use Rattle.blk_base.specs.declared.place.Pbn.{Pbn}
 use Rattle.blk_base.specs.declared.sizes.TheConstants.{TREES, PAGE_SLOTS}
-use Rattle.blk_base.specs.Pages.{above, slot_of}
+use Rattle.blk_base.specs.Pages.{above, slot_of, leaf_of, slot_of_address}
 use Rattle.disk_model.specs.Log.{Blocks}
 use Rattle.image_model.specs.Maps.{Image, put_by, put_last, or_else, says, target_of, linked_at, page_at, mapping_of}
-use Rattle.image_model.specs.Pages.{leaf_of, slot_of_address}
 use Rattle.journal_stops.specs.Mapped.{slot_after, linked_after, page_after, mapping_after, ArePagesShown, ShowsEntries}
 use Rattle.journal_stops.specs.Shown.{HasInWindow}
 

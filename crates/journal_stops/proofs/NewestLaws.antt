@@ -9,10 +9,10 @@ use Rattle.blk_base.specs.declared.place.Mapping.{Mapping}
 use Rattle.blk_base.specs.declared.place.Mapping.TheVariants.{Unmapped, At}
 use Rattle.blk_base.specs.declared.place.PageId.{PageId}
 use Rattle.blk_base.specs.declared.place.Pbn.{Pbn}
-use Rattle.blk_base.specs.Pages.{above, slot_of}
+use Rattle.blk_base.specs.Pages.{above, slot_of, leaf_of, slot_of_address}
 use Rattle.image_layout.specs.Values as layout
 use Rattle.image_model.specs.Maps.{put_by, put_last, or_else}
-use Rattle.image_model.specs.Pages.{leaf_of, slot_of_address, is_page}
+use Rattle.image_model.specs.Pages.{is_page}
 use Rattle.journal_stops.specs.Mapped.{put_at, newest_for, put_page, newest_page, page_of}
 use Rattle.journal_stops.proofs.MapLaws.{both, or_assoc}
 

@@ -9,10 +9,10 @@ use Rattle.blk_base.specs.declared.place.Mapping.TheVariants.{Unmapped, At}
 use Rattle.blk_base.specs.declared.place.PageId.{PageId}
 use Rattle.blk_base.specs.declared.place.Pbn.{Pbn}
 use Rattle.blk_base.specs.declared.sizes.TheConstants.{TREES, PAGE_SLOTS}
-use Rattle.blk_base.specs.Pages.{above, slot_of}
+use Rattle.blk_base.specs.Pages.{above, slot_of, leaf_of, slot_of_address}
 use Rattle.disk_model.specs.Log.{Blocks, block_at}
 use Rattle.image_model.specs.Maps.{Image, put_last, or_else, mapping_in, target_of, page_at, mapping_of, slot_in}
-use Rattle.image_model.specs.Pages.{leaf_of, slot_of_address, is_page}
+use Rattle.image_model.specs.Pages.{is_page}
 use Rattle.journal_stops.specs.Shown.{HasInWindow}
 
 -- What the entries give.

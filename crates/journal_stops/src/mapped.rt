@@ -4,11 +4,10 @@ ghost use Rattle.blk_base.specs.declared.place.Mapping.{Mapping};
 ghost use Rattle.blk_base.specs.declared.place.Mapping.TheVariants.{Unmapped, At};
 ghost use Rattle.blk_base.specs.declared.place.PageId.{PageId};
 ghost use Rattle.blk_base.specs.declared.place.Pbn.{Pbn};
-ghost use Rattle.blk_base.specs.Pages.{above};
+ghost use Rattle.blk_base.specs.Pages.{above, leaf_of};
 ghost use Rattle.disk_model.specs.Log.{Blocks};
 ghost use Rattle.image_layout.specs.Values as layout;
 ghost use Rattle.image_model.specs.Maps.{Image, or_else, page_at, mapping_of};
-ghost use Rattle.image_model.specs.Pages.{leaf_of};
 ghost use Rattle.journal_stops.specs.Mapped.{newest_for, newest_page, page_after, mapping_after, later_image, AreRooted, ArePagesMade, ArePagesShown, ShowsEntries};
 ghost use Rattle.journal_stops.specs.Shown.{HasInWindow};
 

@@ -1,5 +1,6 @@
 -- Runs of a zone's map as runs of its cache and of its tree.
 use Rattle.std.specs.Prelude.{ℕ, ◌≡◌, ◌≢◌, ◌≤◌, ◌%◌, List, [], ◌∷◌, refl}
+use Rattle.blk_base.specs.Pages.{leaf_of}
 use Rattle.blk_base.specs.declared.sizes.TheConstants.{PAGE_SLOTS}
 use Rattle.std.proofs.Common.{ap, ◌∙◌, sym, subst, arith, inl, inr}
 use Rattle.std.proofs.lemmas.Bool.Decides.{eqb_tells}
@@ -18,7 +19,7 @@ use Rattle.map_page_cache.specs.Runs as runs
 use Rattle.map_page_cache.proofs.RunLaws as cache_laws
 use Rattle.map_zone.specs.Calls.{Apply, Call, HandOut, Install, LeadTo, Leads, Write, events_of}
 use Rattle.map_zone.specs.Writing.{IsClean, IsLow}
-use Rattle.map_zone.specs.ZoneMap.{IsZoneMap, ZoneMap, head_at, leaf_of}
+use Rattle.map_zone.specs.ZoneMap.{IsZoneMap, ZoneMap, head_at}
 use Rattle.map_zone.proofs.KeepLaws.{IsFresh, IsPlaced, cache_keeps, forest_stays, tree_keeps}
 use Rattle.map_zone.proofs.StepLaws.{no_point}
 

@@ -2,6 +2,7 @@
 use Rattle.std.specs.Prelude.{ℕ, ◌≡◌, ◌≤◌, ◌%◌, ◌⊎◌, List, slice_index_or}
 use Rattle.std.proofs.Common.{ap, ◌∙◌, sym, subst, arith, inl, inr}
 use Rattle.std.proofs.lemmas.Bool.{cases_eq, cases_lt}
+use Rattle.blk_base.specs.Pages.{leaf_of}
 use Rattle.blk_base.specs.declared.journal_entry.Entry.TheVariants.{NewPage, Remap}
 use Rattle.blk_base.specs.declared.place.Mapping.{Mapping}
 use Rattle.blk_base.specs.declared.place.Mapping.TheVariants.{Unmapped}
@@ -23,7 +24,7 @@ use Rattle.map_page_cache.proofs.RunLaws.{one_content}
 use Rattle.map_zone.specs.Calls.{Apply, Call, HandOut, Install, Leads, Write}
 use Rattle.map_zone.specs.Serving.{IsLooked, MissesPage, NeedsLeaf, Shows}
 use Rattle.map_zone.specs.Writing.{IsLow, NoneDue, Takes, TakesLeaf, TakesNode}
-use Rattle.map_zone.specs.ZoneMap.{IsZoneMap, ZoneMap, head_at, leaf_of}
+use Rattle.map_zone.specs.ZoneMap.{IsZoneMap, ZoneMap, head_at}
 use Rattle.map_zone.specs.declared.forms.Looked.{Looked}
 use Rattle.map_zone.specs.declared.forms.Looked.TheVariants as looked
 

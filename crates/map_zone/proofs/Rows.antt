@@ -4,6 +4,7 @@ use Rattle.std.proofs.lemmas.List.{length-replicate}
 use Rattle.std.proofs.lemmas.List.Elements.{All-cons, All-nil, All-replicate}
 use Rattle.std.proofs.lemmas.Option.{none-some}
 use Rattle.blk_base.proofs.Example.{small, small_is}
+use Rattle.blk_base.specs.Pages.{page_above, leaf_of}
 use Rattle.blk_base.specs.Regions.{IsDataBlock, Root, block_of}
 use Rattle.blk_base.specs.declared.geometry.Geometry.{Geometry}
 use Rattle.blk_base.specs.declared.journal_entry.Entry.TheVariants.{NewPage, Remap}
@@ -21,7 +22,7 @@ use Rattle.page_codec.specs.Spelling.{page_bytes}
 use Rattle.page_codec.specs.declared.fault.PageFault.{PageFault}
 use Rattle.page_codec.specs.declared.forms.MapPage.{MapPage}
 use Rattle.block_map_tree.specs.Opening.{IsOpening, forest_of}
-use Rattle.block_map_tree.specs.Pages.{IsLower, IsOnPath, IsTreeOf, page_at}
+use Rattle.block_map_tree.specs.Pages.{IsLower, IsOnPath, IsTreeOf}
 use Rattle.block_map_tree.specs.Tree.{IsAt, IsThere, IsTree, Links, Tree, as_root, by_link, number_of}
 use Rattle.block_map_tree.specs.declared.forms.Forest.{Forest}
 use Rattle.map_page_cache.specs.CachedPages.{CachedPages, IsCache, IsPageOf}
@@ -31,7 +32,7 @@ use Rattle.map_zone.specs.declared.forms.Applied.TheVariants as applied
 use Rattle.map_zone.specs.Serving.{AddsPage, Applies, HasPath, Installs, IsLooked, IsOtherPage, IsOwn, IsRefused, IsTooMany, MayAddPage, MayApply, MayInstall, MayRemap, MissesPage, NeedsLeaf, Remaps, Shows}
 use Rattle.map_zone.specs.declared.forms.Looked.TheVariants as looked
 use Rattle.map_zone.specs.declared.forms.NotInstalled.TheVariants as refused
-use Rattle.map_zone.specs.ZoneMap.{head_at, IsLeafAt, IsOpened, IsZoneMap, ZoneMap, leaf_of}
+use Rattle.map_zone.specs.ZoneMap.{head_at, IsLeafAt, IsOpened, IsZoneMap, ZoneMap}
 
 abbrev pub p : ℕ → Point
 p n = record { 0 = n }
@@ -294,7 +295,7 @@ needs_it_elsewhere is = at_another_block (record { level = refl; stands = is.sta
 misses : MissesPage bare 1 0
 misses = record { low = omega arith; missing = is_missing; above = above }
   where
-    above : (level : ℕ) → 0 < level → level < 2 → IsThere unlinked (page_at level 1)
+    above : (level : ℕ) → 0 < level → level < 2 → IsThere unlinked (page_above level 1)
     above zero from inside = absurd (omega (arith, from))
     above (suc zero) from inside = record { at = b 9; stands = as_root (record { tree = own; level = refl; index = refl }) refl }
     above (suc (suc level)) from inside = absurd (omega (arith, inside))

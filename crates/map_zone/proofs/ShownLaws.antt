@@ -3,6 +3,7 @@ use Rattle.std.specs.Prelude.{ℕ, ◌≡◌, ◌<◌, ◌/◌, ◌%◌, ◌==�
 use Rattle.std.proofs.Common.{ap, ◌∙◌, sym, subst, arith, inl, inr}
 use Rattle.std.proofs.lemmas.Bool.Decides.{eqb_tells}
 use Rattle.std.proofs.lemmas.List.{get_or-set_same, get_or-set_other}
+use Rattle.blk_base.specs.Pages.{leaf_of}
 use Rattle.blk_base.specs.declared.geometry.Geometry.{Geometry}
 use Rattle.blk_base.specs.declared.sizes.TheConstants.{PAGE_SLOTS}
 use Rattle.blk_base.specs.declared.journal_entry.Entry.TheVariants.{NewPage, Remap}
@@ -25,7 +26,7 @@ use Rattle.map_page_cache.proofs.RunLaws as cache_laws
 use Rattle.map_zone.specs.Calls.{Apply, AreReadBack, Call, HandOut, HasNoLeaf, Install, IsStored, LeadTo, Leads, SayOf, Write, events_of, mapped}
 use Rattle.map_zone.specs.Serving.{Installs, MayInstall, Remaps, Shows}
 use Rattle.map_zone.specs.Writing.{Settles, Takes, TakesLeaf, TakesNode}
-use Rattle.map_zone.specs.ZoneMap.{IsZoneMap, ZoneMap, head_at, leaf_of}
+use Rattle.map_zone.specs.ZoneMap.{IsZoneMap, ZoneMap, head_at}
 use Rattle.map_zone.proofs.CallLaws.{Split, split_of}
 
 pub same_head : (h k : PageHead) → h.geometry ≡ k.geometry → h.page ≡ k.page → h.at ≡ k.at → h ≡ k

@@ -12,13 +12,13 @@ use Rattle.blk_base.specs.declared.point.Point.{Point}
 use Rattle.dirty_pages.specs.History.{Changed, Event, HandedOut, Written}
 use Rattle.page_codec.specs.Grammar.{IsPage}
 use Rattle.page_codec.specs.declared.forms.MapPage.{MapPage}
-use Rattle.blk_base.specs.Pages.{above}
+use Rattle.blk_base.specs.Pages.{above, leaf_of}
 use Rattle.plain_laws.specs.Leads.{LeadsBy}
 use Rattle.map_page_cache.specs.CachedPages.{IsThere}
 use Rattle.map_zone.specs.declared.forms.Applied.TheVariants.{Done}
 use Rattle.map_zone.specs.Serving.{Applies, Installs, MayApply, MayInstall}
 use Rattle.map_zone.specs.Writing.{IsOut, Settles, Takes}
-use Rattle.map_zone.specs.ZoneMap.{ZoneMap, leaf_of}
+use Rattle.map_zone.specs.ZoneMap.{ZoneMap}
 
 -- An entry is applied; a leaf is installed as these bytes say; a page is handed out to be written, with its block and its
 -- bytes; a page is reported as written. What needs a leaf first, or is refused, changes nothing and is no call here.

@@ -9,11 +9,11 @@ use Rattle.blk_base.specs.declared.place.PageId.{PageId}
 use Rattle.blk_base.specs.declared.place.Pbn.{Pbn}
 use Rattle.blk_base.specs.declared.point.Point.{Point}
 use Rattle.blk_base.specs.Regions.{IsDataBlock}
-use Rattle.blk_base.specs.Pages.{above}
+use Rattle.blk_base.specs.Pages.{above, page_above, leaf_of}
 use Rattle.page_codec.specs.Grammar.{HoldsMapping, IsPage, IsPageFault}
 use Rattle.page_codec.specs.declared.fault.PageFault.{PageFault}
 use Rattle.page_codec.specs.declared.forms.MapPage.{MapPage}
-use Rattle.block_map_tree.specs.Pages.{IsTreeOf, page_at}
+use Rattle.block_map_tree.specs.Pages.{IsTreeOf}
 use Rattle.block_map_tree.specs.Tree.{IsAt, IsLinkable, IsThere, Links}
 use Rattle.map_page_cache.specs.CachedPages.{Fills, GivesUp, HasNoFrame, IsAbsent, Sets}
 use Rattle.map_page_cache.specs.CachedPages as cached
@@ -23,7 +23,7 @@ use Rattle.map_zone.specs.declared.forms.Looked.{Looked}
 use Rattle.map_zone.specs.declared.forms.Looked.TheVariants as looked
 use Rattle.map_zone.specs.declared.forms.NotInstalled.{NotInstalled}
 use Rattle.map_zone.specs.declared.forms.NotInstalled.TheVariants as refused
-use Rattle.map_zone.specs.ZoneMap.{ZoneMap, head_at, leaf_of}
+use Rattle.map_zone.specs.ZoneMap.{ZoneMap, head_at}
 
 -- the address is below the logical size, and in one of the zone's trees
 pub record IsOwn (m : ZoneMap) (address : ℕ) : Type 0 where
@@ -45,12 +45,12 @@ pub record NeedsLeaf (m : ZoneMap) (address : ℕ) (page : PageId) (at : Pbn) : 
 -- the page of this level isn't linked, and each one above it is
 pub record MissesPage (m : ZoneMap) (address level : ℕ) : Type 0 where
   pub low : level < m.tree.forest.geometry.height
-  pub missing : IsThere m.tree (page_at level address) → ⊥
-  pub above : (l : ℕ) → level < l → l < m.tree.forest.geometry.height → IsThere m.tree (page_at l address)
+  pub missing : IsThere m.tree (page_above level address) → ⊥
+  pub above : (l : ℕ) → level < l → l < m.tree.forest.geometry.height → IsThere m.tree (page_above l address)
 
 -- each page on the path of the address is linked
 abbrev pub HasPath : ZoneMap → ℕ → Type 0
-HasPath m address = (level : ℕ) → level < m.tree.forest.geometry.height → IsThere m.tree (page_at level address)
+HasPath m address = (level : ℕ) → level < m.tree.forest.geometry.height → IsThere m.tree (page_above level address)
 
 -- what is known of an address
 abbrev pub IsLooked : ZoneMap → ℕ → Looked → Type 0

@@ -6,17 +6,12 @@ use Rattle.blk_base.specs.declared.place.Pbn.{Pbn}
 use Rattle.page_codec.specs.declared.forms.MapPage.{MapPage}
 use Rattle.page_codec.specs.declared.forms.PageHead.{PageHead}
 use Rattle.block_map_tree.specs.Opening.{IsOpening, forest_of}
-use Rattle.block_map_tree.specs.Pages.{page_at}
 use Rattle.block_map_tree.specs.Tree.{IsAt, IsTree, Tree}
 use Rattle.map_page_cache.specs.CachedPages.{CachedPages, IsCache, IsThere, no_pages}
 
 pub record ZoneMap : Type 0 where
   pub tree : Tree
   pub cache : CachedPages
-
--- the leaf that has an address
-abbrev pub leaf_of : ℕ → PageId
-leaf_of address = page_at 0 address
 
 -- which page stands at a block of the zone's image
 abbrev pub head_at : ZoneMap → PageId → Pbn → PageHead

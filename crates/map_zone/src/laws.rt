@@ -6,7 +6,7 @@ ghost use Rattle.blk_base.specs.declared.place.Pbn.{Pbn};
 ghost use Rattle.blk_base.specs.declared.sizes.TheConstants.{PAGE_SLOTS};
 ghost use Rattle.blk_base.specs.declared.place.PageId.{PageId};
 ghost use Rattle.blk_base.specs.declared.point.Point.{Point};
-ghost use Rattle.blk_base.specs.Pages.{above, slot_of};
+ghost use Rattle.blk_base.specs.Pages.{above, slot_of, leaf_of};
 ghost use Rattle.dirty_pages.specs.History.{IsUnreported, IsUnwritten};
 ghost use Rattle.block_map_tree.specs.Pages.{IsLower};
 ghost use Rattle.block_map_tree.specs.Tree.{IsAt};
@@ -14,7 +14,7 @@ ghost use Rattle.page_codec.specs.Grammar.{IsSlot};
 ghost use Rattle.map_zone.specs.Calls.{AreReadBack, Call, HasLink, HasNoLeaf, LeadTo, Leads, SayOf, events_of, mapped};
 ghost use Rattle.map_zone.specs.Serving.{IsLooked, Shows};
 ghost use Rattle.map_zone.specs.Writing.{IsClean, IsLow, IsOut, NoneDue, Takes};
-ghost use Rattle.map_zone.specs.ZoneMap.{IsOpened, IsZoneMap, ZoneMap, head_at, leaf_of};
+ghost use Rattle.map_zone.specs.ZoneMap.{IsOpened, IsZoneMap, ZoneMap, head_at};
 ghost use Rattle.map_zone.specs.declared.forms.Looked.{Looked};
 
 /// Over every list of calls, an entry that was applied to a page and isn't written since the page was handed out isn't below the

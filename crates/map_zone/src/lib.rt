@@ -16,7 +16,6 @@
 
 mod forms;
 mod laws;
-mod places;
 mod points;
 mod zone;
 

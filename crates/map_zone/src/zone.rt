@@ -1,4 +1,5 @@
 ghost use Rattle.std.specs.Prelude.{◌≡◌, ◌<◌, ◌≤◌, ◌↔◌, IfOk, IfErr, OnOk, OnErr, IfSome, IfNone, IsTrue, false};
+ghost use Rattle.blk_base.specs.Pages.{leaf_of};
 ghost use Rattle.blk_base.specs.Limits.{IsGeometry};
 ghost use Rattle.block_map_tree.specs.Opening.{IsOpened as AreOpened, forest_of};
 ghost use Rattle.block_map_tree.specs.Tree.{IsAt, IsThere as IsLinked};
@@ -8,11 +9,10 @@ ghost use Rattle.page_codec.specs.Grammar.{HoldsMapping};
 ghost use Rattle.page_codec.specs.declared.forms.MapPage.{MapPage};
 ghost use Rattle.map_page_cache.specs.CachedPages.{IsAbsent, IsThere};
 ghost use Rattle.map_zone.specs.declared.forms.Applied.TheVariants.{Done, NeedLeaf};
-ghost use Rattle.map_zone.specs.ZoneMap.{IsOpened, leaf_of};
+ghost use Rattle.map_zone.specs.ZoneMap.{IsOpened};
 ghost use Rattle.map_zone.specs.Serving.{AddsPage, Applies, HasPath, Installs, IsLooked, IsOwn, IsRefused, MayAddPage, MayApply, MayInstall, MayRemap, NeedsLeaf, Remaps};
 ghost use Rattle.map_zone.specs.Writing.{IsClean, IsLeafFirst, IsLow, IsNodeFirst, IsOut, NoneDue, Settles, Takes, TakesLeaf, TakesNode};
 
-use crate::places::{leaf_of, slot_of, tree_of};
 use crate::points::{comes_first, lesser_point};
 use crate::{Applied, Looked, NotInstalled};
 use blk_base::{
@@ -85,7 +85,8 @@ impl MapZone {
     pub fn owns(&self, at: Lba) -> bool
         ensures { IsTrue result ↔ IsOwn self.now at.0 }
     {
-        at.0 < self.forest.geometry.logical && tree_of(at) % self.forest.zones == self.forest.zone
+        at.0 < self.forest.geometry.logical
+            && u32::from(at.leaf().tree) % self.forest.zones == self.forest.zone
     }
 
     /// What an address of the zone is mapped to, with all entries that were applied; or which leaf is to be read for that,
@@ -106,9 +107,9 @@ impl MapZone {
         requires leaf { IsAt self.now.tree (leaf_of at.0) block }
         ensures { IsLooked self.now at.0 result }
     {
-        let page = leaf_of(at);
+        let page = at.leaf();
         match self.cache.get(page) {
-            Some(content) => Looked::Is(content.mappings.get(slot_of(at))),
+            Some(content) => Looked::Is(content.mappings.get(at.slot())),
             None => Looked::NeedLeaf(page, block),
         }
     }
@@ -132,7 +133,7 @@ impl MapZone {
         if at.0 >= self.forest.geometry.logical {
             return false;
         }
-        if !self.is_linked(leaf_of(at)) {
+        if !self.is_linked(at.leaf()) {
             return false;
         }
         self.holds(mapping)
@@ -193,9 +194,9 @@ impl MapZone {
         ensures needs { (page : PageId) (block : Pbn) → result ≡ NeedLeaf page block →
             NeedsLeaf self.old at.0 page block × (self.new ≡ self.old) }
     {
-        let page = leaf_of(at);
+        let page = at.leaf();
         if self.is_cached(page) {
-            self.cache.set(page, slot_of(at), mapping, point);
+            self.cache.set(page, at.slot(), mapping, point);
             return Applied::Done;
         }
         Applied::NeedLeaf(page, self.block_of(page))

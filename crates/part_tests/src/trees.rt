@@ -1,7 +1,7 @@
 ghost use Rattle.std.specs.Prelude.{◌≡◌, ◌<◌, ◌≤◌, ◌+◌, ◌/◌, ◌%◌, IfOk, replicate, slice_set};
+ghost use Rattle.blk_base.specs.Pages.{page_above as page_of};
 ghost use Rattle.blk_base.specs.Limits.{logical_limit};
 ghost use Rattle.blk_base.specs.declared.place.Mapping.TheVariants.{Unmapped, At};
-ghost use Rattle.block_map_tree.specs.Pages.{page_at as page_of};
 ghost use Rattle.block_map_tree.specs.Tree.{IsTree};
 ghost use Rattle.block_map_tree.specs.Opening.{IsOpened, forest_of};
 

@@ -17,7 +17,7 @@ use Rattle.blk_base.specs.declared.place.Mapping.TheVariants.{Unmapped, Zero, At
 use Rattle.blk_base.specs.declared.place.PageId.{PageId}
 use Rattle.blk_base.specs.declared.place.Pbn.{Pbn}
 use Rattle.blk_base.specs.declared.sizes.TheConstants.{PAGE_SLOTS}
-use Rattle.blk_base.specs.Pages.{above, slot_of}
+use Rattle.blk_base.specs.Pages.{above, slot_of, leaf_of, slot_of_address}
 use Rattle.byte_fields.specs.Mappings.{mapping_bytes}
 use Rattle.byte_fields.proofs.MappingLaws.{length-mapping}
 use Rattle.count_updates.specs.Applied.{IsGreatest}
@@ -34,7 +34,6 @@ use Rattle.image_format.specs.Calls.{put}
 use Rattle.image_model.proofs.EmptyLaws.{sizes_of_image}
 use Rattle.image_model.specs.Counts.{Stores}
 use Rattle.image_model.specs.Maps.{Image, head_of, or_else, put_by, put_last, says}
-use Rattle.image_model.specs.Pages.{leaf_of, slot_of_address}
 use Rattle.image_model.specs.Sound.{IsSound}
 use Rattle.image_model.specs.Windows.{IsOfImage, LeadsToData}
 use Rattle.image_model.proofs.LookedLaws.{looked_in_place, looked_place}

@@ -10,11 +10,10 @@ use Rattle.blk_base.specs.declared.place.Mapping.TheVariants.{Unmapped, Zero, At
 use Rattle.blk_base.specs.declared.place.PageId.{PageId}
 use Rattle.blk_base.specs.declared.place.Pbn.{Pbn}
 use Rattle.blk_base.specs.declared.sizes.TheConstants.{PAGE_SLOTS, TREES}
-use Rattle.blk_base.specs.Pages.{above, slot_of}
+use Rattle.blk_base.specs.Pages.{above, slot_of, leaf_of, slot_of_address}
 use Rattle.disk_model.specs.Log.{block_at}
 use Rattle.image_model.proofs.MapLaws.{page_in_range, slot_says_its_mapping}
 use Rattle.image_model.specs.Maps.{Image, ArePagesGood, IsReadable, head_of, linked_at, mapping_in, mapping_of, page_at, put_last, says, target_of}
-use Rattle.image_model.specs.Pages.{leaf_of, slot_of_address}
 use Rattle.image_model.specs.Sound.{AreUnshared}
 use Rattle.image_model.specs.Windows.{LeadsToData}
 use Rattle.page_codec.specs.Grammar.{HoldsMapping, IsSlot}

@@ -9,11 +9,11 @@ use Rattle.blk_base.specs.declared.place.Mapping.TheVariants.{Unmapped}
 use Rattle.blk_base.specs.declared.place.PageId.{PageId}
 use Rattle.blk_base.specs.declared.place.Pbn.{Pbn}
 use Rattle.blk_base.specs.declared.sizes.TheConstants.{PAGE_SLOTS, TREES}
-use Rattle.blk_base.specs.Pages.{above, slot_of}
+use Rattle.blk_base.specs.Pages.{above, slot_of, leaf_of, slot_of_address}
 use Rattle.disk_model.specs.Log.{Blocks}
 use Rattle.image_model.specs.Counts.{HasMappings, leads_to, mapped_below}
 use Rattle.image_model.specs.Maps.{Image, HaveSameMap, IsTreePage, linked_at, mapping_of, page_at, says, target_of}
-use Rattle.image_model.specs.Pages.{address_count, leaf_of, slot_of_address}
+use Rattle.image_model.specs.Pages.{address_count}
 use Rattle.image_model.specs.Sound.{AreUnshared}
 use Rattle.plain_laws.specs.Sums.{bit}
 

@@ -13,11 +13,11 @@ use Rattle.blk_base.specs.declared.place.PageId.{PageId}
 use Rattle.blk_base.specs.declared.place.Pbn.{Pbn}
 use Rattle.blk_base.specs.declared.point.Half.TheVariants.{Increment}
 use Rattle.blk_base.specs.declared.point.Point.{Point}
-use Rattle.blk_base.specs.Pages.{above, slot_of}
+use Rattle.blk_base.specs.Pages.{above, slot_of, leaf_of, slot_of_address}
 use Rattle.disk_model.specs.Log.{Blocks}
 use Rattle.image_model.specs.Counts.{Updates}
 use Rattle.image_model.specs.Maps.{or_else, put_by, put_last}
-use Rattle.image_model.specs.Pages.{is_page, leaf_of, slot_of_address}
+use Rattle.image_model.specs.Pages.{is_page}
 use Rattle.image_model.specs.Windows.{AreReplayable, IsOfImage, IsReplayable, IsWindow, LeadsToData, entries_from, with_points}
 
 -- an entry of the image whose points are below those of the block behind the last sequence

@@ -10,10 +10,10 @@ use Rattle.blk_base.specs.declared.journal_entry.Entry.TheVariants.{Remap, NewPa
 use Rattle.blk_base.specs.declared.place.Mapping.{Mapping}
 use Rattle.blk_base.specs.declared.place.Mapping.TheVariants.{At}
 use Rattle.blk_base.specs.declared.place.PageId.{PageId}
-use Rattle.blk_base.specs.Pages.{above, slot_of}
+use Rattle.blk_base.specs.Pages.{above, slot_of, leaf_of, slot_of_address}
 use Rattle.disk_model.specs.Log.{Blocks}
 use Rattle.image_model.specs.Maps.{or_else, put_by, put_last}
-use Rattle.image_model.specs.Pages.{is_page, leaf_of, slot_of_address}
+use Rattle.image_model.specs.Pages.{is_page}
 use Rattle.image_model.specs.Windows.{AreReplayable, IsOfImage, LeadsToData, entries_from, with_points}
 use Rattle.journal_window.specs.States.{WindowState}
 use Rattle.journal_window.specs.Windows.{IsWindowOf}

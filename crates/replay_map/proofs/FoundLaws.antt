@@ -4,6 +4,7 @@ use Rattle.std.proofs.lemmas.Bool.{cases_lt}
 use Rattle.std.proofs.lemmas.Bool.Decides.{eqb_tells}
 use Rattle.std.proofs.lemmas.List.Folds.{Any-from_list_any, list_any-from_Any}
 use Rattle.std.proofs.lemmas.Nat.{le-div}
+use Rattle.blk_base.specs.Pages.{leaf_of, slot_of_address}
 use Rattle.blk_base.specs.declared.place.Mapping.{Mapping}
 use Rattle.blk_base.specs.declared.place.Mapping.TheVariants.{Unmapped, Zero, At}
 use Rattle.blk_base.specs.declared.place.Pbn.{Pbn}
@@ -11,7 +12,7 @@ use Rattle.blk_base.specs.declared.sizes.TheConstants.{PAGE_SLOTS, TREES}
 use Rattle.image_model.specs.Counts.{leads_to}
 use Rattle.image_model.specs.Faults.{IsShareFault}
 use Rattle.image_model.specs.Maps.{Image, ArePagesGood, IsTreePage, mapping_of, page_at, says}
-use Rattle.image_model.specs.Pages.{address_count, leaf_of, slot_of_address}
+use Rattle.image_model.specs.Pages.{address_count}
 use Rattle.image_model.specs.Sound.{AreUnshared}
 use Rattle.plain_laws.specs.Sums.{bit}
 use Rattle.replay_map.proofs.SumLaws.{mapped_sum, sum_has, sum_some}

@@ -6,10 +6,10 @@ use Rattle.blk_base.specs.declared.place.Mapping.{Mapping}
 use Rattle.blk_base.specs.declared.place.PageId.{PageId}
 use Rattle.blk_base.specs.declared.place.Pbn.{Pbn}
 use Rattle.blk_base.specs.declared.sizes.TheConstants.{PAGE_SLOTS, TREES}
-use Rattle.blk_base.specs.Pages.{root_page}
+use Rattle.blk_base.specs.Pages.{root_page, leaf_of, slot_of_address}
 use Rattle.image_model.specs.Counts.{leads_to, mapped_below}
 use Rattle.image_model.specs.Maps.{Image, mapping_of, slot_in}
-use Rattle.image_model.specs.Pages.{address_count, leaf_of, slot_of_address}
+use Rattle.image_model.specs.Pages.{address_count}
 use Rattle.plain_laws.specs.Sums.{bit}
 use Rattle.replay_map.proofs.SumLaws.{mapped_sum, sum_more, sum_none, sum_rows, sum_same, sum_swap}
 use Rattle.replay_map.proofs.UnderLaws.{page_is}

@@ -1,16 +1,15 @@
 ghost use Rattle.std.specs.Prelude.{◌≡◌, ◌<◌, ◌^◌, ℕ, if◌then◌else◌, Some, None, IfOk, IfSome, IfNone, OnOk, map, reverse};
 ghost use Rattle.std.specs.Map.Iter.{ShowsInOrder, deref_pair};
-ghost use Rattle.blk_base.specs.Pages.{above, slot_of};
+ghost use Rattle.blk_base.specs.Pages.{above, slot_of, leaf_of, slot_of_address};
 ghost use Rattle.blk_base.specs.declared.place.Mapping.{Mapping as Put};
 ghost use Rattle.blk_base.specs.declared.place.PageId.{PageId};
 ghost use Rattle.blk_base.specs.declared.sizes.TheConstants.{PAGE_SLOTS as SLOTS};
 ghost use Rattle.image_model.specs.Maps.{or_else, put_by};
-ghost use Rattle.image_model.specs.Pages.{leaf_of, slot_of_address};
 ghost use Rattle.replay_map.specs.Changes.{AreNewest, changed, is_slot};
 ghost use Rattle.replay_map.specs.Forms.{as_found, changes_in};
 ghost use Rattle.replay_map.specs.declared.changes.SlotId.{SlotId as Slot};
 
-use blk_base::{CommittedEntry, Entry, Lba, Mapping, PAGE_SLOTS, PageId, TREES};
+use blk_base::{CommittedEntry, Entry, Lba, Mapping, PAGE_SLOTS, PageId};
 use std::alloc::{AllocError, Global};
 use std::collections::BTreeMap;
 use std::collections::btree_map::Range;
@@ -111,14 +110,9 @@ fn change(entry: Entry) -> Option<(SlotId, Mapping)>
 fn slot_of_address(at: Lba) -> SlotId
     ensures { result ≡ record { page = leaf_of at.0; slot = slot_of_address at.0 } }
 {
-    let leaf = at.0 / u32::from(PAGE_SLOTS);
     SlotId {
-        page: PageId {
-            tree: (leaf % u32::from(TREES)) as u8,
-            level: 0,
-            index: leaf / u32::from(TREES),
-        },
-        slot: (at.0 % u32::from(PAGE_SLOTS)) as u16,
+        page: at.leaf(),
+        slot: at.slot(),
     }
 }
 

@@ -24,7 +24,7 @@ use Rattle.disk_model.specs.Log.{block_at}
 use Rattle.image_model.proofs.CountLaws.{is_first, is_first_or_behind, none_in_nothing}
 use Rattle.image_model.proofs.MapLaws.{page_in_range, slot_says_its_mapping}
 use Rattle.image_model.specs.Maps.{Image, ArePagesGood, IsReadable, head_of, mapping_in, or_else, page_at, put_by, put_last, says, target_of}
-use Rattle.image_model.specs.Pages.{is_page, leaf_of}
+use Rattle.image_model.specs.Pages.{is_page}
 use Rattle.page_codec.specs.Grammar.{IsSlot}
 use Rattle.replay_counts.specs.Recovered.{HasCounts, no_points}
 use Rattle.replay_counts.specs.declared.forms.SectorPoints.{SectorPoints}
@@ -32,7 +32,7 @@ use Rattle.replay_map.proofs.LinkedLaws.{below_at}
 use Rattle.replay_map.proofs.OwnLaws.{page_tells}
 use Rattle.replay_map.proofs.TreeLaws.{root_linked, under_root}
 use Rattle.replay_map.proofs.UnderLaws.{up_none}
-use Rattle.blk_base.specs.Pages.{above, page_below, root_page, slot_of}
+use Rattle.blk_base.specs.Pages.{above, page_below, root_page, slot_of, leaf_of}
 use Rattle.replay_map.specs.Replayed.{AreAllLinks, HasMap}
 use Rattle.replay_map.specs.declared.links.Link.{Link}
 use Rattle.replay_map.specs.declared.recovered.RecoveredMap.{RecoveredMap}

@@ -6,7 +6,7 @@ ghost use Rattle.step_parts.specs.ZoneSizes.{HasPhysical};
 ghost use Rattle.vdo_model.specs.Places.{zone_of};
 ghost use Rattle.zone_counts.specs.Zone.{slab_number};
 
-use blk_base::{Layout, Lba, PAGE_SLOTS, Pbn, TREES, ZoneId};
+use blk_base::{Layout, Lba, Pbn, ZoneId};
 use data_vio::{Sizes, Vio};
 
 /// The logical zone of an address.
@@ -14,8 +14,7 @@ pub fn home_of(sizes: &Sizes, at: Lba) -> ZoneId
     requires { 0 < sizes.now.zones }
     ensures { result ≡ id.Logical (zone_of sizes.now.zones at.0) }
 {
-    let tree = (at.0 / u32::from(PAGE_SLOTS) % u32::from(TREES)) as u8;
-    ZoneId::Logical(u32::from(tree % sizes.zones))
+    ZoneId::Logical(u32::from(at.leaf().tree % sizes.zones))
 }
 
 // The number of a data block's slab. The slabs stand one behind the other, from the first data block to the end of the image.

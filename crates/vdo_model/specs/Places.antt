@@ -1,6 +1,6 @@
 -- Places: the number that a block request draws in its logical zone. The newest place stands first.
-use Rattle.std.specs.Prelude.{ℕ, ◌≡◌, ◌⊎◌, ◌+◌, ◌<◌, ◌/◌, ◌%◌, ◌==◌, ◌++◌, List, [], ◌∷◌, Option, Some, None, IsSome, IsNone, if◌then◌else◌}
-use Rattle.blk_base.specs.declared.sizes.TheConstants.{PAGE_SLOTS, TREES}
+use Rattle.std.specs.Prelude.{ℕ, ◌≡◌, ◌⊎◌, ◌+◌, ◌<◌, ◌%◌, ◌==◌, ◌++◌, List, [], ◌∷◌, Option, Some, None, IsSome, IsNone, if◌then◌else◌}
+use Rattle.blk_base.specs.Pages.{leaf_of}
 use Rattle.std.specs.List.{AllByRecursion}
 use Rattle.blk_base.specs.declared.request.Request.{Request}
 use Rattle.blk_base.specs.declared.request.Answer.{Answer}
@@ -14,7 +14,7 @@ use Rattle.vdo_model.specs.DeskLog.{answer_of, before_begin}
 
 -- the logical zone of an address: the trees, of which each has every 60th leaf, are dealt out to the zones
 abbrev pub zone_of : ℕ → ℕ → ℕ
-zone_of zones a = a / PAGE_SLOTS % TREES % zones
+zone_of zones a = (leaf_of a).tree % zones
 
 -- how many places of a zone are drawn
 abbrev pub drawn : ℕ → List Placed → ℕ

@@ -3,8 +3,9 @@ use Rattle.std.proofs.Common.{◌≡◌, ℕ, zero, suc, ◌+◌, ◌<◌, ◌�
 use Rattle.core_laws.proofs.Common.{all_logged, all_of, AllByRecursion, asked, Asks, AtRest, Call, calls, Calls, DataOk, DeviceZone, each_at, ended, Entry, entry_of, eqb_tells, every-map, Fails, IsToBlock, Phase, FailureMayFollow, fair_before, Happening, has_read_fault, has_stopped, HasAddress, HasCause, is_ok, is_read, IsAsOpened, IsChange, IsEarned, IsFair, IsMadeFor, IsOpen, IsSealed, IsSession, KeptOk, Lba, log, logged, logical_zones, Mapping, MapsTo, moments, NewReads, NewStands, notified, OnBlock, OnItsWay, Pbn, place_of, places, Post, ReadsAs, ReadsBlock, request_of, RightTrace, same_self, same_Some, SealedBlock, Session, Shown, Sizes, some_is, Stage, StandsAt, Trace, value_at, value_from, Vio, VioOk, Writer, zone_count, zone_number, applied, Logged, new_of, remappings, MayReply, turned, Item, ItemOk, SuperblockStage, superblock_stage, mapped_or, opened_at, Harms, is_harmed, IsForBlock, IsPlaced, entered, logged_of}
 use Rattle.core_laws.proofs.trace.PassesOfTrace.{value_past}
 use Rattle.vdo_model.specs.FlushMarks.{IsMark, successes}
+use Rattle.blk_base.specs.Pages.{leaf_of, slot_of_address}
 use Rattle.blk_base.specs.declared.place.PageId.{PageId}
-use Rattle.image_model.specs.Pages.{IsBelowRoot, leaf_of, slot_of_address}
+use Rattle.image_model.specs.Pages.{IsBelowRoot}
 use Rattle.core_model.specs.Facts.{CarriesFor, CarriesOwn}
 use Rattle.core_model.specs.PageLinks.{MayLack, leaf_head}
 use Rattle.core_model.specs.RightTraces.{HarmMayFollow, IsLeafFor, IsLinkedAt}

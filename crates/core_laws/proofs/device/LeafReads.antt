@@ -5,6 +5,7 @@ use Rattle.std.proofs.Math.Nat.{mod-lt}
 use Rattle.std.proofs.lemmas.List.{get_or-replicate}
 use Rattle.core_laws.proofs.Common.{AllByRecursion, AreAllThere, AtRest, ComesLast, Commits, Enters, IsFair, IsHonestRead, IsSession, Logged, Makes, OnItsWay, PagesStand, Pbn, Remapping, Remaps, RightTrace, Session, Sets, Stands, Trace, Writer, all_of, applied, durable, journaled, log, mapped_or, mapping_by, newest, of_address, opened_at, opened_image, remappings, sealed}
 use Rattle.blk_base.proofs.RegionLaws.{data_block_high, data_block_inside}
+use Rattle.blk_base.specs.Pages.{leaf_of, slot_of_address}
 use Rattle.blk_base.specs.Regions.{IsDataBlock}
 use Rattle.blk_base.specs.declared.place.Mapping.{Mapping}
 use Rattle.blk_base.specs.declared.place.Mapping.TheVariants.{Unmapped}
@@ -23,7 +24,6 @@ use Rattle.disk_model.proofs.ImageLaws.{block_of_mix}
 use Rattle.disk_model.specs.Log as device
 use Rattle.image_model.proofs.LookedLaws.{looked_high}
 use Rattle.image_model.specs.Maps.{mapping_in, page_at}
-use Rattle.image_model.specs.Pages.{leaf_of, slot_of_address}
 use Rattle.page_codec.proofs.HeldLaws.{held_unmapped}
 use Rattle.page_codec.proofs.ReadLaws.{no_page_fault, one_mapping, one_page, page, slots}
 use Rattle.page_codec.specs.Grammar.{IsPage, IsPageFault, IsSlot}

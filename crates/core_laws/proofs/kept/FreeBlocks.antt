@@ -7,7 +7,7 @@ use Rattle.blk_base.specs.Regions.{IsDataBlock}
 use Rattle.blk_base.specs.declared.geometry.Geometry.{Geometry}
 use Rattle.blk_base.specs.declared.journal_entry.CommittedEntry.{CommittedEntry}
 use Rattle.blk_base.specs.declared.place.PageId.{PageId}
-use Rattle.blk_base.specs.Pages.{above, slot_of}
+use Rattle.blk_base.specs.Pages.{above, slot_of, leaf_of, slot_of_address}
 use Rattle.count_laws.proofs.BelowLaws.{same_up_to}
 use Rattle.count_laws.proofs.StepLaws.{number_of_pages}
 use Rattle.count_laws.specs.Turns.{HasMappingsAfter, IsPageAfter}
@@ -32,7 +32,7 @@ use Rattle.core_model.specs.Uses.{IsFreeAt, counted, uncounted}
 use Rattle.core_model.specs.declared.zones.ZoneData.TheVariants as at
 use Rattle.data_vio.specs.declared.items.Item.TheVariants.{Request}
 use Rattle.image_model.specs.Maps.{Image, put_last, target_of}
-use Rattle.image_model.specs.Pages.{address_count, leaf_of, slot_of_address}
+use Rattle.image_model.specs.Pages.{address_count}
 use Rattle.journal_stops.proofs.GrowLaws.{by_leaf, by_link}
 use Rattle.journal_stops.specs.Mapped.{linked_after, mapping_after, page_after, slot_after}
 use Rattle.zone_counts.proofs.FitLaws.{within_limit}

@@ -2,6 +2,7 @@
 -- for the lock. It is legal, since events lead to it from the core at its start.
 use Rattle.std.proofs.Common.{◌≡◌, ℕ, ◌+◌, ◌/◌, ◌%◌, ◌<◌, Bool, true, false, Option, None, Some, is_some, if◌then◌else◌, List, [], ◌∷◌, ◌++◌, nat_eq, slice_get, slice_set, refl, ap, sym, ◌∙◌, subst, arith}
 use Rattle.core_laws.proofs.Common.{Draws, Item, LogicalZone, Pbn, Post, Says, Trace, Vio, Writer, Zone, ZoneData, ZoneOk, begun_vio, turned}
+use Rattle.blk_base.specs.Pages.{leaf_of}
 use Rattle.blk_base.specs.Sectors.{zero_block}
 use Rattle.blk_base.specs.declared.place.Lba.{Lba}
 use Rattle.blk_base.specs.declared.place.PageId.{PageId}
@@ -26,7 +27,6 @@ use Rattle.data_vio.specs.declared.items.Asks.TheVariants.{Read, Write}
 use Rattle.data_vio.specs.declared.items.Item.TheVariants as item
 use Rattle.data_vio.specs.declared.items.Phase.TheVariants as phase
 use Rattle.image_model.proofs.Example.{small, small_is}
-use Rattle.image_model.specs.Pages.{leaf_of}
 use Rattle.vdo_model.specs.declared.report.DeskLine.TheVariants as line
 
 -- The core after a step of one of its zones, and after a move.

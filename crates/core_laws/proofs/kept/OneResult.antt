@@ -2,6 +2,7 @@
 -- same keep, make and post the same.
 use Rattle.std.proofs.Common.{ℕ, ◌+◌, ◌≡◌, Bool, true, false, not, ◌&&◌, Option, None, Some, List, [], ◌∷◌, ◌++◌, slice_index_or, refl, sym, ap, ◌∙◌, subst, inl, inr, arith}
 use Rattle.core_laws.proofs.Common.{Aborts, Answer, Calls, Commits, Desk, DeviceZone, Draws, Enters, Flushes, Gives, Item, JournalZone, LogicalZone, Passes, Pbn, Phase, PhysicalZone, Post, Says, Request, SealedBlock, Seals, Sets, Sizes, Stage, Takes, Trace, Vio, Writer, ZoneData, ended, gift, logged, notified, request_at, staged, turned, Call, Fails, SuperblockStage, Harms}
+use Rattle.blk_base.specs.Pages.{slot_of_address}
 use Rattle.blk_base.specs.declared.place.ZoneId.TheVariants as id
 use Rattle.blk_base.specs.declared.request.Answer.TheVariants as reply
 use Rattle.disk_model.specs.declared.call.Call.TheVariants.{Read}
@@ -43,7 +44,6 @@ use Rattle.core_model.specs.LogicalRules.{LogicalHears, LogicalServes, awaits_re
 use Rattle.core_model.specs.PageTrees.{but_page, is_listed, leaf_at}
 use Rattle.image_model.proofs.MapLaws.{slot_says_its_mapping}
 use Rattle.image_model.specs.Maps.{mapping_in}
-use Rattle.image_model.specs.Pages.{slot_of_address}
 use Rattle.page_codec.proofs.ReadLaws.{slots}
 use Rattle.page_codec.specs.Grammar.{IsPage}
 use Rattle.page_codec.specs.declared.forms.PageHead.{PageHead}

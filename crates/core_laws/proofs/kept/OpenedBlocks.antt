@@ -6,7 +6,7 @@ use Rattle.blk_base.proofs.RegionLaws.{data_block_high, data_block_inside}
 use Rattle.blk_base.specs.Regions.{IsDataBlock, Root, block_of}
 use Rattle.blk_base.specs.declared.place.Mapping.TheVariants.{Unmapped, At}
 use Rattle.blk_base.specs.declared.place.PageId.{PageId}
-use Rattle.blk_base.specs.Pages.{above}
+use Rattle.blk_base.specs.Pages.{above, leaf_of, page_above, slot_of_address}
 use Rattle.blk_base.specs.declared.sizes.TheConstants.{PAGE_SLOTS, TREES}
 use Rattle.core_laws.proofs.logical.PagePaths.{above_path}
 use Rattle.core_model.specs.PageLinks.{Lacks, page_in}
@@ -15,7 +15,7 @@ use Rattle.disk_model.specs.Log.{block_at}
 use Rattle.image_model.proofs.LookedLaws.{looked_high, looked_low}
 use Rattle.image_model.proofs.MapLaws.{page_in_range, slot_says_its_mapping}
 use Rattle.image_model.specs.Maps.{Image, head_of, linked_at, mapping_in, page_at, says}
-use Rattle.image_model.specs.Pages.{is_page, leaf_of, page_above, slot_of_address}
+use Rattle.image_model.specs.Pages.{is_page}
 use Rattle.page_codec.specs.Grammar.{HoldsMapping, IsSlot}
 
 -- a page isn't there where the one above it isn't

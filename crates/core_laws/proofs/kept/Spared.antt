@@ -3,11 +3,12 @@ use Rattle.std.proofs.Common.{All, ◌≡◌, ◌≢◌, ◌⊎◌, ℕ, zero, s
 use Rattle.disk_model.specs.declared.call.Call.TheVariants.{Read}
 use Rattle.core_laws.proofs.Common.{Aborts, AllBelow, AllByRecursion, Calls, Adds, Commits, DeskLine, Draws, Drops, Enters, Fails, Flushes, FlushMark, Gives, Happening, Hears, HasBelow, IsCommitted, HasFullJournal, IsOpen, IsPending, Logged, Makes, Mapping, Pbn, Remapping, Remaps, Removes, Strays, NeedsBlock, Quiet, Says, Seals, Session, Sets, Takes, Trace, Writer, aborted, begun, committed, done, dropped, entered, eqb_tells, gift_of, gifts, has_read_fault, has_stopped, has_taken, is_read, lines, logged_of, moments, newest, of_address, place_of, places, remappings, request_in, same_self, same_writer, value_at, Passes, applied, durable, journaled, passed, mapped_or, mapping_by, opened_at, Harms, is_harmed}
 use Rattle.core_laws.proofs.lists.Between.{address_between, every_between, logged_between}
+use Rattle.blk_base.specs.Pages.{leaf_of}
 use Rattle.blk_base.specs.declared.request.Answer.TheVariants as reply
 use Rattle.vdo_model.specs.FlushMarks.{Moment, Desk, Device, IsMark}
 use Rattle.vdo_model.specs.declared.report.DeskLine.TheVariants.{Begin, Answer}
 use Rattle.blk_base.specs.declared.place.PageId.{PageId}
-use Rattle.image_model.specs.Pages.{is_page, leaf_of}
+use Rattle.image_model.specs.Pages.{is_page}
 use Rattle.core_model.specs.RightTraces.{HadNoFree, HearingMayFollow, WasRefused, IsLeafy, IsLinkedAt, IsReported}
 use Rattle.core_model.specs.Trace.{Asks, Withdraws, added, removed, strayed, is_for, last_asked}
 use Rattle.core_model.specs.Facts.{HasClaim, IsAsking, IsWithdrawing, LacksBlock, HasSpent, IsMade, TookNone, HasReceipt, WasIssued}

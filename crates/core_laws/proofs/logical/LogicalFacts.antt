@@ -17,7 +17,6 @@ use Rattle.core_laws.proofs.logical.Releases.{below_more, has_below_more, goes_o
 use Rattle.core_model.specs.PageTrees.{HasPath, leaf_at, missing_at}
 use Rattle.core_model.specs.Facts.{NeedsLeaf, HasSpent}
 use Rattle.data_vio.specs.Vios.{reads_leaf}
-use Rattle.image_model.specs.Pages.{leaf_of}
 use Rattle.core_laws.proofs.device.LeafReads.{stands_at_data}
 use Rattle.core_laws.proofs.journal.JournalFacts.{home_within}
 use Rattle.core_laws.proofs.kept.OpenedBlocks.{lacks_unmapped}
@@ -26,6 +25,7 @@ use Rattle.blk_base.proofs.RegionLaws.{data_block_inside}
 use Rattle.core_laws.proofs.lists.Between.{every_between}
 use Rattle.core_laws.proofs.logical.PageFacts.{has_leaf, lacks_some, leaf_lacks, leaf_linked, same_tree}
 use Rattle.core_laws.proofs.trace.PagesOfTrace.{applied_leafy, linked_stands, newest_leafy}
+use Rattle.blk_base.specs.Pages.{leaf_of}
 use Rattle.blk_base.specs.declared.place.PageId.{PageId}
 use Rattle.blk_base.specs.Regions.{IsDataBlock}
 use Rattle.core_model.specs.RightTraces.{IsLeafy}

@@ -2,6 +2,7 @@
 -- is linked, or isn't made any more.
 use Rattle.std.proofs.Common.{◌≡◌, ℕ, ◌+◌, ◌<◌, ◌≤◌, ◌%◌, true, false, if◌then◌else◌, Option, None, Some, List, [], ◌∷◌, ◌++◌, Contains, refl, ap, sym, ◌∙◌, subst, inl, inr, arith, ◌⊎◌}
 use Rattle.core_laws.proofs.Common.{Aborts, AllByRecursion, Asks, DataOk, Happening, IsInTurn, IsToBlock, KeptOk, Logged, LogicalZone, Makes, MayReply, NewPage, Pbn, RightTrace, Session, Sets, Trace, Vio, applied, asked, bit, cases_Bool, dropped, durable, ended, every-append, every-map, fair_before, has_stopped, has_taken, journaled, logged, logical_number, zone_count, zone_number, Mapping, option_cases, some_is}
+use Rattle.blk_base.specs.Pages.{page_above}
 use Rattle.blk_base.specs.declared.place.Lba.{Lba}
 use Rattle.blk_base.specs.declared.place.Mapping.TheVariants.{At}
 use Rattle.blk_base.specs.declared.place.PageId.{PageId}
@@ -10,7 +11,7 @@ use Rattle.blk_base.specs.declared.request.Answer.TheVariants as reply
 use Rattle.block_map_tree.specs.Pages.{IsOnPath, IsRoot}
 use Rattle.block_map_tree.specs.Tree.{IsLinkable, Tree}
 use Rattle.block_map_tree.specs.declared.forms.Forest.{Forest}
-use Rattle.image_model.specs.Pages.{is_page, page_above}
+use Rattle.image_model.specs.Pages.{is_page}
 use Rattle.data_vio.specs.declared.items.Asks.TheVariants.{Write}
 use Rattle.data_vio.specs.declared.items.Item.TheVariants as item
 use Rattle.data_vio.specs.declared.items.Phase.TheVariants as phase

@@ -20,8 +20,8 @@ use Rattle.block_map_tree.specs.Tree as trees
 use Rattle.block_map_tree.specs.Tree.{Tree, IsLinkable, IsTree, Links, with_change, with_mapping}
 use Rattle.core_model.proofs.TreeLinks.{linked_there}
 use Rattle.core_model.proofs.TreeLinks as walks
-use Rattle.image_model.specs.Pages.{is_page, leaf_of, page_above}
-use Rattle.blk_base.specs.Pages.{above, slot_of}
+use Rattle.image_model.specs.Pages.{is_page}
+use Rattle.blk_base.specs.Pages.{above, slot_of, leaf_of, page_above}
 use Rattle.core_model.specs.PageLinks.{IsThere, Lacks, MayLack, page_in}
 use Rattle.core_model.specs.PageTrees.{HasPath, IsMapTree, MayLink, leaf_at, least_point, link_at, missing_at, missing_from}
 

@@ -1,10 +1,9 @@
 -- The pages of the path of an address, one above the other.
 use Rattle.std.proofs.Common.{ℕ, suc, ◌+◌, ◌≡◌, ◌/◌, ◌%◌, ◌^◌, ◌∙◌, ap, sym, arith}
 use native.Mathlib.Nat.{div-div-eq-div-mul, pow-suc}
-use Rattle.blk_base.specs.Pages.{above}
+use Rattle.blk_base.specs.Pages.{above, page_above}
 use Rattle.blk_base.specs.declared.place.PageId.{PageId}
 use Rattle.blk_base.specs.declared.sizes.TheConstants.{PAGE_SLOTS, TREES}
-use Rattle.image_model.specs.Pages.{page_above}
 
 -- the page above one of the path of an address is of that path
 pub above_path : (level a : ℕ) → above (page_above level a) ≡ page_above (suc level) a

@@ -2,6 +2,7 @@
 -- itself for pages of its path.
 use Rattle.std.proofs.Common.{ℕ, zero, suc, ◌+◌, ◌-◌, ◌≡◌, ◌⊎◌, ◌<◌, ◌≤◌, Bool, true, false, Option, None, Some, IsSome, List, [], ◌∷◌, ◌++◌, append_assoc, length, length-append, Contains, refl, ap, sym, ◌∙◌, subst, inl, inr, arith, ◌||◌, ◌&&◌}
 use Rattle.core_laws.proofs.Common.{append-nil, DeskLine, Drops, Flushes, Fails, HadNoFree, Happening, Harms, IsDeskLog, IsOpen, Mapping, MayAnswer, Pbn, Remapping, Removes, Request, RightTrace, Says, Script, Session, Takes, Trace, Writer, answer_of, begun, cases_lt, claimed, eqb_tells, is_block, is_old, leads_to, lines, not_both, place_of, places, request_at, same_Some, same_tells, some_of, total, has_taken, same_self, same_writer}
+use Rattle.blk_base.specs.Pages.{page_above}
 use Rattle.blk_base.specs.Regions.{IsDataBlock}
 use Rattle.blk_base.specs.declared.place.Lba.{Lba}
 use Rattle.blk_base.specs.declared.place.Mapping.TheVariants.{At}
@@ -14,7 +15,6 @@ use Rattle.core_model.specs.Sessions.{opened_uses}
 use Rattle.core_model.specs.Trace.{passed_on, is_for}
 use Rattle.core_model.specs.Uses.{NoneFree, gained, lost, IsUsedAt}
 use Rattle.count_laws.proofs.PointLaws.{first_is, in_first, in_second}
-use Rattle.image_model.specs.Pages.{page_above}
 use Rattle.slab_counts.specs.Calls.{one_of}
 use Rattle.vdo_model.specs.declared.report.DeskLine.TheVariants.{Begin, Answer}
 use Rattle.vdo_model.specs.declared.report.FlushMark.{FlushMark}

@@ -2,6 +2,7 @@
 use Rattle.std.proofs.Common.{◌≡◌, ℕ, suc, ◌+◌, ◌*◌, true, false, not, Option, None, Some, is_some, List, [], ◌∷◌, ◌++◌, length, length-append, map, slice_index_or, refl, ap, sym, ◌∙◌, subst, inl, inr, arith, ◌&&◌, if◌then◌else◌, nat_lt}
 use Rattle.core_laws.proofs.Common.{AllByRecursion, Answer, Desk, DeviceZone, Item, JournalZone, Remapping, LogicalZone, Mapping, Pbn, Phase, PhysicalZone, Post, SealedBlock, Sizes, Trace, Vio, ZoneData, ZoneId, as_items, bit, eqb_tells, every-map, has_entry, holds, notified, notified_zones, queued, same_Some, same_tells, same_writer, total, total-append, turned, Writer, cases_Bool, ended, has_old, is_committed, is_old, logged, owes, remapping, remappings, waiter_weight}
 use Rattle.std.proofs.Common.{Bool}
+use Rattle.blk_base.specs.Pages.{slot_of_address}
 use Rattle.blk_base.specs.Sectors.{zero_block}
 use Rattle.blk_base.specs.declared.place.Mapping.TheVariants.{Unmapped, Zero, At}
 use Rattle.blk_base.specs.declared.place.ZoneId.TheVariants as id
@@ -17,7 +18,6 @@ use Rattle.core_model.specs.DeviceRules as device
 use Rattle.core_model.specs.DeviceRules.{Announces, DeviceHears, DeviceServes, DeviceWorks, counted, harmed, notices_after, stop_notices}
 use Rattle.vdo_model.specs.declared.report.Damage.TheVariants.{Page, Stray}
 use Rattle.vdo_model.specs.declared.report.Damage.{Damage}
-use Rattle.image_model.specs.Pages.{slot_of_address}
 use Rattle.core_model.specs.JournalRules as journal
 use Rattle.core_model.specs.PhysicalRules as physical
 use Rattle.core_model.specs.PhysicalRules.{PhysicalServes, PhysicalTakes, tells}

@@ -15,7 +15,7 @@ use Rattle.data_vio.specs.declared.items.Asks.TheVariants.{Read, Write, Discard,
 use Rattle.image_model.specs.Maps.{or_else}
 use Rattle.journal_stops.proofs.OpenedLaws.{all_new, all_new_page, all_old, all_old_page}
 use Rattle.core_laws.proofs.Common.{Enters, IsAsOpened, IsSession, Logged, Makes, Mapping, Pbn, Remapping, Remaps, Request, RightTrace, Session, Trace, Writer, address_of, cases_Bool, entry_of, eq-eqb, eqb_tells, journaled, lt-ltb, mapping_by, mapped_or, newest, of_address, opened_at, opened_image, place_of, places, remappings, request_at, same_Some, some_is, some_of}
-use Rattle.blk_base.specs.Pages.{above}
+use Rattle.blk_base.specs.Pages.{above, leaf_of, page_above}
 use Rattle.blk_base.specs.declared.journal_entry.CommittedEntry.{CommittedEntry}
 use Rattle.blk_base.specs.declared.journal_entry.Entry.TheVariants as entry
 use Rattle.blk_base.specs.declared.place.Mapping.TheVariants.{At}
@@ -24,7 +24,7 @@ use Rattle.blk_base.specs.declared.request.Request.TheVariants as request
 use Rattle.core_model.proofs.TreeLinks.{page_is}
 use Rattle.core_model.specs.PageLinks.{IsThere, MayLack, page_in}
 use Rattle.core_model.specs.Sessions.{said_by}
-use Rattle.image_model.specs.Pages.{is_page, leaf_of, page_above}
+use Rattle.image_model.specs.Pages.{is_page}
 use Rattle.journal_stops.specs.Mapped.{mapping_after, newest_for, newest_page, page_after}
 use Rattle.core_laws.proofs.trace.PagesOfTrace.{leafy_entered, linked_entered}
 use Rattle.core_laws.proofs.trace.PlacesOfTrace.{place_of_zone, places_drawn}

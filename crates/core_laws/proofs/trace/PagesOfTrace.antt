@@ -1,8 +1,9 @@
 -- The pages that the entries of a trace make: where no entry that was handed in puts a page, none is committed, linked or dropped.
 use Rattle.std.proofs.Common.{◌≡◌, ◌⊎◌, ℕ, Bool, true, false, if◌then◌else◌, Option, None, Some, IsSome, List, [], ◌∷◌, ◌++◌, Contains, refl, subst, sym, ap, ◌∙◌, inl, inr, arith}
 use Rattle.core_laws.proofs.Common.{AllByRecursion, Happening, MayFollow, Remapping, eqb_tells, every-map, newest, of_address, option_cases, remappings, Aborts, Enters, Logged, Makes, NewPage, Pbn, Remaps, RightTrace, Session, Sets, Trace, applied, cases_Bool, dropped, durable, journaled, Writer, same_Some}
+use Rattle.blk_base.specs.Pages.{leaf_of}
 use Rattle.blk_base.specs.declared.place.PageId.{PageId}
-use Rattle.image_model.specs.Pages.{is_page, leaf_of}
+use Rattle.image_model.specs.Pages.{is_page}
 use Rattle.core_model.specs.PageLinks.{IsThere, page_in}
 use Rattle.core_model.specs.RightTraces.{IsLeafy}
 use Rattle.core_model.proofs.TreeLinks.{page_is, page_itself}

@@ -5,6 +5,7 @@ use Rattle.std.specs.List.{AllByRecursion}
 use Rattle.std.proofs.Common.{ap, arith, inl, inr, subst, sym}
 use Rattle.std.proofs.lemmas.Bool.Decides.{eqb_tells}
 use Rattle.std.proofs.lemmas.List.Elements.{All-nil, All-push}
+use Rattle.blk_base.specs.Pages.{leaf_of}
 use Rattle.blk_base.specs.declared.geometry.Geometry.{Geometry}
 use Rattle.blk_base.specs.declared.place.Mapping.TheVariants.{At}
 use Rattle.core_model.specs.declared.zones.PhysicalZone.{PhysicalZone}
@@ -23,7 +24,6 @@ use Rattle.core_model.specs.Facts.{AreFirstClaims, Carries, ClaimOk, DataOk, IsD
 use Rattle.core_model.specs.PhysicalRules.{HasTicketRoom}
 use Rattle.core_model.specs.Sessions.{IsFair}
 use Rattle.core_model.specs.Trace.{Asks, Commits, Enters, Gives, Removes, Sets, Takes, Trace, Withdraws, strayed, Happening}
-use Rattle.image_model.specs.Pages.{leaf_of}
 use Rattle.core_model.specs.Uses.{ticket_at}
 use Rattle.slab_tickets.specs.Numbers.{ticket_of}
 use Rattle.core_model.specs.declared.zones.ZoneData.TheVariants as at

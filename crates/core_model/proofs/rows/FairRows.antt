@@ -2,6 +2,7 @@
 -- that breaks it alone. A session that is fair when it begins, over a new image, stands in core_laws.
 use Rattle.std.proofs.Common.{None, Some, sym, ◌∙◌, ℕ, ◌≡◌, ◌≢◌, ◌⊎◌, ◌<◌, ◌+◌, true, false, List, [], ◌∷◌, ◌++◌, length, refl, replicate, inl, inr, arith, IsTrue}
 use Rattle.std.specs.Prelude.{slice_index}
+use Rattle.blk_base.specs.Pages.{leaf_of}
 use Rattle.blk_base.specs.Regions.{needed_blocks}
 use Rattle.blk_base.specs.Sectors.{sector}
 use Rattle.blk_base.specs.declared.place.Mapping.TheVariants.{At}
@@ -25,7 +26,6 @@ use Rattle.blk_base.specs.declared.request.Writer.{Writer}
 use Rattle.image_model.specs.Counts.{HasMappings}
 use Rattle.image_model.specs.Maps.{ArePagesGood, IsTreePage, mapping_of, page_at}
 use Rattle.blk_base.specs.Counters.{limit_of}
-use Rattle.image_model.specs.Pages.{leaf_of}
 use Rattle.journal_stops.specs.Rings.{IsAtRest}
 use Rattle.page_codec.specs.declared.fault.PageFault.{PageFault}
 use Rattle.image_model.specs.Looked.{is_looked_at}

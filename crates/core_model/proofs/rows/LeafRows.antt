@@ -2,6 +2,7 @@
 -- For each clause a case that it accepts, and one that breaks it alone.
 use Rattle.std.proofs.Common.{ℕ, ◌≡◌, true, false, None, Some, List, [], ◌∷◌, refl, ap, sym, ◌∙◌, subst, arith, inl, inr, length}
 use Rattle.std.proofs.lemmas.Option.{same_Some}
+use Rattle.blk_base.specs.Pages.{leaf_of}
 use Rattle.blk_base.specs.declared.place.Mapping.TheVariants.{Unmapped, Zero, At}
 use Rattle.blk_base.specs.declared.place.Mapping.{Mapping}
 use Rattle.blk_base.specs.declared.place.Pbn.{Pbn}
@@ -9,7 +10,6 @@ use Rattle.blk_base.specs.declared.request.Request.{Request}
 use Rattle.blk_base.specs.declared.request.Answer.TheVariants.{Stopped}
 use Rattle.blk_base.specs.declared.request.Request.TheVariants as request
 use Rattle.disk_model.specs.declared.call.Call.TheVariants.{Read, Flush}
-use Rattle.image_model.specs.Pages.{leaf_of}
 use Rattle.page_codec.proofs.SpellingLaws.{length-head}
 use Rattle.page_codec.specs.Grammar.{IsPageFault}
 use Rattle.page_codec.specs.Spelling.{head_bytes}

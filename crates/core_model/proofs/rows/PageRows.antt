@@ -2,6 +2,7 @@
 -- case that it accepts, and one that breaks it alone.
 use Rattle.std.proofs.Common.{ℕ, zero, suc, ◌+◌, ◌<◌, ◌≡◌, false, None, Some, List, [], ◌∷◌, refl, Contains, ap, arith, inl, inr, subst, sym}
 use Rattle.std.proofs.lemmas.Option.{same_Some}
+use Rattle.blk_base.specs.Pages.{page_above}
 use Rattle.blk_base.specs.declared.request.Request.{Request}
 use Rattle.data_vio.specs.declared.logged.Logged.{Logged}
 use Rattle.blk_base.specs.declared.opened.OpenedPage.{OpenedPage}
@@ -13,7 +14,6 @@ use Rattle.blk_base.specs.declared.request.Request.TheVariants as request
 use Rattle.vdo_model.specs.declared.report.DeskLine.TheVariants.{Answer}
 use Rattle.data_vio.specs.declared.logged.Logged.TheVariants.{Remaps, Makes}
 use Rattle.data_vio.specs.declared.logged.NewPage.{NewPage}
-use Rattle.image_model.specs.Pages.{page_above}
 use Rattle.core_model.specs.PageLinks.{IsThere, MayLack, block_in, opened_page, page_in}
 use Rattle.core_model.specs.RightTraces.{MayFollow}
 use Rattle.core_model.specs.Sessions.{IsFair, Session}

@@ -2,7 +2,8 @@
 -- computed. Its journal takes one block, and two data blocks are free.
 use Rattle.std.proofs.Common.{Option, None, Some, ℕ, ◌≡◌, ◌≢◌, ◌∙◌, true, false, List, [], ◌∷◌, ◌++◌, length, replicate, ap, sym, subst, arith, if◌then◌else◌}
 use Rattle.std.proofs.lemmas.List.{length-replicate}
-use Rattle.image_model.specs.Pages.{is_page, leaf_of}
+use Rattle.image_model.specs.Pages.{is_page}
+use Rattle.blk_base.specs.Pages.{leaf_of}
 use Rattle.blk_base.specs.Sectors.{zero_block}
 use Rattle.blk_base.specs.declared.place.Lba.{Lba}
 use Rattle.blk_base.specs.declared.place.Mapping.{Mapping}

@@ -1,12 +1,11 @@
 use Rattle.std.proofs.Common.{ℕ, ◌≡◌, ◌∙◌, ap, arith, map, refl, sym, subst, List, get_or}
 use Rattle.std.proofs.lemmas.List.{get_or_default}
 use Rattle.std.specs.BTreeMap.{get}
-use Rattle.blk_base.specs.Pages.{page_order}
+use Rattle.blk_base.specs.Pages.{page_order, leaf_of}
 use Rattle.blk_base.specs.declared.place.Lba.{Lba}
 use Rattle.blk_base.specs.declared.place.PageId.{PageId}
 use Rattle.command_text.specs.declared.crashes.AddressValue.{AddressValue}
 use Rattle.disk_model.proofs.SinceLaws.{untouched_on, untouched_yet}
-use Rattle.image_model.specs.Pages.{leaf_of}
 use Rattle.image_model.specs.Sound.{image_of}
 use Rattle.replay_map.specs.declared.links.Link.{Link}
 use Rattle.crash_images.specs.Maps.{OfMap}
@@ -53,7 +52,7 @@ read_value-requires-clause-leaf g c =
     let at : Lba = get_or c.args.addresses.now c.loop-at.at-index first in
     let page : PageId = leaf_of at.0 in
     let blocks = get page_order c.in-Ok.blocks in
-    let is : c.copied-leaf.result ≡ blocks page = c.copied-leaf.ensures ∙ c.get.ensures.value ∙ ap blocks c.leaf_of.ensures in
+    let is : c.copied-leaf.result ≡ blocks page = c.copied-leaf.ensures ∙ c.get.ensures.value ∙ ap blocks c.leaf.ensures in
     subst (LinkTo c.args.found.now.pages.links.items page) (sym is)
     (subst (λ (links : List Link). LinkTo links page (blocks page)) c.deref.ensures.value (c.in-Ok.ensures page))
 

@@ -1,11 +1,11 @@
 use Rattle.std.proofs.Common.{ℕ, ◌≡◌, ◌<◌, ◌≤◌, ◌-◌, ◌/◌, ◌%◌, ◌∙◌, ap, sym, subst, arith}
 use Rattle.blk_base.specs.declared.place.PageId.{PageId}
 use Rattle.blk_base.specs.Regions.{IsDataBlock}
-use Rattle.blk_base.specs.Pages.{above}
+use Rattle.blk_base.specs.Pages.{above, page_above}
 use Rattle.block_map_tree.specs.declared.forms.Forest.{Forest}
 use Rattle.block_map_tree.specs.declared.forms.Path.{Path}
 use Rattle.block_map_tree.specs.declared.forms.Found.TheVariants.{Missing}
-use Rattle.block_map_tree.specs.Pages.{IsTreeOf, page_at, page_on}
+use Rattle.block_map_tree.specs.Pages.{IsTreeOf, page_on}
 use Rattle.block_map_tree.specs.Tree.{Tree, IsTree, IsThere, IsFound, IsLinkable}
 use Rattle.block_map_tree.proofs.HistoryLaws.{missing_linkable}
 use Rattle.part_tests.specs.declared.trees.TheConstants.{FOREST}
@@ -16,13 +16,13 @@ own_tree tree t sizes small own = subst (λ (f : Forest). IsTreeOf f t) (sym siz
 
 linkable : (tree : Tree) (path : Path) (address level : ℕ) (page : PageId) → IsTree tree → tree.forest ≡ FOREST → address < 40000000
     → address / 812 % 60 % 30 ≡ 0 → path.tree ≡ address / 812 % 60
-    → ((l : ℕ) → l < 3 → page_on path 3 l ≡ page_at l address) → IsFound tree path (Missing level) → page ≡ page_at level address
+    → ((l : ℕ) → l < 3 → page_on path 3 l ≡ page_above l address) → IsFound tree path (Missing level) → page ≡ page_above level address
     → IsLinkable tree page × IsThere tree (above page)
 linkable tree path address level page form sizes inside own tree_is leads found is =
     let logical : tree.forest.geometry.logical ≡ 40000000 = ap (λ (f : Forest). f.geometry.logical) sizes in
     subst (λ (p : PageId). IsLinkable tree p × IsThere tree (above p)) (sym is)
     (missing_linkable tree path address level form (omega arith) (own_tree tree path.tree sizes (omega arith) (ap (λ (t : ℕ). t % 30) tree_is ∙ own))
-    (subst (λ (f : Forest). (l : ℕ) → l < f.geometry.height → page_on path f.geometry.height l ≡ page_at l address) (sym sizes) leads) found)
+    (subst (λ (f : Forest). (l : ℕ) → l < f.geometry.height → page_on path f.geometry.height l ≡ page_above l address) (sym sizes) leads) found)
 
 data_block : (tree : Tree) (block : ℕ) → tree.forest ≡ FOREST → 85 ≤ block → block < 149 → IsDataBlock tree.forest.geometry block
 data_block tree block sizes low high =
