@@ -26,6 +26,14 @@ impl Block {
         Block { bytes: [0; 4096] }
     }
 
+    /// Each byte becomes 0, where the block stands.
+    #[tactic(auto, unfolding(crate::specs::Sectors::zero_block))]
+    pub fn clear(&mut self)
+        ensures { self.new ≡ zero_block }
+    {
+        self.bytes = [0; 4096];
+    }
+
     /// Takes over the bytes of another block.
     pub fn copy_from(&mut self, other: &Block)
         ensures same { self.new ≡ other.now }

@@ -1,7 +1,6 @@
 ghost use Rattle.std.specs.Prelude.{◌≡◌, ◌≤◌, ◌<◌, ◌+◌, ◌∷◌, [], None, Some, IfOk, IfSome, IfNone, IsSome, length};
 ghost use Rattle.blk_base.specs.declared.request.Answer.TheVariants as reply;
 ghost use Rattle.data_vio.specs.declared.items.Phase.TheVariants as phase;
-ghost use Rattle.blk_base.specs.Sectors.{zero_block};
 ghost use Rattle.vdo_model.specs.Scripts.{value_written};
 ghost use Rattle.data_vio.specs.AnswerRooms.{HasRoom, blocks_of};
 ghost use Rattle.data_vio.specs.Beginnings.{under_way};
@@ -43,21 +42,13 @@ fn free(answer: Option<Answer>, room: &mut Option<BoxedBlock>)
     }
 }
 
-// Each byte becomes 0, where the block stands.
-#[tactic(auto, unfolding(blk_base::specs::Sectors::zero_block))]
-fn clear(block: &mut Block)
-    ensures { block.new ≡ zero_block }
-{
-    block.bytes = [0; 4096];
-}
-
 // The bytes that a request begins with: those of a write, and zeros for the others.
 fn fill(block: &mut Block, asked: &Request)
     ensures { block.new ≡ value_written (Some asked.now) }
 {
     match asked {
         Request::Write { block: written, .. } => block.copy_from(written.get()),
-        Request::Read(_) | Request::Discard(_) | Request::Flush => clear(block),
+        Request::Read(_) | Request::Discard(_) | Request::Flush => block.clear(),
     }
 }
 
