@@ -2,6 +2,7 @@
 use Rattle.std.specs.Prelude.{ℕ, ◌≡◌, List, [], ◌∷◌, ◌++◌, All, refl}
 use Rattle.std.proofs.Common.{sym, ◌∙◌, ap, subst}
 use Rattle.std.proofs.lemmas.List.Elements.{All-tail}
+use Rattle.plain_laws.proofs.LeadLaws.{leads_keep}
 use Rattle.index_advice.specs.declared.advice.Advice.{Advice}
 use Rattle.index_advice.specs.declared.advice.Advice.TheVariants.{Looked, Learnt, Due, Finished}
 use Rattle.index_advice.specs.Books.{Book, DuePage}
@@ -23,20 +24,20 @@ one_book old new new' Finished leads leads' = leads ∙ sym leads'
 
 pub one_book_of_lists : (old new new' : Book) (advice : List Advice) → LeadTo old advice new → LeadTo old advice new' → new ≡ new'
 one_book_of_lists old new new' [] leads leads' = leads ∙ sym leads'
-one_book_of_lists old new new' (one ∷ later) leads leads' =
-    let same : leads.0 ≡ leads'.0 = one_book old leads.0 leads'.0 one leads.1 leads'.1 in
-    one_book_of_lists leads'.0 new new' later (subst (λ (b : Book). LeadTo b later new) same leads.2) leads'.2
+one_book_of_lists old new new' (one ∷ older) (before, lead, last) (before', lead', last') =
+    let same : before ≡ before' = one_book_of_lists old before before' older lead lead' in
+    one_book before' new new' one (subst (λ (b : Book). Leads b one new) same last) last'
 
-pub joined : (old between new : Book) (first later : List Advice) → LeadTo old first between → LeadTo between later new → LeadTo old (first ++ later) new
-joined old between new [] later leads more = subst (λ (b : Book). LeadTo b later new) leads more
-joined old between new (one ∷ first) later leads more = (leads.0, leads.1, joined leads.0 between new first later leads.2 more)
+pub joined : (old between new : Book) (first later : List Advice) → LeadTo old first between → LeadTo between later new → LeadTo old (later ++ first) new
+joined old between new first [] leads more = subst (λ (b : Book). LeadTo old first b) (sym more) leads
+joined old between new first (one ∷ later) leads (before, lead, last) = (before, joined old between before first later leads lead, last)
 
-pub parted : (old new : Book) (first later : List Advice) → LeadTo old (first ++ later) new
+pub parted : (old new : Book) (first later : List Advice) → LeadTo old (later ++ first) new
     → (between : Book) × LeadTo old first between × LeadTo between later new
-parted old new [] later leads = (old, refl, leads)
-parted old new (one ∷ first) later leads =
-    let more = parted leads.0 new first later leads.2 in
-    (more.0, (leads.0, leads.1, more.1), more.2)
+parted old new first [] leads = (new, leads, refl)
+parted old new first (one ∷ later) (before, lead, last) =
+    let more = parted old before first later lead in
+    (more.0, more.1, (before, more.2, last))
 
 -- books stay in order
 
@@ -57,5 +58,5 @@ one_in_order old new (Due at) order leads = taken_in_order old new at.0 order le
 one_in_order old new Finished order leads = subst IsInOrder (sym leads) (finished_in_order old order)
 
 pub stay_in_order : (old new : Book) (advice : List Advice) → IsInOrder old → LeadTo old advice new → IsInOrder new
-stay_in_order old new [] order leads = subst IsInOrder (sym leads) order
-stay_in_order old new (one ∷ later) order leads = stay_in_order leads.0 new later (one_in_order old leads.0 one order leads.1) leads.2
+stay_in_order old new advice order leads =
+    leads_keep (λ one before after. Leads before one after) IsInOrder (λ one before after kept lead. one_in_order before after one kept lead) old new advice order leads

@@ -86,9 +86,9 @@ finished_now = refl
 not_finished : ¬ Leads some Finished some
 not_finished = λ leads. unequal 1 0 (ap (λ (b : Book). length b.unclosed) leads) (omega arith)
 
--- lists, in order
-in_order : LeadTo some (Due (at 74) ∷ Due (at 75) ∷ []) (record some { due = [] })
-in_order = (record some { due = page_of 2 ∷ [] }, given, (record some { due = [] }, record { page = page_of 2; first = refl; place = refl; same = refl }, refl))
+-- lists, the newest first
+in_order : LeadTo some (Due (at 75) ∷ Due (at 74) ∷ []) (record some { due = [] })
+in_order = (record some { due = page_of 2 ∷ [] }, (some, refl, given), record { page = page_of 2; first = refl; place = refl; same = refl })
 
 nothing_leads_nowhere_else : ¬ LeadTo some [] (record some { due = [] })
 nothing_leads_nowhere_else = λ leads. unequal 0 2 (ap (λ (b : Book). length b.due) leads) (omega arith)

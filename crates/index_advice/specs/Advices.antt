@@ -1,5 +1,6 @@
 -- What a list of advice says of a book, and what it leads to.
-use Rattle.std.specs.Prelude.{ℕ, ◌≡◌, List, [], ◌∷◌, None, Some, if◌then◌else◌}
+use Rattle.std.specs.Prelude.{ℕ, ◌≡◌, List, ◌∷◌, None, Some, if◌then◌else◌}
+use Rattle.plain_laws.specs.Leads.{LeadsBy}
 use Rattle.uds_chapters.specs.Chapters.{Numbered, records_in}
 use Rattle.uds_chapters.specs.Pages.{IsPage}
 use Rattle.index_advice.specs.declared.advice.Advice.{Advice}
@@ -20,10 +21,9 @@ Leads old (Learnt name at) new = new ≡ learnt (record { name = name; at = at }
 Leads old (Due at) new = TakesDue old new at.0
 Leads old Finished new = new ≡ finished old
 
--- a list of them, in order
+-- these pieces of advice, the newest first, lead from the one to the other
 abbrev pub LeadTo : Book → List Advice → Book → Type 0
-LeadTo old [] new = new ≡ old
-LeadTo old (one ∷ later) new = (between : Book) × Leads old one between × LeadTo between later new
+LeadTo old advice new = LeadsBy (λ one before after. Leads before one after) old advice new
 
 -- the block has the page that is to be written next, with the records that its chapter has
 pub record HasDuePage (book : Book) (block : List ℕ) : Type 0 where

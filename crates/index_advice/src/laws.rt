@@ -13,12 +13,12 @@ pub fn advice_leads_to_one_book()
         LeadTo old advice new' → new ≡ new' }
 {}
 
-/// What two lists lead to one after the other, the joined list leads to; and each list can be parted.
+/// What two lists lead to one after the other, the joined list leads to, the newest first; and each list can be parted.
 pub fn advice_joins()
     ensures joined { (old between new : Book) (first later : List Advice) →
         LeadTo old first between → LeadTo between later new
-        → LeadTo old (first ++ later) new }
-    ensures parted { (old new : Book) (first later : List Advice) → LeadTo old (first ++ later) new
+        → LeadTo old (later ++ first) new }
+    ensures parted { (old new : Book) (first later : List Advice) → LeadTo old (later ++ first) new
         → (between : Book) × LeadTo old first between × LeadTo between later new }
 {}
 
