@@ -57,7 +57,7 @@ impl ReferenceBlocks {
     {
         let layout = Layout::of(geometry);
         let count = layout.sectors_per_slab();
-        let first = (slab * count) as usize;
+        let first = layout.sector_number(slab, 0) as usize;
         let points = &opened.commits[first..first + count as usize];
         Ok(ReferenceBlocks {
             layout,

@@ -330,6 +330,6 @@ impl ZoneCounts {
     pub fn total(&self) -> u32
         ensures { result ≡ self.now.geometry.slabs * self.now.geometry.slab_blocks }
     {
-        self.layout.geometry.slabs * self.layout.geometry.slab_blocks
+        self.layout.data_blocks()
     }
 }
