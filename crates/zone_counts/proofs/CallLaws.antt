@@ -18,7 +18,7 @@ use Rattle.slab_tickets.specs.Calls as tickets
 use Rattle.slab_tickets.proofs.ReceiptLaws.{right_receipt}
 use Rattle.zone_counts.specs.Zone.{Zone, IsZone, IsOf, IsOfZone, IsClaimedIn, AreSlabs, Changes, NoneBefore, NoneFree, place_in, place_of, slab_number, slab_at, slab_of, with_slab, nowhere}
 use Rattle.zone_counts.specs.Asking.{WithdrawsFrom}
-use Rattle.zone_counts.specs.Calls.{Call, Begins, Asks', Withdraws', Shares', Extends, Drops, SpendsPage, Applies, Refused, Does, LeadTo, IsRight, step_of, last_free_of}
+use Rattle.zone_counts.specs.Calls.{Call, Begins, Asks', Withdraws', Shares', Extends, Drops, SpendsPage, Applies, Refused, Does, LeadTo, IsRight, begins_of}
 use Rattle.zone_counts.specs.declared.forms.Asked.TheVariants as asked
 use Rattle.zone_counts.proofs.PlaceLaws.{number_is}
 use Rattle.zone_counts.proofs.SlabLaws.{IsStill, IsBusier, still, no_more_free, busier_page, only_dropped, only_applied}
@@ -127,7 +127,7 @@ changed first old new at c last step did on = elim did.serves [
   | inr serves ↦ record { calls = tickets.Given serves.block ∷ on.calls; lead = (old.desk, on.lead, serves.gives); last_is = on.last_is; step_is = on.step_is }
 ]
 
-on_tickets : (first z : Zone) (calls : List Call) → IsZone first → LeadTo first calls z → (first.desk.step ≡ None) → OnTickets first.desk z.desk (last_free_of calls) (step_of calls)
+on_tickets : (first z : Zone) (calls : List Call) → IsZone first → LeadTo first calls z → (first.desk.step ≡ None) → OnTickets first.desk z.desk (tickets.last_free_of (begins_of calls)) (tickets.step_of (begins_of calls))
 on_tickets first z [] is same none = same_desk first.desk first.desk z.desk None None (ap (λ (x : Zone). x.desk) same) (record { calls = []; lead = refl; last_is = refl; step_is = refl })
 on_tickets first z (Begins true step ∷ calls) is (before, lead, did) none =
     let on = on_tickets first before calls is lead none in

@@ -14,13 +14,14 @@ use Rattle.slab_counts.specs.Counts.{Counts, HasNoFree, IsFree, IsOfSlab}
 use Rattle.slab_counts.specs.Kept.{IsWithin}
 use Rattle.slab_counts.specs.declared.tickets.Receipt.{Receipt}
 use Rattle.slab_counts.specs.declared.tickets.Ticket.{Ticket}
+use Rattle.slab_tickets.specs.Calls as tickets
 use Rattle.slab_tickets.specs.Tickets.{Desk}
 use Rattle.slab_tickets.specs.declared.forms.Waiting.{Waiting}
 use Rattle.slab_tickets.specs.declared.forms.Withdrawn.{Withdrawn}
 use Rattle.slab_tickets.specs.declared.forms.Withdrawn.TheVariants.{Nothing}
 use Rattle.zone_counts.specs.Asking.{SharesIn, WithdrawsFrom}
 use Rattle.zone_counts.specs.ByBlock.{claims_at, counter_at, is_at, served_in, waits_with}
-use Rattle.zone_counts.specs.Calls.{Applies, Asks', Begins, Call, Does, Drops, Extends, IsRight, LeadTo, Refused, Shares', SpendsPage, Withdraws', last_free_of, step_of}
+use Rattle.zone_counts.specs.Calls.{Applies, Asks', Begins, Call, Does, Drops, Extends, IsRight, LeadTo, Refused, Shares', SpendsPage, Withdraws', begins_of}
 use Rattle.zone_counts.specs.Zone.{AreSlabs, BeginsBehind, BeginsStep, Changes, ClaimsLowest, IsClaimedIn, IsOfZone, IsZone, NoneBefore, NoneFree, Serves, ServesOldest, Zone, nowhere, place_in, place_of, slab_at, slab_number, slab_of, used_in, with_slab}
 use Rattle.zone_counts.specs.declared.forms.Asked.TheVariants as asked
 
@@ -482,21 +483,15 @@ withdrawn_before_it_was_given new result (before, (first, same, did), asks) = wi
 by_no_call : LeadTo some [] one_claimed → ⊥
 by_no_call is = let no : 1 ≡ 0 = ap (claims_of 1) is in omega (arith, no)
 
--- step_of, last_free_of, IsRight: step 9 began behind a step 4 that ended with a free block
+-- begins_of, IsRight: step 9 began behind a step 4 that ended with a free block
 abbrev story : List Call
 story = Asks' asker (asked.Ticket ticket) ∷ Begins false 9 ∷ Begins true 5 ∷ Drops (at 91) ∷ Begins false 4 ∷ []
 
-in_step_nine : step_of story ≡ Some 9
-in_step_nine = refl
+three_begin : begins_of story ≡ tickets.Begins false 9 ∷ tickets.Begins true 5 ∷ tickets.Begins false 4 ∷ []
+three_begin = refl
 
-in_no_step : step_of (Drops (at 91) ∷ []) ≡ None
-in_no_step = refl
-
-free_at_four : last_free_of story ≡ Some 4
-free_at_four = refl
-
-never_free : last_free_of (Begins false 9 ∷ Begins false 4 ∷ []) ≡ None
-never_free = refl
+none_begins : begins_of (Drops (at 91) ∷ []) ≡ []
+none_begins = refl
 
 asked_behind : IsRight story (record receipt { asked = 5 })
 asked_behind = omega arith

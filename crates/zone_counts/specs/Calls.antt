@@ -1,5 +1,5 @@
--- Lists of calls of a zone, and the last step at whose end it had a free block.
-use Rattle.std.specs.Prelude.{ℕ, ◌≡◌, Bool, true, List, [], ◌∷◌, Option, None, Some}
+-- Lists of calls of a zone, and when its receipts are right.
+use Rattle.std.specs.Prelude.{ℕ, ◌≡◌, Bool, List, [], ◌∷◌}
 use Rattle.blk_base.specs.declared.place.Pbn.{Pbn}
 use Rattle.blk_base.specs.declared.point.Half.{Half}
 use Rattle.blk_base.specs.declared.request.Writer.{Writer}
@@ -7,6 +7,7 @@ use Rattle.plain_laws.specs.Leads.{LeadsBy}
 use Rattle.slab_counts.specs.Counts.{Counts, HasRoom, Takes, claimed, unclaimed, with_page}
 use Rattle.slab_counts.specs.declared.tickets.Ticket.{Ticket}
 use Rattle.slab_counts.specs.declared.tickets.Receipt.{Receipt}
+use Rattle.slab_tickets.specs.Calls as tickets
 use Rattle.slab_tickets.specs.Tickets.{HasRoom as HasTicket, IsBelow}
 use Rattle.slab_tickets.specs.declared.forms.Withdrawn.{Withdrawn}
 use Rattle.zone_counts.specs.Zone.{Zone, IsOfZone, IsClaimedIn, BeginsBehind, Changes, slab_of, with_slab}
@@ -41,18 +42,12 @@ Does Refused old new = new ≡ old
 abbrev pub LeadTo : Zone → List Call → Zone → Type 0
 LeadTo old calls new = LeadsBy Does old calls new
 
--- the step under way after these calls
-abbrev pub step_of : List Call → Option ℕ
-step_of [] = None
-step_of (Begins free step ∷ calls) = Some step
-step_of (other ∷ calls) = step_of calls
-
--- the last step at whose end the zone had a free block
-abbrev pub last_free_of : List Call → Option ℕ
-last_free_of [] = None
-last_free_of (Begins true step ∷ calls) = step_of calls
-last_free_of (other ∷ calls) = last_free_of calls
+-- those of the calls that begin a step, as calls on the tickets
+abbrev pub begins_of : List Call → List tickets.Call
+begins_of [] = []
+begins_of (Begins free step ∷ calls) = tickets.Begins free step ∷ begins_of calls
+begins_of (other ∷ calls) = begins_of calls
 
 -- a receipt is right after these calls: no step from the one that asked on ended with a free block
 abbrev pub IsRight : List Call → Receipt → Type 0
-IsRight calls receipt = IsBelow (last_free_of calls) receipt.asked
+IsRight calls receipt = tickets.IsRight (begins_of calls) receipt
