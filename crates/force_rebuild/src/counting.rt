@@ -78,7 +78,7 @@ fn check_limit(layout: &Layout, mapped: &[u64]) -> Result<(), ImageFault>
     ensures all { OnOk result (All (λ count. count ≤ limit_of layout.now.geometry) mapped.now) }
     ensures first { IfErr result (IsLimitFault layout.now.geometry mapped.now) }
 {
-    for n in 0..layout.geometry.slabs * layout.geometry.slab_blocks {
+    for n in 0..layout.data_blocks() {
         let count = mapped[n as usize];
         if count > u64::from(layout.limit()) {
             return Err(limit_fault(layout, n, count));
@@ -92,12 +92,8 @@ fn limit_fault(layout: &Layout, n: u32, mapped: u64) -> ImageFault
     requires { n < all_blocks layout.now.geometry }
     ensures { IsFaultOf layout.now.geometry n mapped result }
 {
-    let at = layout.data_block(
-        n / layout.geometry.slab_blocks,
-        n % layout.geometry.slab_blocks,
-    );
     ImageFault::Counts {
-        at,
+        at: layout.numbered_block(n),
         stored: u32::from(layout.limit()),
         mapped,
     }

@@ -97,7 +97,7 @@ fn force_unclosed<D: Disk>(
     };
     Ok(Forced {
         used: count_used(counters),
-        total: layout.geometry.slabs * layout.geometry.slab_blocks,
+        total: layout.data_blocks(),
     })
 }
 

@@ -77,9 +77,8 @@ fn of_slab<'a>(layout: &Layout, slab: u32, counters: &'a [u8]) -> &'a [u8]
     requires all { length counters.now ≡ all_blocks layout.now.geometry }
     ensures { result.now ≡ counters_of_slab layout.now.geometry counters.now slab }
 {
-    let width = layout.geometry.slab_blocks;
-    let first = slab * width;
-    &counters[first as usize..(first + width) as usize]
+    let first = layout.block_number(slab, 0) as usize;
+    &counters[first..first + layout.geometry.slab_blocks as usize]
 }
 
 // Writes zeros into a slab's journal.
