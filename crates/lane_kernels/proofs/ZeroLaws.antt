@@ -4,12 +4,15 @@ use Rattle.std.proofs.Common.{ap, ◌∙◌, subst, sym}
 use Rattle.std.proofs.lemmas.List.Elements.{All-head, All-tail, All-replicate}
 use Rattle.blk_base.specs.Sectors.{zero_block}
 
-zeros_only : (xs : List ℕ) → All (λ byte. byte ≡ 0) xs → xs ≡ replicate (length xs) 0
+pub zeros_only : (xs : List ℕ) → All (λ byte. byte ≡ 0) xs → xs ≡ replicate (length xs) 0
 zeros_only [] all = refl
 zeros_only (x ∷ xs) all =
     let first = All-head (λ byte. byte ≡ 0) x xs all in
     let rest = zeros_only xs (All-tail (λ byte. byte ≡ 0) x xs all) in
     ap (λ y. y ∷ xs) first ∙ ap (λ ys. 0 ∷ ys) rest
+
+pub All-zeros : (xs : List ℕ) → xs ≡ replicate (length xs) 0 → All (λ byte. byte ≡ 0) xs
+All-zeros xs same = let P : List ℕ → Type 0 = All (λ byte. byte ≡ 0) in subst P (sym same) (All-replicate (λ byte. byte ≡ 0) (length xs) 0 refl)
 
 pub zero_block-of : (xs : List ℕ) → length xs ≡ 4096 → All (λ byte. byte ≡ 0) xs → xs ≡ zero_block
 unfolding zero_block

@@ -4,14 +4,15 @@
 //! Only tested: rows at the ends of blocks and slices.
 #![tactic(auto)]
 
-ghost use Rattle.std.specs.Prelude.{◌≡◌, ◌*◌, ◌<◌, ◌≤◌, ◌^◌, ◌↔◌, ℕ, length, sum, All, IsTrue, IfSome, IfNone};
+ghost use Rattle.std.specs.Prelude.{◌≡◌, ◌*◌, ◌<◌, ◌≤◌, ◌^◌, ◌↔◌, ℕ, length, replicate, sum, All, IsTrue, IfSome, IfNone};
 ghost use Rattle.blk_base.specs.Sectors.{zero_block};
 ghost use Rattle.lane_kernels.specs.Kernels.{IsFreeAt, IsLeastFree};
 
 mod loads;
 
 use crate::loads::{
-    FOUR_LOADS, LANES, SUM_LANES, are_same, are_zeros, has_no_free, least_free, total_of,
+    FOUR_LOADS, LANES, SUM_LANES, are_same, are_zeros, has_no_free, is_zero_load, least_free,
+    total_of,
 };
 use blk_base::Block;
 
@@ -23,15 +24,31 @@ pub fn is_zero(block: &Block) -> bool
     are_all_zeros(&block.bytes)
 }
 
-fn are_all_zeros(bytes: &[u8; 4096]) -> bool
+/// Whether each of at least 64 bytes is 0.
+pub fn all_zeros(bytes: &[u8]) -> bool
+    requires { 64 ≤ length bytes.now }
+    ensures { IsTrue result ↔ (bytes.now ≡ replicate (length bytes.now) 0) }
+{
+    are_all_zeros(bytes)
+}
+
+fn are_all_zeros(bytes: &[u8]) -> bool
+    requires { 64 ≤ length bytes.now }
     ensures { IsTrue result ↔ All (λ byte. byte ≡ 0) bytes.now }
 {
-    for four in 0..4096 / FOUR_LOADS {
+    let fours = bytes.len() / FOUR_LOADS;
+    for four in 0..fours {
         if !are_zeros(bytes, four * FOUR_LOADS) {
             return false;
         }
     }
-    true
+    for load in 4 * fours..bytes.len() / LANES {
+        if !is_zero_load(bytes, load * LANES) {
+            return false;
+        }
+    }
+    // Where some bytes are left, one more load has them and some of those in front.
+    bytes.len() % LANES == 0 || is_zero_load(bytes, bytes.len() - LANES)
 }
 
 /// Whether the blocks have the same bytes.

@@ -60,6 +60,16 @@ fn are_four_zeros(first: u8x64, second: u8x64, third: u8x64, fourth: u8x64) -> b
     are_zero_lanes(either(either(first, second), either(third, fourth)))
 }
 
+/// Whether the bytes of the load from this place on are all 0.
+#[inline(always)]
+pub(crate) fn is_zero_load(bytes: &[u8], at: usize) -> bool
+    requires { at + LANES ≤ length bytes.now }
+    ensures { IsTrue result
+        ↔ ((k : ℕ) → at ≤ k → k < at + LANES → slice_index bytes.now k ≡ 0) }
+{
+    are_zero_lanes(u8x64::from_slice(&bytes[at..]))
+}
+
 /// Whether the bytes of four loads from this place on are all 0.
 #[inline(always)]
 pub(crate) fn are_zeros(bytes: &[u8], at: usize) -> bool

@@ -1,17 +1,18 @@
 -- Runs of slots: what zeros say, and how far a page is read after each.
 use Rattle.std.specs.Prelude.{ℕ, ◌≡◌, ◌+◌, ◌-◌, ◌*◌, ◌<◌, ◌≤◌, List, length, take, drop, replicate, slice_index_or, slice_set, refl}
-use Rattle.std.proofs.Common.{Result, Ok, Err, IfErr, IsErrAnd, sym, ◌∙◌, ap, subst, arith, inl, inr}
+use Rattle.std.proofs.Common.{Result, Ok, Err, IfErr, IsErrAnd, sym, ◌∙◌, ap, subst, arith, inl, inr, length-drop}
 use Rattle.std.proofs.lemmas.Bool.{cases_lt}
 use Rattle.std.proofs.lemmas.Bool.Decides.{eqb_tells}
-use Rattle.std.proofs.lemmas.List.{drop-drop, drop-replicate, drop-take, get_or-replicate, get_or-set_other, get_or-set_same, get_or_past, length-replicate, length-set, take-replicate, take-take}
+use Rattle.std.proofs.lemmas.List.{drop-drop, drop-replicate, drop-take, get_or-replicate, get_or-set_other, get_or-set_same, get_or_past, length-replicate, length-set, length-take-le, take-replicate, take-take}
 use Rattle.blk_base.specs.declared.place.Mapping.{Mapping}
 use Rattle.blk_base.specs.declared.place.Mapping.TheVariants.{Unmapped}
 use Rattle.byte_fields.specs.Fields.{le}
 use Rattle.byte_fields.specs.Mappings.{mapping_bytes}
 use Rattle.page_codec.specs.declared.fault.PageFault.{PageFault}
 use Rattle.page_codec.specs.declared.forms.PageHead.{PageHead}
-use Rattle.page_codec.specs.Grammar.{HasHead, IsSlot}
+use Rattle.page_codec.specs.Grammar.{HasHead, IsPage, IsSlot}
 use Rattle.page_codec.specs.Runs.{AreReadTo, HasZeros}
+use Rattle.page_codec.proofs.ReadLaws.{page}
 
 -- a fault that is passed on
 pub passed_on : {T : Type 0} (r : Result T PageFault) (P : PageFault → Type 0) (fault : PageFault) → IsErrAnd r (λ e. e ≡ fault) → P fault → IfErr r P
@@ -24,10 +25,10 @@ unfolding mapping_bytes le
 zeros_unmapped = refl
 
 -- five bytes within zeros are zeros
-part_of_zeros : (xs : List ℕ) (at : ℕ) → at + 5 ≤ 140 → take 140 xs ≡ replicate 140 0 → take 5 (drop at xs) ≡ replicate 5 0
-part_of_zeros xs at inside zeros =
+part_of_zeros : (xs : List ℕ) (size at : ℕ) → at + 5 ≤ size → take size xs ≡ replicate size 0 → take 5 (drop at xs) ≡ replicate 5 0
+part_of_zeros xs size at inside zeros =
     let five : at + 5 - at ≡ 5 = omega arith in
-    sym (drop-take at 5 xs) ∙ ap (drop at) (sym (take-take (at + 5) 140 xs inside) ∙ ap (take (at + 5)) zeros ∙ take-replicate (at + 5) 140 0 inside)
+    sym (drop-take at 5 xs) ∙ ap (drop at) (sym (take-take (at + 5) size xs inside) ∙ ap (take (at + 5)) zeros ∙ take-replicate (at + 5) size 0 inside)
     ∙ drop-replicate at (at + 5) 0 ∙ ap (λ (n : ℕ). replicate n 0) five
 
 -- the slots of a run of zeros are unmapped
@@ -39,7 +40,7 @@ zeros_slot head block run slot headed zeros behind before =
     record {
       headed = headed;
       spelled = ap (λ (n : ℕ). take 5 (drop n block)) (sym place) ∙ ap (take 5) (sym (drop-drop (5 * (slot - 28 * run)) (36 + 140 * run) block))
-          ∙ part_of_zeros (drop (36 + 140 * run) block) (5 * (slot - 28 * run)) inside zeros ∙ zeros_unmapped;
+          ∙ part_of_zeros (drop (36 + 140 * run) block) 140 (5 * (slot - 28 * run)) inside zeros ∙ zeros_unmapped;
       held = tt;
     }
 
@@ -52,6 +53,23 @@ unmapped i = elim (cases_lt i 812) [
       get_or_past (replicate 812 Unmapped) i Unmapped (omega (arith, past, long))
       )
 ]
+
+-- a page whose slots are all zeros has no mapping
+pub zeros_page : (head : PageHead) (block : List ℕ) (mappings : List Mapping) → length block ≡ 4096 → HasHead head block
+    → take (length block - 36) (drop 36 block) ≡ replicate (length (take (length block - 36) (drop 36 block))) 0 → mappings ≡ replicate 812 Unmapped → IsPage head block mappings
+zeros_page head block mappings size headed zeros is =
+    let many : length block - 36 ≡ 4060 = omega (arith, size) in
+    let long : length (drop 36 block) ≡ 4060 = length-drop 36 block ∙ many in
+    let taken : length (take 4060 (drop 36 block)) ≡ 4060 = length-take-le 4060 (drop 36 block) (omega (arith, long)) in
+    let all : take 4060 (drop 36 block) ≡ replicate 4060 0 =
+    subst (λ (n : ℕ). take n (drop 36 block) ≡ replicate (length (take n (drop 36 block))) 0) many zeros ∙ ap (λ (n : ℕ). replicate n 0) taken in
+    page head block mappings size (ap length is ∙ length-replicate 812 Unmapped) (λ slot below.
+    subst (λ (m : Mapping). IsSlot head block slot m) (sym (ap (λ (ms : List Mapping). slice_index_or ms slot Unmapped) is ∙ unmapped slot))
+    (record {
+      headed = headed;
+      spelled = ap (take 5) (sym (drop-drop (5 * slot) 36 block)) ∙ part_of_zeros (drop 36 block) 4060 (5 * slot) (omega (arith, below)) all ∙ zeros_unmapped;
+      held = tt;
+    }))
 
 -- nothing is read at first
 pub none_read : (head : PageHead) (block : List ℕ) (mappings : List Mapping) → mappings ≡ replicate 812 Unmapped → AreReadTo head block 0 mappings

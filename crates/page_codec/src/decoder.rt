@@ -10,6 +10,7 @@ use crate::encoder::{HEAD, RUN, RUN_BYTES, RUNS, WIDTH, put_head};
 use crate::{MapPage, PageFault, PageHead};
 use blk_base::{Block, Layout, Mapping, Mappings, PAGE_SLOTS, Pbn};
 use byte_fields::{read_u8, read_u32};
+use lane_kernels::all_zeros;
 
 // Which numbers are data blocks is a question of the sizes, so it asks for some within their limits.
 /// Reads a page. The fault is that the block begins as another page does, or else that of the least slot that has one.
@@ -24,13 +25,22 @@ pub fn decode(block: &Block, want: &PageHead, into: &mut MapPage) -> Result<(), 
     ensures emptied { OnErr result (into.new.mappings ≡ replicate PAGE_SLOTS Unmapped) }
 {
     into.head = *want;
-    match read_page(&block.bytes, want, &mut into.mappings) {
+    match decode_mappings(block, want, &mut into.mappings) {
         Ok(()) => Ok(()),
         Err(fault) => {
             into.mappings.clear();
             Err(fault)
         }
     }
+}
+
+/// The same where the mappings alone are wanted. After a fault `into` has any mappings.
+pub fn decode_mappings(block: &Block, want: &PageHead, into: &mut Mappings) -> Result<(), PageFault>
+    requires { IsGeometry want.now.geometry }
+    ensures ok { OnOk result (IsPage want.now block.now into.new) }
+    ensures fault { IfErr result (λ fault. IsPageFault want.now block.now fault) }
+{
+    read_page(&block.bytes, want, into)
 }
 
 /// What one slot of a page says, whatever the others are. The fault is that the block begins as another page does, or
@@ -49,8 +59,8 @@ pub fn slot(block: &Block, want: &PageHead, slot: u16) -> Result<Mapping, PageFa
     read_slot(&block.bytes, want, slot)
 }
 
-// The same as `decode`, for the bytes of a block.
-// Most pages have few mappings, so what is unmapped is passed over by runs.
+// The same for the bytes of a block.
+// Most pages have no mapping or few, so what is unmapped is passed over at once, or else by runs.
 fn read_page(bytes: &[u8], want: &PageHead, into: &mut Mappings) -> Result<(), PageFault>
     requires geometry { IsGeometry want.now.geometry }
     requires size { length bytes.now ≡ 4096 }
@@ -61,6 +71,9 @@ fn read_page(bytes: &[u8], want: &PageHead, into: &mut Mappings) -> Result<(), P
         return Err(PageFault::Header);
     }
     into.clear();
+    if all_zeros(&bytes[HEAD..]) {
+        return Ok(());
+    }
     for run in 0..RUNS {
         read_run(bytes, want, run, into)?;
     }
@@ -93,9 +106,7 @@ fn has_zeros(bytes: &[u8], run: u16) -> bool
     ensures { IsTrue result ↔ HasZeros run bytes.now }
 {
     let at = HEAD + RUN_BYTES * run as usize;
-    let zeros = [0; RUN_BYTES];
-    let slots = &bytes[at..at + RUN_BYTES];
-    slots == zeros.as_slice()
+    all_zeros(&bytes[at..at + RUN_BYTES])
 }
 
 // Whether the bytes begin as this page does.

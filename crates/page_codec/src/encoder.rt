@@ -66,9 +66,10 @@ fn put_slots(page: &mut [u8], mappings: &[Mapping])
     }
 }
 
-// Whether each slot is unmapped. No slot ends the loop, so it takes about one instruction for each.
+// No slot ends the loop, so it takes about one instruction for each.
+/// Whether each slot is unmapped.
 #[inline(always)]
-fn are_unmapped(slots: &[Mapping]) -> bool
+pub fn are_unmapped(slots: &[Mapping]) -> bool
     ensures { OnTrue result (slots.now ≡ replicate (length slots.now) Unmapped) }
 {
     let mut unmapped = true;

@@ -29,7 +29,8 @@
 //! An entry may cross two sectors. After a stop within the write of a page such an entry may be a mixture, and so each
 //! slot can be read by itself.
 //!
-//! Most pages have few mappings: reader and writer pass over 28 slots at once where all of them are unmapped.
+//! Most pages have few mappings: reader and writer pass over 28 slots at once where all of them are unmapped, and the
+//! reader over all 812.
 //!
 //! Only tested: vectors that another program computed; a page for each fault.
 #![tactic(auto)]
@@ -40,8 +41,8 @@ mod fault;
 mod forms;
 mod laws;
 
-pub use decoder::{decode, slot};
-pub use encoder::encode;
+pub use decoder::{decode, decode_mappings, slot};
+pub use encoder::{are_unmapped, encode};
 pub use fault::PageFault;
 pub use forms::{MapPage, PageHead};
 pub use laws::{
