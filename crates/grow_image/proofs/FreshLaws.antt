@@ -4,6 +4,7 @@ use Rattle.std.proofs.Common.{ℕ, ◌≡◌, ◌<◌, ◌≤◌, List, [], ◌�
 use Rattle.std.proofs.Math.Nat.{mod-lt}
 use Rattle.std.proofs.lemmas.Bool.Decides.{eqb_tells}
 use Rattle.std.proofs.lemmas.List.Elements.{All-head, All-tail}
+use Rattle.std.proofs.lemmas.Option.{same_Some}
 use Rattle.blk_base.specs.declared.geometry.Geometry.{Geometry}
 use Rattle.blk_base.specs.declared.journal_entry.CommittedEntry.{CommittedEntry}
 use Rattle.blk_base.specs.declared.journal_entry.Entry.{Entry}
@@ -11,7 +12,7 @@ use Rattle.blk_base.specs.declared.journal_entry.Entry.TheVariants.{Remap, NewPa
 use Rattle.blk_base.specs.declared.opened.OpenedPage.{OpenedPage}
 use Rattle.blk_base.specs.declared.place.Lba.{Lba}
 use Rattle.blk_base.specs.declared.place.Mapping.{Mapping}
-use Rattle.blk_base.specs.declared.place.Mapping.TheVariants.{Unmapped}
+use Rattle.blk_base.specs.declared.place.Mapping.TheVariants.{At, Unmapped, Zero}
 use Rattle.blk_base.specs.declared.place.PageId.{PageId}
 use Rattle.blk_base.specs.declared.place.Pbn.{Pbn}
 use Rattle.blk_base.specs.declared.sizes.TheConstants.{PAGE_SLOTS}
@@ -26,7 +27,6 @@ use Rattle.page_codec.specs.Grammar.{IsSlot, IsSlotFault}
 use Rattle.page_codec.specs.declared.fault.PageFault.{PageFault}
 use Rattle.recovery_laws.proofs.OldLaws.{says_own, no_some}
 use Rattle.recovery_laws.proofs.WindowFacts.{IsKnown}
-use Rattle.replay_map.proofs.FormLaws.{target_at}
 use Rattle.replay_map.proofs.LinkedLaws.{above_linked, below_at}
 use Rattle.replay_map.proofs.OwnLaws.{page_tells}
 use Rattle.replay_map.proofs.UnderLaws.{page_is}
@@ -35,6 +35,12 @@ use Rattle.session_opening.specs.Starts.{AreInnerPages}
 use Rattle.grow_image.proofs.SearchLaws.{address_is}
 use Rattle.grow_image.specs.Searching.{AreNewLeaves, HasUnreadable, IsBefore, IsLeastMapped, IsWithin, leaf_head}
 use Rattle.grow_image.specs.declared.address_range.AddressRange.{AddressRange}
+
+-- what is mapped to a block is mapped at it
+target_at : (mapping : Mapping) (at : Pbn) → target_of mapping ≡ Some at → mapping ≡ At at
+target_at Unmapped at is = cc
+target_at Zero at is = cc
+target_at (At block) at is = ap (λ (b : Pbn). At b) (same_Some _ _ is)
 
 -- What the window puts.
 

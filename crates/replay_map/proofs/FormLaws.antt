@@ -4,7 +4,6 @@ use Rattle.std.proofs.Math.Nat.{pow-succ'}
 use Rattle.std.specs.List.{AllPairs}
 use Rattle.std.proofs.lemmas.Bool.{cases_lt}
 use Rattle.std.proofs.lemmas.List.{get_or_append_left, get_or-append_right, get_or_default, length-append, append-nil}
-use Rattle.std.proofs.lemmas.Option.{same_Some}
 use Rattle.std.proofs.lemmas.List.Elements.{Contains-append_left, Contains-append_right, Contains-append_cases}
 use Rattle.blk_base.specs.Regions.{IsDataBlock}
 use Rattle.blk_base.specs.declared.geometry.Geometry.{Geometry}
@@ -14,7 +13,6 @@ use Rattle.blk_base.specs.declared.place.PageId.{PageId}
 use Rattle.blk_base.specs.declared.place.Pbn.{Pbn}
 use Rattle.blk_base.specs.declared.sizes.TheConstants.{PAGE_SLOTS, TREES}
 use Rattle.blk_base.specs.Pages.{above, page_below, root_page}
-use Rattle.image_model.specs.Maps.{target_of}
 use Rattle.image_model.specs.Windows.{LeadsToData}
 use Rattle.replay_map.proofs.LinkLaws.{more_of_slots}
 use Rattle.replay_map.proofs.TakenLaws.{only_one}
@@ -149,7 +147,7 @@ form_as g IsTop First Over old new into one = (
 
 -- One page.
 
-links_are : (page : PageId) (mappings : List Mapping) (n : ℕ) → AreOfSlots page mappings n (links_in page mappings n)
+pub links_are : (page : PageId) (mappings : List Mapping) (n : ℕ) → AreOfSlots page mappings n (links_in page mappings n)
 links_are page mappings zero = λ below at. (λ there. absurd (none_in _ there), λ is. absurd (omega (arith, is.1)))
 links_are page mappings (suc n) =
     let more = more_of_slots page mappings n (links_in page mappings n) (links_in page mappings n ++ link_of page n (slice_index_or mappings n Unmapped)) (links_are page mappings n) refl in
@@ -275,11 +273,6 @@ module _ (g : Geometry) (top : PageId) (mappings : List Mapping) (changes : List
   visited = elim (cases_lt 0 top.level) [ inl some ↦ visited_inner some | inr none ↦ visited_leaf (omega (arith, none)) ]
 
 -- Slots.
-
-pub target_at : (mapping : Mapping) (at : Pbn) → target_of mapping ≡ Some at → mapping ≡ At at
-target_at Unmapped at is = cc
-target_at Zero at is = cc
-target_at (At block) at is = ap (λ (b : Pbn). At b) (same_Some _ _ is)
 
 apart_slots : (top page : PageId) (slot : ℕ) → 0 < top.level → IsUpTo top slot page → IsUnder (page_below top slot) page → ⊥
 apart_slots top page slot some (inl same) under = let level = under.2 in let own = ap (λ (p : PageId). p.level) same in omega (arith, level, own, some)

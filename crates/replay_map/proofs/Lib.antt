@@ -25,4 +25,5 @@ pub mod Rows
 pub mod WalkRows
 pub mod ReplayRows
 pub mod FormLaws
+pub mod LeftLaws
 mod FormRows

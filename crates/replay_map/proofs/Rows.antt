@@ -22,7 +22,7 @@ use Rattle.replay_map.proofs.LinkLaws.{leaf_leads_nowhere, more_of_slots, none_o
 use Rattle.replay_map.proofs.PageLaws.{read_as}
 use Rattle.replay_map.specs.Changes.{AreNewest, changed, is_slot}
 use Rattle.replay_map.specs.Forms.{as_found}
-use Rattle.replay_map.specs.Links.{AreLinks, AreOfSlots}
+use Rattle.replay_map.specs.Links.{AreLinks, AreOfSlots, IsUnmappedRun}
 use Rattle.replay_map.specs.declared.links.Link.{Link}
 use Rattle.replay_map.specs.Pages.{ArePut, AreSaid, HasSlotFault, IsReadAs, IsRefused, SaysSlot, Stands}
 use Rattle.replay_map.specs.Shares.{is_marked}
@@ -203,6 +203,13 @@ refused_least slot some inside before = says_none (before 0 (omega (arith, some)
     says_none : {mapping : Mapping} → SaysSlot head zero_block [] 0 mapping → ⊥
     says_none (inl changed) = absurd (cc changed)
     says_none (inr own) = zeros_unheaded own.1.headed
+
+-- Runs: slots behind the last one are unmapped too.
+an_unmapped_run : IsUnmappedRun (replicate 0 Unmapped) 0
+an_unmapped_run slot from to = refl
+
+a_mapped_run : IsUnmappedRun (Zero ∷ []) 0 → ⊥
+a_mapped_run run = let first : ◌≡◌ {A = Mapping} Zero Unmapped = run 0 (omega arith) (omega arith) in absurd (cc first)
 
 -- The links of slots: of a page whose slot 3 leads to block 86.
 abbrev four : List Mapping

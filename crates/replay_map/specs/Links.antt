@@ -1,5 +1,5 @@
 -- The pages to which a page leads.
-use Rattle.std.specs.Prelude.{ℕ, ◌≡◌, ◌<◌, ◌↔◌, List, [], ◌∷◌, Some, Contains, slice_index_or}
+use Rattle.std.specs.Prelude.{ℕ, ◌≡◌, ◌+◌, ◌*◌, ◌<◌, ◌≤◌, ◌↔◌, List, [], ◌∷◌, Some, Contains, slice_index_or}
 use Rattle.blk_base.specs.Pages.{above, page_below, root_page}
 use Rattle.blk_base.specs.Regions.{Root, block_of}
 use Rattle.blk_base.specs.declared.geometry.Geometry.{Geometry}
@@ -26,6 +26,10 @@ abbrev pub link_of : PageId → ℕ → Mapping → List Link
 link_of page slot Unmapped = []
 link_of page slot Zero = []
 link_of page slot (At block) = record { page = page_below page slot; at = block } ∷ []
+
+-- the 116 slots of a run are unmapped
+abbrev pub IsUnmappedRun : List Mapping → ℕ → Type 0
+IsUnmappedRun mappings run = (slot : ℕ) → 116 * run ≤ slot → slot < 116 * (run + 1) → slice_index_or mappings slot Unmapped ≡ Unmapped
 
 -- these are the links of the first slots
 abbrev pub AreOfSlots : PageId → List Mapping → ℕ → List Link → Type 0

@@ -1,13 +1,20 @@
-ghost use Rattle.std.specs.Prelude.{◌≡◌, ◌<◌, ◌++◌, [], Some, IfOk, OnOk};
+ghost use Rattle.std.specs.Prelude.{◌≡◌, ◌+◌, ◌*◌, ◌<◌, ◌++◌, [], Some, IfOk, OnOk};
+ghost use Rattle.std.specs.Bool.{OnTrue};
 ghost use Rattle.blk_base.specs.declared.sizes.TheConstants.{PAGE_SLOTS};
 ghost use Rattle.image_model.specs.Maps.{Image, page_at};
 ghost use Rattle.replay_map.specs.Forms.{links_in};
-ghost use Rattle.replay_map.specs.Links.{AreLinks, AreOfSlots, link_of};
+ghost use Rattle.replay_map.specs.Links.{AreLinks, AreOfSlots, IsUnmappedRun, link_of};
 ghost use Rattle.replay_map.specs.Pages.{IsReadAs};
 
 use blk_base::{Layout, Mapping, Mappings, PAGE_SLOTS, PageId, Pbn};
-use page_codec::PageHead;
+use page_codec::{PageHead, are_unmapped};
 use std::alloc::{AllocError, Global};
+
+/// How many slots of a page are looked at at once: all of them are so many runs.
+pub(crate) const RUN: u16 = 116;
+
+/// How many runs a page has.
+pub(crate) const RUNS: u16 = 7;
 
 /// A page that is a root or linked, and the block at which it stands.
 #[derive(Clone, Copy, Debug, PartialEq, Eq)]
@@ -67,10 +74,42 @@ fn links_of_slots(alloc: Global, page: PageId, mappings: &Mappings) -> Result<Ve
     ensures exact { IfOk result (λ links. links.items ≡ links_in page mappings.now PAGE_SLOTS) }
 {
     let mut links = Vec::new(alloc);
-    for slot in 0..PAGE_SLOTS {
-        push_link(&mut links, page, slot, mappings.get(slot))?;
+    for run in 0..RUNS {
+        push_run(&mut links, page, mappings, run)?;
     }
     Ok(links)
+}
+
+// Adds the links of the slots of a run, behind those of the runs before it.
+// Most pages lead to few others, so what is unmapped is passed over by runs.
+fn push_run(
+    links: &mut Vec<Link>,
+    page: PageId,
+    mappings: &Mappings,
+    run: u16,
+) -> Result<(), AllocError>
+    requires inner { 0 < page.level }
+    requires few { page.index < PAGE_SLOTS }
+    requires run { run < 7 }
+    requires before { links.old.items ≡ links_in page mappings.now (116 * run) }
+    ensures { OnOk result (links.new.items ≡ links_in page mappings.now (116 * (run + 1))) }
+{
+    if is_unmapped(mappings, run) {
+        return Ok(());
+    }
+    for slot in RUN * run..RUN * (run + 1) {
+        push_link(links, page, slot, mappings.get(slot))?;
+    }
+    Ok(())
+}
+
+/// Whether each slot of a run is unmapped.
+pub(crate) fn is_unmapped(mappings: &Mappings, run: u16) -> bool
+    requires { run < 7 }
+    ensures { OnTrue result (IsUnmappedRun mappings.now run) }
+{
+    let first = (RUN * run) as usize;
+    are_unmapped(&mappings.as_slice()[first..first + RUN as usize])
 }
 
 // Adds the link of a slot, if it has one.

@@ -10,7 +10,7 @@ ghost use Rattle.replay_map.specs.Reads.{AreLeading, LeadToData};
 
 use crate::Changes;
 use blk_base::{Block, Mapping, Mappings, PAGE_SLOTS, PageId};
-use page_codec::{MapPage, PageFault, PageHead, decode, slot};
+use page_codec::{PageFault, PageHead, decode_mappings, slot};
 
 // The header is looked at even where the window replaces each slot.
 /// Reads the page of this block, with what the changes put into its slots. `into` has then what each slot says in the
@@ -52,13 +52,8 @@ fn read_slots(
     ensures ok { OnOk result (AreSaid want.now block.now changes.now PAGE_SLOTS into.new) }
     ensures fault { IfErr result (IsRefused want.now block.now changes.now) }
 {
-    let mut page = MapPage {
-        head: *want,
-        mappings: Mappings::new(),
-    };
-    match decode(block, want, &mut page) {
+    match decode_mappings(block, want, into) {
         Ok(()) => {
-            into.copy_from(&page.mappings);
             put_over(want.page, changes, into);
             Ok(())
         }

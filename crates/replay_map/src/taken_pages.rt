@@ -1,4 +1,5 @@
-ghost use Rattle.std.specs.Prelude.{◌≡◌, ◌<◌, ◌^◌, ◌++◌, Some, OnOk};
+ghost use Rattle.std.specs.Prelude.{◌≡◌, ◌+◌, ◌*◌, ◌<◌, ◌^◌, ◌++◌, List, Some, OnOk};
+ghost use Rattle.blk_base.specs.declared.place.Pbn.{Pbn as Block};
 ghost use Rattle.blk_base.specs.declared.sizes.TheConstants.{PAGE_SLOTS};
 ghost use Rattle.image_model.specs.Maps.{Image, page_at};
 ghost use Rattle.replay_map.specs.Changes.{AreNewest, changed};
@@ -8,8 +9,9 @@ ghost use Rattle.replay_map.specs.Taken.{AreBelow, AreChanges, Gained, GainedMap
 ghost use Rattle.replay_map.specs.Walks.{HasTaken};
 
 use crate::found::Found;
+use crate::links::{RUN, RUNS, is_unmapped};
 use crate::{Changes, Link, SlotChange, links_of};
-use blk_base::{Mapping, Mappings, PAGE_SLOTS, PageId, Pbn};
+use blk_base::{Mapping, Mappings, PageId, Pbn};
 use page_codec::PageHead;
 use std::alloc::{AllocError, Global};
 
@@ -99,7 +101,22 @@ fn push_links(
 fn push_mapped(mappings: &Mappings, mapped: &mut Vec<Pbn>) -> Result<(), AllocError>
     ensures { OnOk result (GainedMapped mappings.now PAGE_SLOTS mapped.old.items mapped.new.items) }
 {
-    for slot in 0..PAGE_SLOTS {
+    for run in 0..RUNS {
+        if !is_unmapped(mappings, run) {
+            push_run(mappings, run, mapped)?;
+        }
+    }
+    Ok(())
+}
+
+// Adds the blocks to which the slots of a run map.
+fn push_run(mappings: &Mappings, run: u16, mapped: &mut Vec<Pbn>) -> Result<(), AllocError>
+    requires { run < 7 }
+    ensures { OnOk result ((first : List Block) →
+        GainedMapped mappings.now (116 * run) first mapped.old.items →
+        GainedMapped mappings.now (116 * (run + 1)) first mapped.new.items) }
+{
+    for slot in RUN * run..RUN * (run + 1) {
         push_block(mappings.get(slot), mapped)?;
     }
     Ok(())

@@ -1,11 +1,9 @@
-ghost use Rattle.std.specs.Prelude.{◌≡◌, ◌≤◌, ◌<◌, OnOk, IfErr};
+ghost use Rattle.std.specs.Prelude.{◌≡◌, ◌≤◌, ◌<◌, ◌++◌, OnOk, IfErr};
 ghost use Rattle.blk_base.specs.Limits.{IsGeometry};
 ghost use Rattle.blk_base.specs.Regions.{needed_blocks};
 ghost use Rattle.blk_base.specs.declared.sizes.TheConstants.{PAGE_SLOTS, TREES};
 ghost use Rattle.disk_model.specs.Since.{IsUntouched};
-ghost use Rattle.image_model.specs.Maps.{target_of};
-ghost use Rattle.replay_map.specs.Forms.{AddsForm, HasVisited, IsInTree, IsRootPage};
-ghost use Rattle.blk_base.specs.Pages.{page_below};
+ghost use Rattle.replay_map.specs.Forms.{AddsForm, HasVisited, IsInTree, IsRootPage, links_in};
 ghost use Rattle.replay_map.specs.Pages.{IsReadAs};
 ghost use Rattle.replay_map.specs.Reads.{AreLeading, IsPageBlock, IsShown, LeadToData};
 ghost use Rattle.replay_map.specs.Walks.{IsInTrees, IsLinked, IsUnder, IsUpTo, WalkFails, WalkedTrees, WalkedUnder, WalkedUpTo, head_at, link_to};
@@ -13,7 +11,7 @@ ghost use Rattle.replay_map.specs.Walks.{IsInTrees, IsLinked, IsUnder, IsUpTo, W
 use crate::found::Found;
 use crate::taken_pages::take_page;
 use crate::{Changes, Link, read_page};
-use blk_base::{Layout, Mapping, Mappings, PAGE_SLOTS, PageId, Pbn, TREES};
+use blk_base::{Layout, Mappings, TREES};
 use disk_model::{Disk, read_block};
 use image_model::ImageFault;
 use page_codec::PageHead;
@@ -54,7 +52,8 @@ pub(crate) fn walk_trees<D: Disk>(
 }
 
 // Reads a page at its block, and then those below it.
-// Each page comes before those below it, so the first page that can't be read is found first. At height 3 the walk
+// The links that it found lead to those. Each page comes before those below it, so the first page that can't be read is
+// found first. At height 3 the walk
 // holds three pages at a time.
 fn walk<D: Disk>(
     alloc: Global,
@@ -85,43 +84,16 @@ fn walk<D: Disk>(
     ensures untouched { IsUntouched D.tells (D.seen device.old) (D.seen device.new) }
 {
     let mut mappings = Mappings::new();
+    let first = found.links.len();
     visit(alloc, layout, changes, device, top, found, &mut mappings)?;
     if top.page.level == 0 {
         return Ok(());
     }
-    for slot in 0..PAGE_SLOTS {
-        match target(mappings.get(slot)) {
-            None => {}
-            Some(at) => {
-                let below = link_below(top.page, slot, at);
-                walk(alloc, layout, changes, device, below, found)?;
-            }
-        }
+    for place in first..found.links.len() {
+        let below = found.links[place];
+        walk(alloc, layout, changes, device, below, found)?;
     }
     Ok(())
-}
-
-// The block to which a mapping leads.
-fn target(mapping: Mapping) -> Option<Pbn>
-    ensures { result ≡ target_of mapping }
-{
-    match mapping {
-        Mapping::Unmapped | Mapping::Zero => None,
-        Mapping::At(at) => Some(at),
-    }
-}
-
-// The page to which a slot leads.
-fn link_below(page: PageId, slot: u16, at: Pbn) -> Link
-    requires inner { 0 < page.level }
-    requires few { page.index < PAGE_SLOTS }
-    requires inside { slot < PAGE_SLOTS }
-    ensures { result ≡ record { page = page_below page slot; at = at } }
-{
-    Link {
-        page: page.child(slot),
-        at,
-    }
 }
 
 // Reads a page, and adds what it gives. `into` has then its mappings.
@@ -149,6 +121,9 @@ fn visit<D: Disk>(
     ensures data { OnOk result (AreLeading layout.now.geometry into.new) }
     ensures form { OnOk result
         (HasVisited layout.now.geometry top.page into.new 0 found.old found.new) }
+    ensures links { OnOk result
+        (0 < top.page.level →
+        found.new.links.items ≡ found.old.links.items ++ links_in top.page into.new PAGE_SLOTS) }
     ensures fault { IfErr result
         (WalkFails D.tells D.honest layout.now.geometry changes.now (D.seen device.old)
         (D.seen device.new)

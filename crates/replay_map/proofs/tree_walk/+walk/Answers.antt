@@ -1,23 +1,21 @@
-use Rattle.std.proofs.Common.{rules, ◌≡◌, ◌∙◌, sym, ap, subst, arith, ℕ}
+use Rattle.std.proofs.Common.{rules, ◌≡◌, ◌∙◌, sym, ap, subst, arith, ℕ, length}
+use Rattle.blk_base.specs.Pages.{page_below}
+use Rattle.blk_base.specs.declared.place.PageId.{PageId}
 use Rattle.blk_base.specs.declared.place.Pbn.{Pbn}
 use Rattle.blk_base.specs.declared.sizes.TheConstants.{PAGE_SLOTS}
 use Rattle.disk_model.proofs.SinceLaws.{untouched_on}
-use Rattle.image_model.specs.Maps.{Image, target_of}
-use Rattle.blk_base.specs.declared.place.PageId.{PageId}
-use Rattle.replay_map.proofs.FormLaws.{all_visited, below_in_tree, leaf_visited, slot_passed, slot_walked, target_at}
-use Rattle.replay_map.specs.Forms.{IsInTree}
-use Rattle.replay_map.proofs.ReadLaws.{shown_by_none}
-use Rattle.replay_map.proofs.SlotLaws.{failed_slot, passed_slot, target_stands, walked_slot}
-use Rattle.replay_map.proofs.WholeWalkLaws.{all_walked, fails_behind, leaf_walked, top_fault}
-use Rattle.replay_map.specs.Reads.{IsPageBlock}
-use Rattle.replay_map.specs.Walks.{IsLinked, IsUnder, IsUpTo, WalkFails, WalkedUpTo}
-use Rattle.replay_map.specs.declared.links.Link.{Link}
-use Rattle.replay_map.proofs.tree_walk.+walk.Goals.{in-None, in-Some+in_ok-walk-in-Some}
+use Rattle.image_model.specs.Maps.{Image}
 use Rattle.journal_window.proofs.AnswerLaws.{passed_on}
+use Rattle.replay_map.proofs.FormLaws.{all_visited, below_in_tree, leaf_visited}
+use Rattle.replay_map.proofs.LeftLaws.{IsWalked, all_passed, at_link, begun, walked_more}
+use Rattle.replay_map.proofs.ReadLaws.{shown_by_none}
+use Rattle.replay_map.proofs.SlotLaws.{failed_slot}
+use Rattle.replay_map.proofs.WholeWalkLaws.{all_walked, fails_behind, leaf_walked, top_fault}
+use Rattle.replay_map.specs.Forms.{IsInTree}
+use Rattle.replay_map.specs.Reads.{IsPageBlock}
+use Rattle.replay_map.specs.Walks.{IsLinked, IsUnder, IsUpTo, WalkFails}
+use Rattle.replay_map.specs.declared.links.Link.{Link}
 use Rattle.replay_map.proofs.tree_walk.+walk.Goals as goal
-
-pub loop-slot-init : goal.loop-slot-init
-loop-slot-init g t c = record { shown = c.in_ok-visit.ensures.walked; form = c.in_ok-visit.ensures.form; untouched = c.visit.ensures.untouched }
 
 pub returns-then-top-eq0-clause-walked : goal.returns-then-top-eq0-clause-walked
 returns-then-top-eq0-clause-walked g t c =
@@ -25,20 +23,6 @@ returns-then-top-eq0-clause-walked g t c =
       shown.0,
       shown.1,
       λ image has linked. leaf_walked image c.args.top linked c.args.found.now c.visit.new.found c.if-top-eq0.true ((shown.2 image has linked).0),
-    )
-
-pub returns-clause-walked : goal.returns-clause-walked
-returns-clause-walked g t c =
-    let shown = c.loop-slot.invariant.shown in
-    let inside = c.loop-slot.auto.slot-end in
-    let ended = c.loop-slot-test.false in
-    let some = c.if-top-eq0.false in
-    let all : c.loop-slot.slot ≡ PAGE_SLOTS = omega (arith, inside, ended) in (
-      shown.0,
-      shown.1,
-      λ image has linked.
-          all_walked image c.args.top linked c.args.found.now c.loop-slot.found (omega (arith, some))
-          (subst (λ (n : ℕ). WalkedUpTo image c.args.top.page n c.args.found.now c.loop-slot.found) all ((shown.2 image has linked).0)),
     )
 
 pub returns-in_err-visit-clause-fault : goal.returns-in_err-visit-clause-fault
@@ -54,21 +38,70 @@ returns-in_err-visit-clause-fault g t c =
     (IsUpTo c.args.top.page 0) (IsUnder c.args.top.page) c.in_err-visit.field-0.0 (shown_by_none tells honest sizes changes before (λ (image : Image). Unit {0}) (λ image has. tt))
     (λ image known linked. linked) (λ image at fault known linked is. top_fault image c.args.top linked at fault is) c.in_err-visit.ensures.fault)
 
+pub returns-then-top-eq0-clause-form : goal.returns-then-top-eq0-clause-form
+returns-then-top-eq0-clause-form g t c = leaf_visited c.args.layout.now.geometry c.args.top.page c.visit.new.into c.args.found.now c.visit.new.found c.in_ok-visit.ensures.form
+
+pub loop-place-init : goal.loop-place-init
+loop-place-init g t c =
+    let tells = g.D.Disk.tells in
+    let honest = g.D.Disk.honest in
+    let sizes = c.args.layout.now.geometry in
+    let changes = c.args.changes.now in
+    let before = g.D.Disk.seen c.args.device.now in
+    let now = g.D.Disk.seen c.visit.new.device in
+    let some = c.if-top-eq0.false in
+    let visited = c.in_ok-visit.ensures in
+    record {
+      walked = subst (λ (n : ℕ). IsWalked tells honest sizes changes c.args.top before now c.args.found.now c.visit.new.found n c.len-place-end.result) (let ok = c.args.found.now.links.ok in let size = c.len-first.ensures in omega (arith, ok, size))
+          (subst (λ (n : ℕ). IsWalked tells honest sizes changes c.args.top before now c.args.found.now c.visit.new.found (length c.args.found.now.links.items) n) (let ok = c.visit.new.found.links.ok in let size = c.len-place-end.ensures in omega (arith, ok, size))
+          (begun tells honest sizes changes c.args.top (omega (arith, some)) c.visit.new.into before now c.args.found.now c.visit.new.found visited.data (visited.links (omega (arith, some)))
+          visited.walked visited.form));
+      untouched = visited.untouched;
+    }
+
+pub returns-clause-walked : goal.returns-clause-walked
+returns-clause-walked g t c =
+    let tells = g.D.Disk.tells in
+    let honest = g.D.Disk.honest in
+    let sizes = c.args.layout.now.geometry in
+    let some = c.if-top-eq0.false in
+    let all = all_passed tells honest sizes c.args.changes.now c.args.top (omega (arith, some)) (g.D.Disk.seen c.args.device.now) (g.D.Disk.seen c.loop-place.device) c.args.found.now
+    c.loop-place.found c.loop-place.place c.len-place-end.result c.loop-place.invariant.walked c.loop-place-test.false in
+    let shown = all.0 in (
+      shown.0,
+      shown.1,
+      λ image has linked. all_walked image c.args.top linked c.args.found.now c.loop-place.found (omega (arith, some)) ((shown.2 image has linked).0),
+    )
+
+pub returns-clause-form : goal.returns-clause-form
+returns-clause-form g t c =
+    let some = c.if-top-eq0.false in
+    let walked = c.loop-place.invariant.walked in
+    let all = all_passed g.D.Disk.tells g.D.Disk.honest c.args.layout.now.geometry c.args.changes.now c.args.top (omega (arith, some)) (g.D.Disk.seen c.args.device.now)
+    (g.D.Disk.seen c.loop-place.device) c.args.found.now c.loop-place.found c.loop-place.place c.len-place-end.result walked c.loop-place-test.false in
+    all_visited c.args.layout.now.geometry c.args.top.page walked.mappings PAGE_SLOTS c.args.found.now c.loop-place.found (omega (arith, some)) all.1
+
 pub walk-requires : goal.walk-requires
 walk-requires g t c κs within =
-    let level = ap (λ (l : Link). l.page.level) c.link_below-below.ensures in
-    let index = ap (λ (l : Link). l.page.index) c.link_below-below.ensures in
-    let at = ap (λ (l : Link). l.at) c.link_below-below.ensures in
-    let inside = c.loop-slot-test.true in
+    let tells = g.D.Disk.tells in
+    let honest = g.D.Disk.honest in
+    let sizes = c.args.layout.now.geometry in
+    let changes = c.args.changes.now in
+    let before = g.D.Disk.seen c.args.device.now in
+    let middle = g.D.Disk.seen c.loop-place.device in
     let some = c.if-top-eq0.false in
+    let at = at_link tells honest sizes changes c.args.top (omega (arith, some)) before middle c.args.found.now c.loop-place.found c.loop-place.place
+    c.len-place-end.result c.loop-place.invariant.walked c.loop-place-test.true in
+    let is : c.index-below.result.now ≡ record { page = page_below c.args.top.page at.slot; at = at.at } = c.index-below.ensures ∙ at.is c.index-below.result.now in
+    let level = ap (λ (l : Link). l.page.level) is in
+    let index = ap (λ (l : Link). l.page.index) is in
+    let inside = at.inside in
     let measure = c.decreases in
-    let size = c.loop-slot.invariant.untouched.stays.size in
+    let size = c.loop-place.invariant.untouched.stays.size in
     let room = c.requires.room in
     let low = c.requires.low in
-    let leads : target_of c.get.result ≡ _ = sym c.target.ensures ∙ c.in-Some.is in
-    let place = subst (λ (p : PageId). IsInTree c.args.layout.now.geometry p) (sym (ap (λ (l : Link). l.page) c.link_below-below.ensures))
-    (below_in_tree c.args.layout.now.geometry c.args.top.page c.loop-slot.slot c.requires.place (omega (arith, some)) inside) in
-    let stands = target_stands c.args.layout.now.geometry _ c.in-Some.at (c.in_ok-visit.ensures.data c.loop-slot.slot inside) (ap target_of (sym c.get.ensures.value) ∙ leads) in (
+    let place = subst (λ (p : PageId). IsInTree sizes p) (sym (ap (λ (l : Link). l.page) is))
+    (below_in_tree sizes c.args.top.page at.slot c.requires.place (omega (arith, some)) inside) in (
       omega (arith, level, some, measure),
       (
         search rules,
@@ -77,7 +110,7 @@ walk-requires g t c κs within =
           (
             c.requires.data,
             (
-              subst (λ (p : Pbn). IsPageBlock c.args.layout.now.geometry p) (sym at) stands,
+              subst (λ (p : Pbn). IsPageBlock sizes p) (sym (ap (λ (l : Link). l.at) is)) at.stands,
               (
                 (λ inner. let first = c.requires.first (omega (arith, inner, level, some)) in omega (arith, index, first, inside)),
                 ((λ inner. absurd (omega (arith, inner, level, low, some))), (omega (arith, level, low), place)),
@@ -88,57 +121,40 @@ walk-requires g t c κs within =
       ),
     )
 
-pub returns-in_err-walk-in-Some-clause-fault : goal.returns-in_err-walk-in-Some-clause-fault
-returns-in_err-walk-in-Some-clause-fault g t c =
+pub returns-in_err-walk-clause-fault : goal.returns-in_err-walk-clause-fault
+returns-in_err-walk-clause-fault g t c =
     let tells = g.D.Disk.tells in
     let honest = g.D.Disk.honest in
     let sizes = c.args.layout.now.geometry in
     let changes = c.args.changes.now in
     let before = g.D.Disk.seen c.args.device.now in
-    let middle = g.D.Disk.seen c.loop-slot.device in
+    let middle = g.D.Disk.seen c.loop-place.device in
+    let some = c.if-top-eq0.false in
     let now = g.D.Disk.seen c.walk.new.device in
-    let some = c.if-top-eq0.false in
-    passed_on c.from_residual-in_err-walk-in-Some.result (WalkFails tells honest sizes changes before now (λ image. IsLinked image c.args.top) (IsUnder c.args.top.page))
-    c.in_err-walk-in-Some.field-0.0 c.from_residual-in_err-walk-in-Some.ensures.1
-    (failed_slot tells honest sizes changes c.args.top c.visit.new.into c.loop-slot.slot c.loop-slot-test.true (omega (arith, some)) c.link_below-below.result c.in-Some.at
-    (ap target_of (sym c.get.ensures.value) ∙ sym c.target.ensures ∙ c.in-Some.is) c.link_below-below.ensures
-    before middle now c.args.found.now c.loop-slot.found c.in_err-walk-in-Some.field-0.0 c.loop-slot.invariant.shown c.in_err-walk-in-Some.ensures.fault)
+    let at = at_link tells honest sizes changes c.args.top (omega (arith, some)) before middle c.args.found.now c.loop-place.found c.loop-place.place
+    c.len-place-end.result c.loop-place.invariant.walked c.loop-place-test.true in
+    let is : c.index-below.result.now ≡ record { page = page_below c.args.top.page at.slot; at = at.at } = c.index-below.ensures ∙ at.is c.index-below.result.now in
+    passed_on c.from_residual-in_err-walk.result (WalkFails tells honest sizes changes before now (λ image. IsLinked image c.args.top) (IsUnder c.args.top.page))
+    c.in_err-walk.field-0.0 c.from_residual-in_err-walk.ensures.1
+    (failed_slot tells honest sizes changes c.args.top at.mappings at.slot at.inside (omega (arith, some)) c.index-below.result.now at.at at.leads is
+    before middle now c.args.found.now c.loop-place.found c.in_err-walk.field-0.0 at.shown c.in_err-walk.ensures.fault)
 
-pub returns-in_err-walk-in-Some-clause-untouched : goal.returns-in_err-walk-in-Some-clause-untouched
-returns-in_err-walk-in-Some-clause-untouched g t c =
-    untouched_on g.D.Disk.tells _ _ _ c.loop-slot.invariant.untouched c.walk.ensures.untouched
+pub returns-in_err-walk-clause-untouched : goal.returns-in_err-walk-clause-untouched
+returns-in_err-walk-clause-untouched g t c = untouched_on g.D.Disk.tells _ _ _ c.loop-place.invariant.untouched c.walk.ensures.untouched
 
-pub loop-slot-preserved : goal.loop-slot-preserved
-loop-slot-preserved g t c =
+pub loop-place-preserved : goal.loop-place-preserved
+loop-place-preserved g t c =
     let tells = g.D.Disk.tells in
     let honest = g.D.Disk.honest in
     let sizes = c.args.layout.now.geometry in
     let changes = c.args.changes.now in
     let before = g.D.Disk.seen c.args.device.now in
-    let middle = g.D.Disk.seen c.loop-slot.device in
+    let middle = g.D.Disk.seen c.loop-place.device in
     let some = c.if-top-eq0.false in
-    elim c.match-target.branch [
-      | in-None w ↦ rw (w.device-is, w.found-is) (record {
-        shown = passed_slot tells honest sizes changes c.args.top c.visit.new.into c.loop-slot.slot c.loop-slot-test.true (omega (arith, some))
-            before middle c.args.found.now c.loop-slot.found (ap target_of (sym c.get.ensures.value) ∙ sym c.target.ensures ∙ w.in-None.is) c.loop-slot.invariant.shown;
-        form = slot_passed sizes c.args.top.page c.visit.new.into c.loop-slot.slot c.args.found.now c.loop-slot.found c.loop-slot-test.true c.loop-slot.invariant.form;
-        untouched = c.loop-slot.invariant.untouched;
-      })
-      | in-Some+in_ok-walk-in-Some w ↦ rw (w.device-is, w.found-is) (record {
-        shown = walked_slot tells honest sizes changes c.args.top c.visit.new.into c.loop-slot.slot c.loop-slot-test.true (omega (arith, some)) w.link_below-below.result w.in-Some.at
-            (ap target_of (sym c.get.ensures.value) ∙ sym c.target.ensures ∙ w.in-Some.is) w.link_below-below.ensures
-            before middle (g.D.Disk.seen w.walk.new.device) c.args.found.now c.loop-slot.found w.walk.new.found c.loop-slot.invariant.shown w.in_ok-walk-in-Some.ensures.walked;
-        form = slot_walked sizes c.args.top.page c.visit.new.into c.loop-slot.slot w.link_below-below.result w.in-Some.at c.args.found.now c.loop-slot.found w.walk.new.found (omega (arith, some))
-            c.loop-slot-test.true (target_at _ w.in-Some.at (ap target_of (sym c.get.ensures.value) ∙ sym c.target.ensures ∙ w.in-Some.is)) w.link_below-below.ensures
-            c.loop-slot.invariant.form w.in_ok-walk-in-Some.ensures.form;
-        untouched = untouched_on tells _ _ _ c.loop-slot.invariant.untouched w.walk.ensures.untouched;
-      })
-    ]
-
-pub returns-then-top-eq0-clause-form : goal.returns-then-top-eq0-clause-form
-returns-then-top-eq0-clause-form g t c = leaf_visited c.args.layout.now.geometry c.args.top.page c.visit.new.into c.args.found.now c.visit.new.found c.in_ok-visit.ensures.form
-
-pub returns-clause-form : goal.returns-clause-form
-returns-clause-form g t c =
-    let some = c.if-top-eq0.false in
-    all_visited c.args.layout.now.geometry c.args.top.page c.visit.new.into c.loop-slot.slot c.args.found.now c.loop-slot.found (omega (arith, some)) c.loop-slot.invariant.form
+    let now = g.D.Disk.seen c.walk.new.device in
+    record {
+      walked = walked_more tells honest sizes changes c.args.top (omega (arith, some)) before middle c.args.found.now c.loop-place.found c.loop-place.place
+          c.len-place-end.result c.loop-place.invariant.walked c.loop-place-test.true
+          now c.walk.new.found c.index-below.result.now c.index-below.ensures c.in_ok-walk.ensures.walked c.in_ok-walk.ensures.form;
+      untouched = untouched_on tells _ _ _ c.loop-place.invariant.untouched c.walk.ensures.untouched;
+    }

@@ -25,3 +25,6 @@ returns-clause-walked g c =
 pub returns-clause-form : goal.returns-clause-form
 returns-clause-form g c =
     visited c.args.layout.now.geometry c.args.top.page c.read_linked.new.into c.args.changes.now c.args.found.now c.take_page.new.found c.requires.place c.in_ok-read_linked.ensures.data c.in-Ok.ensures.exact
+
+pub returns-clause-links : goal.returns-clause-links
+returns-clause-links g c = c.in-Ok.ensures.exact.links
