@@ -7,10 +7,10 @@ use Rattle.blk_base.specs.declared.request.Request.{Request}
 use Rattle.blk_base.specs.declared.request.Request.TheVariants.{Read}
 use Rattle.blk_base.specs.declared.request.Answer.{Answer as Reply}
 use Rattle.blk_base.specs.declared.request.Writer.{Writer}
-use Rattle.core_model.specs.DeskCounts.{CountAnswered, CountBegun, CountEach}
+use Rattle.core_model.specs.DeskCounts.{AreBegunFrom, CountAnswered, CountBegun, CountEach}
 use Rattle.core_model.specs.SessionLimits.{asks_read, most_streams, reads_in, requests_in}
 use Rattle.plain_laws.specs.Sums.{total}
-use Rattle.vdo_model.specs.Scripts.{Script}
+use Rattle.vdo_model.specs.Scripts.{Script, stream_of}
 use Rattle.vdo_model.specs.DeskLog.{begun, answered}
 use Rattle.vdo_model.specs.declared.report.DeskLine.{DeskLine}
 use Rattle.vdo_model.specs.declared.report.DeskLine.TheVariants.{Begin, Answer}
@@ -104,3 +104,25 @@ few_begun counts lines w right = few_each (λ stream. begun stream (reverse line
 pub few_answered : (counts : List ℕ) (lines : List DeskLine) (w : ℕ) → CountAnswered counts (reverse lines) → get_or counts w 0 ≤ length lines
 few_answered counts lines w right = few_each (λ stream. answered stream (reverse lines)) counts w (length lines) right (λ stream.
     let few = few_lines stream (reverse lines) in let long = length-reverse lines in omega (arith, few, long))
+
+-- no stream has begun less than before
+begun_stays : (line : DeskLine) (older : List DeskLine) (stream : ℕ) → begun stream older ≤ begun stream (line ∷ older)
+begun_stays (Begin w) older stream = elim (eqb_tells w.stream stream) [ inl same ↦ rw same.0 (omega arith) | inr other ↦ rw other.0 (omega arith) ]
+begun_stays (Answer w a) older stream = omega arith
+
+-- the streams that have begun all their requests, at the start, behind one more line, and with one more of them
+pub none_begun : (script : Script) (log : List DeskLine) → AreBegunFrom (length script) script log
+none_begun script log = λ stream past. rw (get_or_past script stream [] past) (omega arith)
+
+pub still_begun : (script : Script) (lines : List DeskLine) (line : DeskLine) (first : ℕ) → AreBegunFrom first script (reverse lines)
+    → AreBegunFrom first script (reverse (lines ++ line ∷ []))
+still_begun script lines line first all = subst (λ (log : List DeskLine). AreBegunFrom first script log) (newest lines line)
+    (λ stream past. let before = all stream past in let stays = begun_stays line (reverse lines) stream in omega (arith, before, stays))
+
+pub more_begun : (script : Script) (log : List DeskLine) (counts : List ℕ) (left first : ℕ) → left ≤ most_streams → CountBegun counts log
+    → ((stream : ℕ) → first ≤ stream → stream < left → length (stream_of script stream) ≤ get_or counts stream 0)
+    → AreBegunFrom left script log → AreBegunFrom first script log
+more_begun script log counts left first few right passed all = λ stream past. elim (cases_lt stream left) [
+  | inl below ↦ (let counted = right.1 stream (omega (arith, below, few)) in let told = passed stream past below in omega (arith, counted, told))
+  | inr behind ↦ all stream behind
+]

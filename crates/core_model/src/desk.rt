@@ -1,10 +1,11 @@
-ghost use Rattle.std.specs.Prelude.{◌≡◌, ◌+◌, ◌*◌, ◌-◌, ◌^◌, ◌<◌, ◌≤◌, [], ◌∷◌, ◌++◌, Some, IfOk, IfSome, IfNone, IsSome, length, reverse, vec_len, vec_capacity};
+ghost use Rattle.std.specs.Prelude.{◌≡◌, ◌+◌, ◌*◌, ◌-◌, ◌^◌, ◌<◌, ◌≤◌, [], ◌∷◌, ◌++◌, Some, ℕ, IfOk, IfSome, IfNone, IsSome, length, reverse, slice_index_or, vec_len, vec_capacity};
 ghost use Rattle.blk_base.specs.declared.request.Answer.{Answer as Given};
 ghost use Rattle.blk_base.specs.declared.request.Answer.TheVariants.{NoSpace as Lacking, Ok as Done};
 ghost use Rattle.vdo_model.specs.DeskLog.{answered, begun};
 ghost use Rattle.vdo_model.specs.declared.report.DeskLine.TheVariants.{Answer as Answered, Begin};
-ghost use Rattle.vdo_model.specs.Scripts.{request_at, value_written};
+ghost use Rattle.vdo_model.specs.Scripts.{request_at, stream_of, value_written};
 ghost use Rattle.data_vio.specs.Beginnings.{under_way};
+ghost use Rattle.core_model.specs.DeskCounts.{AreBegunFrom};
 ghost use Rattle.core_model.specs.DeskRules.{mark_of_vio, receipt_of_vio, receipt_step};
 ghost use Rattle.core_model.specs.Limits.{HasRoomToBegin};
 ghost use Rattle.core_model.specs.SessionLimits.{most_requests, most_streams, most_under_way, reads_in, requests_in};
@@ -34,6 +35,8 @@ pub struct Desk {
     // How many requests of each stream are begun, and how many are answered.
     begun: StreamCounts,
     answered: StreamCounts,
+    // Each stream from this one on has begun all its requests.
+    streams_left: u8,
     marks: Vec<FlushMark>,
     receipts: Vec<NoSpaceReceipt>,
     notices: u32,
@@ -42,10 +45,10 @@ pub struct Desk {
 }
 
 impl Model for Desk {
-    ghost use Rattle.std.specs.Prelude.{◌≡◌, ◌+◌, ◌*◌, ◌≤◌, reverse, vec_capacity, vec_len};
+    ghost use Rattle.std.specs.Prelude.{◌≡◌, ◌+◌, ◌*◌, ◌≤◌, length, reverse, vec_capacity, vec_len};
     ghost use Rattle.core_model.specs.DeskData.{Desk as DeskData};
-    ghost use Rattle.core_model.specs.SessionLimits.{most_requests, most_under_way, reads_in, requests_in};
-    ghost use Rattle.core_model.specs.DeskCounts.{CountAnswered, CountBegun};
+    ghost use Rattle.core_model.specs.SessionLimits.{most_requests, most_streams, most_under_way, reads_in, requests_in};
+    ghost use Rattle.core_model.specs.DeskCounts.{AreBegunFrom, CountAnswered, CountBegun};
     ghost use Rattle.core_model.specs.DeskLines.{AreBegunFirst, is_answer, is_begin, is_bytes};
     ghost use Rattle.plain_laws.specs.Sums.{total};
 
@@ -67,6 +70,9 @@ impl Model for Desk {
       boxes : reads_in d.requests + 1 ≤ d.boxes + total is_bytes (reverse d.lines.items);
       begun : CountBegun d.begun (reverse d.lines.items);
       answered : CountAnswered d.answered (reverse d.lines.items);
+      few_left : d.streams_left ≤ most_streams;
+      known_left : d.streams_left ≤ length d.requests;
+      left : AreBegunFrom d.streams_left d.requests (reverse d.lines.items);
       marks_room : requests_in d.requests + 1 ≤ vec_capacity d.marks;
       receipts_room : requests_in d.requests + 1 ≤ vec_capacity d.receipts;
       few_spare : vec_len d.spare ≤ most_under_way;
@@ -133,6 +139,25 @@ fn step_in(receipt: &Option<Receipt>) -> u64
     }
 }
 
+// The last of the streams that had a request left to begin is passed over where it has none now.
+fn left_after(left: u8, requests: &Requests, begun: &StreamCounts) -> u8
+    requires streams { left ≤ most_streams }
+    requires counts { length begun.now ≡ most_streams }
+    ensures fewer { result ≤ left }
+    ensures passed { (stream : ℕ) → result ≤ stream → stream < left →
+        length (stream_of requests.now stream) ≤ slice_index_or begun.now stream 0 }
+{
+    if left == 0 {
+        return 0;
+    }
+    let last = left - 1;
+    if (begun.of(last) as usize) < requests.stream(last).len() {
+        left
+    } else {
+        last
+    }
+}
+
 impl Desk {
     /// The desk at the start of a session: it has the requests, and began none of them. It takes all its room.
     pub fn new(alloc: Global, requests: Requests) -> Result<Desk, AllocError>
@@ -150,6 +175,7 @@ impl Desk {
             }) }
     {
         let count = count_requests(&requests);
+        let streams_left = requests.count() as u8;
         let lines = Vec::with_capacity(alloc, 2 * count + 2)?;
         let boxes = AnswerBoxes::new(alloc, count_reads(&requests) + 1)?;
         let marks = Vec::with_capacity(alloc, count + 1)?;
@@ -163,6 +189,7 @@ impl Desk {
             boxes,
             begun: StreamCounts::new(),
             answered: StreamCounts::new(),
+            streams_left,
             marks,
             receipts,
             notices: 0,
@@ -208,6 +235,14 @@ impl Desk {
         self.answered.of(stream)
     }
 
+    /// How many streams may have a request left to begin: each stream from this one on has begun all its requests.
+    pub fn streams_left(&self) -> u8
+        ensures known { result ≤ length self.now.requests }
+        ensures begun { AreBegunFrom result self.now.requests self.now.log }
+    {
+        self.streams_left
+    }
+
     /// How many zones have passed on the stop notice.
     pub fn notices(&self) -> u32
         ensures { result ≡ self.now.notices }
@@ -230,6 +265,7 @@ impl Desk {
         let requests = self.requests.stream(request.stream);
         boxed.begin(begun, &requests[request.number as usize]);
         self.lines.push_reserved(DeskLine::Begin { request });
+        self.streams_left = left_after(self.streams_left, &self.requests, &self.begun);
         boxed
     }
 
@@ -244,6 +280,7 @@ impl Desk {
         self.lines.push_reserved(DeskLine::Begin { request });
         self.lines
             .push_reserved(DeskLine::Answer { request, answer });
+        self.streams_left = left_after(self.streams_left, &self.requests, &self.begun);
     }
 
     /// A request is answered with what it has, and its box is spare again.

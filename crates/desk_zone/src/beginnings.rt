@@ -139,8 +139,7 @@ fn lowest(sizes: &Sizes, desk: &Desk) -> Option<Writer>
     ensures next { IfSome result (rows.BeginsNext sizes.now.depth desk.now) }
     ensures none { IfNone result (MayBegin sizes.now (at.Desk desk.now) → ⊥) }
 {
-    for number in 0..desk.requests().count() {
-        let stream = number as u8;
+    for stream in 0..desk.streams_left() {
         if let Some(number) = next_of(sizes, desk, stream) {
             return Some(Writer { stream, number });
         }

@@ -1,11 +1,13 @@
 -- What the desk counts of its log: each clause with a case that it accepts, and one that breaks it alone.
-use Rattle.std.proofs.Common.{◌≡◌, ℕ, zero, suc, List, [], ◌∷◌, replicate, get_or, refl, arith}
+use Rattle.std.proofs.Common.{◌≡◌, ℕ, zero, suc, ◌≤◌, List, [], ◌∷◌, length, replicate, get_or, refl, arith}
 use Rattle.std.proofs.Math.Dec.{eqb-zero-suc}
 use Rattle.blk_base.specs.declared.request.Answer.TheVariants as reply
+use Rattle.blk_base.specs.declared.request.Request.TheVariants.{Flush}
 use Rattle.vdo_model.specs.DeskLog.{answered, begun}
+use Rattle.vdo_model.specs.Scripts.{Script, stream_of}
 use Rattle.vdo_model.specs.declared.report.DeskLine.{DeskLine}
 use Rattle.vdo_model.specs.declared.report.DeskLine.TheVariants.{Begin, Answer}
-use Rattle.core_model.specs.DeskCounts.{CountAnswered, CountBegun}
+use Rattle.core_model.specs.DeskCounts.{AreBegunFrom, CountAnswered, CountBegun}
 use Rattle.core_model.proofs.rows.WorkedTraces.{first}
 
 -- a request of stream 0 is begun, and then it is answered
@@ -54,3 +56,18 @@ begun_lost (long, each) = absurd (omega (arith, each 0 (omega arith)))
 
 answer_lost : CountAnswered (none 16) ended → ⊥
 answer_lost (long, each) = absurd (omega (arith, each 0 (omega arith)))
+
+-- streams that have begun all their requests: stream 0 has one, which it began, and no other stream has any
+abbrev alone : Script
+alone = (Flush ∷ []) ∷ []
+
+all_begun : AreBegunFrom 0 alone opened
+all_begun = λ stream past. elim stream as (λ n. length (stream_of alone n) ≤ begun n opened) [ zero ↦ omega arith | suc i ↦ omega arith ]
+
+-- none before it is begun
+none_yet : AreBegunFrom 0 alone [] → ⊥
+none_yet all = absurd (omega (arith, all 0 (omega arith)))
+
+-- but each stream behind it
+others_begun : AreBegunFrom 1 alone []
+others_begun = λ stream past. elim stream as (λ n. 1 ≤ n → length (stream_of alone n) ≤ begun n []) [ zero ↦ (λ one. absurd (omega (arith, one))) | suc i ↦ (λ one. omega arith) ] past
