@@ -1,12 +1,14 @@
-ghost use Rattle.std.specs.Prelude.{◌≡◌, false};
+ghost use Rattle.std.specs.Prelude.{◌≡◌, ◌<◌, [], ◌∷◌, true, false, OnOk, OnErr};
 ghost use Rattle.blk_base.specs.declared.place.Mapping.TheVariants.{At};
+ghost use Rattle.disk_model.specs.declared.call.Call.TheVariants as call;
 ghost use Rattle.disk_model.specs.Seen.{Stays};
 ghost use Rattle.core_model.specs.DeviceRules as rows;
 ghost use Rattle.core_model.specs.DeviceRules.{DeviceServes, IsReady};
 ghost use Rattle.core_model.specs.declared.zones.SuperblockStage.TheVariants.{Durable};
-ghost use Rattle.core_model.specs.Trace.{Trace};
+ghost use Rattle.core_model.specs.Trace.{Calls, Trace};
 ghost use Rattle.data_vio.specs.declared.items.Phase.TheVariants as phase;
 ghost use Rattle.step_parts.specs.DeviceLog.{HasCalled};
+ghost use Rattle.device_zone.specs.DeviceCalls.{HasFailed};
 ghost use Rattle.device_zone.specs.Served.{CanServe, MayServe};
 
 use crate::device_calls::{flush, read_block, write_block};
@@ -16,13 +18,13 @@ use crate::superblock::{announce, waits};
 use blk_base::{Answer, Block, Mapping, Mappings, PageId, Pbn, ZoneId};
 use core_model::DeviceZone;
 use data_vio::{BoxedVio, Item, Phase, Sizes, Vio};
-use disk_model::Disk;
+use disk_model::{Disk, Failed};
 use page_codec::{MapPage, PageHead, encode};
 use step_parts::{Posts, counts_of};
 
 // An empty page of the block map, at this block.
-fn put_page(sizes: &Sizes, page: PageId, at: Pbn, into: &mut Block)
-    ensures { into.new ≡ rows.page_at sizes.now page at }
+fn empty_page(sizes: &Sizes, page: PageId, at: Pbn) -> Block
+    ensures { result ≡ rows.page_at sizes.now page at }
 {
     let page = MapPage {
         head: PageHead {
@@ -32,19 +34,25 @@ fn put_page(sizes: &Sizes, page: PageId, at: Pbn, into: &mut Block)
         },
         mappings: Mappings::new(),
     };
-    encode(&page, into);
+    let mut bytes = Block::zero();
+    encode(&page, &mut bytes);
+    bytes
 }
 
-// What is written for a write: its data, or the page that it makes.
-fn stored<'a>(sizes: &Sizes, vio: &'a Vio, block: Pbn, empty: &'a mut Block) -> &'a Block
-    ensures { result.now ≡ rows.stored sizes.now vio.now block }
+// What is written for a write: its data as they stand in its box, or the page that it makes.
+fn write_stored<D: Disk>(sizes: &Sizes, vio: &Vio, block: Pbn, disk: &mut D) -> Result<(), Failed>
+    requires inside { block.0 < (D.seen disk.old).size }
+    ensures stays { Stays (D.seen disk.old) (D.seen disk.new) }
+    ensures ok { OnOk result
+        (HasCalled D.tells D.honest (D.seen disk.old) (D.seen disk.new)
+        (Calls (call.Write block (rows.stored sizes.now vio.now block) true) ∷ [])) }
+    ensures err { OnErr result
+        (HasFailed D.tells D.honest (D.seen disk.old) (D.seen disk.new)
+        (call.Write block (rows.stored sizes.now vio.now block) false)) }
 {
     match vio.page {
-        Some(page) => {
-            put_page(sizes, page, block, empty);
-            empty
-        }
-        None => &vio.bytes,
+        Some(page) => write_block(disk, block, &empty_page(sizes, page, block)),
+        None => write_block(disk, block, &vio.bytes),
     }
 }
 
@@ -67,9 +75,7 @@ fn store<D: Disk>(
     ensures serves { (made : Trace) × DeviceServes sizes.now zone.old vio zone.new made posts.new
         × HasCalled D.tells D.honest (D.seen disk.old) (D.seen disk.new) made }
 {
-    let mut empty = Block::zero();
-    let bytes = stored(sizes, vio.get(), block, &mut empty);
-    let Ok(()) = write_block(disk, block, bytes) else {
+    let Ok(()) = write_stored(sizes, vio.get(), block, disk) else {
         let to = counts_of(sizes, vio.get());
         let failed = vio.end(Phase::AbortClaim, Answer::Stopped);
         halt(sizes, zone, to, Item::Request(failed), posts);
