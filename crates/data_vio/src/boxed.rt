@@ -1,6 +1,7 @@
-ghost use Rattle.std.specs.Prelude.{◌≡◌, ◌≤◌, ◌<◌, ◌+◌, ◌∷◌, [], None, Some, IfOk, IfSome, IfNone, IsSome, length};
+ghost use Rattle.std.specs.Prelude.{◌≡◌, ◌≤◌, ◌<◌, ◌+◌, ◌∷◌, [], None, Some, IfOk, IfSome, IfNone, IsSome, IsTrue, length};
 ghost use Rattle.blk_base.specs.declared.request.Answer.TheVariants as reply;
 ghost use Rattle.data_vio.specs.declared.items.Phase.TheVariants as phase;
+ghost use Rattle.blk_base.specs.Sectors.{zero_block};
 ghost use Rattle.vdo_model.specs.Scripts.{value_written};
 ghost use Rattle.data_vio.specs.AnswerRooms.{HasRoom, blocks_of};
 ghost use Rattle.data_vio.specs.Beginnings.{under_way};
@@ -19,9 +20,13 @@ pub struct BoxedVio {
     vio: Box<Vio>,
     // A box for the bytes of its answer, while that has none.
     room: Option<BoxedBlock>,
+    // Whether its bytes are known to be zeros, so that they need not be cleared.
+    is_clear: bool,
 }
 
 impl Model for BoxedVio {
+    ghost use Rattle.std.specs.Prelude.{◌≡◌, IsTrue};
+    ghost use Rattle.blk_base.specs.Sectors.{zero_block};
     ghost use Rattle.data_vio.specs.AnswerRooms.{HasRoom};
     ghost use Rattle.data_vio.specs.declared.items.Vio.{Vio};
 
@@ -29,7 +34,10 @@ impl Model for BoxedVio {
 
     ghost view = { λ b. b.vio.value };
 
-    ghost invariant = { λ b. HasRoom b.room b.vio.value.answer };
+    ghost invariant = { λ b. record {
+      room : HasRoom b.room b.vio.value.answer;
+      clear : IsTrue b.is_clear → b.vio.value.bytes ≡ zero_block;
+    } };
 }
 
 // The box of an answer that is given up is the room again.
@@ -42,16 +50,6 @@ fn free(answer: Option<Answer>, room: &mut Option<BoxedBlock>)
     }
 }
 
-// The bytes that a request begins with: those of a write, and zeros for the others.
-fn fill(block: &mut Block, asked: &Request)
-    ensures { block.new ≡ value_written (Some asked.now) }
-{
-    match asked {
-        Request::Write { block: written, .. } => block.copy_from(written.get()),
-        Request::Read(_) | Request::Discard(_) | Request::Flush => block.clear(),
-    }
-}
-
 impl BoxedVio {
     /// A box with this request.
     pub fn new(alloc: Global, vio: Vio) -> Result<BoxedVio, AllocError>
@@ -61,6 +59,7 @@ impl BoxedVio {
         Ok(BoxedVio {
             vio: Box::new(alloc, vio)?,
             room: Some(room),
+            is_clear: false,
         })
     }
 
@@ -71,11 +70,35 @@ impl BoxedVio {
         &self.vio
     }
 
+    // Its bytes become zeros.
+    fn clear(&mut self)
+        ensures { self.new ≡ record self.old { bytes = zero_block } }
+    {
+        if !self.is_clear {
+            self.vio.bytes.clear();
+            self.is_clear = true;
+        }
+    }
+
+    // It gets the bytes that a request begins with: those of a write, and zeros for the others.
+    fn fill(&mut self, asked: &Request)
+        ensures { self.new ≡ record self.old { bytes = value_written (Some asked.now) } }
+    {
+        match asked {
+            Request::Write { block, .. } => {
+                self.vio.bytes.copy_from(block.get());
+                self.is_clear = false;
+            }
+            Request::Read(_) | Request::Discard(_) | Request::Flush => self.clear(),
+        }
+    }
+
     /// Another request begins in the same box, with the bytes that it asks to write.
     pub fn begin(&mut self, begun: Begun, asked: &Request)
         ensures { self.new ≡ under_way begun (value_written (Some asked.now)) }
     {
         free(self.vio.answer.take(), &mut self.room);
+        self.fill(asked);
         let vio = &mut *self.vio;
         vio.request = begun.request;
         vio.asks = begun.asks;
@@ -84,7 +107,6 @@ impl BoxedVio {
         vio.phase = begun.phase;
         vio.page = None;
         vio.leaf = None;
-        fill(&mut vio.bytes, asked);
         vio.place = 0;
         vio.old = Mapping::Unmapped;
         vio.latest = None;
@@ -261,6 +283,16 @@ impl BoxedVio {
     {
         self.vio.phase = Phase::Loaded;
         self.vio.bytes = bytes;
+        self.is_clear = false;
+        self
+    }
+
+    /// A read is given zeros.
+    pub fn load_zeros(mut self) -> BoxedVio
+        ensures { result ≡ record self { phase = phase.Loaded; bytes = zero_block } }
+    {
+        self.clear();
+        self.vio.phase = Phase::Loaded;
         self
     }
 

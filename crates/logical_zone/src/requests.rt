@@ -1,5 +1,4 @@
 ghost use Rattle.std.specs.Prelude.{◌≡◌, ◌-◌, ◌<◌, ◌≤◌, ◌^◌, List, [], ◌∷◌, ◌++◌, None, Some, true, false, length};
-ghost use Rattle.blk_base.specs.Sectors.{zero_block};
 ghost use Rattle.blk_base.specs.declared.place.ZoneId.TheVariants as id;
 ghost use Rattle.data_vio.specs.declared.items.Item.TheVariants as item;
 ghost use Rattle.data_vio.specs.declared.items.Phase.TheVariants as phase;
@@ -20,13 +19,6 @@ use data_vio::{Asks, BoxedVio, Item, Phase, Sizes};
 use lane_kernels::is_zero;
 use step_parts::{Posts, counts_of};
 
-// The bytes of an address that is mapped to no block.
-fn zeros(vio: BoxedVio) -> BoxedVio
-    ensures { result ≡ record vio { phase = phase.Loaded; bytes = zero_block } }
-{
-    vio.load(Block::zero())
-}
-
 // Where a read goes that knows what is mapped at its address: it reads the mapped block, or is given zeros.
 fn read_next(vio: BoxedVio, mapping: Mapping) -> (ZoneId, Item)
     ensures { result ≡ rows.read_next vio mapping }
@@ -38,7 +30,7 @@ fn read_next(vio: BoxedVio, mapping: Mapping) -> (ZoneId, Item)
         }
         Mapping::Unmapped | Mapping::Zero => {
             let home = vio.get().home;
-            let loaded = zeros(vio);
+            let loaded = vio.load_zeros();
             (home, Item::Request(loaded))
         }
     }
