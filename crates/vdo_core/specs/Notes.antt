@@ -3,7 +3,7 @@ use Rattle.std.specs.Prelude.{ℕ, ◌≡◌, ◌≢◌, Bool, true, false, Opti
 use Rattle.data_vio.specs.declared.items.Item.{Item}
 use Rattle.data_vio.specs.declared.sizes.Sizes.{Sizes}
 use Rattle.core_model.specs.declared.zones.Zone.{Zone}
-use Rattle.core_model.specs.Steps.{MayBegin}
+use Rattle.core_model.specs.Steps.{IsIdle}
 use Rattle.plain_laws.specs.Sums.{Each}
 use Rattle.vdo_core.specs.declared.events.Event.{Event}
 use Rattle.vdo_core.specs.declared.events.Event.TheVariants as event
@@ -20,34 +20,40 @@ abbrev pub has_posted : Option Zone → Bool
 has_posted None = false
 has_posted (Some z) = any_posted z.ports.outboxes
 
--- the zone that steps, or from which something moves
-abbrev pub zone_of : Event → ℕ
-zone_of (event.Step number) = number
-zone_of (event.Move from to) = from
+-- the zone that steps, or from which something moves: no other changes what it posted
+abbrev pub sender_of : Event → ℕ
+sender_of (event.Step number) = number
+sender_of (event.Move from to) = from
 
--- a flag tells whether this holds
-pub record Tells (flag : Bool) (P : Type 0) : Type 0 where
-  pub yes : flag ≡ true → P
-  pub no : flag ≡ false → P → ⊥
+-- the zone that steps, or to which something moves: no other has more work or less
+abbrev pub worker_of : Event → ℕ
+worker_of (event.Step number) = number
+worker_of (event.Move from to) = to
 
--- The notes are right of the zone of this number: whether it posted something and, of the first zone, whether it may begin a
--- request.
-pub record KnowsZone (sizes : Sizes) (notes : WorkNotes) (number : ℕ) (z : Zone) : Type 0 where
-  pub posted : slice_index_or notes.posted number true ≡ any_posted z.ports.outboxes
-  pub begins : number ≡ 0 → Tells notes.begins (MayBegin sizes z.keeps)
+-- a flag tells whether a zone posted something that hasn't moved yet
+abbrev pub TellsPosts : Bool → Zone → Type 0
+TellsPosts flag z = flag ≡ any_posted z.ports.outboxes
 
--- they are right of each zone of a core
+-- a flag tells whether there is work for a step of a zone
+pub record TellsWork (sizes : Sizes) (flag : Bool) (z : Zone) : Type 0 where
+  pub yes : flag ≡ true → IsIdle sizes z → ⊥
+  pub no : flag ≡ false → IsIdle sizes z
+
+-- there is a flag for each zone that a core may have, and those of its zones tell this
+pub record IsTold (P : Bool → Zone → Type 0) (flags : List Bool) (zones : List Zone) : Type 0 where
+  pub long : length flags ≡ 11
+  pub each : Each (λ n z. P (slice_index_or flags n false) z) zones
+
+-- the notes are right of each zone of a core
 pub record IsKnown (sizes : Sizes) (notes : WorkNotes) (zones : List Zone) : Type 0 where
-  pub long : length notes.posted ≡ 11
-  pub each : Each (KnowsZone sizes notes) zones
+  pub posts : IsTold TellsPosts notes.posted zones
+  pub work : IsTold (TellsWork sizes) notes.works zones
 
--- a zone was looked at, and what it shows is noted
-pub record Notes (sizes : Sizes) (number : ℕ) (z : Zone) (old new : WorkNotes) : Type 0 where
-  pub posted : new.posted ≡ slice_set old.posted number (any_posted z.ports.outboxes)
-  pub others : number ≢ 0 → new.begins ≡ old.begins
-  pub begins : number ≡ 0 → Tells new.begins (MayBegin sizes z.keeps)
+-- the flag of this zone was set to what this tells of it, and no other
+abbrev pub Sets : (Bool → Zone → Type 0) → ℕ → Zone → List Bool → List Bool → Type 0
+Sets P number z old new = (flag : Bool) × P flag z × (new ≡ slice_set old number flag)
 
--- each zone but that of this number has what it had, and posted what it had posted
-abbrev pub OthersStay : ℕ → List Zone → List Zone → Type 0
-OthersStay number old new =
-    (n : ℕ) (z : Zone) → n ≢ number → slice_get new n ≡ Some z → (before : Zone) × (slice_get old n ≡ Some before) × (z.keeps ≡ before.keeps) × (z.ports.outboxes ≡ before.ports.outboxes)
+-- of each zone but that of this number a flag tells what it told before
+abbrev pub OthersStay : (Bool → Zone → Type 0) → ℕ → List Zone → List Zone → Type 0
+OthersStay P number old new =
+    (n : ℕ) (z : Zone) → n ≢ number → slice_get new n ≡ Some z → (before : Zone) × (slice_get old n ≡ Some before) × ((flag : Bool) → P flag before → P flag z)

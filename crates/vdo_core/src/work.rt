@@ -1,9 +1,9 @@
-ghost use Rattle.std.specs.Prelude.{◌≡◌, ◌*◌, length, IsTrue, false};
+ghost use Rattle.std.specs.Prelude.{◌≡◌, ◌*◌, ◌≤◌, length, IsTrue, false};
 ghost use Rattle.core_model.specs.SessionLimits.{requests_in};
 ghost use Rattle.core_model.specs.Steps.{IsIdle, MayBegin};
-ghost use Rattle.vdo_core.specs.Conditions.{AllCanStep, CanBeginAt};
+ghost use Rattle.vdo_core.specs.Conditions.{CanBeginAt};
 ghost use Rattle.vdo_core.specs.Done.{IsDone};
-ghost use Rattle.vdo_core.specs.Notes.{IsKnown, KnowsZone};
+ghost use Rattle.vdo_core.specs.Notes.{IsKnown};
 ghost use Rattle.vdo_core.specs.Plays.{HasNoWork};
 
 use crate::events::Event;
@@ -15,8 +15,8 @@ use core_model::{Desk, Zone, ZoneData};
 use data_vio::Sizes;
 use desk_zone::may_begin;
 
-/// Whether the zone is a desk that may begin a request.
-pub(crate) fn begins(sizes: &Sizes, keeps: &ZoneData) -> bool
+// Whether the zone is a desk that may begin a request.
+fn begins(sizes: &Sizes, keeps: &ZoneData) -> bool
     requires { CanBeginAt sizes.now keeps.now }
     ensures yes { IsTrue result → MayBegin sizes.now keeps.now }
     ensures no { (result ≡ false) → MayBegin sizes.now keeps.now → ⊥ }
@@ -27,27 +27,13 @@ pub(crate) fn begins(sizes: &Sizes, keeps: &ZoneData) -> bool
     }
 }
 
-// The same, where it is noted of the first zone.
-fn begins_by(sizes: &Sizes, zone: &Zone, number: u32, notes: &WorkNotes) -> bool
-    requires can { CanBeginAt sizes.now zone.now.keeps }
-    requires known { KnowsZone sizes.now notes.now number zone.now }
-    ensures yes { IsTrue result → MayBegin sizes.now zone.now.keeps }
-    ensures no { (result ≡ false) → MayBegin sizes.now zone.now.keeps → ⊥ }
-{
-    if number == 0 {
-        return notes.begins;
-    }
-    begins(sizes, &zone.keeps)
-}
-
-// Whether a zone has work.
-fn has_work(sizes: &Sizes, zone: &Zone, number: u32, notes: &WorkNotes) -> bool
-    requires can { CanBeginAt sizes.now zone.now.keeps }
-    requires known { KnowsZone sizes.now notes.now number zone.now }
+/// Whether there is work for a step of a zone.
+pub(crate) fn has_work(sizes: &Sizes, zone: &Zone) -> bool
+    requires { CanBeginAt sizes.now zone.now.keeps }
     ensures yes { IsTrue result → IsIdle sizes.now zone.now → ⊥ }
     ensures no { (result ≡ false) → IsIdle sizes.now zone.now }
 {
-    has_steps_left(zone) && (zone.ports.has_item() || begins_by(sizes, zone, number, notes))
+    has_steps_left(zone) && (zone.ports.has_item() || begins(sizes, &zone.keeps))
 }
 
 // Whether a desk began each request, and answered it.
@@ -74,16 +60,13 @@ pub(crate) fn is_done(zones: &Zones) -> bool
 
 /// Whether there is work for an event: exactly where a step of the zone, or a move between the two, isn't idle.
 pub(crate) fn ready(sizes: &Sizes, zones: &Zones, notes: &WorkNotes, event: Event) -> bool
-    requires can { AllCanStep sizes.now zones.now }
     requires known { IsKnown sizes.now notes.now zones.now }
+    requires few { length zones.now ≤ 11 }
     ensures yes { IsTrue result → HasNoWork sizes.now zones.now event → ⊥ }
     ensures no { (result ≡ false) → HasNoWork sizes.now zones.now event }
 {
     match event {
-        Event::Step(number) => match zones.zones.get(number as usize) {
-            Some(zone) => has_work(sizes, zone, number, notes),
-            None => false,
-        },
+        Event::Step(number) => notes.has_work(sizes, zones, number),
         Event::Move(from, to) => can_move(zones, from, to),
     }
 }

@@ -1,5 +1,5 @@
 use Rattle.vdo_core.proofs.SessionLaws.{all_can_step, few_zones, reached_on}
-use Rattle.vdo_core.proofs.NoteLaws.{played_stays}
+use Rattle.vdo_core.proofs.NoteLaws.{played_posts, played_work}
 use Rattle.vdo_core.proofs.PlayLaws.{was_done, was_idle}
 use Rattle.vdo_core.proofs.cores.Core.step.Goals as goal
 
@@ -25,7 +25,8 @@ invariant_of-self g c =
         has_room = c.self.invariant.whole.has_room;
       };
       known = c.follow.ensures c.self.inside.zones
-          (played_stays g.D.Disk.tells g.D.Disk.honest c.self.inside.sizes c.args.event c.self.inside.zones c.play_one-stepped.new.zones _ _ played.plays.0 played.plays.1) c.self.invariant.known;
+          (played_posts g.D.Disk.tells g.D.Disk.honest c.self.inside.sizes c.args.event c.self.inside.zones c.play_one-stepped.new.zones _ _ played.plays.0 played.plays.1)
+          (played_work g.D.Disk.tells g.D.Disk.honest c.self.inside.sizes c.args.event c.self.inside.zones c.play_one-stepped.new.zones _ _ played.plays.0 played.plays.1) c.self.invariant.known;
     }
 
 pub returns-clause-plays : goal.returns-clause-plays

@@ -1,12 +1,14 @@
-use Rattle.std.proofs.Common.{ℕ, ◌≡◌, ◌<◌, Some, length, slice_get}
+use Rattle.std.proofs.Common.{ℕ, ◌≡◌, ◌<◌, false, Some, length, slice_get, slice_index_or}
 use Rattle.core_model.specs.declared.zones.Zone.{Zone}
-use Rattle.vdo_core.specs.Notes.{KnowsZone}
+use Rattle.vdo_core.specs.Notes.{TellsPosts, TellsWork}
 use Rattle.vdo_core.proofs.notes.WorkNotes.of.Given as goal
 
--- the zones in front are known
+-- the flags of the zones in front are right
 abbrev pub invariant-loop-number : goal.invariant-loop-number
 invariant-loop-number l = record {
   count : l.number-end ≡ length l.zones;
-  long : length l.notes.posted ≡ 11;
-  known : (n : ℕ) (z : Zone) → n < l.number → slice_get l.zones n ≡ Some z → KnowsZone l.sizes l.notes n z;
+  long_posted : length l.notes.posted ≡ 11;
+  long_works : length l.notes.works ≡ 11;
+  posts : (n : ℕ) (z : Zone) → n < l.number → slice_get l.zones n ≡ Some z → TellsPosts (slice_index_or l.notes.posted n false) z;
+  work : (n : ℕ) (z : Zone) → n < l.number → slice_get l.zones n ≡ Some z → TellsWork l.sizes (slice_index_or l.notes.works n false) z;
 }
