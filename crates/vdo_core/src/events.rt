@@ -1,4 +1,4 @@
-ghost use Rattle.std.specs.Prelude.{◌≡◌, Some, slice_get};
+ghost use Rattle.std.specs.Prelude.{◌≡◌, ◌≤◌, Some, length, slice_get};
 ghost use Rattle.disk_model.specs.Seen.{Stays};
 ghost use Rattle.core_model.specs.Trace.{Trace};
 ghost use Rattle.device_zone.specs.DeviceCalls.{Fits};
@@ -49,6 +49,7 @@ pub(crate) fn play_one<D: Disk>(
     disk: &mut D,
 ) -> Stepped
     requires can { AllCanStep sizes.now zones.old }
+    requires few { length zones.old ≤ 11 }
     requires fits { Fits sizes.now (D.seen disk.old) }
     ensures stays { Stays (D.seen disk.old) (D.seen disk.new) }
     ensures plays { (made : Trace)

@@ -1,4 +1,4 @@
-ghost use Rattle.std.specs.Prelude.{◌≡◌, ◌≢◌, ◌<◌, [], Some, IsTrue, List, false, length, slice_get};
+ghost use Rattle.std.specs.Prelude.{◌≡◌, ◌≢◌, ◌<◌, ◌≤◌, [], Some, IsTrue, List, false, length, slice_get};
 ghost use Rattle.data_vio.specs.declared.items.Item.{Item};
 ghost use Rattle.core_model.specs.declared.zones.Zone.{Zone};
 ghost use Rattle.core_model.specs.Limits.{IsShort, IsWithin};
@@ -40,20 +40,21 @@ fn carry(zones: &mut Vec<Zone>, batch: &mut Lane, from: u32, to: u32)
 
 /// Whether one zone has posted something to another.
 pub(crate) fn can_move(zones: &Zones, from: u32, to: u32) -> bool
+    requires { length zones.now ≤ 11 }
     ensures yes { IsTrue result → MovesSome zones.now from to }
     ensures no { (result ≡ false) → MovesNothing zones.now from to }
 {
-    let (source, target) = (from as usize, to as usize);
-    let count = zones.zones.len();
-    if source == target || source >= count || target >= count {
+    let count = zones.zones.len() as u32;
+    if from == to || from >= count || to >= count {
         return false;
     }
-    has_posted(&zones.zones[source], to)
+    has_posted(&zones.zones[from as usize], to)
 }
 
 /// What one zone posted to another moves from the outbox to the tail of the inbox, all of it. It asks for no memory.
 pub(crate) fn move_items(zones: &mut Zones, from: u32, to: u32) -> Stepped
-    requires { Each (λ n z. IsWithin z) zones.old }
+    requires within { Each (λ n z. IsWithin z) zones.old }
+    requires few { length zones.old ≤ 11 }
     ensures { ComesTo (MovesAll from to zones.old zones.new) (MovesNothing zones.old from to)
         (zones.new ≡ zones.old) result }
 {

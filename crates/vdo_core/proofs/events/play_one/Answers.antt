@@ -1,8 +1,8 @@
 use Rattle.vdo_core.proofs.PlayLaws.{comes_less, step_plays, move_plays, one_leads}
 use Rattle.vdo_core.proofs.events.play_one.Goals as goal
 
-pub move_items-requires : goal.move_items-requires
-move_items-requires g c = λ n z had. (c.requires.can n z had).within
+pub move_items-requires-clause-within : goal.move_items-requires-clause-within
+move_items-requires-clause-within g c = λ n z had. (c.requires.can n z had).within
 
 pub returns-in-Step-clause-plays : goal.returns-in-Step-clause-plays
 returns-in-Step-clause-plays g c =

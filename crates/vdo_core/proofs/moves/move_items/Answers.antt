@@ -19,12 +19,12 @@ carry-requires-clause-outbox c = λ source got.
 pub carry-requires-clause-sent : goal.carry-requires-clause-sent
 carry-requires-clause-sent c = λ source lane got out.
     (let there : slice_get c.args.zones.now c.args.from ≡ Some source = cc (c.zones.view_is, got) in
-    short_lane source.ports.outboxes c.args.to lane (c.requires c.args.from source there).outboxes out)
+    short_lane source.ports.outboxes c.args.to lane (c.requires.within c.args.from source there).outboxes out)
 
 pub carry-requires-clause-there : goal.carry-requires-clause-there
 carry-requires-clause-there c = λ target got.
     (let there : slice_get c.args.zones.now c.args.to ≡ Some target = cc (c.zones.view_is, got) in
-    (c.requires c.args.to target there).inbox)
+    (c.requires.within c.args.to target there).inbox)
 
 pub carry-requires-clause-source : goal.carry-requires-clause-source
 carry-requires-clause-source c =

@@ -6,6 +6,9 @@ use Rattle.vdo_core.proofs.cores.Core.step.Goals as goal
 pub play_one-stepped-requires-clause-can : goal.play_one-stepped-requires-clause-can
 play_one-stepped-requires-clause-can g c = all_can_step c.self.inside.sizes c.self.inside.zones c.self.invariant.whole.reached
 
+pub play_one-stepped-requires-clause-few : goal.play_one-stepped-requires-clause-few
+play_one-stepped-requires-clause-few g c = few_zones c.self.inside.sizes c.self.inside.zones c.self.invariant.whole.reached
+
 pub follow-requires-clause-can : goal.follow-requires-clause-can
 follow-requires-clause-can g c =
     all_can_step c.self.inside.sizes c.play_one-stepped.new.zones
