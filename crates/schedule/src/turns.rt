@@ -1,4 +1,5 @@
-ghost use Rattle.std.specs.Prelude.{◌≡◌, ◌≤◌, ◌<◌, ◌+◌, ◌*◌, [], List, MatchOption, length, map};
+ghost use Rattle.std.specs.Prelude.{ℕ, ◌≡◌, ◌≤◌, ◌<◌, ◌+◌, ◌*◌, [], List, MatchOption, length, map};
+ghost use Rattle.disk_model.specs.Picks.{next_state, number_in};
 ghost use Rattle.disk_model.specs.Seen.{Stays};
 ghost use Rattle.core_model.specs.Trace.{Trace};
 ghost use Rattle.device_zone.specs.DeviceCalls.{Fits};
@@ -7,7 +8,7 @@ ghost use Rattle.vdo_core.specs.declared.events.Event.{Event};
 ghost use Rattle.schedule.specs.Turns.{AreReady, Drives, IsTurn, event_count, event_of};
 
 use arrayvec::ArrayVec;
-use disk_model::{Disk, next_state, number_in};
+use disk_model::Disk;
 use std::marker::Model;
 use vdo_core::{Core, Event};
 
@@ -49,12 +50,31 @@ impl Schedule {
             × Drives D.tells D.honest core.old.sizes self.old self.new events core.old.zones
             core.new.zones (D.seen device.old) (D.seen device.new) made }
     {
-        let Some(event) = choose(core, self.state) else {
+        let next = next_state(self.state);
+        let Some(event) = choose(core, number_in(next)) else {
             return;
         };
-        self.state = next_state(self.state);
+        self.state = next;
         core.step(event, device);
     }
+}
+
+// The next state of a row of numbers.
+#[tactic(auto, unfolding(disk_model::specs::Picks::next_state))]
+fn next_state(state: u64) -> u64
+    ensures { result ≡ next_state state }
+{
+    state
+        .wrapping_mul(6_364_136_223_846_793_005)
+        .wrapping_add(1_442_695_040_888_963_407)
+}
+
+// The number that a state of a row gives: its high bits.
+#[tactic(auto, unfolding(disk_model::specs::Picks::number_in))]
+fn number_in(state: u64) -> u64
+    ensures { result ≡ number_in state }
+{
+    state / (1 << 33)
 }
 
 // The event of a number, from 0, of a core of so many zones.
@@ -126,10 +146,11 @@ fn list_ready(core: &Core, ready: &mut ArrayVec<u8, MOST_EVENTS>)
     }
 }
 
-// The event that a turn takes, if there is work for any.
-fn choose(core: &Core, state: u64) -> Option<Event>
+// The event that a turn takes by this number, if there is work for any.
+fn choose(core: &Core, number: u64) -> Option<Event>
     ensures { MatchOption result
         (AreReady core.now.sizes core.now.zones (event_count (length core.now.zones)) []) (λ event.
+        (state : ℕ) → number ≡ number_in (next_state state) →
         IsTurn core.now.sizes core.now.zones state event) }
 {
     let mut ready = ArrayVec::new();
@@ -138,7 +159,7 @@ fn choose(core: &Core, state: u64) -> Option<Event>
     if count == 0 {
         return None;
     }
-    let place = u64::from(number_in(next_state(state))) % count;
+    let place = number % count;
     let k = ready.as_slice()[place as usize];
     Some(event_of(core.zone_count(), u32::from(k)))
 }
