@@ -28,7 +28,7 @@ pub use journal::JournalZone;
 pub use logical::LogicalZone;
 pub use map_tree::MapTree;
 pub use page_list::PageList;
-pub use ports::{Lane, Ports};
+pub use ports::Ports;
 pub use scripts::is_limited;
 pub use slots::Slots;
 pub use zones::{DeviceZone, PhysicalZone, SuperblockStage, Zone, ZoneData};

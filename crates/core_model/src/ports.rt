@@ -1,24 +1,20 @@
-ghost use Rattle.std.specs.Prelude.{◌≡◌, ◌+◌, ◌<◌, ◌≤◌, ◌↔◌, List, [], ◌∷◌, ◌++◌, Some, IfOk, IfSome, IfNone, IsTrue, false, length, replicate, slice_get, slice_set};
+ghost use Rattle.std.specs.Prelude.{◌≡◌, ◌+◌, ◌<◌, ◌≤◌, ◌↔◌, List, [], ◌∷◌, ◌++◌, Some, IfOk, IfSome, IfNone, IsTrue, false, length, replicate, slice_get, slice_index_or, slice_set};
 ghost use Rattle.std.specs.List.{AllByRecursion};
 ghost use Rattle.data_vio.specs.declared.items.Item.{Item};
 ghost use Rattle.core_model.specs.Limits.{IsShort};
 ghost use Rattle.core_model.specs.PortsData.{items_of};
 ghost use Rattle.core_model.specs.Steps.{posted};
 
-use data_vio::{Fifo, Item, LANE_ROOM};
+use data_vio::{Item, LANE_ROOM};
 use std::alloc::{AllocError, Global};
 use std::marker::Model;
-use std::mem::replace;
 
-/// A list of items on their way, with room for all that are under way and for those of one step or move more.
-pub type Lane = Fifo<Item, LANE_ROOM>;
-
-/// The ports of a zone: its inbox, and an outbox to each zone by its number. Each is a list with the room of a `Lane`, which
-/// is taken when they are made: no item is ever refused. A contract sees the items, the oldest first.
+/// The ports of a zone: its inbox, and an outbox to each zone by its number. Each is a list with room for all items that
+/// are under way and for those of one step or move more, which is taken when they are made: no item is ever refused. A
+/// contract sees the items, the oldest first.
 #[derive(Drop)]
 pub struct Ports {
     boxes: zone_queues::Ports<Item>,
-    alloc: Global,
 }
 
 impl Model for Ports {
@@ -39,7 +35,7 @@ impl Ports {
     {
         let rooms = rooms(alloc, count)?;
         let boxes = zone_queues::Ports::new(alloc, LANE_ROOM, &rooms)?;
-        Ok(Ports { boxes, alloc })
+        Ok(Ports { boxes })
     }
 
     /// How many outboxes there are.
@@ -91,25 +87,19 @@ impl Ports {
         self.boxes.has_posts(to)
     }
 
-    /// Hands out the items of the outbox to a zone, and takes those of this list in their place.
-    pub fn exchange(&mut self, to: u32, batch: &mut Lane)
-        requires { to < length self.old.outboxes }
-        ensures out { slice_get self.old.outboxes to ≡ Some batch.new }
-        ensures kept { self.new
-            ≡ record self.old { outboxes = slice_set self.old.outboxes to batch.old } }
+    /// All items of the outbox to a zone go to the inbox in that zone's ports, behind those that are there, in their
+    /// order.
+    pub fn hand_over(&mut self, to: u32, receiver: &mut Ports)
+        requires there { to < length self.old.outboxes }
+        requires room { length receiver.old.inbox
+            + length (slice_index_or self.old.outboxes to []) ≤ LANE_ROOM }
+        ensures left { self.new
+            ≡ record self.old { outboxes = slice_set self.old.outboxes to [] } }
+        ensures added { receiver.new ≡ record receiver.old {
+          inbox = receiver.old.inbox ++ slice_index_or self.old.outboxes to [];
+        } }
     {
-        let none = zone_queues::Lane::without_room(self.alloc);
-        let lane = replace(&mut batch.items, none);
-        batch.items = self.boxes.exchange(to, lane);
-    }
-
-    /// Adds all items of a batch to the inbox, behind those that are there. The batch is empty then, and keeps its room.
-    pub fn receive(&mut self, batch: &mut Lane)
-        requires { length self.old.inbox + length batch.old ≤ LANE_ROOM }
-        ensures added { self.new ≡ record self.old { inbox = self.old.inbox ++ batch.old } }
-        ensures emptied { batch.new ≡ [] }
-    {
-        self.boxes.receive(&mut batch.items);
+        self.boxes.hand_over(to, &mut receiver.boxes);
     }
 }
 

@@ -1,7 +1,6 @@
 ghost use Rattle.std.specs.Prelude.{◌≡◌, ◌<◌, ◌∷◌, [], length};
 ghost use Rattle.zone_queues.specs.Queues.{empty, opening};
 
-use std::alloc::{AllocError, Global};
 use std::test::Fail;
 use zone_queues::{Lane, Lanes, Ports};
 
@@ -64,13 +63,13 @@ fn from_zone_to_zone(rt: HostRuntime) -> Result<(), Fail> {
     Ok(())
 }
 
-// A batch of the sender goes to the receiver. To which zones the sender has posts, how many outboxes it has and how many
-// items the receiver has then, what that takes, and whether the batch is empty and the receiver has an item in the end.
+// What a sender posted goes behind an item of the receiver. To which zones the sender has posts, how many outboxes it
+// has and how many items the receiver has then, what that takes, and whether the sender has posts and the receiver an
+// item in the end.
 fn hand_over(
     sender: &mut Ports<char>,
     receiver: &mut Ports<char>,
-    alloc: Global,
-) -> Result<([bool; 2], [usize; 2], [Option<char>; 4], [bool; 2]), AllocError>
+) -> ([bool; 2], [usize; 2], [Option<char>; 4], [bool; 2])
     requires sender { sender.old.outboxes ≡ empty _ 0 ∷ empty _ 2 ∷ [] }
     requires receiver { receiver.old.inbox ≡ empty _ 3 }
 {
@@ -78,8 +77,7 @@ fn hand_over(
     sender.post(1, 'b');
     receiver.keep('z');
     let posts = [sender.has_posts(0), sender.has_posts(1)];
-    let mut batch = sender.exchange(1, Lane::new(alloc, 2)?);
-    receiver.receive(&mut batch);
+    sender.hand_over(1, receiver);
     let counts = [sender.outboxes().len(), receiver.inbox().len()];
     let taken = [
         receiver.take(),
@@ -87,25 +85,44 @@ fn hand_over(
         receiver.take(),
         receiver.take(),
     ];
-    Ok((
+    (
         posts,
         counts,
         taken,
-        [batch.is_empty(), receiver.has_item()],
-    ))
+        [sender.has_posts(1), receiver.has_item()],
+    )
 }
 
-// A batch leaves in exchange for an empty list, and comes in at another zone.
+// An outbox comes in behind what the receiver has.
 #[test]
-fn a_batch_changes_hands(rt: HostRuntime) -> Result<(), Fail> {
+fn an_outbox_is_handed_over(rt: HostRuntime) -> Result<(), Fail> {
     let mut sender = Ports::new(rt.alloc(), 1, &[0, 2])?;
     let mut receiver = Ports::new(rt.alloc(), 3, &[])?;
-    let handed_over = hand_over(&mut sender, &mut receiver, rt.alloc());
+    let handed_over = hand_over(&mut sender, &mut receiver);
     let taken = [Some('z'), Some('a'), Some('b'), None];
-    assert_eq!(rt;
-        handed_over,
-        Ok(([false, true], [2, 3], taken, [true, false]))
-    );
+    assert_eq!(rt; handed_over, ([false, true], [2, 3], taken, [false, false]));
+    Ok(())
+}
+
+// What a sender posted goes to an empty inbox of the same room, and then one item more. What the receiver takes.
+fn hand_over_twice(sender: &mut Ports<char>, receiver: &mut Ports<char>) -> [Option<char>; 3]
+    requires sender { sender.old.outboxes ≡ empty _ 2 ∷ [] }
+    requires receiver { receiver.old.inbox ≡ empty _ 2 }
+{
+    sender.post(0, 'a');
+    sender.hand_over(0, receiver);
+    sender.post(0, 'b');
+    sender.hand_over(0, receiver);
+    [receiver.take(), receiver.take(), receiver.take()]
+}
+
+// An outbox comes in at an empty inbox, and the next one behind it.
+#[test]
+fn an_empty_inbox_is_filled(rt: HostRuntime) -> Result<(), Fail> {
+    let mut sender = Ports::new(rt.alloc(), 1, &[2])?;
+    let mut receiver = Ports::new(rt.alloc(), 2, &[])?;
+    let taken = hand_over_twice(&mut sender, &mut receiver);
+    assert_eq!(rt; taken, [Some('a'), Some('b'), None]);
     Ok(())
 }
 

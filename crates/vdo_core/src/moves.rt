@@ -1,4 +1,4 @@
-ghost use Rattle.std.specs.Prelude.{◌≡◌, ◌≢◌, ◌<◌, ◌≤◌, [], Some, IsTrue, List, false, length, slice_get};
+ghost use Rattle.std.specs.Prelude.{◌≡◌, ◌≢◌, ◌<◌, ◌≤◌, Some, IsTrue, List, false, length, slice_get};
 ghost use Rattle.data_vio.specs.declared.items.Item.{Item};
 ghost use Rattle.core_model.specs.declared.zones.Zone.{Zone};
 ghost use Rattle.core_model.specs.Limits.{IsShort, IsWithin};
@@ -8,17 +8,17 @@ ghost use Rattle.vdo_core.specs.Plays.{ComesTo, MovesAll};
 
 use crate::stepped::Stepped;
 use crate::zones::Zones;
-use core_model::{Lane, Zone};
+use core_model::Zone;
 
-// Whether an outbox has items.
-fn has_posted(zone: &Zone, to: u32) -> bool
+/// Whether an outbox has items.
+pub(crate) fn has_posted(zone: &Zone, to: u32) -> bool
     ensures { result ≡ has_items (slice_get zone.now.ports.outboxes to) }
 {
     to < zone.ports.count() && zone.ports.has_posts(to)
 }
 
-// The whole outbox of one zone becomes the tail of the inbox of another, by way of an empty batch.
-fn carry(zones: &mut Vec<Zone>, batch: &mut Lane, from: u32, to: u32)
+// The whole outbox of one zone becomes the tail of the inbox of another.
+fn carry(zones: &mut Vec<Zone>, from: u32, to: u32)
     requires apart { from ≢ to }
     requires source { from < length zones.old.items }
     requires target { to < length zones.old.items }
@@ -29,13 +29,19 @@ fn carry(zones: &mut Vec<Zone>, batch: &mut Lane, from: u32, to: u32)
         slice_get source.ports.outboxes to ≡ Some lane → IsShort lane }
     requires there { (target : Zone) → slice_get zones.old.items to ≡ Some target →
         IsShort target.ports.inbox }
-    requires none { batch.old ≡ [] }
     ensures { MovesAll from to zones.old.items zones.new.items }
 {
-    let source = &mut zones[from as usize];
-    source.ports.exchange(to, batch);
-    let target = &mut zones[to as usize];
-    target.ports.receive(batch);
+    if from < to {
+        let (front, back) = zones.split_at_mut(to as usize);
+        let source = &mut front[from as usize];
+        let target = &mut back[0];
+        source.ports.hand_over(to, &mut target.ports);
+    } else {
+        let (front, back) = zones.split_at_mut(from as usize);
+        let source = &mut back[0];
+        let target = &mut front[to as usize];
+        source.ports.hand_over(to, &mut target.ports);
+    }
 }
 
 /// Whether one zone has posted something to another.
@@ -61,7 +67,6 @@ pub(crate) fn move_items(zones: &mut Zones, from: u32, to: u32) -> Stepped
     if !can_move(zones, from, to) {
         return Stepped::Idle;
     }
-    zones.batch.clear();
-    carry(&mut zones.zones, &mut zones.batch, from, to);
+    carry(&mut zones.zones, from, to);
     Stepped::Did
 }

@@ -1,17 +1,15 @@
 ghost use Rattle.std.specs.Prelude.{◌≡◌, IfOk};
 
-use core_model::{Lane, Zone};
-use data_vio::Fifo;
+use core_model::Zone;
 use std::alloc::{AllocError, Global};
 use std::marker::Model;
 use step_parts::Posts;
 
-/// The zones of a core, by their numbers, with the room for what a step posts and what a move brings.
+/// The zones of a core, by their numbers, with the room for what a step posts.
 #[derive(Drop)]
 pub struct Zones {
     pub(crate) zones: Vec<Zone>,
     pub(crate) posts: Posts,
-    pub(crate) batch: Lane,
 }
 
 impl Model for Zones {
@@ -29,12 +27,7 @@ impl Zones {
         ensures { IfOk result (λ core. core ≡ zones.items) }
     {
         let posts = Posts::new(alloc)?;
-        let batch = Fifo::new(alloc)?;
-        Ok(Zones {
-            zones,
-            posts,
-            batch,
-        })
+        Ok(Zones { zones, posts })
     }
 
     /// The zones, from number 0.

@@ -4,6 +4,7 @@ ghost use Rattle.zone_queues.specs.Queues.{empty, HasRoom, HasRoomFor, with_more
 use std::alloc::{AllocError, Global};
 use std::collections::VecDeque;
 use std::marker::Model;
+use std::mem::swap;
 
 /// A list, first in, first out. Its room is taken when it is made, so that no item is ever refused.
 #[derive(Drop)]
@@ -36,7 +37,7 @@ impl<V: Drop> Lane<V> {
     }
 
     /// An empty list without room, for which no memory is needed.
-    pub fn without_room(alloc: Global) -> Lane<V>
+    pub(crate) fn without_room(alloc: Global) -> Lane<V>
         ensures { result ≡ empty V 0 }
     {
         Lane {
@@ -98,6 +99,11 @@ impl<V: Drop> Lane<V> {
         ensures added { self.new ≡ with_more self.old batch.old.items }
         ensures emptied { batch.new ≡ empty V batch.old.room }
     {
+        // The two change places, which moves no item.
+        if self.room == batch.room && self.items.is_empty() {
+            swap(&mut self.items, &mut batch.items);
+            return;
+        }
         let Ok(()) = self.items.append(&mut batch.items) else {
             unreachable!()
         };

@@ -94,7 +94,7 @@ impl<V: Drop> Ports<V> {
     }
 
     /// Hands out the outbox to a zone with all its items, and puts this list in its place.
-    pub fn exchange(&mut self, to: u32, lane: Lane<V>) -> Lane<V>
+    pub(crate) fn exchange(&mut self, to: u32, lane: Lane<V>) -> Lane<V>
         requires { to < length self.old.outboxes }
         ensures out { result ≡ outbox_to self.old to }
         ensures kept { self.new ≡ with_outbox self.old to lane }
@@ -103,13 +103,26 @@ impl<V: Drop> Ports<V> {
     }
 
     /// Adds all items of a batch to the inbox, in their order. The batch is empty then, and keeps its room.
-    pub fn receive(&mut self, batch: &mut Lane<V>)
+    pub(crate) fn receive(&mut self, batch: &mut Lane<V>)
         requires { HasRoomFor self.old.inbox batch.old.items }
         ensures added { self.new
             ≡ record self.old { inbox = with_more self.old.inbox batch.old.items } }
         ensures emptied { batch.new ≡ empty V batch.old.room }
     {
         self.inbox.append(batch);
+    }
+
+    /// All items of the outbox to a zone go to the inbox in that zone's ports, behind those that are there, in their
+    /// order.
+    pub fn hand_over(&mut self, to: u32, receiver: &mut Ports<V>)
+        requires zone { to < length self.old.outboxes }
+        requires room { HasRoomFor receiver.old.inbox (outbox_to self.old to).items }
+        ensures left { self.new ≡ with_outbox self.old to (empty V (outbox_to self.old to).room) }
+        ensures added { receiver.new ≡ record receiver.old {
+          inbox = with_more receiver.old.inbox (outbox_to self.old to).items;
+        } }
+    {
+        receiver.inbox.append(&mut self.outboxes[to as usize]);
     }
 }
 
