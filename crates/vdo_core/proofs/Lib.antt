@@ -15,3 +15,4 @@ pub mod SessionLaws
 mod MoveLaws
 pub mod NoteLaws
 mod RestLaws
+pub mod ZoneSetLaws

@@ -1,8 +1,9 @@
 -- What is known of the zones' work stays right over each event, and what it tells of moves.
-use Rattle.std.proofs.Common.{ℕ, zero, suc, ◌≡◌, ◌≢◌, ◌+◌, ◌<◌, ◌≤◌, Bool, true, false, Some, List, [], ◌∷◌, ◌++◌, length, slice_get, slice_set, slice_index_or, get_or, inl, inr, refl, sym, ◌∙◌, ap, subst, arith}
+use Rattle.std.proofs.Common.{ℕ, zero, suc, ◌≡◌, ◌≢◌, ◌+◌, ◌<◌, ◌≤◌, Bool, true, false, Some, List, [], ◌∷◌, ◌++◌, length, take, slice_get, slice_set, slice_index_or, get_or, inl, inr, refl, sym, ◌∙◌, ap, subst, arith}
+use Rattle.std.proofs.lemmas.Bool.{cases_lt}
 use Rattle.std.proofs.lemmas.Bool.Decides.{eqb_tells}
 use Rattle.std.proofs.lemmas.List.{get_or-set_other, get_or-set_same, length-set}
-use Rattle.std.proofs.lemmas.Option.{same_Some, slice_get-get_or, slice_get_within}
+use Rattle.std.proofs.lemmas.Option.{same_Some, slice_get-get_or, slice_get_past, slice_get_within}
 use Rattle.disk_model.specs.Seen.{Seen}
 use Rattle.data_vio.specs.declared.items.Item.{Item}
 use Rattle.data_vio.specs.declared.sizes.Sizes.{Sizes}
@@ -10,105 +11,208 @@ use Rattle.core_model.specs.declared.zones.Zone.{Zone}
 use Rattle.core_model.specs.declared.zones.ZoneData.{ZoneData}
 use Rattle.core_model.specs.Steps.{IsIdle, MayBegin, step_limit}
 use Rattle.core_model.specs.Trace.{Trace}
-use Rattle.vdo_core.specs.Moves.{MovesNothing, has_items}
-use Rattle.vdo_core.specs.Notes.{IsTold, OthersStay, Sets, TellsPosts, TellsWork, any_posted, has_posted, sender_of, worker_of}
-use Rattle.vdo_core.specs.Plays.{HasNoWork, MovesAll, PlaysOne}
+use Rattle.vdo_core.specs.Moves.{MovesSome, has_items}
+use Rattle.vdo_core.specs.Notes.{IsSetOfSenders, IsSetOfWork, IsTold, KnowsPosts, KnowsWork, OtherPostsStay, OthersStay, TellsNone, TellsPosts, TellsWork, sender_of, worker_of}
+use Rattle.vdo_core.specs.Plays.{MovesAll, PlaysOne}
+use Rattle.vdo_core.specs.ZoneSets.{IsBelow, Puts, is_in}
 use Rattle.vdo_core.specs.declared.events.Event.{Event}
 use Rattle.vdo_core.specs.declared.events.Event.TheVariants as event
+use Rattle.vdo_core.proofs.MoveLaws.{moves_something}
+use Rattle.vdo_core.proofs.ZoneSetLaws.{none_inside, both_ways}
 
--- nothing is posted where each outbox is empty
-pub none_in_any : (lanes : List (List Item)) → ((to : ℕ) → to < length lanes → slice_get lanes to ≡ Some []) → any_posted lanes ≡ false
-none_in_any [] each = refl
-none_in_any ([] ∷ lanes) each = none_in_any lanes (λ to below. each (suc to) (omega (arith, below)))
-none_in_any ((x ∷ xs) ∷ lanes) each = let first : x ∷ xs ≡ [] = same_Some _ _ (each 0 (omega arith)) in absurd cc
+-- The outboxes below a number that have items are those in a set.
+pub record AreCounted (lanes : List (List Item)) (end set : ℕ) : Type 0 where
+  pub yes : (to : ℕ) → is_in set to ≡ true → (to < end) × (has_items (slice_get lanes to) ≡ true)
+  pub no : (to : ℕ) → is_in set to ≡ false → to < end → has_items (slice_get lanes to) ≡ false
 
--- and something where one isn't
-pub some_in_one : (lanes : List (List Item)) (to : ℕ) → to < length lanes → (slice_get lanes to ≡ Some [] → ⊥) → any_posted lanes ≡ true
-some_in_one [] to below some = absurd (omega (arith, below))
-some_in_one ([] ∷ lanes) zero below some = absurd (some refl)
-some_in_one ([] ∷ lanes) (suc to) below some = some_in_one lanes to (omega (arith, below)) some
-some_in_one ((x ∷ xs) ∷ lanes) to below some = refl
+pub counted_none : (lanes : List (List Item)) (set : ℕ) → set ≡ 0 → AreCounted lanes 0 set
+counted_none lanes set none = record {
+  yes = λ to inside. absurd (both_ways _ inside (none_inside set none to));
+  no = λ to outside below. absurd (omega (arith, below));
+}
 
--- so no outbox has items where nothing is posted
-no_items : (lanes : List (List Item)) (to : ℕ) → any_posted lanes ≡ false → has_items (slice_get lanes to) ≡ false
-no_items [] to none = refl
-no_items ([] ∷ lanes) zero none = refl
-no_items ([] ∷ lanes) (suc to) none = no_items lanes to none
-no_items ((x ∷ xs) ∷ lanes) to none = absurd cc
+-- one more that has items
+pub counted_in : (lanes : List (List Item)) (end old new : ℕ) → Puts old new end true → has_items (slice_get lanes end) ≡ true → AreCounted lanes end old → AreCounted lanes (end + 1) new
+counted_in lanes end old new puts some counted = record {
+  yes = λ to inside. elim (eqb_tells to end) [
+    | inl same ↦ (let at = same.1 in (omega (arith, at), subst (λ (k : ℕ). has_items (slice_get lanes k) ≡ true) (sym at) some))
+    | inr other ↦ (let (below, has) = counted.yes to (sym (puts.others to other.1) ∙ inside) in (omega (arith, below), has))
+  ];
+  no = λ to outside below. elim (eqb_tells to end) [
+    | inl same ↦ absurd (both_ways _ (ap (λ (k : ℕ). is_in new k) same.1 ∙ puts.there) outside)
+    | inr other ↦ (let apart = other.1 in counted.no to (sym (puts.others to apart) ∙ outside) (omega (arith, below, apart)))
+  ];
+}
 
--- and there is nothing to move from there
-pub nothing_from : (zones : List Zone) (from to : ℕ) → has_posted (slice_get zones from) ≡ false → MovesNothing zones from to
-nothing_from zones from to none source target apart had had' =
-    let posted : any_posted source.ports.outboxes ≡ false = ap has_posted (sym had) ∙ none in no_items source.ports.outboxes to posted
+-- or none
+pub counted_past : (lanes : List (List Item)) (end set : ℕ) → has_items (slice_get lanes end) ≡ false → AreCounted lanes end set → AreCounted lanes (end + 1) set
+counted_past lanes end set none counted = record {
+  yes = λ to inside. (let (below, has) = counted.yes to inside in (omega (arith, below), has));
+  no = λ to outside below. elim (eqb_tells to end) [
+    | inl same ↦ subst (λ (k : ℕ). has_items (slice_get lanes k) ≡ false) (sym same.1) none
+    | inr other ↦ (let apart = other.1 in counted.no to outside (omega (arith, below, apart)))
+  ];
+}
 
-module _ (P : Bool → Zone → Type 0) where
-  -- the flag of a zone at which was looked is right
-  told_there : (number : ℕ) (z : Zone) (old new : List Bool) → number < length old → Sets P number z old new → P (slice_index_or new number false) z
-  told_there number z old new inside (flag, right, is) =
-      subst (λ (b : Bool). P b z) (sym (ap (λ (flags : List Bool). get_or flags number false) is ∙ get_or-set_same old number flag false inside)) right
-
-  -- and each other one is as before
-  told_elsewhere : (number n : ℕ) (z looked : Zone) (old new : List Bool) → n ≢ number → Sets P number looked old new → P (slice_index_or old n false) z → P (slice_index_or new n false) z
-  told_elsewhere number n z looked old new other (flag, right, is) told =
-      subst (λ (b : Bool). P b z) (sym (ap (λ (flags : List Bool). get_or flags n false) is ∙ get_or-set_other old number n flag false other)) told
-
-  -- the number of flags stays
-  pub still_long : (number : ℕ) (z : Zone) (old new : List Bool) → Sets P number z old new → length old ≡ 11 → length new ≡ 11
-  still_long number z old new (flag, right, is) long = ap length is ∙ length-set old number flag ∙ long
-
-  -- all flags are right after the zone that isn't as before was looked at
-  pub told_on : (number : ℕ) (z : Zone) (before now : List Zone) (old new : List Bool) → number < 11 → slice_get now number ≡ Some z → Sets P number z old new
-      → OthersStay P number before now → IsTold P old before → IsTold P new now
-  told_on number z before now old new few had set stay told = record {
-    long = still_long number z old new set told.long;
-    each = λ n at got. elim (eqb_tells n number) [
-      | inl same ↦ (
-          let here : slice_get now number ≡ Some at = subst (λ (k : ℕ). slice_get now k ≡ Some at) same.1 got in
-          let long = told.long in
-          subst (λ (k : ℕ). P (slice_index_or new k false) at) (sym same.1)
-          (subst (λ (w : Zone). P (slice_index_or new number false) w) (same_Some _ _ (sym had ∙ here)) (told_there number z old new (omega (arith, few, long)) set))
-          )
-      | inr other ↦ (
-          let (was, had', still) = stay n at other.1 got in
-          told_elsewhere number n at z old new other.1 set (still (slice_index_or old n false) (told.each n was had'))
-          )
-    ];
-  }
-
-  -- those of the zones up to one at which was looked, where those before it are right
-  pub told_more : (number : ℕ) (z : Zone) (zones : List Zone) (old new : List Bool) → number < 11 → length old ≡ 11 → slice_get zones number ≡ Some z
-      → Sets P number z old new → ((n : ℕ) (at : Zone) → n < number → slice_get zones n ≡ Some at → P (slice_index_or old n false) at)
-      → (n : ℕ) (at : Zone) → n < number + 1 → slice_get zones n ≡ Some at → P (slice_index_or new n false) at
-  told_more number z zones old new few long had set told n at below got = elim (eqb_tells n number) [
-    | inl same ↦ (
-        let here : slice_get zones number ≡ Some at = subst (λ (k : ℕ). slice_get zones k ≡ Some at) same.1 got in
-        subst (λ (k : ℕ). P (slice_index_or new k false) at) (sym same.1)
-        (subst (λ (w : Zone). P (slice_index_or new number false) w) (same_Some _ _ (sym had ∙ here)) (told_there number z old new (omega (arith, few, long)) set))
-        )
+-- So are the zones to which another has posted something, where it doesn't count itself.
+pub counted_all : (z : Zone) (count number end old new : ℕ) → end ≤ count → (end < count → length z.ports.outboxes ≤ end) → AreCounted z.ports.outboxes end old → Puts old new number false
+    → TellsPosts count number new z
+counted_all z count number end old new most all counted puts = record {
+  yes = λ to inside. elim (eqb_tells to number) [
+    | inl same ↦ absurd (both_ways _ inside (ap (λ (k : ℕ). is_in new k) same.1 ∙ puts.there))
     | inr other ↦ (
         let apart = other.1 in
-        told_elsewhere number n at z old new apart set (told n at (omega (arith, below, apart)) got)
+        let (below, has) = counted.yes to (sym (puts.others to apart) ∙ inside) in
+        (λ (same : number ≡ to). apart (sym same), omega (arith, below, most), has)
+        )
+  ];
+  no = λ to outside apart below.
+      (let left : is_in old to ≡ false = sym (puts.others to (λ (same : to ≡ number). apart (sym same))) ∙ outside in
+      elim (cases_lt to end) [
+        | inl inside ↦ counted.no to left inside
+        | inr past ↦ (let none = all (omega (arith, past, below)) in ap has_items (slice_get_past z.ports.outboxes to (omega (arith, past, none))))
+      ]);
+}
+
+-- a set of receivers without a zone tells that there is none, and the flag that it isn't empty
+pub none_posted : (count number set : ℕ) (flag : Bool) (z : Zone) → TellsPosts count number set z → (flag ≡ false → set ≡ 0) → TellsNone count number flag z
+none_posted count number set flag z told empty unset to apart below = told.no to (none_inside set (empty unset) to) apart below
+
+module _ {F : Type 0} (P : ℕ → F → Zone → Type 0) where
+  -- What is noted is right of all after the zone that isn't as before was looked at.
+  pub told_on : (number : ℕ) (z : Zone) (before now : List Zone) (old new : ℕ → F) → slice_get now number ≡ Some z → P number (new number) z
+      → ((n : ℕ) → n ≢ number → new n ≡ old n) → OthersStay P number before now → IsTold P old before → IsTold P new now
+  told_on number z before now old new had right same stay told n at got = elim (eqb_tells n number) [
+    | inl here ↦ (
+        let there : slice_get now number ≡ Some at = subst (λ (k : ℕ). slice_get now k ≡ Some at) here.1 got in
+        subst (λ (k : ℕ). P k (new k) at) (sym here.1) (subst (λ (w : Zone). P number (new number) w) (same_Some _ _ (sym had ∙ there)) right)
+        )
+    | inr other ↦ (
+        let (was, had', still) = stay n at other.1 got in
+        subst (λ (f : F). P n f at) (sym (same n other.1)) (still (old n) (told n was had'))
         )
   ]
 
-  -- and where no zone has the number, each is as before
-  pub told_still : (number : ℕ) (before now : List Zone) (flags : List Bool) → (length now ≤ number) → OthersStay P number before now → IsTold P flags before → IsTold P flags now
-  told_still number before now flags past stay told = record {
-    long = told.long;
-    each = λ n at got.
-        (let below = slice_get_within now n at got in
-        let (was, had', still) = stay n at (λ is. omega (arith, is, below, past)) got in
-        still (slice_index_or flags n false) (told.each n was had'));
-  }
+  -- And where no zone has the number, each is as before.
+  pub told_still : (number : ℕ) (before now : List Zone) (noted : ℕ → F) → length now ≤ number → OthersStay P number before now → IsTold P noted before → IsTold P noted now
+  told_still number before now noted past stay told n at got =
+      let below = slice_get_within now n at got in
+      let (was, had', still) = stay n at (λ (is : n ≡ number). omega (arith, is, below, past)) got in
+      still (noted n) (told n was had')
 
--- there is work for a zone that is there and whose flag is set
-pub some_work : (sizes : Sizes) (number : ℕ) (zones : List Zone) (flags : List Bool) → number < length zones → IsTold (TellsWork sizes) flags zones → slice_index_or flags number false ≡ true
-    → HasNoWork sizes zones (event.Step number) → ⊥
-some_work sizes number [] flags inside told set none = omega (arith, inside)
-some_work sizes number (x ∷ xs) flags inside told set none =
-    let at : Zone = get_or (x ∷ xs) number x in
-    let got : slice_get (x ∷ xs) number ≡ Some at = slice_get-get_or (x ∷ xs) number x inside in
-    (told.each number at got).yes set (none at got)
+  -- one zone more of those in front
+  pub others_taken : (zones : List Zone) (number : ℕ) → OthersStay P number (take number zones) (take (suc number) zones)
+  others_taken zones number n at apart got = (at, taken_before zones number n at apart got, λ noted told. told)
+    where
+      taken_before : (zones : List Zone) (number n : ℕ) (at : Zone) → n ≢ number → slice_get (take (suc number) zones) n ≡ Some at → slice_get (take number zones) n ≡ Some at
+      taken_before [] number n at apart got = absurd cc
+      taken_before (x ∷ xs) zero zero at apart got = absurd (apart refl)
+      taken_before (x ∷ xs) zero (suc n) at apart got = absurd cc
+      taken_before (x ∷ xs) (suc number) zero at apart got = got
+      taken_before (x ∷ xs) (suc number) (suc n) at apart got = taken_before xs number n at (λ (is : n ≡ number). apart (ap suc is)) got
+
+-- the last of those
+pub last_taken : (zones : List Zone) (number : ℕ) (z : Zone) → slice_get zones number ≡ Some z → slice_get (take (suc number) zones) number ≡ Some z
+last_taken [] number z got = absurd cc
+last_taken (x ∷ xs) zero z got = got
+last_taken (x ∷ xs) (suc number) z got = last_taken xs number z got
+
+-- a set stays below a number where one below it is put there
+still_below : (count number old new : ℕ) (inside : Bool) → number < count → Puts old new number inside → IsBelow count old → IsBelow count new
+still_below count number old new inside low puts few n past = puts.others n (λ (is : n ≡ number). omega (arith, is, low, past)) ∙ few n past
+
+-- what is known of posts after a zone was looked at
+pub knows_posts : (count number receivers : ℕ) (flag : Bool) (z : Zone) (before now : List Zone) (posted : List ℕ) (senders senders' : ℕ) → number < count → count ≤ 11
+    → slice_get now number ≡ Some z → TellsPosts count number receivers z → (flag ≡ false → receivers ≡ 0) → Puts senders senders' number flag → OtherPostsStay count number before now
+    → KnowsPosts count posted senders before → KnowsPosts count (slice_set posted number receivers) senders' now
+knows_posts count number receivers flag z before now posted senders senders' low few had told empty puts stay known =
+    let long = known.long in
+    let none : TellsNone count number flag z = none_posted count number receivers flag z told empty in
+    record {
+      long = length-set posted number receivers ∙ long;
+      posts = told_on (TellsPosts count) number z before now (λ n. slice_index_or posted n 0) (λ n. slice_index_or (slice_set posted number receivers) n 0) had
+          (subst (λ (set : ℕ). TellsPosts count number set z) (sym (get_or-set_same posted number receivers 0 (omega (arith, low, few, long)))) told)
+          (λ n other. get_or-set_other posted number n receivers 0 other) stay.posts known.posts;
+      senders = told_on (TellsNone count) number z before now (is_in senders) (is_in senders') had (subst (λ (f : Bool). TellsNone count number f z) (sym puts.there) none) puts.others stay.senders known.senders;
+      few = still_below count number senders senders' flag low puts known.few;
+    }
+
+-- and of work
+pub knows_work : (count number : ℕ) (sizes : Sizes) (flag : Bool) (z : Zone) (before now : List Zone) (works works' : ℕ) → number < count → slice_get now number ≡ Some z
+    → TellsWork sizes number flag z → Puts works works' number flag → OthersStay (TellsWork sizes) number before now → KnowsWork count sizes works before → KnowsWork count sizes works' now
+knows_work count number sizes flag z before now works works' low had told puts stay known = record {
+  work = told_on (TellsWork sizes) number z before now (is_in works) (is_in works') had (subst (λ (f : Bool). TellsWork sizes number f z) (sym puts.there) told) puts.others stay known.work;
+  few = still_below count number works works' flag low puts known.few;
+}
+
+-- what is known where no zone has the number
+pub posts_still : (count number : ℕ) (before now : List Zone) (posted : List ℕ) (senders : ℕ) → length now ≤ number → OtherPostsStay count number before now
+    → KnowsPosts count posted senders before → KnowsPosts count posted senders now
+posts_still count number before now posted senders past stay known = record {
+  long = known.long;
+  posts = told_still (TellsPosts count) number before now (λ n. slice_index_or posted n 0) past stay.posts known.posts;
+  senders = told_still (TellsNone count) number before now (is_in senders) past stay.senders known.senders;
+  few = known.few;
+}
+
+pub work_still : (count number : ℕ) (sizes : Sizes) (before now : List Zone) (works : ℕ) → length now ≤ number → OthersStay (TellsWork sizes) number before now
+    → KnowsWork count sizes works before → KnowsWork count sizes works now
+work_still count number sizes before now works past stay known =
+    record { work = told_still (TellsWork sizes) number before now (is_in works) past stay known.work; few = known.few }
+
+-- what is known of no zone
+pub posts_of_none : (count : ℕ) (posted : List ℕ) (senders : ℕ) → length posted ≡ 11 → senders ≡ 0 → KnowsPosts count posted senders []
+posts_of_none count posted senders long none = record {
+  long = long;
+  posts = λ n at got. absurd cc;
+  senders = λ n at got. absurd cc;
+  few = λ n past. none_inside senders none n;
+}
+
+pub work_of_none : (count : ℕ) (sizes : Sizes) (works : ℕ) → works ≡ 0 → KnowsWork count sizes works []
+work_of_none count sizes works none = record { work = λ n at got. absurd cc; few = λ n past. none_inside works none n }
+
+-- The zones that are noted to have work have it, and no other.
+pub known_workers : (sizes : Sizes) (zones : List Zone) (works : ℕ) → KnowsWork (length zones) sizes works zones → IsSetOfWork sizes zones (λ number. event.Step number) works
+known_workers sizes zones works known = record {
+  yes = λ n inside none. elim (cases_lt n (length zones)) [
+    | inl below ↦ some_there zones n below (λ at got. (known.work n at got).yes inside (none at got))
+    | inr past ↦ both_ways _ inside (known.few n past)
+  ];
+  no = λ n outside at got. (known.work n at got).no outside;
+}
+  where
+    some_there : (zones : List Zone) (n : ℕ) → n < length zones → ((at : Zone) → slice_get zones n ≡ Some at → ⊥) → ⊥
+    some_there [] n below none = omega (arith, below)
+    some_there (x ∷ xs) n below none = none (get_or (x ∷ xs) n x) (slice_get-get_or (x ∷ xs) n x below)
+
+-- so are those from which something moves
+pub known_senders : (zones : List Zone) (posted : List ℕ) (senders : ℕ) → KnowsPosts (length zones) posted senders zones → IsSetOfSenders zones senders
+known_senders zones posted senders known = record {
+  few = known.few;
+  no = λ sizes from to outside source target apart had had'. known.senders from source had outside to apart (slice_get_within zones to target had');
+}
+
+-- and those to which something moves
+pub known_receivers : (sizes : Sizes) (zones : List Zone) (posted : List ℕ) (senders from : ℕ) → from < length zones → KnowsPosts (length zones) posted senders zones
+    → IsSetOfWork sizes zones (λ to. event.Move from to) (slice_index_or posted from 0)
+known_receivers sizes [] posted senders from below known = absurd (omega (arith, below))
+known_receivers sizes (x ∷ xs) posted senders from below known =
+    let zones : List Zone = x ∷ xs in
+    let source : Zone = get_or zones from x in
+    let had : slice_get zones from ≡ Some source = slice_get-get_or zones from x below in
+    let told : TellsPosts (length zones) from (slice_index_or posted from 0) source = known.posts from source had in
+    record {
+      yes = λ to inside. (
+          let (apart, low, has) = told.yes to inside in
+          let moves : MovesSome zones from to = record { source = source; target = get_or zones to x; apart = apart; had_source = had; had_target = slice_get-get_or zones to x low; posted = has } in
+          moves_something zones from to moves
+          );
+      no = λ to outside other target apart had' at. (
+          let same : source ≡ other = same_Some _ _ (sym had ∙ had') in
+          subst (λ (z : Zone). has_items (slice_get z.ports.outboxes to) ≡ false) same (told.no to outside apart (slice_get_within zones to target at))
+          );
+    }
 
 -- what is put somewhere leaves the others
 put_elsewhere : (zs : List Zone) (i j : ℕ) (z at : Zone) → j ≢ i → slice_get (slice_set zs i z) j ≡ Some at → slice_get zs j ≡ Some at
@@ -124,18 +228,11 @@ as_idle sizes z other keeps steps inbox (inl none) =
     inl (record { inbox = sym inbox ∙ none.inbox; none_begins = λ may. none.none_begins (subst (λ (data' : ZoneData). MayBegin sizes data') (sym keeps) may) })
 as_idle sizes z other keeps steps inbox (inr full) = inr (subst (λ (n : ℕ). step_limit ≤ n) steps full)
 
-put_stays : (P : Bool → Zone → Type 0) (zones : List Zone) (number : ℕ) (z : Zone) → OthersStay P number zones (slice_set zones number z)
-put_stays P zones number z n at other got = (at, put_elsewhere zones number n z at other got, λ flag told. told)
-
 -- a zone that was put where one stood is there
 put_there : (zs : List Zone) (i : ℕ) (z at : Zone) → slice_get (slice_set zs i z) i ≡ Some at → at ≡ z
 put_there [] i z at got = absurd cc
 put_there (x ∷ xs) zero z at got = sym (same_Some _ _ got)
 put_there (x ∷ xs) (suc i) z at got = put_there xs i z at got
-
--- nothing else changed where nothing did
-same_stays : (P : Bool → Zone → Type 0) (number : ℕ) (old new : List Zone) → new ≡ old → OthersStay P number old new
-same_stays P number old new same n z other got = (z, subst (λ (zs : List Zone). slice_get zs n ≡ Some z) same got, λ flag told. told)
 
 -- what a sender has left when its outbox to a zone was emptied
 abbrev emptied : Zone → ℕ → Zone
@@ -145,56 +242,85 @@ emptied source to = record source { ports = record source.ports { outboxes = sli
 abbrev filled : Zone → List Item → Zone
 filled target part = record target { ports = record target.ports { inbox = target.ports.inbox ++ part } }
 
--- Of two that were put the one or the other has changed, and it tells what it told.
-two_stay : (P : Bool → Zone → Type 0) (zones : List Zone) (i j : ℕ) (x y x' y' : Zone) → i ≢ j → slice_get zones i ≡ Some x → slice_get zones j ≡ Some y
-    → (n : ℕ) (z : Zone) → slice_get (slice_set (slice_set zones i x') j y') n ≡ Some z → (n ≡ i → (flag : Bool) → P flag x → P flag x')
-    → (n ≡ j → (flag : Bool) → P flag y → P flag y') → (before : Zone) × (slice_get zones n ≡ Some before) × ((flag : Bool) → P flag before → P flag z)
-two_stay P zones i j x y x' y' apart had had' n z got first second = elim (eqb_tells n j) [
-  | inl same ↦ (
-      let here : slice_get (slice_set (slice_set zones i x') j y') j ≡ Some z = subst (λ (k : ℕ). slice_get (slice_set (slice_set zones i x') j y') k ≡ Some z) same.1 got in
-      let is : z ≡ y' = put_there (slice_set zones i x') j y' z here in
-      (y, subst (λ (k : ℕ). slice_get zones k ≡ Some y) (sym same.1) had', λ flag told. subst (λ (w : Zone). P flag w) (sym is) (second same.1 flag told))
-      )
-  | inr away ↦ (
-      let still : slice_get (slice_set zones i x') n ≡ Some z = put_elsewhere (slice_set zones i x') j n y' z away.1 got in
-      elim (eqb_tells n i) [
-        | inl same ↦ (
-            let here : slice_get (slice_set zones i x') i ≡ Some z = subst (λ (k : ℕ). slice_get (slice_set zones i x') k ≡ Some z) same.1 still in
-            let is : z ≡ x' = put_there zones i x' z here in
-            (x, subst (λ (k : ℕ). slice_get zones k ≡ Some x) (sym same.1) had, λ flag told. subst (λ (w : Zone). P flag w) (sym is) (first same.1 flag told))
-            )
-        | inr off ↦ (z, put_elsewhere zones i n x' z off.1 still, λ flag told. told)
-      ]
-      )
-]
+-- what depends on the outboxes alone stays where they do
+abbrev OfOutboxes : {F : Type 0} → (ℕ → F → Zone → Type 0) → Type 0
+OfOutboxes {F} P = (n : ℕ) (noted : F) (z other : Zone) → z.ports.outboxes ≡ other.ports.outboxes → P n noted z → P n noted other
+
+posts_of_outboxes : (count : ℕ) → OfOutboxes (TellsPosts count)
+posts_of_outboxes count n set z other same told = record {
+  yes = λ to inside. (let (apart, below, has) = told.yes to inside in (apart, below, subst (λ (lanes : List (List Item)). has_items (slice_get lanes to) ≡ true) same has));
+  no = λ to outside apart below. subst (λ (lanes : List (List Item)). has_items (slice_get lanes to) ≡ false) same (told.no to outside apart below);
+}
+
+none_of_outboxes : (count : ℕ) → OfOutboxes (TellsNone count)
+none_of_outboxes count n flag z other same told unset to apart below = subst (λ (lanes : List (List Item)). has_items (slice_get lanes to) ≡ false) same (told unset to apart below)
+
+module _ {F : Type 0} (P : ℕ → F → Zone → Type 0) where
+  put_stays : (zones : List Zone) (number : ℕ) (z : Zone) → OthersStay P number zones (slice_set zones number z)
+  put_stays zones number z n at other got = (at, put_elsewhere zones number n z at other got, λ noted told. told)
+
+  -- nothing else changed where nothing did
+  same_stays : (number : ℕ) (old new : List Zone) → new ≡ old → OthersStay P number old new
+  same_stays number old new same n z other got = (z, subst (λ (zs : List Zone). slice_get zs n ≡ Some z) same got, λ noted told. told)
+
+  -- Of two that were put the one or the other has changed, and it tells what it told.
+  two_stay : (zones : List Zone) (i j : ℕ) (x y x' y' : Zone) → i ≢ j → slice_get zones i ≡ Some x → slice_get zones j ≡ Some y
+      → (n : ℕ) (z : Zone) → slice_get (slice_set (slice_set zones i x') j y') n ≡ Some z → (n ≡ i → (noted : F) → P n noted x → P n noted x')
+      → (n ≡ j → (noted : F) → P n noted y → P n noted y') → (before : Zone) × (slice_get zones n ≡ Some before) × ((noted : F) → P n noted before → P n noted z)
+  two_stay zones i j x y x' y' apart had had' n z got first second = elim (eqb_tells n j) [
+    | inl same ↦ (
+        let here : slice_get (slice_set (slice_set zones i x') j y') j ≡ Some z = subst (λ (k : ℕ). slice_get (slice_set (slice_set zones i x') j y') k ≡ Some z) same.1 got in
+        let is : z ≡ y' = put_there (slice_set zones i x') j y' z here in
+        (y, subst (λ (k : ℕ). slice_get zones k ≡ Some y) (sym same.1) had', λ noted told. subst (λ (w : Zone). P n noted w) (sym is) (second same.1 noted told))
+        )
+    | inr away ↦ (
+        let still : slice_get (slice_set zones i x') n ≡ Some z = put_elsewhere (slice_set zones i x') j n y' z away.1 got in
+        elim (eqb_tells n i) [
+          | inl same ↦ (
+              let here : slice_get (slice_set zones i x') i ≡ Some z = subst (λ (k : ℕ). slice_get (slice_set zones i x') k ≡ Some z) same.1 still in
+              let is : z ≡ x' = put_there zones i x' z here in
+              (x, subst (λ (k : ℕ). slice_get zones k ≡ Some x) (sym same.1) had, λ noted told. subst (λ (w : Zone). P n noted w) (sym is) (first same.1 noted told))
+              )
+          | inr off ↦ (z, put_elsewhere zones i n x' z off.1 still, λ noted told. told)
+        ]
+        )
+  ]
+
+  -- A move changes what its sender posted.
+  moved_posts : OfOutboxes P → (from to : ℕ) (old new : List Zone) → MovesAll from to old new → OthersStay P from old new
+  moved_posts of from to old new all n z other got =
+      let put : slice_get (slice_set (slice_set old from (emptied all.source to)) to (filled all.target all.part)) n ≡ Some z = subst (λ (zs : List Zone). slice_get zs n ≡ Some z) all.has got in
+      two_stay old from to all.source all.target (emptied all.source to) (filled all.target all.part) all.apart all.had_source all.had_target n z put
+      (λ same. absurd (other same)) (λ same noted told. of n noted all.target (filled all.target all.part) refl told)
+
+  -- so by each event only the zone that steps, or from which something moves, changes what it posted
+  posts_stay : OfOutboxes P → (tells honest : Bool) (sizes : Sizes) (e : Event) (old new : List Zone) (before after : Seen) (made : Trace)
+      → PlaysOne tells honest sizes e old new before after made → OthersStay P (sender_of e) old new
+  posts_stay of tells honest sizes (event.Step n) old new before after made (inl at) = subst (λ (zs : List Zone). OthersStay P n old zs) (sym at.has) (put_stays old n at.zone')
+  posts_stay of tells honest sizes (event.Step n) old new before after made (inr (idle, same, silent, none)) = same_stays n old new same
+  posts_stay of tells honest sizes (event.Move from to) old new before after made (inl (all, silent, none)) = moved_posts of from to old new all
+  posts_stay of tells honest sizes (event.Move from to) old new before after made (inr (idle, same, silent, none)) = same_stays from old new same
+
+-- what was posted elsewhere stays
+pub played_posts : (count : ℕ) (tells honest : Bool) (sizes : Sizes) (e : Event) (old new : List Zone) (before after : Seen) (made : Trace)
+    → PlaysOne tells honest sizes e old new before after made → OtherPostsStay count (sender_of e) old new
+played_posts count tells honest sizes e old new before after made played = record {
+  posts = posts_stay (TellsPosts count) (posts_of_outboxes count) tells honest sizes e old new before after made played;
+  senders = posts_stay (TellsNone count) (none_of_outboxes count) tells honest sizes e old new before after made played;
+}
 
 -- An emptied outbox changes no work
-work_emptied : (sizes : Sizes) (source : Zone) (to : ℕ) (flag : Bool) → TellsWork sizes flag source → TellsWork sizes flag (emptied source to)
-work_emptied sizes source to flag told = record { yes = λ set idle. told.yes set (as_idle sizes (emptied source to) source refl refl refl idle); no = λ unset. as_idle sizes source (emptied source to) refl refl refl (told.no unset) }
+work_emptied : (sizes : Sizes) (source : Zone) (to n : ℕ) (flag : Bool) → TellsWork sizes n flag source → TellsWork sizes n flag (emptied source to)
+work_emptied sizes source to n flag told = record { yes = λ set idle. told.yes set (as_idle sizes (emptied source to) source refl refl refl idle); no = λ unset. as_idle sizes source (emptied source to) refl refl refl (told.no unset) }
 
--- A move changes what its sender posted.
-moved_posts : (from to : ℕ) (old new : List Zone) → MovesAll from to old new → OthersStay TellsPosts from old new
-moved_posts from to old new all n z other got =
-    let put : slice_get (slice_set (slice_set old from (emptied all.source to)) to (filled all.target all.part)) n ≡ Some z = subst (λ (zs : List Zone). slice_get zs n ≡ Some z) all.has got in
-    two_stay TellsPosts old from to all.source all.target (emptied all.source to) (filled all.target all.part) all.apart all.had_source all.had_target n z put
-    (λ same. absurd (other same)) (λ same flag told. told)
-
--- and what work its receiver has
+-- and a move what work its receiver has
 moved_work : (sizes : Sizes) (from to : ℕ) (old new : List Zone) → MovesAll from to old new → OthersStay (TellsWork sizes) to old new
 moved_work sizes from to old new all n z other got =
     let put : slice_get (slice_set (slice_set old from (emptied all.source to)) to (filled all.target all.part)) n ≡ Some z = subst (λ (zs : List Zone). slice_get zs n ≡ Some z) all.has got in
     two_stay (TellsWork sizes) old from to all.source all.target (emptied all.source to) (filled all.target all.part) all.apart all.had_source all.had_target n z put
-    (λ same flag told. work_emptied sizes all.source to flag told) (λ same. absurd (other same))
+    (λ same flag told. work_emptied sizes all.source to n flag told) (λ same. absurd (other same))
 
--- so by each event only the zone that steps, or from which something moves, changes what it posted
-pub played_posts : (tells honest : Bool) (sizes : Sizes) (e : Event) (old new : List Zone) (before after : Seen) (made : Trace)
-    → PlaysOne tells honest sizes e old new before after made → OthersStay TellsPosts (sender_of e) old new
-played_posts tells honest sizes (event.Step n) old new before after made (inl at) = subst (λ (zs : List Zone). OthersStay TellsPosts n old zs) (sym at.has) (put_stays TellsPosts old n at.zone')
-played_posts tells honest sizes (event.Step n) old new before after made (inr (idle, same, silent, none)) = same_stays TellsPosts n old new same
-played_posts tells honest sizes (event.Move from to) old new before after made (inl (all, silent, none)) = moved_posts from to old new all
-played_posts tells honest sizes (event.Move from to) old new before after made (inr (idle, same, silent, none)) = same_stays TellsPosts from old new same
-
--- and only the zone that steps, or to which something moves, has more work or less
+-- so only the zone that steps, or to which something moves, has more work or less
 pub played_work : (tells honest : Bool) (sizes : Sizes) (e : Event) (old new : List Zone) (before after : Seen) (made : Trace)
     → PlaysOne tells honest sizes e old new before after made → OthersStay (TellsWork sizes) (worker_of e) old new
 played_work tells honest sizes (event.Step n) old new before after made (inl at) =
@@ -202,3 +328,13 @@ played_work tells honest sizes (event.Step n) old new before after made (inl at)
 played_work tells honest sizes (event.Step n) old new before after made (inr (idle, same, silent, none)) = same_stays (TellsWork sizes) n old new same
 played_work tells honest sizes (event.Move from to) old new before after made (inl (all, silent, none)) = moved_work sizes from to old new all
 played_work tells honest sizes (event.Move from to) old new before after made (inr (idle, same, silent, none)) = same_stays (TellsWork sizes) to old new same
+
+-- there are as many zones after an event
+pub played_length : (tells honest : Bool) (sizes : Sizes) (e : Event) (old new : List Zone) (before after : Seen) (made : Trace)
+    → PlaysOne tells honest sizes e old new before after made → length old ≡ length new
+played_length tells honest sizes (event.Step n) old new before after made (inl at) = sym (ap length at.has ∙ length-set old n at.zone')
+played_length tells honest sizes (event.Step n) old new before after made (inr (idle, same, silent, none)) = sym (ap length same)
+played_length tells honest sizes (event.Move from to) old new before after made (inl (all, silent, none)) =
+    let first : List Zone = slice_set old from (emptied all.source to) in
+    sym (ap length all.has ∙ length-set first to (filled all.target all.part) ∙ length-set old from (emptied all.source to))
+played_length tells honest sizes (event.Move from to) old new before after made (inr (idle, same, silent, none)) = sym (ap length same)

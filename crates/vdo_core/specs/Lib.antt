@@ -7,3 +7,4 @@ pub mod Notes
 pub mod Plays
 pub mod Starts
 pub mod StepTools
+pub mod ZoneSets

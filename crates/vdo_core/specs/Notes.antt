@@ -1,24 +1,15 @@
 -- What a core knows of its zones' work without looking through them.
-use Rattle.std.specs.Prelude.{ℕ, ◌≡◌, ◌≢◌, Bool, true, false, Option, None, Some, List, [], ◌∷◌, length, slice_get, slice_set, slice_index_or}
-use Rattle.data_vio.specs.declared.items.Item.{Item}
+use Rattle.std.specs.Prelude.{ℕ, ◌≡◌, ◌≢◌, ◌<◌, Bool, true, false, Some, List, length, slice_get, slice_index_or}
 use Rattle.data_vio.specs.declared.sizes.Sizes.{Sizes}
 use Rattle.core_model.specs.declared.zones.Zone.{Zone}
 use Rattle.core_model.specs.Steps.{IsIdle}
 use Rattle.plain_laws.specs.Sums.{Each}
+use Rattle.vdo_core.specs.Moves.{has_items}
+use Rattle.vdo_core.specs.Plays.{HasNoWork}
+use Rattle.vdo_core.specs.ZoneSets.{IsBelow, is_in}
 use Rattle.vdo_core.specs.declared.events.Event.{Event}
 use Rattle.vdo_core.specs.declared.events.Event.TheVariants as event
 use Rattle.vdo_core.specs.declared.notes.WorkNotes.{WorkNotes}
-
--- one of the outboxes has items
-abbrev pub any_posted : List (List Item) → Bool
-any_posted [] = false
-any_posted ([] ∷ lanes) = any_posted lanes
-any_posted ((item ∷ items) ∷ lanes) = true
-
--- a zone is there, and posted something that hasn't moved yet
-abbrev pub has_posted : Option Zone → Bool
-has_posted None = false
-has_posted (Some z) = any_posted z.ports.outboxes
 
 -- the zone that steps, or from which something moves: no other changes what it posted
 abbrev pub sender_of : Event → ℕ
@@ -30,30 +21,57 @@ abbrev pub worker_of : Event → ℕ
 worker_of (event.Step number) = number
 worker_of (event.Move from to) = to
 
--- a flag tells whether a zone posted something that hasn't moved yet
-abbrev pub TellsPosts : Bool → Zone → Type 0
-TellsPosts flag z = flag ≡ any_posted z.ports.outboxes
+-- a set has those of so many zones to which the zone of this number posted something that hasn't moved yet
+pub record TellsPosts (count from set : ℕ) (z : Zone) : Type 0 where
+  pub yes : (to : ℕ) → is_in set to ≡ true → (from ≢ to) × (to < count) × (has_items (slice_get z.ports.outboxes to) ≡ true)
+  pub no : (to : ℕ) → is_in set to ≡ false → from ≢ to → to < count → has_items (slice_get z.ports.outboxes to) ≡ false
+
+-- a flag that isn't set tells that there is no such zone
+abbrev pub TellsNone : ℕ → ℕ → Bool → Zone → Type 0
+TellsNone count from flag z = flag ≡ false → (to : ℕ) → from ≢ to → to < count → has_items (slice_get z.ports.outboxes to) ≡ false
 
 -- a flag tells whether there is work for a step of a zone
-pub record TellsWork (sizes : Sizes) (flag : Bool) (z : Zone) : Type 0 where
+pub record TellsWork (sizes : Sizes) (number : ℕ) (flag : Bool) (z : Zone) : Type 0 where
   pub yes : flag ≡ true → IsIdle sizes z → ⊥
   pub no : flag ≡ false → IsIdle sizes z
 
--- there is a flag for each zone that a core may have, and those of its zones tell this
-pub record IsTold (P : Bool → Zone → Type 0) (flags : List Bool) (zones : List Zone) : Type 0 where
-  pub long : length flags ≡ 11
-  pub each : Each (λ n z. P (slice_index_or flags n false) z) zones
+-- what is noted of each zone, by its number, tells this
+abbrev pub IsTold : {F : Type 0} → (ℕ → F → Zone → Type 0) → (ℕ → F) → List Zone → Type 0
+IsTold P noted zones = Each (λ n z. P n (noted n) z) zones
+
+-- what was posted is known of each of these zones, in a core of so many
+pub record KnowsPosts (count : ℕ) (receivers : List ℕ) (sent : ℕ) (zones : List Zone) : Type 0 where
+  pub long : length receivers ≡ 11
+  pub posts : IsTold (TellsPosts count) (λ n. slice_index_or receivers n 0) zones
+  pub senders : IsTold (TellsNone count) (is_in sent) zones
+  pub few : IsBelow count sent
+
+-- and what work there is
+pub record KnowsWork (count : ℕ) (sizes : Sizes) (works : ℕ) (zones : List Zone) : Type 0 where
+  pub work : IsTold (TellsWork sizes) (is_in works) zones
+  pub few : IsBelow count works
 
 -- the notes are right of each zone of a core
 pub record IsKnown (sizes : Sizes) (notes : WorkNotes) (zones : List Zone) : Type 0 where
-  pub posts : IsTold TellsPosts notes.posted zones
-  pub work : IsTold (TellsWork sizes) notes.works zones
+  pub posts : KnowsPosts (length zones) notes.posted notes.senders zones
+  pub work : KnowsWork (length zones) sizes notes.works zones
 
--- the flag of this zone was set to what this tells of it, and no other
-abbrev pub Sets : (Bool → Zone → Type 0) → ℕ → Zone → List Bool → List Bool → Type 0
-Sets P number z old new = (flag : Bool) × P flag z × (new ≡ slice_set old number flag)
+-- of each zone but that of this number a note tells what it told before
+abbrev pub OthersStay : {F : Type 0} → (ℕ → F → Zone → Type 0) → ℕ → List Zone → List Zone → Type 0
+OthersStay {F} P number old new =
+    (n : ℕ) (z : Zone) → n ≢ number → slice_get new n ≡ Some z → (before : Zone) × (slice_get old n ≡ Some before) × ((noted : F) → P n noted before → P n noted z)
 
--- of each zone but that of this number a flag tells what it told before
-abbrev pub OthersStay : (Bool → Zone → Type 0) → ℕ → List Zone → List Zone → Type 0
-OthersStay P number old new =
-    (n : ℕ) (z : Zone) → n ≢ number → slice_get new n ≡ Some z → (before : Zone) × (slice_get old n ≡ Some before) × ((flag : Bool) → P flag before → P flag z)
+-- each zone but that of this number posted what it had before
+pub record OtherPostsStay (count number : ℕ) (old new : List Zone) : Type 0 where
+  pub posts : OthersStay (TellsPosts count) number old new
+  pub senders : OthersStay (TellsNone count) number old new
+
+-- a set has those zones by which these events are for which there is work
+pub record IsSetOfWork (sizes : Sizes) (zones : List Zone) (e : ℕ → Event) (set : ℕ) : Type 0 where
+  pub yes : (n : ℕ) → is_in set n ≡ true → HasNoWork sizes zones (e n) → ⊥
+  pub no : (n : ℕ) → is_in set n ≡ false → HasNoWork sizes zones (e n)
+
+-- a set has all zones from which there is something to move
+pub record IsSetOfSenders (zones : List Zone) (set : ℕ) : Type 0 where
+  pub few : IsBelow (length zones) set
+  pub no : (sizes : Sizes) (from to : ℕ) → is_in set from ≡ false → HasNoWork sizes zones (event.Move from to)

@@ -1,15 +1,16 @@
-ghost use Rattle.std.specs.Prelude.{◌≡◌, ◌≤◌, [], IfOk, IsTrue, false, length, slice_get};
+ghost use Rattle.std.specs.Prelude.{◌≡◌, ◌<◌, ◌≤◌, [], IfOk, IsTrue, false, length};
 ghost use Rattle.disk_model.specs.Seen.{Stays};
 ghost use Rattle.core_model.specs.Legal.{Legal};
 ghost use Rattle.core_model.specs.Reports.{report_of};
 ghost use Rattle.core_model.specs.Sessions.{IsSession, Session};
 ghost use Rattle.core_model.specs.Start.{IsFirst};
 ghost use Rattle.core_model.specs.Trace.{Trace};
+ghost use Rattle.vdo_core.specs.declared.events.Event.TheVariants as event;
 ghost use Rattle.vdo_core.specs.declared.stepped.Stepped.TheVariants.{Did, Idle};
 ghost use Rattle.device_zone.specs.DeviceCalls.{Fits};
 ghost use Rattle.vdo_core.specs.Cores.{CanBegin, IsWhole, sizes_of};
 ghost use Rattle.vdo_core.specs.Done.{IsDone};
-ghost use Rattle.vdo_core.specs.Notes.{has_posted};
+ghost use Rattle.vdo_core.specs.Notes.{IsSetOfSenders, IsSetOfWork};
 ghost use Rattle.vdo_core.specs.Plays.{HasNoWork, PlaysOne, core_with};
 ghost use Rattle.vdo_core.specs.Starts.{IsOf};
 
@@ -18,6 +19,7 @@ use crate::notes::WorkNotes;
 use crate::start::begin;
 use crate::stepped::Stepped;
 use crate::work::{is_done, ready};
+use crate::zone_set::ZoneSet;
 use crate::zones::Zones;
 use blk_base::Opened;
 use core_reports::{ReportRoom, report};
@@ -131,12 +133,26 @@ impl Core {
         ready(&self.sizes, &self.zones, &self.notes, event)
     }
 
-    /// Whether a zone posted something that hasn't moved yet: where it hasn't, or where no zone has the number, there is no
-    /// work for a move from it.
-    pub fn has_posted(&self, from: u32) -> bool
-        ensures { result ≡ has_posted (slice_get self.now.zones from) }
+    /// The zones for a step of which there is work.
+    pub fn workers(&self) -> ZoneSet
+        ensures { IsSetOfWork self.now.sizes self.now.zones (λ number. event.Step number) result }
     {
-        self.notes.has_posted(&self.sizes, &self.zones, from)
+        self.notes.works
+    }
+
+    /// The zones that posted something that hasn't moved yet: from no other there is work for a move.
+    pub fn senders(&self) -> ZoneSet
+        ensures { IsSetOfSenders self.now.zones result }
+    {
+        self.notes.senders
+    }
+
+    /// The zones for a move to which, from this one, there is work.
+    pub fn receivers(&self, from: u32) -> ZoneSet
+        requires { from < length self.now.zones }
+        ensures { IsSetOfWork self.now.sizes self.now.zones (λ to. event.Move from to) result }
+    {
+        self.notes.posted[from as usize]
     }
 
     /// Whether each request is answered.

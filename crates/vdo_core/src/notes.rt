@@ -1,12 +1,14 @@
 ghost use Rattle.std.specs.Prelude.{◌≡◌, ◌<◌, ◌≤◌, List, IsTrue, Some, false, length, slice_get};
 ghost use Rattle.core_model.specs.declared.zones.Zone.{Zone};
 ghost use Rattle.vdo_core.specs.Conditions.{AllCanStep, CanBeginAt};
-ghost use Rattle.vdo_core.specs.Notes.{IsKnown, IsTold, OthersStay, Sets, TellsPosts, TellsWork, any_posted, has_posted, sender_of, worker_of};
+ghost use Rattle.vdo_core.specs.Notes.{IsKnown, KnowsPosts, KnowsWork, OtherPostsStay, OthersStay, TellsPosts, TellsWork, sender_of, worker_of};
 ghost use Rattle.vdo_core.specs.Plays.{HasNoWork};
 ghost use Rattle.vdo_core.specs.declared.events.Event.TheVariants as event;
 
 use crate::events::Event;
+use crate::moves::has_posted;
 use crate::work::has_work;
+use crate::zone_set::ZoneSet;
 use crate::zones::Zones;
 use core_model::Zone;
 use data_vio::Sizes;
@@ -17,22 +19,28 @@ const MOST_ZONES: usize = 11;
 /// What is known of the work of a core's zones, so that a turn needn't look through all of them.
 #[derive(Drop)]
 pub(crate) struct WorkNotes {
-    /// Of each zone by its number, whether there is work for a step of it.
-    pub(crate) works: [bool; MOST_ZONES],
-    /// Of each zone by its number, whether it posted something that hasn't moved yet.
-    pub(crate) posted: [bool; MOST_ZONES],
+    /// The zones for a step of which there is work.
+    pub(crate) works: ZoneSet,
+    /// The zones that posted something that hasn't moved yet.
+    pub(crate) senders: ZoneSet,
+    /// Of each zone by its number, the zones to which it posted something that hasn't moved yet.
+    pub(crate) posted: [ZoneSet; MOST_ZONES],
 }
 
-// Whether a zone posted something that hasn't moved yet.
-fn any_posted(zone: &Zone) -> bool
-    ensures { result ≡ any_posted zone.now.ports.outboxes }
+// Those of so many zones to which the zone of this number posted something that hasn't moved yet.
+fn receivers_of(zone: &Zone, number: u32, count: u32) -> ZoneSet
+    requires few { count ≤ 11 }
+    requires there { number < count }
+    ensures { TellsPosts count number result zone.now }
 {
-    for to in 0..zone.ports.count() {
-        if zone.ports.has_posts(to) {
-            return true;
+    let mut receivers = ZoneSet::empty();
+    for to in 0..count.min(zone.ports.count()) {
+        if has_posted(zone, to) {
+            receivers.put(to, true);
         }
     }
-    false
+    receivers.put(number, false);
+    receivers
 }
 
 // The zone that steps, or from which something moves.
@@ -56,23 +64,34 @@ fn worker_of(event: Event) -> u32
 }
 
 impl WorkNotes {
-    // It is noted whether a zone posted something.
-    fn note_posts(&mut self, zone: &Zone, number: u32)
-        requires few { number < 11 }
-        ensures set { Sets TellsPosts number zone.now self.old.posted self.new.posted }
+    // It is noted what a zone of so many posted.
+    fn note_posts(&mut self, zone: &Zone, number: u32, count: u32)
+        requires few { count ≤ 11 }
+        requires there { number < count }
+        ensures posts { (before now : List Zone) → slice_get now number ≡ Some zone.now →
+            OtherPostsStay count number before now →
+            KnowsPosts count self.old.posted self.old.senders before →
+            KnowsPosts count self.new.posted self.new.senders now }
         ensures works { self.new.works ≡ self.old.works }
     {
-        self.posted[number as usize] = any_posted(zone);
+        let receivers = receivers_of(zone, number, count);
+        self.posted[number as usize] = receivers;
+        self.senders.put(number, !receivers.is_empty());
     }
 
-    // It is noted whether there is work for a zone.
-    fn note_work(&mut self, sizes: &Sizes, zone: &Zone, number: u32)
+    // It is noted whether there is work for a zone of so many.
+    fn note_work(&mut self, sizes: &Sizes, zone: &Zone, number: u32, count: u32)
         requires can { CanBeginAt sizes.now zone.now.keeps }
-        requires few { number < 11 }
-        ensures set { Sets (TellsWork sizes.now) number zone.now self.old.works self.new.works }
+        requires few { count ≤ 11 }
+        requires there { number < count }
+        ensures work { (before now : List Zone) → slice_get now number ≡ Some zone.now →
+            OthersStay (TellsWork sizes.now) number before now →
+            KnowsWork count sizes.now self.old.works before →
+            KnowsWork count sizes.now self.new.works now }
         ensures posted { self.new.posted ≡ self.old.posted }
+        ensures senders { self.new.senders ≡ self.old.senders }
     {
-        self.works[number as usize] = has_work(sizes, zone);
+        self.works.put(number, has_work(sizes, zone));
     }
 
     /// What is known of these zones, each of which is looked at.
@@ -82,13 +101,15 @@ impl WorkNotes {
         ensures { IsKnown sizes.now result zones.now }
     {
         let mut notes = WorkNotes {
-            works: [false; MOST_ZONES],
-            posted: [false; MOST_ZONES],
+            works: ZoneSet::empty(),
+            senders: ZoneSet::empty(),
+            posted: [ZoneSet::empty(); MOST_ZONES],
         };
-        for number in 0..zones.zones.len() as u32 {
+        let count = zones.zones.len() as u32;
+        for number in 0..count {
             let zone = &zones.zones[number as usize];
-            notes.note_posts(zone, number);
-            notes.note_work(sizes, zone, number);
+            notes.note_posts(zone, number, count);
+            notes.note_work(sizes, zone, number, count);
         }
         notes
     }
@@ -96,13 +117,14 @@ impl WorkNotes {
     // What the zones posted is known after that of this number was looked at, where no other changed that.
     fn follow_posts(&mut self, zones: &Zones, number: u32)
         requires few { length zones.now ≤ 11 }
-        ensures posts { (before : List Zone) → OthersStay TellsPosts number before zones.now →
-            IsTold TellsPosts self.old.posted before →
-            IsTold TellsPosts self.new.posted zones.now }
+        ensures posts { (before : List Zone) →
+            OtherPostsStay (length zones.now) number before zones.now →
+            KnowsPosts (length zones.now) self.old.posted self.old.senders before →
+            KnowsPosts (length zones.now) self.new.posted self.new.senders zones.now }
         ensures works { self.new.works ≡ self.old.works }
     {
         match zones.zones.get(number as usize) {
-            Some(zone) => self.note_posts(zone, number),
+            Some(zone) => self.note_posts(zone, number, zones.zones.len() as u32),
             None => {}
         }
     }
@@ -113,12 +135,13 @@ impl WorkNotes {
         requires few { length zones.now ≤ 11 }
         ensures work { (before : List Zone) →
             OthersStay (TellsWork sizes.now) number before zones.now →
-            IsTold (TellsWork sizes.now) self.old.works before →
-            IsTold (TellsWork sizes.now) self.new.works zones.now }
+            KnowsWork (length zones.now) sizes.now self.old.works before →
+            KnowsWork (length zones.now) sizes.now self.new.works zones.now }
         ensures posted { self.new.posted ≡ self.old.posted }
+        ensures senders { self.new.senders ≡ self.old.senders }
     {
         match zones.zones.get(number as usize) {
-            Some(zone) => self.note_work(sizes, zone, number),
+            Some(zone) => self.note_work(sizes, zone, number, zones.zones.len() as u32),
             None => {}
         }
     }
@@ -127,8 +150,8 @@ impl WorkNotes {
     pub(crate) fn follow(&mut self, sizes: &Sizes, zones: &Zones, event: Event)
         requires can { AllCanStep sizes.now zones.now }
         requires few { length zones.now ≤ 11 }
-        ensures { (before : List Zone) →
-            OthersStay TellsPosts (sender_of event) before zones.now →
+        ensures { (before : List Zone) → length before ≡ length zones.now →
+            OtherPostsStay (length zones.now) (sender_of event) before zones.now →
             OthersStay (TellsWork sizes.now) (worker_of event) before zones.now →
             IsKnown sizes.now self.old before → IsKnown sizes.now self.new zones.now }
     {
@@ -143,15 +166,6 @@ impl WorkNotes {
         ensures yes { IsTrue result → HasNoWork sizes.now zones.now (event.Step number) → ⊥ }
         ensures no { (result ≡ false) → HasNoWork sizes.now zones.now (event.Step number) }
     {
-        number < zones.zones.len() as u32 && self.works[number as usize]
-    }
-
-    /// Whether the zone of this number is there, and posted something that hasn't moved yet.
-    pub(crate) fn has_posted(&self, sizes: &Sizes, zones: &Zones, from: u32) -> bool
-        requires known { IsKnown sizes.now self.now zones.now }
-        requires few { length zones.now ≤ 11 }
-        ensures { result ≡ has_posted (slice_get zones.now from) }
-    {
-        from < zones.zones.len() as u32 && self.posted[from as usize]
+        number < zones.zones.len() as u32 && self.works.has(number)
     }
 }

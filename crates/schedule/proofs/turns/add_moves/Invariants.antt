@@ -1,12 +1,14 @@
-use Rattle.std.proofs.Common.{◌≡◌, ◌≤◌, ◌+◌, ◌*◌, length, map}
-use Rattle.schedule.specs.Turns.{AreReady, event_of}
+use Rattle.std.proofs.Common.{◌≡◌, ◌≤◌, ◌+◌, ◌*◌, length}
+use Rattle.vdo_core.specs.declared.events.Event.TheVariants as event
+use Rattle.schedule.proofs.TurnLaws.{Listed}
 use Rattle.schedule.proofs.turns.add_moves.Given as goal
 
 abbrev pub invariant-loop-to : goal.invariant-loop-to
 invariant-loop-to l = record {
-  zones : l.zones ≡ length l.core.zones;
   first : l.first ≡ length l.core.zones + l.from * length l.core.zones;
-  few : l.zones ≤ 11;
-  room : length l.ready.items ≤ length l.core.zones + l.from * length l.core.zones + l.to;
-  ready : AreReady l.core.sizes l.core.zones (length l.core.zones + l.from * length l.core.zones + l.to) (map (event_of (length l.core.zones)) l.ready.items);
+  few : length l.core.zones ≤ 11;
+  listed : Listed l.core.sizes l.core.zones (length l.core.zones + l.from * length l.core.zones) (λ to. event.Move l.from to) l.receivers l.ready.items;
 }
+
+abbrev pub decreases-loop-to : goal.decreases-loop-to
+decreases-loop-to l = l.receivers

@@ -1,0 +1,13 @@
+use Rattle.std.proofs.Common.{◌≤◌, length}
+use Rattle.vdo_core.specs.declared.events.Event.TheVariants as event
+use Rattle.schedule.proofs.TurnLaws.{Listed}
+use Rattle.schedule.proofs.turns.list_steps.Given as goal
+
+abbrev pub invariant-loop-zone : goal.invariant-loop-zone
+invariant-loop-zone l = record {
+  few : length l.core.zones ≤ 11;
+  listed : Listed l.core.sizes l.core.zones 0 (λ n. event.Step n) l.workers l.ready.items;
+}
+
+abbrev pub decreases-loop-zone : goal.decreases-loop-zone
+decreases-loop-zone l = l.workers
