@@ -6,10 +6,10 @@ ghost use Rattle.image_format.specs.Calls.{put, zeros_from, roots_below, slab_ca
 ghost use Rattle.image_format.specs.Runs.{Makes};
 ghost use Rattle.image_model.specs.Empty.{empty_root};
 
-use blk_base::{Block, Geometry, Layout, Mappings, Pbn, Super, TREES};
+use blk_base::{Block, Geometry, Layout, Pbn, Super, TREES};
 use disk_model::{Disk, Failed};
 use image_layout::write_super;
-use page_codec::{MapPage, PageHead, encode};
+use page_codec::{PageHead, encode_unmapped};
 
 /// Writes a block.
 pub fn put<D: Disk>(device: &mut D, at: Pbn, block: &Block) -> Result<(), Failed>
@@ -52,8 +52,7 @@ fn root_page(layout: &Layout, tree: u8, into: &mut Block)
         page: layout.root_page(tree),
         at: layout.root(tree),
     };
-    let mappings = Mappings::new();
-    encode(&MapPage { head, mappings }, into);
+    encode_unmapped(&head, into);
 }
 
 // Writes the roots.

@@ -16,7 +16,7 @@ abbrev pub IsWrittenTo : ℕ → List Mapping → List ℕ → Type 0
 IsWrittenTo run ms page = page ≡ flat_map mapping_bytes (take (28 * run) ms) ++ replicate (4060 - 140 * run) 0
 
 -- unmapped slots are zeros
-unmapped_zeros : (n : ℕ) → flat_map mapping_bytes (replicate n Unmapped) ≡ replicate (5 * n) 0
+pub unmapped_zeros : (n : ℕ) → flat_map mapping_bytes (replicate n Unmapped) ≡ replicate (5 * n) 0
 unmapped_zeros zero = refl
 unmapped_zeros (suc n) =
     let more : 5 + 5 * n ≡ 5 * suc n = omega arith in

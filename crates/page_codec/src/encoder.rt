@@ -1,6 +1,7 @@
 ghost use Rattle.std.specs.Prelude.{◌≡◌, ◌*◌, ◌≤◌, length, take, replicate, flat_map};
 ghost use Rattle.std.specs.Bool.{OnTrue};
 ghost use Rattle.blk_base.specs.declared.place.Mapping.TheVariants.{Unmapped};
+ghost use Rattle.blk_base.specs.declared.sizes.TheConstants.{PAGE_SLOTS};
 ghost use Rattle.byte_fields.specs.Mappings.{mapping_bytes};
 ghost use Rattle.page_codec.specs.Spelling.{head_bytes, page_bytes};
 
@@ -31,6 +32,15 @@ pub fn encode(page: &MapPage, into: &mut Block)
     let (head, slots) = into.bytes.split_at_mut(HEAD);
     put_head(head, &page.head);
     put_slots(slots, page.mappings.as_slice());
+}
+
+/// The same for a page whose slots are all unmapped, without a list of them.
+pub fn encode_unmapped(head: &PageHead, into: &mut Block)
+    ensures { into.new ≡ page_bytes head.now (replicate PAGE_SLOTS Unmapped) }
+{
+    into.bytes = [0; 4096];
+    let (front, _) = into.bytes.split_at_mut(HEAD);
+    put_head(front, head);
 }
 
 /// Writes the first bytes of a page.

@@ -42,7 +42,7 @@ mod forms;
 mod laws;
 
 pub use decoder::{decode, decode_mappings, slot};
-pub use encoder::{are_unmapped, encode};
+pub use encoder::{are_unmapped, encode, encode_unmapped};
 pub use fault::PageFault;
 pub use forms::{MapPage, PageHead};
 pub use laws::{
