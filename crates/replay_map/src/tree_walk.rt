@@ -44,17 +44,17 @@ pub(crate) fn walk_trees<D: Disk>(
         (λ image. Unit {0}) (IsInTrees TREES)) }
     ensures untouched { IsUntouched D.tells (D.seen device.old) (D.seen device.new) }
 {
+    let mut mappings = Mappings::new();
     for tree in 0..TREES {
         let root = Link::root(layout, tree);
-        walk(alloc, layout, changes, device, root, found)?;
+        walk(alloc, layout, changes, device, root, found, &mut mappings)?;
     }
     Ok(())
 }
 
 // Reads a page at its block, and then those below it.
 // The links that it found lead to those. Each page comes before those below it, so the first page that can't be read is
-// found first. At height 3 the walk
-// holds three pages at a time.
+// found first. Each page is read into `page`, which may have any content.
 fn walk<D: Disk>(
     alloc: Global,
     layout: &Layout,
@@ -62,6 +62,7 @@ fn walk<D: Disk>(
     device: &mut D,
     top: Link,
     found: &mut Found,
+    page: &mut Mappings,
 ) -> Result<(), ImageFault>
     requires room { needed_blocks layout.now.geometry ≤ (D.seen device.old).size }
     requires data { LeadToData layout.now.geometry changes.now }
@@ -83,15 +84,14 @@ fn walk<D: Disk>(
         (λ image. IsLinked image top) (IsUnder top.page)) }
     ensures untouched { IsUntouched D.tells (D.seen device.old) (D.seen device.new) }
 {
-    let mut mappings = Mappings::new();
     let first = found.links.len();
-    visit(alloc, layout, changes, device, top, found, &mut mappings)?;
+    visit(alloc, layout, changes, device, top, found, page)?;
     if top.page.level == 0 {
         return Ok(());
     }
     for place in first..found.links.len() {
         let below = found.links[place];
-        walk(alloc, layout, changes, device, below, found)?;
+        walk(alloc, layout, changes, device, below, found, page)?;
     }
     Ok(())
 }
