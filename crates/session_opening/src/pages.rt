@@ -1,4 +1,5 @@
-ghost use Rattle.std.specs.Prelude.{◌<◌, ◌∷◌, [], List, reverse, IfOk, OnOk, All};
+ghost use Rattle.std.specs.Prelude.{◌≡◌, ◌<◌, ◌∷◌, [], List, replicate, reverse, IfOk, OnOk, All};
+ghost use Rattle.blk_base.specs.declared.place.Mapping.TheVariants.{Unmapped};
 ghost use Rattle.blk_base.specs.declared.sizes.TheConstants.{PAGE_SLOTS, TREES};
 ghost use Rattle.replay_map.specs.declared.links.Link.{Link as Linked};
 ghost use Rattle.session_opening.specs.Pages.{AreAdded, ArePages, roots_below};
@@ -18,7 +19,7 @@ pub(crate) fn pages_of(
     ensures { IfOk result (λ pages. ArePages layout.now.geometry (reverse links.now) pages.items) }
 {
     let places = places_of(alloc, links)?;
-    let mut pages = Vec::new(alloc);
+    let mut pages = Vec::with_capacity(alloc, usize::from(TREES) + places.inner.len())?;
     push_roots(&mut pages, layout, &places)?;
     push_inner(&mut pages, &places)?;
     Ok(pages)
@@ -58,24 +59,26 @@ fn push_page(pages: &mut Vec<OpenedPage>, places: &Places, link: Link) -> Result
         ((links : List Linked) → ArePlaces links places.now →
         AreAdded links (link ∷ []) pages.old.items pages.new.items) }
 {
-    pages.push(OpenedPage {
+    let mut page = OpenedPage {
         page: link.page,
         at: link.at,
-        mappings: mappings_of(places, link.page),
-    })?;
+        mappings: Mappings::new(),
+    };
+    lead(&mut page.mappings, places, link.page);
+    pages.push(page)?;
     Ok(())
 }
 
-// The mappings of a page that is no leaf. One search finds the linked pages below it.
-fn mappings_of(places: &Places, page: PageId) -> Mappings
-    requires { 0 < page.level }
+// Maps the slots of a page that is no leaf, and has no mapping yet. One search finds the linked pages below it.
+fn lead(mappings: &mut Mappings, places: &Places, page: PageId)
+    requires inner { 0 < page.level }
+    requires none { mappings.old ≡ replicate PAGE_SLOTS Unmapped }
     ensures { (links : List Linked) → ArePlaces links places.now →
-        AreLeading links page PAGE_SLOTS result }
+        AreLeading links page PAGE_SLOTS mappings.new }
 {
-    let mut mappings = Mappings::new();
     // Pages have numbers of 32 bits, and there is none for a page below this one.
     if page.index > u32::MAX / u32::from(PAGE_SLOTS) {
-        return mappings;
+        return;
     }
     let first = page.child(0);
     let last = PageId {
@@ -86,5 +89,4 @@ fn mappings_of(places: &Places, page: PageId) -> Mappings
     for (below, at) in places.blocks.range(first..=last) {
         mappings.set(below.parent_slot(), Mapping::At(*at));
     }
-    mappings
 }

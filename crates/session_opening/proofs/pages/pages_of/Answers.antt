@@ -9,4 +9,4 @@ pub returns : goal.returns
 returns c =
     let are = c.in_ok-places.ensures in
     pages_made c.args.layout.now.geometry _ c.in_ok-places.places c.push_roots.new.pages.items _ are
-    (rw c.new-pages.ensures.items at (c.in_ok-push_roots.ensures _ are)) (c.in_ok-push_inner.ensures _ are)
+    (rw c.in_ok-pages.ensures.items at (c.in_ok-push_roots.ensures _ are)) (c.in_ok-push_inner.ensures _ are)

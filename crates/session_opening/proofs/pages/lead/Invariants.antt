@@ -1,5 +1,5 @@
 use Rattle.session_opening.proofs.BelowLaws.{AreFilled}
-use Rattle.session_opening.proofs.pages.mappings_of.Given as goal
+use Rattle.session_opening.proofs.pages.lead.Given as goal
 
 abbrev pub invariant-loop-below : goal.invariant-loop-below
 invariant-loop-below l = AreFilled l.places l.fn.page l.below-iterator l.mappings

@@ -5,7 +5,7 @@ use Rattle.blk_base.specs.declared.place.Mapping.TheVariants.{At}
 use Rattle.blk_base.specs.declared.place.PageId.{PageId}
 use Rattle.blk_base.specs.declared.place.Pbn.{Pbn}
 use Rattle.session_opening.proofs.BelowLaws.{AreFilled, IsLastBelow, ends_below, filled_leads, none_filled, none_fits, one_filled}
-use Rattle.session_opening.proofs.pages.mappings_of.Goals as goal
+use Rattle.session_opening.proofs.pages.lead.Goals as goal
 
 pub loop-below-init : goal.loop-below-init
 loop-below-init c =
@@ -13,10 +13,10 @@ loop-below-init c =
     let last : PageId = record { tree = first.tree; level = first.level; index = c.saturating_add.result } in
     let index = c.saturating_add.ensures ∙ ap (λ (n : ℕ). min (first.index + n) 4294967295) c.from-2.ensures in
     let ends = ends_below c.args.page first last c.child-first.ensures refl refl index in
-    subst (λ (left : List (PageId × Pbn)). AreFilled c.args.places.now c.args.page left c.new-mappings.result) (sym c.into_iter-below-iterator.ensures.into_iter_gives)
-    (none_filled c.args.places.now c.args.page c.new.result.start c.new.result.end c.range-below-items.result c.new-mappings.result
+    subst (λ (left : List (PageId × Pbn)). AreFilled c.args.places.now c.args.page left c.args.mappings.now) (sym c.into_iter-below-iterator.ensures.into_iter_gives)
+    (none_filled c.args.places.now c.args.page c.new.result.start c.new.result.end c.range-below-items.result c.args.mappings.now
     (c.new.ensures.start ∙ c.child-first.ensures) (subst (λ (p : PageId). IsLastBelow c.args.page p) (sym c.new.ensures.end) ends)
-    (c.range-below-items.ensures.between c.new.ensures.exhausted) (c.range-below-items.ensures.in_range c.new.ensures.exhausted).0 c.new-mappings.ensures)
+    (c.range-below-items.ensures.between c.new.ensures.exhausted) (c.range-below-items.ensures.in_range c.new.ensures.exhausted).0 c.requires.none)
 
 pub loop-below-preserved : goal.loop-below-preserved
 loop-below-preserved c =
@@ -28,7 +28,7 @@ loop-below-preserved c =
 pub returns-then-page-from : goal.returns-then-page-from
 returns-then-page-from c links are =
     let many = subst (λ (slots : ℕ). 4294967295 / slots < c.args.page.index) c.from.ensures c.if-page-from.true in
-    none_fits links c.args.page c.new-mappings.result (omega (arith, many)) c.new-mappings.ensures
+    none_fits links c.args.page c.args.mappings.now (omega (arith, many)) c.requires.none
 
 pub returns : goal.returns
 returns c links are =
