@@ -28,3 +28,12 @@ HoldsBytes (Ok bytes) (Ok filled) block = (filled ≡ min (length bytes) 4097) �
 HoldsBytes (Err fault) (Err named) block = fault ≡ named
 HoldsBytes (Ok bytes) (Err named) block = ⊥
 HoldsBytes (Err fault) (Ok filled) block = ⊥
+
+-- a block of this byte alone
+unfoldable pub block_of_byte : ℕ → List ℕ
+block_of_byte byte = replicate 4096 byte
+
+-- one of the byte of this run; where the run has a fault, any block
+abbrev pub IsOfByte : Result PlainRun LineFault → List ℕ → Type 0
+IsOfByte (Ok run) block = block ≡ block_of_byte run.byte
+IsOfByte (Err fault) block = Unit {0}

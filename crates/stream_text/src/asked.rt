@@ -7,7 +7,7 @@ use crate::blocks::block_of;
 use crate::cuts::cut;
 use crate::numbers::{both, number_within};
 use crate::refusal::{LineError, LineFault};
-use blk_base::{Block, Lba, Request};
+use blk_base::{BoxedBlock, Lba, Request};
 use std::alloc::Global;
 
 /// What a line asks for.
@@ -70,19 +70,17 @@ fn of_three(stream: &[u8], command: &[u8], address: &[u8]) -> Result<Asked, Line
     Ok(Asked::One { stream, request })
 }
 
-// The block that is written stands in the box that is given.
-fn write_of(
+fn written(
     stream: &[u8],
     address: &[u8],
-    runs: &[u8],
-    room: Box<Block>,
+    block: Result<BoxedBlock, LineFault>,
 ) -> Result<Asked, LineFault>
     ensures asked { result ≡ write_asked (both_of
         (stream_number stream.now)
-        (both_of (address_number address.now) (block_of_word runs.now))) }
+        (both_of (address_number address.now) block)) }
     ensures stream { IfOk result (λ asked. stream_asked asked < 16) }
 {
-    let named = both(address_of(address), block_of(runs, room));
+    let named = both(address_of(address), block);
     let (stream, (at, block)) = both(stream_of(stream), named)?;
     let at = Lba(at);
     let request = Request::Write {
@@ -115,6 +113,18 @@ fn said(asked: Result<Asked, LineFault>) -> Result<Asked, LineError>
     }
 }
 
+fn write_of(alloc: Global, stream: &[u8], address: &[u8], runs: &[u8]) -> Result<Asked, LineError>
+    ensures asked { SaysAsked result (write_asked (both_of
+        (stream_number stream.now)
+        (both_of (address_number address.now) (block_of_word runs.now)))) }
+    ensures stream { IfOk result (λ asked. stream_asked asked < 16) }
+{
+    let Ok(block) = block_of(alloc, runs) else {
+        return Err(LineError::Memory);
+    };
+    said(written(stream, address, block))
+}
+
 fn of_four(
     alloc: Global,
     stream: &[u8],
@@ -127,10 +137,7 @@ fn of_four(
     ensures stream { IfOk result (λ asked. stream_asked asked < 16) }
 {
     if command == b"write".as_slice() {
-        let Ok(room) = Box::new(alloc, Block::zero()) else {
-            return Err(LineError::Memory);
-        };
-        return said(write_of(stream, address, last, room));
+        return write_of(alloc, stream, address, last);
     }
     if command == b"discard".as_slice() {
         return said(discard_of(stream, address, last));

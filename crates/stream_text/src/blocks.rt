@@ -3,14 +3,15 @@ ghost use Rattle.std.specs.Bool.{OnFalse, OnTrue};
 ghost use Rattle.std.specs.List.{slice_split};
 ghost use Rattle.stream_text.specs.declared.refusal.LineFault.{LineFault as Fault};
 ghost use Rattle.hex.specs.Hex.{decode_sized};
-ghost use Rattle.stream_text.specs.LineWords.{first_byte, run_of_pieces, run_of_part, bytes_of_parts, block_of_word};
+ghost use Rattle.stream_text.specs.LineWords.{first_byte, run_of_pieces, run_of_part, block_of_bytes, bytes_of_parts, block_of_word};
 ghost use Rattle.stream_text.specs.PlainRuns.{BeginsPlainly, BeginsWith, EndsPlainly, IsNoSign};
-ghost use Rattle.stream_text.specs.RunParts.{run_said, behind, bytes_of_run, HoldsBytes};
+ghost use Rattle.stream_text.specs.RunParts.{run_said, behind, block_of_byte, bytes_of_run, HoldsBytes, IsOfByte};
 
 use crate::cuts::cut_near;
 use crate::numbers::{both, number_within};
 use crate::refusal::LineFault;
 use blk_base::{Block, BoxedBlock};
+use std::alloc::{AllocError, Global};
 
 /// So many times the same byte.
 #[derive(Clone, Copy, Debug, PartialEq, Eq)]
@@ -91,8 +92,9 @@ fn asterisk(word: &[u8]) -> Option<usize>
     None
 }
 
-// Most runs are plain, and are cut in one pass.
+// Most runs are plain, and are cut in one pass. A call for each run is dear, so it stands where it is called.
 /// The first run of a word, and what stands behind it.
+#[inline(always)]
 fn next_run(word: &[u8]) -> (Result<PlainRun, LineFault>, Option<&[u8]>)
     ensures parts { MatchOption result.1
         (BeginsWith (run_said result.0) word.now [])
@@ -146,15 +148,17 @@ fn with_run(
     Ok(add_run(block, filled, run))
 }
 
-// Fills a block with the runs of a word. How many bytes they are is told up to 4097.
-fn fill(word: &[u8], block: &mut [u8]) -> Result<usize, LineFault>
-    requires { length block.old ≡ 4096 }
+// Fills a block with the runs of a word, behind what it holds. How many bytes they are then is told up to 4097.
+fn fill(block: &mut [u8], filled: Result<usize, LineFault>, word: &[u8]) -> Result<usize, LineFault>
+    requires length { length block.old ≡ 4096 }
+    requires filled { IfOk filled (λ filled. filled ≤ 4097) }
     ensures length { length block.new ≡ 4096 }
-    ensures bytes { HoldsBytes
-        (bytes_of_parts (slice_split (λ byte. byte == 43) word.now))
+    ensures bytes { (before : Result (List ℕ) Fault) → HoldsBytes before filled block.old
+        → HoldsBytes
+        (behind before (bytes_of_parts (slice_split (λ byte. byte == 43) word.now)))
         result block.new }
 {
-    let mut so_far: Result<usize, LineFault> = Ok(0);
+    let mut so_far = filled;
     let mut rest = word;
     'parts: loop {
         let (run, more) = next_run(rest);
@@ -166,14 +170,81 @@ fn fill(word: &[u8], block: &mut [u8]) -> Result<usize, LineFault>
     }
 }
 
-/// The block whose bytes a word writes as runs. It stands in the box that is given, whatever this held.
-pub(crate) fn block_of(word: &[u8], room: Box<Block>) -> Result<BoxedBlock, LineFault>
-    ensures { result ≡ block_of_word word.now }
+// A block of this byte alone.
+#[tactic(auto, unfolding(crate::specs::RunParts::block_of_byte))]
+fn of_byte(byte: u8) -> Block
+    ensures { result ≡ block_of_byte byte }
 {
-    let mut block = room;
-    let filled = fill(word, &mut block.bytes)?;
-    if filled != 4096 {
+    Block {
+        bytes: [byte; 4096],
+    }
+}
+
+// A block of the byte of a run, or of zeros where that has a fault.
+fn block_for(run: &Result<PlainRun, LineFault>) -> Block
+    ensures { IsOfByte run.now result }
+{
+    let byte = match run {
+        Ok(run) => run.byte,
+        Err(_) => 0,
+    };
+    of_byte(byte)
+}
+
+// How many bytes the first run is, told up to 4097. In a block of its byte it stands already.
+fn held(run: Result<PlainRun, LineFault>) -> Result<usize, LineFault>
+    ensures filled { IfOk result (λ filled. filled ≤ 4097) }
+    ensures bytes { (block : List ℕ) → IsOfByte run block
+        → HoldsBytes (bytes_of_run (run_said run)) result block }
+{
+    match run {
+        Ok(plain) => Ok((plain.count as usize).min(4097)),
+        Err(fault) => Err(fault),
+    }
+}
+
+// Fills a block of the byte of the first run with the runs of a word: only those behind the first are written.
+fn fill_all(
+    block: &mut Block,
+    first: Result<PlainRun, LineFault>,
+    more: Option<&[u8]>,
+) -> Result<usize, LineFault>
+    requires { IsOfByte first block.old }
+    ensures length { length block.new ≡ 4096 }
+    ensures bytes { MatchOption more.entry
+        (HoldsBytes (bytes_of_run (run_said first)) result block.new)
+        (λ more. HoldsBytes
+        (behind (bytes_of_run (run_said first)) (bytes_of_parts (slice_split (λ byte. byte == 43) more.now)))
+        result block.new) }
+{
+    let first = held(first);
+    match more {
+        Some(more) => fill(&mut block.bytes, first, more),
+        None => first,
+    }
+}
+
+// The block, if it is filled as a whole.
+fn whole(block: Box<Block>, filled: Result<usize, LineFault>) -> Result<BoxedBlock, LineFault>
+    requires { length block.value ≡ 4096 }
+    ensures { (bytes : Result (List ℕ) Fault) → HoldsBytes bytes filled block.value → result ≡ block_of_bytes bytes }
+{
+    if filled? != 4096 {
         return Err(LineFault::BlockLength);
     }
     Ok(BoxedBlock::of_box(block))
+}
+
+// The block is made of the byte of its first run, which isn't written again then.
+/// The block whose bytes a word writes as runs. It fails where memory runs out.
+pub(crate) fn block_of(
+    alloc: Global,
+    word: &[u8],
+) -> Result<Result<BoxedBlock, LineFault>, AllocError>
+    ensures { IfOk result (λ block. block ≡ block_of_word word.now) }
+{
+    let (first, more) = next_run(word);
+    let mut block = Box::new(alloc, block_for(&first))?;
+    let filled = fill_all(&mut block, first, more);
+    Ok(whole(block, filled))
 }
