@@ -1,6 +1,8 @@
 use blk_base::{Block, Geometry, Mapping, Mappings, PageId, Pbn};
 use page_codec::PageFault::{Compressed, Header, OutOfRange};
-use page_codec::{MapPage, PageFault, PageHead, decode, encode, slot};
+use page_codec::{
+    MapPage, PageFault, PageHead, decode, decode_mappings, encode, encode_unmapped, slot,
+};
 use test_images::{Spelling, difference, not_shown, with_added, with_byte};
 
 // The image has the data blocks 85 to 148.
@@ -145,6 +147,22 @@ fn read_back(block: &Block) -> (Result<(), PageFault>, PageHead, Option<(u16, Ma
 #[test]
 fn a_page_is_read_back(rt: HostRuntime) {
     assert_eq!(rt; read_back(&leaf()), (Ok(()), LEAF, None));
+}
+
+// A root without mappings, written over a leaf: whether it is what `encode` writes, how it is read over a full page, and how
+// many slots that has then.
+fn root_without_mappings() -> (bool, Result<(), PageFault>, usize) {
+    let mut block = leaf();
+    encode_unmapped(&ROOT, &mut block);
+    let is_same = block.bytes == spelled(ROOT, Mappings::new()).bytes;
+    let mut into = all_mappings();
+    let answer = decode_mappings(&block, &ROOT, &mut into);
+    (is_same, answer, count_mapped(&into))
+}
+
+#[test]
+fn a_page_without_mappings_is_written_and_read(rt: HostRuntime) {
+    assert_eq!(rt; root_without_mappings(), (true, Ok(()), 0));
 }
 
 fn copied(mappings: &Mappings) -> Mappings {
