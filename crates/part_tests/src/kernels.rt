@@ -1,5 +1,5 @@
 use blk_base::Block;
-use lane_kernels::{equal, first_free, is_zero, total};
+use lane_kernels::{all_zeros, equal, first_free, is_zero, total};
 
 // Whether the block is all zeros, and whether it equals another that is.
 fn zero_in_both_ways(block: &Block) -> [bool; 2] {
@@ -14,6 +14,26 @@ fn the_last_byte_counts(rt: HostRuntime) {
     block.bytes[4095] = 1;
     let after = zero_in_both_ways(&block);
     assert_eq!(rt; [before, after], [[true, true], [false, false]]);
+}
+
+// How many lengths up to 600 are zeros, and aren't once their last byte is 1. The least one that is asked is 64.
+fn count_zeros() -> usize {
+    let mut bytes = [0; 600];
+    for length in 64..601_usize {
+        let before = all_zeros(&bytes[..length]);
+        bytes[length - 1] = 1;
+        let after = all_zeros(&bytes[..length]);
+        bytes[length - 1] = 0;
+        if !before || after {
+            return length;
+        }
+    }
+    601
+}
+
+#[test]
+fn the_last_byte_of_each_length_counts(rt: HostRuntime) {
+    assert_eq!(rt; count_zeros(), 601);
 }
 
 #[test]
