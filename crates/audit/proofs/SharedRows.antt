@@ -25,7 +25,7 @@ use Rattle.image_model.specs.declared.fault.ImageFault.TheVariants.{SharedPage}
 use Rattle.page_codec.proofs.ReadLaws.{slots}
 use Rattle.page_codec.proofs.SpellingLaws.{page_size}
 use Rattle.page_codec.specs.Grammar.{AreHeld, HoldsMapping, IsSlot}
-use Rattle.page_codec.specs.Spelling.{page_bytes}
+use Rattle.page_codec.specs.PageBytes.{page_bytes}
 use Rattle.page_codec.specs.declared.forms.PageHead.{PageHead}
 use Rattle.replay_counts.specs.Recovered.{Holds}
 use Rattle.replay_map.specs.Reads.{BlocksRead, Reading, Shows}

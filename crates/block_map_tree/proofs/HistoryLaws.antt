@@ -11,17 +11,17 @@ use Rattle.blk_base.specs.Regions.{Root, block_of}
 use Rattle.blk_base.specs.Pages.{above, slot_of, page_above}
 use Rattle.plain_laws.proofs.LeadLaws.{leads_keep}
 use Rattle.page_codec.specs.declared.forms.MapPage.{MapPage}
-use Rattle.dirty_pages.specs.declared.marks.Marks.{Marks}
-use Rattle.dirty_pages.specs.Marks.{HasPoint, IsLowPoint, AreClean, marks_at, with_marks, changed_at, handed_out, settled}
+use Rattle.dirty_pages.specs.declared.dirty_points.DirtyPoints.{DirtyPoints}
+use Rattle.dirty_pages.specs.DirtyPoints.{HasPoint, IsLowPoint, AreClean, dirty_points_at, with_dirty_points, changed_at, handed_out, settled}
 use Rattle.dirty_pages.specs.History.{IsWaiting, IsUnwritten, IsUnreported, Becomes, IsAfter, AtMost}
-use Rattle.dirty_pages.proofs.MarkLaws.{due_inside, out_inside}
+use Rattle.dirty_pages.proofs.DirtyPointLaws.{due_inside, out_inside}
 use Rattle.dirty_pages.proofs.HistoryLaws as dirty
 use Rattle.block_map_tree.specs.declared.forms.Forest.{Forest}
 use Rattle.block_map_tree.specs.declared.forms.Path.{Path}
 use Rattle.block_map_tree.specs.declared.forms.Found.TheVariants.{Missing}
 use Rattle.block_map_tree.specs.Pages.{IsTreeOf, IsOnPath, IsRoot, IsLower, IsInner, page_on}
-use Rattle.block_map_tree.specs.Tree.{Tree, IsTree, IsAt, as_root, by_link, IsThere, IsFound, IsLinkable, Links, Expires, IsWriting, number_of, marks_of, mappings_of, mapping_of}
-use Rattle.block_map_tree.specs.History.{Call, Link, HandOut, Write, Leads, LeadTo, event_of, events_of}
+use Rattle.block_map_tree.specs.Tree.{Tree, IsTree, IsAt, as_root, by_link, IsThere, IsFound, IsLinkable, Links, Expires, IsWriting, number_of, dirty_points_of, mappings_of, mapping_of}
+use Rattle.block_map_tree.specs.History.{Operation, Link, HandOut, Write, Leads, LeadTo, event_of, events_of}
 use Rattle.dirty_pages.proofs.PageLists.{at_set}
 use Rattle.block_map_tree.proofs.PageLaws.{one_number, one_below, lower_on_path, above_at, above_inner}
 use Rattle.block_map_tree.proofs.TreeLaws.{place_above}
@@ -83,60 +83,60 @@ link_others old new page at point form linkable links other b apart =
       ],
     )
 
--- the marks of one page after a call that changes those of one page
-marks_after : (old new : Tree) (changed : PageId) (change : Marks → Marks) (pages : List (List Mapping)) (page : PageId) → IsTree old → IsInner old.forest changed
-    → IsInner old.forest page → number_of old.forest changed < length old.marks
-    → new ≡ record { forest = old.forest; pages = pages; marks = with_marks old.marks (number_of old.forest changed) change }
-    → ((changed ≡ page) × (marks_of new page ≡ change (marks_of old page))) ⊎ ((changed ≢ page) × (marks_of new page ≡ marks_of old page))
-marks_after old new changed change pages page form inner inner' inside set =
-    let read = ap (λ (t : Tree). marks_of t page) set in
-    elim (at_set old.marks (number_of old.forest changed) (number_of old.forest page) (change (marks_of old changed)) (marks_at [] 0) inside) [
+-- the dirty points of one page after a call that changes those of one page
+dirty_points_after : (old new : Tree) (changed : PageId) (change : DirtyPoints → DirtyPoints) (pages : List (List Mapping)) (page : PageId) → IsTree old → IsInner old.forest changed
+    → IsInner old.forest page → number_of old.forest changed < length old.dirty_points
+    → new ≡ record { forest = old.forest; pages = pages; dirty_points = with_dirty_points old.dirty_points (number_of old.forest changed) change }
+    → ((changed ≡ page) × (dirty_points_of new page ≡ change (dirty_points_of old page))) ⊎ ((changed ≢ page) × (dirty_points_of new page ≡ dirty_points_of old page))
+dirty_points_after old new changed change pages page form inner inner' inside set =
+    let read = ap (λ (t : Tree). dirty_points_of t page) set in
+    elim (at_set old.dirty_points (number_of old.forest changed) (number_of old.forest page) (change (dirty_points_of old changed)) (dirty_points_at [] 0) inside) [
       | inl hit ↦
           let same = one_number old.forest changed page form.forest inner inner' (sym hit.0) in
-          inl (same, read ∙ hit.1 ∙ ap (λ (p : PageId). change (marks_of old p)) same)
+          inl (same, read ∙ hit.1 ∙ ap (λ (p : PageId). change (dirty_points_of old p)) same)
       | inr miss ↦ inr ((λ same. miss.0 (ap (λ (p : PageId). number_of old.forest p) (sym same))), read ∙ miss.1)
     ]
 
--- what a call makes of the marks of a page
-becomes : (old new : Tree) (call : Call) (page : PageId) → IsTree old → IsInner old.forest page → Leads old call new
-    → Becomes (event_of call) page (marks_of old page) (marks_of new page)
+-- what a call makes of the dirty points of a page
+becomes : (old new : Tree) (call : Operation) (page : PageId) → IsTree old → IsInner old.forest page → Leads old call new
+    → Becomes (event_of call) page (dirty_points_of old page) (dirty_points_of new page)
 becomes old new (Link linked at point) page form inner leads =
     let lower = lower_on_path old.forest linked form.forest leads.0.path leads.0.lower in
-    marks_after old new (above linked) (changed_at point) _ page form (above_inner old.forest linked form.forest lower) inner (place_above old linked form leads.0).marks_inside leads.1.set
+    dirty_points_after old new (above linked) (changed_at point) _ page form (above_inner old.forest linked form.forest lower) inner (place_above old linked form leads.0).dirty_points_inside leads.1.set
 becomes old new (HandOut out) page form inner leads =
     let expires = leads.2 in
-    let inside = due_inside old.marks (number_of old.forest out) expires.marks.first expires.marks.due in
-    elim (marks_after old new out handed_out old.pages page form expires.inner inner inside expires.set) [
-      | inl hit ↦ inl (hit.0, ap (λ (p : PageId). (marks_of old p).writing) (sym hit.0) ∙ expires.marks.due.idle, hit.1)
+    let inside = due_inside old.dirty_points (number_of old.forest out) expires.dirty_points.first expires.dirty_points.due in
+    elim (dirty_points_after old new out handed_out old.pages page form expires.inner inner inside expires.set) [
+      | inl hit ↦ inl (hit.0, ap (λ (p : PageId). (dirty_points_of old p).writing) (sym hit.0) ∙ expires.dirty_points.due.idle, hit.1)
       | inr miss ↦ inr miss
     ]
 becomes old new (Write out) page form inner leads =
-    marks_after old new out settled old.pages page form leads.0.inner inner (out_inside old.marks (number_of old.forest out) leads.0.marks) leads.1.set
+    dirty_points_after old new out settled old.pages page form leads.0.inner inner (out_inside old.dirty_points (number_of old.forest out) leads.0.dirty_points) leads.1.set
 
 -- calls keep a tree, and its trees are those of the zone
-call_keeps : (old new : Tree) (call : Call) → Leads old call new → IsTree new × (new.forest ≡ old.forest)
+call_keeps : (old new : Tree) (call : Operation) → Leads old call new → IsTree new × (new.forest ≡ old.forest)
 call_keeps old new (Link page at point) leads = (leads.1.form, ap (λ (t : Tree). t.forest) leads.1.set)
 call_keeps old new (HandOut page) leads = (leads.2.form, ap (λ (t : Tree). t.forest) leads.2.set)
 call_keeps old new (Write page) leads = (leads.1.form, ap (λ (t : Tree). t.forest) leads.1.set)
 
-pub calls_keep : (old new : Tree) (calls : List Call) → IsTree old → LeadTo old calls new → IsTree new × (new.forest ≡ old.forest)
+pub calls_keep : (old new : Tree) (calls : List Operation) → IsTree old → LeadTo old calls new → IsTree new × (new.forest ≡ old.forest)
 calls_keep old new calls form lead = leads_keep (λ call before after. Leads before call after) (λ tree. IsTree tree × (tree.forest ≡ old.forest)) (λ call before after kept leads.
     let last = call_keeps before after call leads in
     (last.0, last.1 ∙ kept.1)) old new calls (form, refl) lead
 
--- the marks of a page follow from what the calls do to it
-after : (old new : Tree) (calls : List Call) (page : PageId) → IsTree old → LeadTo old calls new → IsInner old.forest page
-    → IsAfter (marks_of old page) (events_of calls) page (marks_of new page)
-after old new [] page form same inner = ap (λ (t : Tree). marks_of t page) same
+-- the dirty points of a page follow from what the calls do to it
+after : (old new : Tree) (calls : List Operation) (page : PageId) → IsTree old → LeadTo old calls new → IsInner old.forest page
+    → IsAfter (dirty_points_of old page) (events_of calls) page (dirty_points_of new page)
+after old new [] page form same inner = ap (λ (t : Tree). dirty_points_of t page) same
 after old new (call ∷ calls) page form lead inner =
     let keep = calls_keep old lead.0 calls form lead.1 in (
-      marks_of lead.0 page,
+      dirty_points_of lead.0 page,
       after old lead.0 calls page form lead.1 inner,
       becomes lead.0 new call page keep.0 (subst (λ (f : Forest). IsInner f page) (sym keep.1) inner) lead.2,
     )
 
 -- a page that was changed is no leaf
-unwritten_inner : (old new : Tree) (calls : List Call) (page : PageId) (point : Point) → IsTree old → LeadTo old calls new
+unwritten_inner : (old new : Tree) (calls : List Operation) (page : PageId) (point : Point) → IsTree old → LeadTo old calls new
     → IsUnwritten (events_of calls) page point → IsInner old.forest page
 unwritten_inner old new [] page point form lead unwritten = elim unwritten [ inl wait ↦ absurd wait | inr out ↦ absurd out ]
 unwritten_inner old new (Link linked at since ∷ calls) page point form lead unwritten =
@@ -157,62 +157,62 @@ unwritten_inner old new (Write handed ∷ calls) page point form lead unwritten 
     let past = unwritten_inner old lead.0 calls page point form lead.1 in
     elim unwritten [ inl wait ↦ past (inl wait) | inr out ↦ past (inr out.1) ]
 
-unwritten_after : (old new : Tree) (calls : List Call) (page : PageId) (point : Point) → IsTree old → LeadTo old calls new
-    → IsUnwritten (events_of calls) page point → IsAfter (marks_of old page) (events_of calls) page (marks_of new page)
+unwritten_after : (old new : Tree) (calls : List Operation) (page : PageId) (point : Point) → IsTree old → LeadTo old calls new
+    → IsUnwritten (events_of calls) page point → IsAfter (dirty_points_of old page) (events_of calls) page (dirty_points_of new page)
 unwritten_after old new calls page point form lead unwritten = after old new calls page form lead (unwritten_inner old new calls page point form lead unwritten)
 
 -- a link that waits will be handed out
-pub kept : (old new : Tree) (calls : List Call) (page : PageId) (point : Point) → IsTree old → LeadTo old calls new
-    → IsWaiting (events_of calls) page point → AtMost (marks_of new page).dirty point
+pub kept : (old new : Tree) (calls : List Operation) (page : PageId) (point : Point) → IsTree old → LeadTo old calls new
+    → IsWaiting (events_of calls) page point → AtMost (dirty_points_of new page).dirty point
 kept old new calls page point form lead wait =
-    dirty.waits (marks_of old page) (marks_of new page) (events_of calls) page point (unwritten_after old new calls page point form lead (inl wait)) wait
+    dirty.waits (dirty_points_of old page) (dirty_points_of new page) (events_of calls) page point (unwritten_after old new calls page point form lead (inl wait)) wait
 
-pub not_below : (old new : Tree) (calls : List Call) (page : PageId) (point low : Point) → IsTree old → LeadTo old calls new
-    → IsUnwritten (events_of calls) page point → IsLowPoint new.marks low → low.0 ≤ point.0
+pub not_below : (old new : Tree) (calls : List Operation) (page : PageId) (point low : Point) → IsTree old → LeadTo old calls new
+    → IsUnwritten (events_of calls) page point → IsLowPoint new.dirty_points low → low.0 ≤ point.0
 not_below old new calls page point low form lead unwritten is_low =
-    dirty.not_below (marks_of old page) new.marks (number_of new.forest page) (events_of calls) page point low (unwritten_after old new calls page point form lead unwritten) unwritten is_low
+    dirty.not_below (dirty_points_of old page) new.dirty_points (number_of new.forest page) (events_of calls) page point low (unwritten_after old new calls page point form lead unwritten) unwritten is_low
 
-pub not_written : (old new : Tree) (calls : List Call) (page : PageId) (point : Point) → IsTree old → LeadTo old calls new
-    → IsUnwritten (events_of calls) page point → AreClean new.marks → ⊥
+pub not_written : (old new : Tree) (calls : List Operation) (page : PageId) (point : Point) → IsTree old → LeadTo old calls new
+    → IsUnwritten (events_of calls) page point → AreClean new.dirty_points → ⊥
 not_written old new calls page point form lead unwritten written =
-    dirty.not_clean (marks_of old page) (marks_of new page) (events_of calls) page point (unwritten_after old new calls page point form lead unwritten) unwritten (written (number_of new.forest page))
+    dirty.not_clean (dirty_points_of old page) (dirty_points_of new page) (events_of calls) page point (unwritten_after old new calls page point form lead unwritten) unwritten (written (number_of new.forest page))
 
 -- its page has a point that isn't above it
-pub owed_point : (old new : Tree) (calls : List Call) (page : PageId) (point : Point) → IsTree old → LeadTo old calls new → IsUnwritten (events_of calls) page point
-    → (number : ℕ) × (low : Point) × HasPoint (marks_at new.marks number) low × (low.0 ≤ point.0)
+pub owed_point : (old new : Tree) (calls : List Operation) (page : PageId) (point : Point) → IsTree old → LeadTo old calls new → IsUnwritten (events_of calls) page point
+    → (number : ℕ) × (low : Point) × HasPoint (dirty_points_at new.dirty_points number) low × (low.0 ≤ point.0)
 owed_point old new calls page point form lead unwritten =
-    let has = dirty.has_point (marks_of old page) (marks_of new page) (events_of calls) page point (unwritten_after old new calls page point form lead unwritten) unwritten in
+    let has = dirty.has_point (dirty_points_of old page) (dirty_points_of new page) (events_of calls) page point (unwritten_after old new calls page point form lead unwritten) unwritten in
     (number_of new.forest page, has.0, has.1, has.2)
 
 -- a page that was handed out is being written until it is reported
 pub is_out : (old new : Tree) (page : PageId) (point : Point) (into : MapPage) → Expires old new point page into → IsWriting new page
 is_out old new page point into expires =
-    let inside = due_inside old.marks (number_of old.forest page) expires.marks.first expires.marks.due in
+    let inside = due_inside old.dirty_points (number_of old.forest page) expires.dirty_points.first expires.dirty_points.due in
     let forest : old.forest ≡ new.forest = sym (ap (λ (t : Tree). t.forest) expires.set) in
     record {
       inner = subst (λ (f : Forest). IsInner f page) forest expires.inner;
-      marks = record {
-        first = expires.marks.first;
-        is = ap (λ (t : Tree). (marks_of t page).writing) expires.set
-            ∙ ap (λ (m : Marks). m.writing) (get_or-set_same old.marks (number_of old.forest page) (handed_out (marks_of old page)) (marks_at [] 0) inside)
-            ∙ expires.marks.due.dirty;
+      dirty_points = record {
+        first = expires.dirty_points.first;
+        is = ap (λ (t : Tree). (dirty_points_of t page).writing) expires.set
+            ∙ ap (λ (m : DirtyPoints). m.writing) (get_or-set_same old.dirty_points (number_of old.forest page) (handed_out (dirty_points_of old page)) (dirty_points_at [] 0) inside)
+            ∙ expires.dirty_points.due.dirty;
       };
     }
 
-pub still_out : (old new : Tree) (calls : List Call) (page : PageId) → IsTree old → LeadTo old calls new
+pub still_out : (old new : Tree) (calls : List Operation) (page : PageId) → IsTree old → LeadTo old calls new
     → IsUnreported (events_of calls) page → IsWriting old page → IsWriting new page
 still_out old new calls page form lead unreported out =
     let keep = calls_keep old new calls form lead in
     record {
       inner = subst (λ (f : Forest). IsInner f page) (sym keep.1) out.inner;
-      marks = record {
-        first = out.marks.first;
-        is = dirty.still_out (marks_of old page) (marks_of new page) (events_of calls) page out.marks.first (after old new calls page form lead out.inner) unreported out.marks.is;
+      dirty_points = record {
+        first = out.dirty_points.first;
+        is = dirty.still_out (dirty_points_of old page) (dirty_points_of new page) (events_of calls) page out.dirty_points.first (after old new calls page form lead out.inner) unreported out.dirty_points.is;
       };
     }
 
 pub not_out_before : (old new : Tree) (page : PageId) (point : Point) (into : MapPage) → Expires old new point page into → IsWriting old page → ⊥
-not_out_before old new page point into expires out = let idle = expires.marks.due.idle in let some = out.marks.is in cc
+not_out_before old new page point into expires out = let idle = expires.dirty_points.due.idle in let some = out.dirty_points.is in cc
 
 -- the highest page that a path of the logical size misses may be linked
 pub missing_linkable : (tree : Tree) (path : Path) (address level : ℕ) → IsTree tree → address < tree.forest.geometry.logical

@@ -7,10 +7,10 @@ use Rattle.blk_base.specs.declared.place.Mapping.TheVariants.{At}
 use Rattle.blk_base.specs.declared.place.PageId.{PageId}
 use Rattle.blk_base.specs.declared.place.Pbn.{Pbn}
 use Rattle.blk_base.specs.declared.point.Point.{Point}
-use Rattle.dirty_pages.specs.Marks.{NoneIsDue, handed_out}
-use Rattle.dirty_pages.proofs.MarkLaws.{one_is_handed_out, out_or_none}
+use Rattle.dirty_pages.specs.DirtyPoints.{NoneIsDue, handed_out}
+use Rattle.dirty_pages.proofs.DirtyPointLaws.{one_is_handed_out, out_or_none}
 use Rattle.page_codec.specs.declared.forms.MapPage.{MapPage}
-use Rattle.block_map_tree.specs.History.{Call, HandOut, Leads, Link, Write}
+use Rattle.block_map_tree.specs.History.{Operation, HandOut, Leads, Link, Write}
 use Rattle.block_map_tree.specs.Tree.{Expires, IsAt, IsTree, Tree, as_root, by_link, mappings_of, number_of, with_change}
 use Rattle.block_map_tree.proofs.PageLaws.{one_number}
 
@@ -27,7 +27,7 @@ same_content a b geometry page at mappings =
     ∙ ap (λ (p : Pbn). let m : MapPage = record { head = record { geometry = b.head.geometry; page = b.head.page; at = p }; mappings = a.mappings } in m) at
     ∙ ap (λ (ms : List Mapping). let m : MapPage = record { head = b.head; mappings = ms } in m) mappings
 
-pub call_one : (old new other : Tree) (call : Call) → Leads old call new → Leads old call other → new ≡ other
+pub call_one : (old new other : Tree) (call : Operation) → Leads old call new → Leads old call other → new ≡ other
 call_one old new other (Link page at point) (linkable, one) (linkable', two) = one.set ∙ sym two.set
 call_one old new other (HandOut page) (point, into, one) (point', into', two) = one.set ∙ sym two.set
 call_one old new other (Write page) (out, one) (out', two) = one.set ∙ sym two.set
@@ -36,7 +36,7 @@ call_one old new other (Write page) (out, one) (out', two) = one.set ∙ sym two
 pub out_one : (old new other : Tree) (point : Point) (page out : PageId) (into copy : MapPage) → IsTree old → Expires old new point page into → Expires old other point out copy
     → (page ≡ out) × (into ≡ copy) × (new ≡ other)
 out_one old new other point page out into copy form one two =
-    let number = one_is_handed_out old.marks new.marks other.marks point (number_of old.forest page) (number_of old.forest out) one.marks two.marks in
+    let number = one_is_handed_out old.dirty_points new.dirty_points other.dirty_points point (number_of old.forest page) (number_of old.forest out) one.dirty_points two.dirty_points in
     let same = one_number old.forest page out form.forest one.inner two.inner number.0 in
     let at = one_at old page into.head.at copy.head.at one.at (subst (λ (p : PageId). IsAt old p copy.head.at) (sym same) two.at) in (
       same,
@@ -45,5 +45,5 @@ out_one old new other point page out into copy form one two =
       one.set ∙ ap (λ (p : PageId). with_change old p handed_out) same ∙ sym two.set,
     )
 
-pub page_or_none : (old new : Tree) (point : Point) (page : PageId) (into : MapPage) → Expires old new point page into → NoneIsDue old.marks point → ⊥
-page_or_none old new point page into expires none = out_or_none old.marks new.marks point (number_of old.forest page) expires.marks none
+pub page_or_none : (old new : Tree) (point : Point) (page : PageId) (into : MapPage) → Expires old new point page into → NoneIsDue old.dirty_points point → ⊥
+page_or_none old new point page into expires none = out_or_none old.dirty_points new.dirty_points point (number_of old.forest page) expires.dirty_points none

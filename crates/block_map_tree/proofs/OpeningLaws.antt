@@ -13,12 +13,12 @@ use Rattle.blk_base.specs.declared.opened.OpenedPage.{OpenedPage}
 use Rattle.blk_base.specs.Pages.{above, slot_of}
 use Rattle.page_codec.specs.Grammar.{AreHeld}
 use Rattle.page_codec.proofs.HeldLaws.{held_unmapped, held_above}
-use Rattle.dirty_pages.specs.declared.marks.Marks.{Marks}
-use Rattle.dirty_pages.specs.Marks.{HasPoint, clean, marks_at}
+use Rattle.dirty_pages.specs.declared.dirty_points.DirtyPoints.{DirtyPoints}
+use Rattle.dirty_pages.specs.DirtyPoints.{HasPoint, clean, dirty_points_at}
 use Rattle.block_map_tree.specs.declared.forms.Forest.{Forest}
 use Rattle.block_map_tree.specs.Pages.{IsForest, IsTreeOf, IsOnPath, IsRoot, IsLower, IsInner}
 use Rattle.block_map_tree.specs.Tree.{Tree, as_root, by_link, trees_of, number_of, most_rows, mappings_of, mapping_of}
-use Rattle.block_map_tree.specs.Opening.{all_trees, IsListed, IsOpened, IsOpening, AreEnough, blank, IsTakenOver}
+use Rattle.block_map_tree.specs.OpenedTree.{all_trees, IsListed, IsOpened, IsOpening, AreEnough, blank, IsTakenOver}
 use Rattle.dirty_pages.proofs.PageLists.{at_set, replicate_at, listed_or_not}
 use Rattle.block_map_tree.proofs.PageLaws.{one_number, in_row, above_inner}
 
@@ -98,16 +98,16 @@ numbers_inside f opened rows count forest enough is = (
       (in_row f (slice_index_or opened k d).page rows forest own (enough.opened_too k d inside own)),
 )
 
-pub opening : (f : Forest) (opened : List OpenedPage) (count : ℕ) (rows pages : List (List Mapping)) (marks : List Marks) → IsForest f → IsOpened f opened
+pub opening : (f : Forest) (opened : List OpenedPage) (count : ℕ) (rows pages : List (List Mapping)) (dirty_points : List DirtyPoints) → IsForest f → IsOpened f opened
     → count ≤ most_rows f.geometry.height * trees_of f → ((page : PageId) → IsOnPath f page → 1 ≤ page.level → number_of f page < count)
-    → rows ≡ replicate count blank → IsTakenOver f opened (length opened) rows pages → marks ≡ replicate count clean
-    → IsOpening f opened (record { forest = f; pages = pages; marks = marks })
-opening f opened count rows pages marks forest is_opened most paths rows_are taken marks_are =
-    let tree : Tree = record { forest = f; pages = pages; marks = marks } in
+    → rows ≡ replicate count blank → IsTakenOver f opened (length opened) rows pages → dirty_points ≡ replicate count clean
+    → IsOpening f opened (record { forest = f; pages = pages; dirty_points = dirty_points })
+opening f opened count rows pages dirty_points forest is_opened most paths rows_are taken dirty_points_are =
+    let tree : Tree = record { forest = f; pages = pages; dirty_points = dirty_points } in
     let wide : length pages ≡ count = taken.size ∙ ap length rows_are ∙ length-replicate count blank in
-    let marked : length marks ≡ count = ap length marks_are ∙ length-replicate count clean in
-    let no_marks : (number : ℕ) → marks_at marks number ≡ clean =
-    λ number. ap (λ (m : List Marks). marks_at m number) marks_are ∙ replicate_at count number clean in
+    let marked : length dirty_points ≡ count = ap length dirty_points_are ∙ length-replicate count clean in
+    let no_dirty_points : (number : ℕ) → dirty_points_at dirty_points number ≡ clean =
+    λ number. ap (λ (m : List DirtyPoints). dirty_points_at m number) dirty_points_are ∙ replicate_at count number clean in
     let whole : (k : ℕ) (d : OpenedPage) → k < length opened → IsTreeOf f (slice_index_or opened k d).page.tree
     → mappings_of tree (slice_index_or opened k d).page ≡ (slice_index_or opened k d).mappings =
     λ k d below own. taken.taken k d below own (λ j later inside own_j same. is_opened.once k j d later inside
@@ -133,8 +133,8 @@ opening f opened count rows pages marks forest is_opened most paths rows_are tak
         room = λ page on level. let p = paths page on level in omega arith;
         most = let m = most in subst (λ (n : ℕ). n ≤ most_rows f.geometry.height * trees_of f) (sym wide) m;
         held = taken.held (subst (λ (r : List (List Mapping)). All (AreHeld f.geometry 1) r) (sym rows_are) (blank_held f count));
-        marks = marked ∙ sym wide;
-        there = λ page point inner has. absurd (elim (subst (λ (m : Marks). HasPoint m point) (no_marks (number_of f page)) has) [ inl dirty ↦ cc | inr writing ↦ cc ]);
+        dirty_points = marked ∙ sym wide;
+        there = λ page point inner has. absurd (elim (subst (λ (m : DirtyPoints). HasPoint m point) (no_dirty_points (number_of f page)) has) [ inl dirty ↦ cc | inr writing ↦ cc ]);
       };
       taken = whole;
       placed = λ k d below own.
@@ -165,7 +165,7 @@ opening f opened count rows pages marks forest is_opened most paths rows_are tak
         ]
       ];
       empty = empty;
-      clean = no_marks;
+      clean = no_dirty_points;
     }
 
 -- what is opened of all trees is opened of those of a zone

@@ -14,11 +14,11 @@ use Rattle.blk_base.specs.declared.place.Mapping.TheVariants.{At, Unmapped, Zero
 use Rattle.blk_base.specs.declared.place.PageId.{PageId}
 use Rattle.blk_base.specs.declared.place.Pbn.{Pbn}
 use Rattle.blk_base.specs.Pages.{above, slot_of}
-use Rattle.dirty_pages.specs.Marks.{clean, marks_at}
-use Rattle.dirty_pages.specs.declared.marks.Marks.{Marks}
+use Rattle.dirty_pages.specs.DirtyPoints.{clean, dirty_points_at}
+use Rattle.dirty_pages.specs.declared.dirty_points.DirtyPoints.{DirtyPoints}
 use Rattle.page_codec.specs.Grammar.{AreHeld}
 use Rattle.block_map_tree.specs.declared.forms.Forest.{Forest}
-use Rattle.block_map_tree.specs.Opening.{AreEnough, IsLed, IsListed, IsOpened, IsOpening, IsPlaced, IsTakenOver, all_trees, blank, forest_of}
+use Rattle.block_map_tree.specs.OpenedTree.{AreEnough, IsLed, IsListed, IsOpened, IsOpening, IsPlaced, IsTakenOver, all_trees, blank, forest_of}
 use Rattle.block_map_tree.specs.Pages.{IsInner, IsLower, IsOnPath, IsRoot, IsTreeOf}
 use Rattle.block_map_tree.specs.Tree.{IsAt, as_root, by_link, mapping_of, mappings_of, number_of, row_of}
 use Rattle.block_map_tree.proofs.TreeRows.{b, dirty_tree, p, forest, held, held_at, inner, inner_at, inner_below, inner_is, is_root, leaf, linked, linked_is, none_behind, own, page_with, root, root_at, tree_of}
@@ -249,7 +249,7 @@ is_opening = record {
         let place : (suc k + 1) * 1 + 0 ≡ suc (suc k) = omega arith in
         ap (λ (n : ℕ). slice_index_or (slice_index_or linked.pages n []) slot Unmapped) place ∙ in_none slot
 
-    clean_at : (number : ℕ) → marks_at (clean ∷ clean ∷ []) number ≡ clean
+    clean_at : (number : ℕ) → dirty_points_at (clean ∷ clean ∷ []) number ≡ clean
     clean_at zero = refl
     clean_at (suc zero) = refl
     clean_at (suc (suc k)) = refl
@@ -259,8 +259,8 @@ opening_of_another_zone : IsOpening (record forest { zone = 1 }) pages linked �
 opening_of_another_zone is = omega (arith, ap (λ (f : Forest). f.zone) is.forest)
 
 -- form
-opening_without_marks : IsOpening forest pages (record linked { marks = [] }) → ⊥
-opening_without_marks is = omega (arith, is.form.marks)
+opening_without_dirty_points : IsOpening forest pages (record linked { dirty_points = [] }) → ⊥
+opening_without_dirty_points is = omega (arith, is.form.dirty_points)
 
 -- taken
 opening_with_another_link : IsOpening forest pages (tree_of (At (b 87)) (At (b 91)) clean clean) → ⊥
@@ -291,7 +291,7 @@ opening_with_a_link_of_no_page is = omega (arith, ap block_in (is.empty inner 0 
 
 -- clean
 opening_to_be_written : IsOpening forest pages dirty_tree → ⊥
-opening_to_be_written is = none-some (p 5) (sym (ap (λ (m : Marks). m.dirty) (is.clean 1)))
+opening_to_be_written is = none-some (p 5) (sym (ap (λ (m : DirtyPoints). m.dirty) (is.clean 1)))
 
 -- AreEnough: two rows, for the root and the page below it
 

@@ -1,7 +1,7 @@
 -- Runs of a tree: calls that lead on, and such that don't. The trees are those of `TreeRows`.
 use Rattle.std.proofs.Common.{◌≡◌, List, [], ◌∷◌, refl, subst, arith}
 use Rattle.dirty_pages.specs.History.{Changed, HandedOut, Written}
-use Rattle.block_map_tree.specs.History.{Call, HandOut, LeadTo, Leads, Link, Write, event_of, events_of}
+use Rattle.block_map_tree.specs.History.{Operation, HandOut, LeadTo, Leads, Link, Write, event_of, events_of}
 use Rattle.block_map_tree.specs.Tree.{Tree}
 use Rattle.block_map_tree.proofs.TreeRows.{b, copy, dirty_tree, expires, half, inner, leaf, linkable, linkable_root, linked, links, links_elsewhere, out_tree, p, root, writes, writing, writing_before}
 
@@ -29,7 +29,7 @@ is_written_before new leads = writing_before leads.0
 
 -- LeadTo: all of them, the newest first
 
-abbrev calls : List Call
+abbrev calls : List Operation
 calls = Write inner ∷ HandOut inner ∷ Link leaf (b 90) (p 5) ∷ []
 
 lead_to : LeadTo half calls linked

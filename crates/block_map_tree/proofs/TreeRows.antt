@@ -15,15 +15,15 @@ use Rattle.blk_base.specs.declared.place.Mapping.TheVariants.{At, Unmapped, Zero
 use Rattle.blk_base.specs.declared.place.PageId.{PageId}
 use Rattle.blk_base.specs.declared.place.Pbn.{Pbn}
 use Rattle.blk_base.specs.declared.point.Point.{Point}
-use Rattle.dirty_pages.specs.Marks.{HasPoint, IsDue, changed_at, clean, marks_at}
-use Rattle.dirty_pages.specs.declared.marks.Marks.{Marks}
+use Rattle.dirty_pages.specs.DirtyPoints.{HasPoint, IsDue, changed_at, clean, dirty_points_at}
+use Rattle.dirty_pages.specs.declared.dirty_points.DirtyPoints.{DirtyPoints}
 use Rattle.page_codec.specs.Grammar.{AreHeld, HoldsMapping}
 use Rattle.page_codec.specs.declared.forms.MapPage.{MapPage}
 use Rattle.block_map_tree.specs.declared.forms.Forest.{Forest}
 use Rattle.block_map_tree.specs.declared.forms.Found.TheVariants.{Leaf, Missing}
 use Rattle.block_map_tree.specs.declared.forms.Path.{Path}
 use Rattle.block_map_tree.specs.Pages.{IsInner, IsLower, IsOnPath, IsRoot, IsTreeOf, page_on}
-use Rattle.block_map_tree.specs.Tree.{Expires, IsAt, IsFound, IsLinkable, IsThere, IsTree, IsWriting, Links, Tree, Writes, as_root, by_link, mapping_of, mappings_of, marks_of, most_rows, number_of, row_of, trees_of, with_change, with_mapping}
+use Rattle.block_map_tree.specs.Tree.{Expires, IsAt, IsFound, IsLinkable, IsThere, IsTree, IsWriting, Links, Tree, Writes, as_root, by_link, mapping_of, mappings_of, dirty_points_of, most_rows, number_of, row_of, trees_of, with_change, with_mapping}
 
 abbrev pub p : ℕ → Point
 p n = record { 0 = n }
@@ -88,7 +88,7 @@ numbers_are = (refl, refl)
 rows_of_height : (most_rows 2 ≡ 1) × (most_rows 3 ≡ 813)
 rows_of_height = (refl, refl)
 
--- The trees: the root and the page below it, of each its first slot and its marks.
+-- The trees: the root and the page below it, of each its first slot and its dirty points.
 
 -- the slots of a page behind its first two: none is mapped
 pub others : List Mapping
@@ -112,8 +112,8 @@ held_at offset below = (record { slab = 0; offset = offset; inside = (omega arit
 abbrev pub page_with : Mapping → List Mapping
 page_with first = first ∷ Unmapped ∷ others
 
-abbrev pub tree_of : Mapping → Mapping → Marks → Marks → Tree
-tree_of first second one two = record { forest = forest; pages = page_with first ∷ page_with second ∷ []; marks = one ∷ two ∷ [] }
+abbrev pub tree_of : Mapping → Mapping → DirtyPoints → DirtyPoints → Tree
+tree_of first second one two = record { forest = forest; pages = page_with first ∷ page_with second ∷ []; dirty_points = one ∷ two ∷ [] }
 
 abbrev pub linked : Tree
 linked = tree_of (At (b 87)) (At (b 90)) clean clean
@@ -125,16 +125,16 @@ half = tree_of (At (b 87)) Unmapped clean clean
 abbrev pub bare : Tree
 bare = tree_of Unmapped Unmapped clean clean
 
--- mappings_of, mapping_of, marks_of, with_change, with_mapping
+-- mappings_of, mapping_of, dirty_points_of, with_change, with_mapping
 
 says_its_slots : (mappings_of linked inner ≡ page_with (At (b 90))) × (mapping_of linked root 0 ≡ At (b 87)) × (mapping_of linked root 1 ≡ Unmapped)
 says_its_slots = (refl, refl, refl)
 
-abbrev pub dirty : Marks
+abbrev pub dirty : DirtyPoints
 dirty = changed_at (p 5) clean
 
-has_its_marks : marks_of (tree_of (At (b 87)) (At (b 90)) clean dirty) inner ≡ dirty
-has_its_marks = refl
+has_its_dirty_points : dirty_points_of (tree_of (At (b 87)) (At (b 90)) clean dirty) inner ≡ dirty
+has_its_dirty_points = refl
 
 is_changed : with_change linked inner (changed_at (p 5)) ≡ tree_of (At (b 87)) (At (b 90)) clean dirty
 is_changed = refl
@@ -147,7 +147,7 @@ is_mapped = refl
 pub root_at : IsAt linked root (b 9)
 root_at = as_root is_root refl
 
-pub inner_at : (second : Mapping) (one two : Marks) → IsAt (tree_of (At (b 87)) second one two) inner (b 87)
+pub inner_at : (second : Mapping) (one two : DirtyPoints) → IsAt (tree_of (At (b 87)) second one two) inner (b 87)
 inner_at second one two = by_link inner_below refl
 
 pub leaf_at : IsAt linked leaf (b 90)
@@ -182,7 +182,7 @@ leaf_missing is = never is.at is.stands
     never at (as_root is' here) = omega (arith, is'.level)
     never at (by_link lower leads) = let none : ◌≡◌ {A = Mapping} Unmapped (At at) = leads in cc none
 
-pub inner_missing : (second : Mapping) (one two : Marks) → IsThere (tree_of Unmapped second one two) inner → ⊥
+pub inner_missing : (second : Mapping) (one two : DirtyPoints) → IsThere (tree_of Unmapped second one two) inner → ⊥
 inner_missing second one two is = never is.at is.stands
   where
     never : (at : Pbn) → IsAt (tree_of Unmapped second one two) inner at → ⊥
@@ -229,7 +229,7 @@ misses_one_above_the_root found = omega (arith, found.0)
 
 -- IsTree
 
-pub is_tree : (first second : Mapping) (one two : Marks) → HoldsMapping tall 1 first → HoldsMapping tall 1 second
+pub is_tree : (first second : Mapping) (one two : DirtyPoints) → HoldsMapping tall 1 first → HoldsMapping tall 1 second
     → ((point : Point) → HasPoint two point → (at : Pbn) × (first ≡ At at)) → IsTree (tree_of first second one two)
 is_tree first second one two holds_first holds_second led = record {
   forest = record { sizes = tall_is; zone = omega arith; zones = omega arith };
@@ -237,7 +237,7 @@ is_tree first second one two holds_first holds_second led = record {
   most = omega arith;
   held = All-cons (AreHeld tall 1) (page_with first) (page_with second ∷ []) (held 1 first holds_first)
       (All-cons (AreHeld tall 1) (page_with second) [] (held 1 second holds_second) (All-nil (AreHeld tall 1)));
-  marks = refl;
+  dirty_points = refl;
   there = λ page point is has. elim is.there [
     | inl top ↦ record { at = b (block_of tall (Root page.tree)); stands = as_root top refl }
     | inr lower ↦ lower_there page.tree page.level page.index point is.level lower has
@@ -259,7 +259,7 @@ is_tree first second one two holds_first holds_second led = record {
     ]
 
     lower_there : (tree level index : ℕ) (point : Point) → 1 ≤ level → IsLower forest (record { tree = tree; level = level; index = index })
-        → HasPoint (marks_of (tree_of first second one two) (record { tree = tree; level = level; index = index })) point
+        → HasPoint (dirty_points_of (tree_of first second one two) (record { tree = tree; level = level; index = index })) point
         → IsThere (tree_of first second one two) (record { tree = tree; level = level; index = index })
     lower_there (suc t) level index point some lower has = let inside = lower.tree.inside in let zone = lower.tree.own in absurd (omega (arith, inside, zone))
     lower_there zero zero index point some lower has = absurd (omega (arith, some))
@@ -267,7 +267,7 @@ is_tree first second one two holds_first holds_second led = record {
     lower_there zero (suc zero) zero point some lower has = let leads = led point has in record { at = leads.0; stands = by_link lower leads.1 }
     lower_there zero (suc zero) (suc k) point some lower has =
         let place : (suc k + 1) * 1 + 0 ≡ suc (suc k) = omega arith in
-        elim (subst (λ (n : ℕ). HasPoint (marks_at (one ∷ two ∷ []) n) point) place has) [
+        elim (subst (λ (n : ℕ). HasPoint (dirty_points_at (one ∷ two ∷ []) n) point) place has) [
           | inl never ↦ absurd (none-some point never)
           | inr never ↦ absurd (none-some point never)
         ]
@@ -290,7 +290,7 @@ of_no_zone is = omega (arith, is.forest.zone)
 on_path : IsOnPath forest inner
 on_path = record { address = 0; inside = omega arith; level = omega arith; there = refl; tree = own }
 
-without_room : IsTree (record linked { pages = page_with (At (b 87)) ∷ []; marks = clean ∷ [] }) → ⊥
+without_room : IsTree (record linked { pages = page_with (At (b 87)) ∷ []; dirty_points = clean ∷ [] }) → ⊥
 without_room is = omega (arith, is.room inner on_path (omega arith))
 
 -- most: at height 2 there are no pages but roots above the leaves
@@ -301,9 +301,9 @@ with_one_too_many is = omega (arith, is.most)
 with_zeros : IsTree (tree_of Zero Unmapped clean clean) → ⊥
 with_zeros is = omega (arith, (All-head (AreHeld tall 1) (page_with Zero) (page_with Unmapped ∷ []) is.held).each 0 Unmapped (omega arith))
 
--- marks
-without_marks : IsTree (record linked { marks = clean ∷ [] }) → ⊥
-without_marks is = omega (arith, is.marks)
+-- dirty points
+without_dirty_points : IsTree (record linked { dirty_points = clean ∷ [] }) → ⊥
+without_dirty_points is = omega (arith, is.dirty_points)
 
 -- there
 dirty_and_not_there : IsTree (tree_of Unmapped Unmapped clean dirty) → ⊥
@@ -322,7 +322,7 @@ linkable_root is = is.lower is_root
 
 -- Links: the page above is changed since that point
 
-led_to_inner : (two : Marks) (point : Point) → HasPoint two point → (at : Pbn) × (At (b 87) ≡ At at)
+led_to_inner : (two : DirtyPoints) (point : Point) → HasPoint two point → (at : Pbn) × (At (b 87) ≡ At at)
 led_to_inner two point has = (b 87, refl)
 
 abbrev pub dirty_tree : Tree
@@ -349,14 +349,14 @@ point_in (Some q) = q.0
 
 links_at_another_point : Links half dirty_tree leaf (b 90) (p 6) → ⊥
 unfolding point_in
-links_at_another_point is = omega (arith, ap (λ (t : Tree). point_in (marks_of t inner).dirty) is.set)
+links_at_another_point is = omega (arith, ap (λ (t : Tree). point_in (dirty_points_of t inner).dirty) is.set)
 
 links_without_a_mark : Links half linked leaf (b 90) (p 5) → ⊥
-links_without_a_mark is = none-some (p 5) (ap (λ (t : Tree). (marks_of t inner).dirty) is.set)
+links_without_a_mark is = none-some (p 5) (ap (λ (t : Tree). (dirty_points_of t inner).dirty) is.set)
 
 -- Expires: the page above is handed out with its link
 
-abbrev pub out : Marks
+abbrev pub out : DirtyPoints
 out = record { dirty = None; writing = Some (p 5) }
 
 abbrev pub out_tree : Tree
@@ -365,13 +365,13 @@ out_tree = tree_of (At (b 87)) (At (b 90)) clean out
 abbrev pub copy : MapPage
 copy = record { head = record { geometry = tall; page = inner; at = b 87 }; mappings = page_with (At (b 90)) }
 
-least_due : (other : ℕ) (later : Point) → IsDue (marks_at dirty_tree.marks other) later → 5 ≤ later.0
+least_due : (other : ℕ) (later : Point) → IsDue (dirty_points_at dirty_tree.dirty_points other) later → 5 ≤ later.0
 unfolding point_in
 least_due zero later due = absurd (none-some later due.dirty)
 least_due (suc zero) later due = omega (arith, ap point_in due.dirty)
 least_due (suc (suc k)) later due = absurd (none-some later due.dirty)
 
-lowest_due : (other : ℕ) → IsDue (marks_at dirty_tree.marks other) (p 5) → 1 ≤ other
+lowest_due : (other : ℕ) → IsDue (dirty_points_at dirty_tree.dirty_points other) (p 5) → 1 ≤ other
 lowest_due zero due = absurd (none-some (p 5) due.dirty)
 lowest_due (suc k) due = omega arith
 
@@ -381,7 +381,7 @@ out_is = is_tree (At (b 87)) (At (b 90)) clean out (held_at 2 (omega arith)) (he
 pub expires : Expires dirty_tree out_tree (p 5) inner copy
 expires = record {
   inner = inner_is;
-  marks = record { first = p 5; due = record { idle = refl; dirty = refl }; reached = omega arith; least = least_due; lowest = lowest_due; after = refl };
+  dirty_points = record { first = p 5; due = record { idle = refl; dirty = refl }; reached = omega arith; least = least_due; lowest = lowest_due; after = refl };
   geometry = refl;
   page = refl;
   at = inner_at (At (b 90)) clean dirty;
@@ -395,9 +395,9 @@ expires = record {
 expires_a_leaf : (new : Tree) (given : MapPage) → Expires dirty_tree new (p 5) leaf given → ⊥
 expires_a_leaf new given is = omega (arith, is.inner.level)
 
--- marks: not before the point from which on it is dirty
+-- dirty points: not before the point from which on it is dirty
 expires_too_soon : (new : Tree) → Expires dirty_tree new (p 4) inner copy → ⊥
-expires_too_soon new is = omega (arith, is.marks.reached, least_due 1 is.marks.first is.marks.due)
+expires_too_soon new is = omega (arith, is.dirty_points.reached, least_due 1 is.dirty_points.first is.dirty_points.due)
 
 -- geometry, page, at, mappings: what is handed out
 expires_of_another_image : (new : Tree) → Expires dirty_tree new (p 5) inner (record copy { head = record copy.head { geometry = record tall { nonce = 2 } } }) → ⊥
@@ -419,18 +419,18 @@ expires_as_it_was new is = let same : ◌≡◌ {A = List Mapping} (page_with Un
 
 -- set: it isn't dirty any longer
 expires_and_stays_dirty : Expires dirty_tree dirty_tree (p 5) inner copy → ⊥
-expires_and_stays_dirty is = none-some (p 5) (sym (ap (λ (t : Tree). (marks_of t inner).dirty) is.set))
+expires_and_stays_dirty is = none-some (p 5) (sym (ap (λ (t : Tree). (dirty_points_of t inner).dirty) is.set))
 
 -- IsWriting
 
 pub writing : IsWriting out_tree inner
-writing = record { inner = inner_is; marks = record { first = p 5; is = refl } }
+writing = record { inner = inner_is; dirty_points = record { first = p 5; is = refl } }
 
 writing_a_leaf : IsWriting out_tree leaf → ⊥
 writing_a_leaf is = omega (arith, is.inner.level)
 
 pub writing_before : IsWriting dirty_tree inner → ⊥
-writing_before is = none-some is.marks.first is.marks.is
+writing_before is = none-some is.dirty_points.first is.dirty_points.is
 
 -- Writes
 
@@ -445,7 +445,7 @@ writes_but_for_new_links : Writes linked_since (tree_of (At (b 87)) (At (b 90)) 
 writes_but_for_new_links = record { form = is_tree (At (b 87)) (At (b 90)) clean (record { dirty = Some (p 7); writing = None }) (held_at 2 (omega arith)) (held_at 5 (omega arith)) (led_to_inner (record { dirty = Some (p 7); writing = None })); set = refl }
 
 writes_new_links : Writes linked_since linked inner → ⊥
-writes_new_links is = none-some (p 7) (ap (λ (t : Tree). (marks_of t inner).dirty) is.set)
+writes_new_links is = none-some (p 7) (ap (λ (t : Tree). (dirty_points_of t inner).dirty) is.set)
 
 -- form
 writes_what_is_no_tree : Writes (record out_tree { forest = record forest { zone = 60 } }) (record linked { forest = record forest { zone = 60 } }) inner → ⊥

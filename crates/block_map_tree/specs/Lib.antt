@@ -1,4 +1,4 @@
 pub mod Pages
 pub mod Tree
-pub mod Opening
+pub mod OpenedTree
 pub mod History

@@ -10,19 +10,19 @@ use Rattle.blk_base.specs.Regions.{Root, block_of}
 use Rattle.blk_base.specs.Pages.{above, slot_of}
 use Rattle.page_codec.specs.declared.forms.MapPage.{MapPage}
 use Rattle.page_codec.specs.Grammar.{AreHeld}
-use Rattle.dirty_pages.specs.declared.marks.Marks.{Marks}
-use Rattle.dirty_pages.specs.Marks.{HasPoint, IsBeingWritten, HandsOut, marks_at, with_marks, changed_at, handed_out, settled}
+use Rattle.dirty_pages.specs.declared.dirty_points.DirtyPoints.{DirtyPoints}
+use Rattle.dirty_pages.specs.DirtyPoints.{HasPoint, IsBeingWritten, HandsOut, dirty_points_at, with_dirty_points, changed_at, handed_out, settled}
 use Rattle.block_map_tree.specs.declared.forms.Path.{Path}
 use Rattle.block_map_tree.specs.declared.forms.Forest.{Forest}
 use Rattle.block_map_tree.specs.declared.forms.Found.{Found}
 use Rattle.block_map_tree.specs.declared.forms.Found.TheVariants.{Leaf, Missing}
 use Rattle.block_map_tree.specs.Pages.{page_on, IsForest, IsOnPath, IsRoot, IsLower, IsInner}
 
--- what each page that is no leaf says, and its marks, by the numbers of the pages
+-- what each page that is no leaf says, and its dirty points, by the numbers of the pages
 pub record Tree : Type 0 where
   pub forest : Forest
   pub pages : List (List Mapping)
-  pub marks : List Marks
+  pub dirty_points : List DirtyPoints
 
 -- how many trees the zone has
 abbrev pub trees_of : Forest → ℕ
@@ -65,12 +65,12 @@ IsFound tree path (Missing missing) =
     (missing < tree.forest.geometry.height) × (IsThere tree (page_on path tree.forest.geometry.height missing) → ⊥)
     × ((level : ℕ) → missing < level → level < tree.forest.geometry.height → IsThere tree (page_on path tree.forest.geometry.height level))
 
-abbrev pub marks_of : Tree → PageId → Marks
-marks_of tree page = marks_at tree.marks (number_of tree.forest page)
+abbrev pub dirty_points_of : Tree → PageId → DirtyPoints
+dirty_points_of tree page = dirty_points_at tree.dirty_points (number_of tree.forest page)
 
--- other marks for a page
-abbrev pub with_change : Tree → PageId → (Marks → Marks) → Tree
-with_change tree page change = record tree { marks = with_marks tree.marks (number_of tree.forest page) change }
+-- other dirty points for a page
+abbrev pub with_change : Tree → PageId → (DirtyPoints → DirtyPoints) → Tree
+with_change tree page change = record tree { dirty_points = with_dirty_points tree.dirty_points (number_of tree.forest page) change }
 
 -- a mapping for a slot of a page
 abbrev pub with_mapping : Tree → PageId → ℕ → Mapping → Tree
@@ -85,8 +85,8 @@ pub record IsTree (tree : Tree) : Type 0 where
   pub room : (page : PageId) → IsOnPath tree.forest page → 1 ≤ page.level → number_of tree.forest page < length tree.pages
   pub most : length tree.pages ≤ most_rows tree.forest.geometry.height * trees_of tree.forest
   pub held : All (AreHeld tree.forest.geometry 1) tree.pages
-  pub marks : length tree.marks ≡ length tree.pages
-  pub there : (page : PageId) (point : Point) → IsInner tree.forest page → HasPoint (marks_of tree page) point → IsThere tree page
+  pub dirty_points : length tree.dirty_points ≡ length tree.pages
+  pub there : (page : PageId) (point : Point) → IsInner tree.forest page → HasPoint (dirty_points_of tree page) point → IsThere tree page
 
 -- a page that may be linked: it is on a path of the logical size, and no root
 pub record IsLinkable (tree : Tree) (page : PageId) : Type 0 where
@@ -101,7 +101,7 @@ pub record Links (old new : Tree) (page : PageId) (at : Pbn) (point : Point) : T
 -- the page that was changed first, of those that are due, is handed out with its mappings
 pub record Expires (old new : Tree) (point : Point) (out : PageId) (into : MapPage) : Type 0 where
   pub inner : IsInner old.forest out
-  pub marks : HandsOut old.marks new.marks point (number_of old.forest out)
+  pub dirty_points : HandsOut old.dirty_points new.dirty_points point (number_of old.forest out)
   pub geometry : into.head.geometry ≡ old.forest.geometry
   pub page : into.head.page ≡ out
   pub at : IsAt old out into.head.at
@@ -113,7 +113,7 @@ pub record Expires (old new : Tree) (point : Point) (out : PageId) (into : MapPa
 -- the page was handed out, and isn't written yet
 pub record IsWriting (tree : Tree) (page : PageId) : Type 0 where
   pub inner : IsInner tree.forest page
-  pub marks : IsBeingWritten (marks_of tree page)
+  pub dirty_points : IsBeingWritten (dirty_points_of tree page)
 
 -- the page is written, but for the links since it was handed out
 pub record Writes (old new : Tree) (page : PageId) : Type 0 where

@@ -9,12 +9,12 @@ ghost use Rattle.block_map_tree.specs.declared.forms.Found.{Found};
 ghost use Rattle.block_map_tree.specs.declared.forms.Found.TheVariants.{Missing};
 ghost use Rattle.block_map_tree.specs.declared.forms.Path.{Path};
 ghost use Rattle.block_map_tree.specs.Pages.{IsTreeOf, IsRoot, page_on};
-ghost use Rattle.block_map_tree.specs.Tree.{Tree, IsTree, IsAt, IsThere, IsFound, IsLinkable, Links, Expires, IsWriting, Writes, marks_of};
-ghost use Rattle.block_map_tree.specs.Opening.{IsOpened, all_trees};
-ghost use Rattle.block_map_tree.specs.History.{Call, Leads, LeadTo, events_of};
+ghost use Rattle.block_map_tree.specs.Tree.{Tree, IsTree, IsAt, IsThere, IsFound, IsLinkable, Links, Expires, IsWriting, Writes, dirty_points_of};
+ghost use Rattle.block_map_tree.specs.OpenedTree.{IsOpened, all_trees};
+ghost use Rattle.block_map_tree.specs.History.{Operation, Leads, LeadTo, events_of};
 ghost use Rattle.blk_base.specs.Regions.{IsDataBlock};
 ghost use Rattle.blk_base.specs.Pages.{above, page_above};
-ghost use Rattle.dirty_pages.specs.Marks.{IsLowPoint, AreClean, NoneIsDue};
+ghost use Rattle.dirty_pages.specs.DirtyPoints.{IsLowPoint, AreClean, NoneIsDue};
 ghost use Rattle.dirty_pages.specs.History.{IsWaiting, IsUnwritten, IsUnreported, AtMost};
 
 /// What is opened of all trees of an image is opened of those of each zone.
@@ -65,7 +65,7 @@ pub fn a_missing_page_may_be_linked()
 pub fn a_page_is_out_until_it_is_written()
     ensures taken { (old new : Tree) (page : PageId) (point : Point) (into : MapPage) →
         Expires old new point page into → IsWriting new page }
-    ensures kept { (old new : Tree) (calls : List Call) (page : PageId) → IsTree old →
+    ensures kept { (old new : Tree) (calls : List Operation) (page : PageId) → IsTree old →
         LeadTo old calls new
         → IsUnreported (events_of calls) page → IsWriting old page → IsWriting new page }
     ensures idle { (old new : Tree) (page : PageId) (point : Point) (into : MapPage) →
@@ -76,24 +76,24 @@ pub fn a_page_is_out_until_it_is_written()
 /// since the page above was handed out isn't below the low point, and that page will be handed out again unless it was
 /// handed out since.
 pub fn no_link_is_lost()
-    ensures low { (old new : Tree) (calls : List Call) (page : PageId) (point low : Point) →
+    ensures low { (old new : Tree) (calls : List Operation) (page : PageId) (point low : Point) →
         IsTree old → LeadTo old calls new
-        → IsUnwritten (events_of calls) page point → IsLowPoint new.marks low → low.0 ≤ point.0 }
-    ensures some { (old new : Tree) (calls : List Call) (page : PageId) (point : Point) →
+        → IsUnwritten (events_of calls) page point → IsLowPoint new.dirty_points low → low.0 ≤ point.0 }
+    ensures some { (old new : Tree) (calls : List Operation) (page : PageId) (point : Point) →
         IsTree old → LeadTo old calls new
-        → IsUnwritten (events_of calls) page point → AreClean new.marks → ⊥ }
-    ensures kept { (old new : Tree) (calls : List Call) (page : PageId) (point : Point) →
+        → IsUnwritten (events_of calls) page point → AreClean new.dirty_points → ⊥ }
+    ensures kept { (old new : Tree) (calls : List Operation) (page : PageId) (point : Point) →
         IsTree old → LeadTo old calls new
-        → IsWaiting (events_of calls) page point → AtMost (marks_of new page).dirty point }
+        → IsWaiting (events_of calls) page point → AtMost (dirty_points_of new page).dirty point }
 {}
 
 /// Each call has one result, also which page it hands out; and it has one of its answers alone.
 pub fn a_call_has_one_result()
-    ensures after { (old new other : Tree) (call : Call) → Leads old call new →
+    ensures after { (old new other : Tree) (call : Operation) → Leads old call new →
         Leads old call other → new ≡ other }
     ensures out { (old new other : Tree) (point : Point) (page out : PageId) (into copy : MapPage) →
         IsTree old → Expires old new point page into → Expires old other point out copy
         → (page ≡ out) × (into ≡ copy) × (new ≡ other) }
     ensures none { (old new : Tree) (point : Point) (page : PageId) (into : MapPage) →
-        Expires old new point page into → NoneIsDue old.marks point → ⊥ }
+        Expires old new point page into → NoneIsDue old.dirty_points point → ⊥ }
 {}

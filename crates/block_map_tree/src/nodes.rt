@@ -5,10 +5,10 @@ ghost use Rattle.blk_base.specs.declared.place.PageId.{PageId};
 ghost use Rattle.blk_base.specs.Limits.{IsGeometry};
 ghost use Rattle.blk_base.specs.Regions.{IsDataBlock};
 ghost use Rattle.blk_base.specs.Pages.{above};
-ghost use Rattle.dirty_pages.specs.Marks.{NoneIsDue, IsFirstDue, NoneIsEverDue, IsLowPoint, AreClean};
+ghost use Rattle.dirty_pages.specs.DirtyPoints.{NoneIsDue, IsFirstDue, NoneIsEverDue, IsLowPoint, AreClean};
 ghost use Rattle.block_map_tree.specs.Pages.{IsTreeOf, IsPath};
 ghost use Rattle.block_map_tree.specs.Tree.{IsAt, IsThere, IsFound, IsLinkable, Links, Expires, IsWriting, Writes, mapping_of};
-ghost use Rattle.block_map_tree.specs.Opening.{IsOpened, IsOpening, forest_of};
+ghost use Rattle.block_map_tree.specs.OpenedTree.{IsOpened, IsOpening, forest_of};
 
 use crate::numbers::{SLOTS, has_tree, is_below_a_root, is_inner, number, page_numbered, width};
 use crate::opened_pages::{count_pages, take_over};
@@ -31,7 +31,7 @@ pub struct TreeNodes {
     forest: Forest,
     // By number: a page that isn't there leads nowhere.
     pages: Vec<Mappings>,
-    marks: DirtyPages,
+    dirty_points: DirtyPages,
 }
 
 impl Model for TreeNodes {
@@ -39,10 +39,10 @@ impl Model for TreeNodes {
 
     ghost Value = { Tree };
 
-    ghost view = { λ t. record { forest = t.forest; pages = t.pages.items; marks = t.marks } };
+    ghost view = { λ t. record { forest = t.forest; pages = t.pages.items; dirty_points = t.dirty_points } };
 
     ghost invariant = { λ t.
-        IsTree (record { forest = t.forest; pages = t.pages.items; marks = t.marks }) };
+        IsTree (record { forest = t.forest; pages = t.pages.items; dirty_points = t.dirty_points }) };
 }
 
 impl TreeNodes {
@@ -69,13 +69,13 @@ impl TreeNodes {
             zones,
         };
         let count = count_pages(&forest, &opened.pages);
-        let marks = DirtyPages::new(alloc, count as u32)?;
+        let dirty_points = DirtyPages::new(alloc, count as u32)?;
         let mut pages = repeated_with(alloc, Mappings::new, count)?;
         take_over(&mut pages, &opened.pages, &forest);
         Ok(TreeNodes {
             forest,
             pages,
-            marks,
+            dirty_points,
         })
     }
 
@@ -116,7 +116,7 @@ impl TreeNodes {
         let forest = self.forest;
         let number = number(page.parent(), &forest);
         self.pages[number].set(page.parent_slot(), Mapping::At(at));
-        self.marks.change(number, point);
+        self.dirty_points.change(number, point);
     }
 
     /// Whether a page may be linked now: it is on a path of the logical size, is no root, and the page above it is there.
@@ -152,10 +152,10 @@ impl TreeNodes {
     /// handed out. `None` exactly where no page that isn't being written has such a point at or below `point`.
     pub fn take_expired(&mut self, point: Point, into: &mut MapPage) -> Option<PageId>
         ensures some { IfSome result (λ page. Expires self.old self.new point page into.new) }
-        ensures none { IfNone result (NoneIsDue self.old.marks point) }
+        ensures none { IfNone result (NoneIsDue self.old.dirty_points point) }
         ensures same { IfNone result ((self.new ≡ self.old) × (into.new ≡ into.old)) }
     {
-        let number = self.marks.take_expired(point)?;
+        let number = self.dirty_points.take_expired(point)?;
         let page = page_numbered(number, &self.forest);
         let Some(at) = self.at(page) else {
             unreachable!()
@@ -172,10 +172,10 @@ impl TreeNodes {
     /// The least point with which a page is due to be written: the first point of a link in those that aren't being written.
     /// `None` exactly where there is none.
     pub fn first_due(&self) -> Option<Point>
-        ensures some { IfSome result (IsFirstDue self.now.marks) }
-        ensures none { IfNone result (NoneIsEverDue self.now.marks) }
+        ensures some { IfSome result (IsFirstDue self.now.dirty_points) }
+        ensures none { IfNone result (NoneIsEverDue self.now.dirty_points) }
     {
-        self.marks.first_due()
+        self.dirty_points.first_due()
     }
 
     /// Whether the page was handed out and its write isn't durable yet.
@@ -186,7 +186,7 @@ impl TreeNodes {
             return false;
         }
         let number = number(page, &self.forest);
-        number < self.pages.len() && self.marks.marks(number).writing.is_some()
+        number < self.pages.len() && self.dirty_points.dirty_points(number).writing.is_some()
     }
 
     /// Says that a page that was handed out is on the device.
@@ -194,15 +194,15 @@ impl TreeNodes {
         requires { IsWriting self.old page }
         ensures { Writes self.old self.new page }
     {
-        self.marks.written(number(page, &self.forest));
+        self.dirty_points.written(number(page, &self.forest));
     }
 
     /// The point below which no link is unwritten; `None` exactly where none is.
     pub fn low_point(&self) -> Option<Point>
-        ensures some { IfSome result (IsLowPoint self.now.marks) }
-        ensures none { IfNone result (AreClean self.now.marks) }
+        ensures some { IfSome result (IsLowPoint self.now.dirty_points) }
+        ensures none { IfNone result (AreClean self.now.dirty_points) }
     {
-        self.marks.low_point()
+        self.dirty_points.low_point()
     }
 
     // What a slot of a page leads to.

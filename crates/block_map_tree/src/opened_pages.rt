@@ -2,7 +2,7 @@ ghost use Rattle.std.specs.Prelude.{◌<◌, ◌≤◌, ◌*◌, All, length};
 ghost use Rattle.blk_base.specs.declared.place.PageId.{PageId};
 ghost use Rattle.block_map_tree.specs.Pages.{IsForest, IsTreeOf, IsOnPath, IsInner};
 ghost use Rattle.block_map_tree.specs.Tree.{number_of, trees_of, most_rows};
-ghost use Rattle.block_map_tree.specs.Opening.{IsOpened, AreEnough, IsTakenOver};
+ghost use Rattle.block_map_tree.specs.OpenedTree.{IsOpened, AreEnough, IsTakenOver};
 
 use crate::Forest;
 use crate::numbers::{SLOTS, TREES, count_trees, has_tree, number};

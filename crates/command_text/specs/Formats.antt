@@ -4,7 +4,7 @@ use Rattle.std.specs.List.{concat}
 use Rattle.blk_base.specs.Regions.{needed_blocks}
 use Rattle.blk_base.specs.declared.geometry.Geometry.{Geometry}
 use Rattle.grow_image.specs.declared.forms.Grown.{Grown}
-use Rattle.image_layout.specs.Planning.{layout_fault_text}
+use Rattle.image_layout.specs.PossibleSizes.{layout_fault_text}
 use Rattle.image_layout.specs.declared.fault.LayoutFault.{LayoutFault}
 
 -- one slab is a slab

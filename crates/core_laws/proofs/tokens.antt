@@ -1,4 +1,4 @@
-pub mod ActRows
+pub mod ActRules
 pub mod ActSums
 pub mod AskMoves
 pub mod Moves

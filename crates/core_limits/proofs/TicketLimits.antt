@@ -5,7 +5,7 @@ use Rattle.std.proofs.lemmas.Nat.{div-add-mod'}
 use Rattle.core_laws.proofs.Common.{AllByRecursion, Carries, DataOk, Each, IsSession, Item, ItemOk, KeptEach, KeptOk, Phase, PhysicalZone, Session, Sizes, Trace, Vio, Zone, ZoneData, ZoneOk, as_items, bit, cases_lt, eq-eqb, eqb_tells, given, queued, room_token, total, total-get, total_zero, made_by}
 use Rattle.data_vio.specs.declared.items.Item.TheVariants as item
 use Rattle.data_vio.specs.declared.items.Phase.TheVariants as phase
-use Rattle.data_vio.specs.Phases.{row}
+use Rattle.data_vio.specs.Phases.{phase_rule}
 use Rattle.core_model.specs.Facts.{AreInTurn, CarriesFor, ClaimOk, IsAsking, IsWithdrawing}
 use Rattle.core_model.specs.Legal.{Legal}
 use Rattle.core_model.specs.Limits.{most_streams}
@@ -101,7 +101,7 @@ module _ (s : Session) (t : Trace) (zone : ℕ) where
       back_own None k = k.3
       back_own (Some page) k = k.2
 
-      by : (q : Phase) → Carries s t v q → ((row q).asks ≡ false → v.tickets ≡ []) → held v ≤ 1
+      by : (q : Phase) → Carries s t v q → ((phase_rule q).asks ≡ false → v.tickets ≡ []) → held v ≤ 1
       by phase.Claim k none = let asks = asks_own v.page k in one_of_zone s.sizes zone v.place v.tickets (let fewer = asks.fewer in omega (arith, fewer)) asks.in_turn
       by phase.Withdraw k none = let back = back_own v.page k in one_of_zone s.sizes zone back.turn v.tickets back.few back.in_turn
       by other k none = none_held v (none refl)

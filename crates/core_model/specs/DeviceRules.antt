@@ -7,7 +7,7 @@ use Rattle.blk_base.specs.declared.place.Mapping.TheVariants.{At, Unmapped}
 use Rattle.blk_base.specs.declared.place.PageId.{PageId}
 use Rattle.blk_base.specs.declared.sizes.TheConstants.{PAGE_SLOTS}
 use Rattle.page_codec.specs.Grammar.{IsPage, IsPageFault}
-use Rattle.page_codec.specs.Spelling.{page_bytes}
+use Rattle.page_codec.specs.PageBytes.{page_bytes}
 use Rattle.page_codec.specs.declared.fault.PageFault.{PageFault}
 use Rattle.vdo_model.specs.declared.report.Damage.{Damage}
 use Rattle.vdo_model.specs.declared.report.Damage.TheVariants.{Page}
@@ -18,7 +18,7 @@ use Rattle.blk_base.specs.declared.request.Answer.TheVariants as reply
 use Rattle.blk_base.specs.declared.request.Writer.{Writer}
 use Rattle.disk_model.specs.declared.call.Call.{Call}
 use Rattle.disk_model.specs.declared.call.Call.TheVariants.{Read, Write, Flush}
-use Rattle.journal_codec.specs.Spelling.{block_bytes}
+use Rattle.journal_codec.specs.BlockBytes.{block_bytes}
 use Rattle.stop_laws.specs.Journals.{block_of_slot}
 use Rattle.data_vio.specs.declared.items.Item.{Item}
 use Rattle.data_vio.specs.declared.items.Item.TheVariants as item
@@ -32,7 +32,7 @@ use Rattle.core_model.specs.declared.zones.DeviceZone.{DeviceZone}
 use Rattle.core_model.specs.declared.zones.SuperblockStage.{SuperblockStage}
 use Rattle.core_model.specs.declared.zones.SuperblockStage.TheVariants.{AsOpened, Written, Durable}
 use Rattle.core_model.specs.Superblocks.{superblock_bytes}
-use Rattle.data_vio.specs.Phases.{AtDevice, row, stage_row}
+use Rattle.data_vio.specs.Phases.{AtDevice, phase_rule, stage_rule}
 use Rattle.core_model.specs.PageLinks.{leaf_head}
 use Rattle.core_model.specs.Trace.{Trace, Calls, Fails, Harms, Hears, entry_of, first_of}
 use Rattle.data_vio.specs.Vios.{Post, counts_of, turned, ended, has_leaf, logged, staged}
@@ -104,7 +104,7 @@ IsInside sizes x = x.0 < needed_blocks sizes.geometry
 
 pub data DeviceServes (sizes : Sizes) (old : DeviceZone) (v : Vio) (new : DeviceZone) (made : Trace) (posts : List Post) : Type 0 where
   -- the superblock, for which it waits
-  announces : (row v.phase).zone ≡ AtDevice → Announces sizes old (item.Request v) v.request new made posts → DeviceServes sizes old v new made posts
+  announces : (phase_rule v.phase).zone ≡ AtDevice → Announces sizes old (item.Request v) v.request new made posts → DeviceServes sizes old v new made posts
   -- the data of a write
   stores : (x : Pbn) → v.phase ≡ phase.Store → v.new ≡ At x → old.stopped ≡ false → old.superblock ≡ Durable → IsInside sizes x
       → new ≡ counted old → made ≡ Calls (Write x (stored sizes v x) true) ∷ [] → posts ≡ (id.Journal, item.Request (turned phase.Enter v)) ∷ []
@@ -165,15 +165,15 @@ call_of sizes b slot ok stage.Harden = Some (Flush ok)
 call_of sizes b slot ok other = None
 
 abbrev pub next_stage : Stage → Stage
-next_stage now = (stage_row now).next
+next_stage now = (stage_rule now).next
 
 abbrev pub next_zone : Stage → ZoneId
-next_zone now = (stage_row (next_stage now)).zone
+next_zone now = (stage_rule (next_stage now)).zone
 
 -- A block without an entry is none of these. A failure is told to the oldest of its requests.
 pub data DeviceWorks (sizes : Sizes) (old : DeviceZone) (b : SealedBlock) (new : DeviceZone) (made : Trace) (posts : List Post) : Type 0 where
   -- the superblock, for which it waits
-  announces : (v : Vio) (vs : List Vio) → b.vios ≡ v ∷ vs → (stage_row b.stage).zone ≡ id.Device → Announces sizes old (item.Block b) v.request new made posts → DeviceWorks sizes old b new made posts
+  announces : (v : Vio) (vs : List Vio) → b.vios ≡ v ∷ vs → (stage_rule b.stage).zone ≡ id.Device → Announces sizes old (item.Block b) v.request new made posts → DeviceWorks sizes old b new made posts
   makes : (call : Call) (slot : Pbn) (v : Vio) (vs : List Vio) → b.vios ≡ v ∷ vs → IsItsSlot sizes b slot → call_of sizes b slot true b.stage ≡ Some call → old.stopped ≡ false → old.superblock ≡ Durable
       → new ≡ counted old → made ≡ Calls call ∷ [] → posts ≡ (next_zone b.stage, item.Block (staged (next_stage b.stage) b)) ∷ []
       → DeviceWorks sizes old b new made posts

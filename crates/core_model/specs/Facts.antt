@@ -45,7 +45,7 @@ use Rattle.core_model.specs.DeskRules.{is_marked, mark_of_vio}
 use Rattle.core_model.specs.DeviceRules.{IsInside, page_at}
 use Rattle.core_model.specs.JournalRules.{is_closed}
 use Rattle.core_model.specs.LogicalRules.{is_among, is_held, is_reported}
-use Rattle.data_vio.specs.Phases.{row, number_at, stage_row}
+use Rattle.data_vio.specs.Phases.{phase_rule, number_at, stage_rule}
 use Rattle.core_model.specs.CountUpdates.{replaced_in}
 use Rattle.data_vio.specs.Zones.{counts_in, zone_number, zone_count, notified_zones, logical_number, device_number}
 use Rattle.core_model.specs.RightTraces.{WasRefused, HearingMayFollow, IsLeafy, IsLinkedAt, IsOpen, IsReported, IsPending, MapsTo, NeedsBlock, Quiet, IsCommitted, AllBelow, HasPlace, HasBelow, HasCause}
@@ -77,10 +77,10 @@ use Rattle.recovery_journal.specs.Log.{Log, head_of}
 
 -- the number of the zone where a phase, and a stage, is done
 abbrev pub zone_at : Sizes → Vio → Phase → ℕ
-zone_at sizes v p = number_at sizes v.home (counts_of sizes v) (ticket_zone v.tickets) (row p).zone
+zone_at sizes v p = number_at sizes v.home (counts_of sizes v) (ticket_zone v.tickets) (phase_rule p).zone
 
 abbrev pub zone_of_stage : Sizes → Stage → ℕ
-zone_of_stage sizes now = zone_number sizes (stage_row now).zone
+zone_of_stage sizes now = zone_number sizes (stage_rule now).zone
 
 -- the address of a block request is below the logical size; a flush has none
 abbrev pub HasAddress : Sizes → Lba → Asks → Type 0
@@ -110,7 +110,7 @@ pub record HasClaim (s : Session) (claims asks : Bool) (claim : Option Pbn) (new
   pub no_ticket : asks ≡ false → tickets ≡ []
 
 abbrev pub ClaimFor : Session → Vio → Phase → Type 0
-ClaimFor s v q = HasClaim s (row q).claims (row q).asks v.claim v.new v.tickets
+ClaimFor s v q = HasClaim s (phase_rule q).claims (phase_rule q).asks v.claim v.new v.tickets
 
 abbrev pub ClaimOk : Session → Vio → Type 0
 ClaimOk s v = ClaimFor s v v.phase
@@ -634,7 +634,7 @@ pub record DataOk (s : Session) (t : Trace) (number : ℕ) (d : ZoneData) : Type
 
 -- the requests among these items that have yet to draw a place
 abbrev pub arriving : Phase → Writer → List Writer
-arriving p w = if (row p).arrives then w ∷ [] else []
+arriving p w = if (phase_rule p).arrives then w ∷ [] else []
 
 abbrev pub arrival : Item → List Writer
 arrival (item.Request v) = arriving v.phase v.request

@@ -19,7 +19,7 @@ use Rattle.slab_counts.specs.declared.tickets.Ticket.{Ticket}
 use Rattle.slab_tickets.specs.declared.forms.Withdrawn.TheVariants.{Block, Nothing}
 use Rattle.slab_counts.specs.Counts.{Counts, IsStray, Takes as Fits, unclaimed, with_page}
 use Rattle.vdo_model.specs.declared.report.Damage.TheVariants.{Stray}
-use Rattle.zone_counts.specs.Asking.{GivesBlock, GivesTicket, WithdrawsFrom}
+use Rattle.zone_counts.specs.ZoneAnswers.{GivesBlock, GivesTicket, WithdrawsFrom}
 use Rattle.zone_counts.specs.ByBlock.{served_ticket}
 use Rattle.zone_counts.specs.Zone.{Zone, BeginsStep, Changes, IsClaimedIn, IsOfZone, slab_of, with_slab}
 

@@ -24,11 +24,11 @@ use Rattle.core_model.specs.PageLinks.{block_in}
 use Rattle.core_model.specs.Trace.{new_of, new_pages, remappings}
 use Rattle.core_model.specs.declared.zones.Zone.{Zone}
 pub use Rattle.core_model.specs.DeskLines.{is_answer, is_begin}
-use Rattle.data_vio.specs.Phases.{row}
+use Rattle.data_vio.specs.Phases.{phase_rule}
 use Rattle.data_vio.specs.Vios.{remapping}
 use Rattle.data_vio.specs.Zones.{notified_zones}
 use Rattle.plain_laws.specs.Sums.{total, bit}
-use Rattle.slab_counts.specs.Calls.{one_of}
+use Rattle.slab_counts.specs.Operations.{one_of}
 use Rattle.slab_counts.specs.declared.tickets.Ticket.{Ticket}
 use Rattle.zone_counts.specs.ByBlock.{claims_in, counter_in, is_at, out_with}
 use Rattle.zone_counts.specs.Zone.{Zone as Counts}
@@ -98,7 +98,7 @@ request_token w = record { item = of_vio (λ v. bit (same_writer v.request w)); 
 
 -- Locks: whoever holds the lock of an address has the place of that lock. `test` is any test of places.
 abbrev pub holds : Phase → Bool
-holds p = (row p).locks
+holds p = (phase_rule p).locks
 
 abbrev pub holder_weight : ℕ → (ℕ → Bool) → Vio → ℕ
 holder_weight a test v = bit (holds v.phase && (v.at.0 == a && test v.place))
@@ -124,7 +124,7 @@ holder_token = record { item = of_vio (λ v. bit (holds v.phase)); own = none; g
 -- Entries: a remapping that was handed in is in its block, or on its way to its slot, until the slot is set or the address
 -- retired.
 abbrev pub has_entry : Phase → Bool
-has_entry p = (row p).entered
+has_entry p = (phase_rule p).entered
 
 abbrev pub ended_at : ZoneData → ℕ
 ended_at (at.Logical l) = length l.slots + length l.retired
@@ -153,7 +153,7 @@ page_entry_token = record { item = of_vio (λ v. bit (has_entry v.phase && is_so
 -- entry that was handed in, and each decrement under way, or that found 0, against the counters, the claims, and the committed entries that map their addresses away.
 -- `opened` has the opened counters.
 abbrev pub owes : Phase → Bool
-owes p = (row p).owes
+owes p = (phase_rule p).owes
 
 -- 1 where a mapping leads to a block; where this is the block; where an entry maps an address to it, or puts a page there; and
 -- where it maps an address away from it

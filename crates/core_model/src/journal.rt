@@ -1,6 +1,6 @@
 ghost use Rattle.std.specs.Prelude.{◌↔◌, IsTrue, ◌≡◌, ◌+◌, ◌<◌, ◌≤◌, ◌^◌, [], ◌∷◌, ◌++◌, IfOk, IfErr, IfSome, IfNone, OnOk, OnErr, true, false, length, reverse};
 ghost use Rattle.blk_base.specs.Limits.{IsGeometry};
-ghost use Rattle.core_model.specs.JournalRules as rows;
+ghost use Rattle.core_model.specs.JournalRules as rules;
 ghost use Rattle.core_model.specs.JournalRules.{HasNext, IsSealable};
 ghost use Rattle.core_model.specs.SessionLimits.{most_entries, most_items};
 ghost use Rattle.core_model.specs.Start.{first_log};
@@ -119,7 +119,7 @@ impl JournalZone {
 
     /// Whether no entry is handed in any more.
     pub fn is_closed(&self) -> bool
-        ensures { result ≡ rows.is_closed self.now }
+        ensures { result ≡ rules.is_closed self.now }
     {
         self.notified || self.broken
     }
@@ -133,7 +133,7 @@ impl JournalZone {
 
     /// Whether the block being filled has a slot in the ring.
     pub fn has_block(&self) -> bool
-        ensures { result ≡ rows.has_block self.now }
+        ensures { result ≡ rules.has_block self.now }
     {
         self.log.has_slot()
     }
@@ -165,12 +165,12 @@ impl JournalZone {
     pub fn enter(&mut self, vio: BoxedVio) -> Result<(), BoxedVio>
         requires sequence { self.old.log.sequence < 2 ^ 55 }
         requires few { length self.old.entered ≤ most_entries }
-        ensures entered { OnOk result (self.new ≡ rows.entered_by vio self.old) }
+        ensures entered { OnOk result (self.new ≡ rules.entered_by vio self.old) }
         ensures room { OnOk result
-            ((rows.has_block self.old ≡ true) × (rows.has_room self.old ≡ true)) }
+            ((rules.has_block self.old ≡ true) × (rules.has_room self.old ≡ true)) }
         ensures back { IfErr result (λ back. (back ≡ vio) × (self.new ≡ self.old)) }
         ensures full { OnErr result
-            (rows.has_block self.old ≡ true → rows.has_room self.old ≡ false) }
+            (rules.has_block self.old ≡ true → rules.has_room self.old ≡ false) }
     {
         if self.log.append(vio.entry()).is_err() {
             return Err(vio);
@@ -184,7 +184,7 @@ impl JournalZone {
     pub fn begin(&mut self) -> SealedBlock
         requires { self.old.busy ≡ false }
         ensures zone { self.new ≡ record self.old { busy = true } }
-        ensures block { result ≡ rows.next_block self.old Commit [] }
+        ensures block { result ≡ rules.next_block self.old Commit [] }
     {
         let Some(vios) = self.spare.take() else {
             unreachable!();
@@ -202,7 +202,7 @@ impl JournalZone {
     pub fn commit(&mut self, vio: &BoxedVio)
         requires room { length self.old.committed ≤ most_entries }
         requires next { HasNext self.old.log }
-        ensures { self.new ≡ rows.committed_by vio.now self.old }
+        ensures { self.new ≡ rules.committed_by vio.now self.old }
     {
         make_durable(&mut self.log);
         let Some(_) = self.log.next_committed() else {
@@ -215,9 +215,9 @@ impl JournalZone {
     pub fn seal(&mut self, block: SealedBlock) -> SealedBlock
         requires done { block.vios ≡ [] }
         requires due { IsSealable self.old.log }
-        ensures block { result ≡ rows.next_block self.old Cover self.old.filling }
+        ensures block { result ≡ rules.next_block self.old Cover self.old.filling }
         ensures zone { self.new
-            ≡ record self.old { log = rows.sealed_log self.old.log; filling = [] } }
+            ≡ record self.old { log = rules.sealed_log self.old.log; filling = [] } }
     {
         let Some(sealed) = self.log.seal() else {
             unreachable!();

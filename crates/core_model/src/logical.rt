@@ -1,7 +1,7 @@
 ghost use Rattle.std.specs.Prelude.{◌↔◌, IsTrue, ◌≡◌, ◌+◌, ◌-◌, ◌^◌, ◌<◌, ◌≤◌, [], ◌∷◌, ◌++◌, IfOk, IfSome, IfNone, None, true, false, length, position, reverse};
 ghost use Rattle.logical_locks.specs.Holders.{HasRoom};
 ghost use Rattle.core_model.specs.Limits.{IsLogicalWithin};
-ghost use Rattle.core_model.specs.LogicalRules as rows;
+ghost use Rattle.core_model.specs.LogicalRules as rules;
 ghost use Rattle.core_model.specs.PageTrees.{HasPath, MayLink, but_page, is_listed, leaf_at, missing_at};
 ghost use Rattle.core_model.specs.SessionLimits.{most_entries, most_items, most_requests};
 ghost use Rattle.core_model.specs.Waiters.{AreOwn, IsFree, vios};
@@ -141,7 +141,7 @@ impl LogicalZone {
 
     /// The last write that set the slot of an address in this session.
     pub fn latest(&self, at: Lba) -> Option<Remapping>
-        ensures { result ≡ rows.latest_at self.now at.0 }
+        ensures { result ≡ rules.latest_at self.now at.0 }
     {
         self.slots.latest(at)
     }
@@ -204,7 +204,7 @@ impl LogicalZone {
     /// A page is made: it is linked.
     pub fn link(&mut self, page: PageId, at: Pbn)
         requires { MayLink self.old.tree page at }
-        ensures { rows.IsLinked page at self.old self.new }
+        ensures { rules.IsLinked page at self.old self.new }
     {
         self.tree.link(page, at);
         self.making.strike(page);
@@ -238,9 +238,9 @@ impl LogicalZone {
 
     /// The request that waits for the report of its decrement comes out.
     pub fn take_settling(&mut self, request: Writer) -> Option<BoxedVio>
-        ensures vio { result ≡ rows.settling_of request self.old.settling }
+        ensures vio { result ≡ rules.settling_of request self.old.settling }
         ensures zone { self.new
-            ≡ record self.old { settling = rows.without_settling request self.old.settling } }
+            ≡ record self.old { settling = rules.without_settling request self.old.settling } }
     {
         let place = settling_at(&self.settling, request)?;
         Some(self.settling.remove(place))
@@ -256,9 +256,9 @@ impl LogicalZone {
 
     /// Whether the report of the decrement of a request came before it; it is kept no longer.
     pub fn take_report(&mut self, request: Writer) -> bool
-        ensures told { result ≡ rows.is_reported request self.old.reported }
+        ensures told { result ≡ rules.is_reported request self.old.reported }
         ensures zone { self.new
-            ≡ record self.old { reported = rows.without_report request self.old.reported } }
+            ≡ record self.old { reported = rules.without_report request self.old.reported } }
     {
         match reported_at(&self.reported, request) {
             Some(place) => {
@@ -271,7 +271,7 @@ impl LogicalZone {
 
     /// Whether the lock of an address is never released.
     pub fn is_retired(&self, at: Lba) -> bool
-        ensures { result ≡ rows.is_among at.0 self.now.retired }
+        ensures { result ≡ rules.is_among at.0 self.now.retired }
     {
         is_among(at, self.retired.as_slice())
     }
@@ -295,9 +295,9 @@ impl LogicalZone {
     /// A request draws its place, and takes no lock: that of its address is never released.
     pub fn draw(&mut self, vio: BoxedVio) -> BoxedVio
         requires within { IsLogicalWithin (2 ^ 64 - 2) self.old }
-        requires retired { rows.is_among vio.at.0 self.old.retired ≡ true }
-        ensures zone { self.new ≡ rows.drawn_by self.old vio }
-        ensures vio { result ≡ rows.placed self.old vio }
+        requires retired { rules.is_among vio.at.0 self.old.retired ≡ true }
+        ensures zone { self.new ≡ rules.drawn_by self.old vio }
+        ensures vio { result ≡ rules.placed self.old vio }
     {
         let at = vio.get().at;
         let place = self.locks.next();
@@ -309,21 +309,21 @@ impl LogicalZone {
     /// has it. Else it waits, behind all others.
     pub fn ask(&mut self, vio: BoxedVio) -> Option<BoxedVio>
         requires within { IsLogicalWithin (2 ^ 64 - 2) self.old }
-        requires alive { rows.is_among vio.at.0 self.old.retired ≡ false }
+        requires alive { rules.is_among vio.at.0 self.old.retired ≡ false }
         ensures taken { IfSome result (λ back.
-            (back ≡ turned phase.Wait (rows.placed self.old vio))
-            × (rows.is_held vio.at.0 self.old.held ≡ false)
+            (back ≡ turned phase.Wait (rules.placed self.old vio))
+            × (rules.is_held vio.at.0 self.old.held ≡ false)
             ×
             (self.new
             ≡ record
-            (rows.drawn_by self.old vio)
-            { held = rows.lock_of (rows.placed self.old vio) ∷ self.old.held })) }
-        ensures waits { IfNone result ((rows.is_held vio.at.0 self.old.held ≡ true)
+            (rules.drawn_by self.old vio)
+            { held = rules.lock_of (rules.placed self.old vio) ∷ self.old.held })) }
+        ensures waits { IfNone result ((rules.is_held vio.at.0 self.old.held ≡ true)
             ×
             (self.new
             ≡ record
-            (rows.drawn_by self.old vio)
-            { waiting = self.old.waiting ++ turned phase.Wait (rows.placed self.old vio) ∷ [] })) }
+            (rules.drawn_by self.old vio)
+            { waiting = self.old.waiting ++ turned phase.Wait (rules.placed self.old vio) ∷ [] })) }
     {
         let at = vio.get().at;
         let place = self.locks.next();
@@ -334,8 +334,8 @@ impl LogicalZone {
     /// The holder of an address lets its lock go. It goes to the first that waits for it, which comes out; where nobody
     /// waits, it is free.
     pub fn release(&mut self, at: Lba) -> Option<BoxedVio>
-        ensures next { result ≡ rows.first_for at.0 self.old.waiting }
-        ensures zone { self.new ≡ rows.released at.0 self.old }
+        ensures next { result ≡ rules.first_for at.0 self.old.waiting }
+        ensures zone { self.new ≡ rules.released at.0 self.old }
     {
         self.locks.release(at)
     }
@@ -383,7 +383,7 @@ fn draw_free(locks: &mut Locks<BoxedVio>, at: Lba, vio: BoxedVio) -> BoxedVio
 
 // Whether an address is among these, the oldest of which stands first.
 fn is_among(at: Lba, retired: &[Lba]) -> bool
-    ensures { result ≡ rows.is_among at.0 (reverse retired.now) }
+    ensures { result ≡ rules.is_among at.0 (reverse retired.now) }
 {
     let mut found = false;
     for other in retired {

@@ -20,7 +20,7 @@ use Rattle.image_model.specs.Sound.{IsDataPlace, IsTrueOf}
 use Rattle.recovery_laws.proofs.SuperLaws.{room_of_image}
 use Rattle.slab_codec.proofs.ReadLaws.{one_reading, written}
 use Rattle.slab_codec.specs.Grammar.{HoldsBlock, HoldsEntry, IsSlabSector}
-use Rattle.slab_codec.specs.Spelling.{block_bytes, entries_in}
+use Rattle.slab_codec.specs.BlockBytes.{block_bytes, entries_in}
 use Rattle.slab_codec.specs.declared.forms.SlabEntry.{SlabEntry}
 use Rattle.count_laws.specs.Closed.{HasClosedCounts}
 use Rattle.count_laws.specs.Counters.{entry_at}

@@ -26,7 +26,7 @@ use Rattle.image_model.specs.Maps.{Image, IsTreePage, mapping_of}
 use Rattle.image_model.specs.Sound.{IsDataPlace}
 use Rattle.slab_codec.proofs.ReadLaws.{written}
 use Rattle.slab_codec.specs.Grammar.{HoldsEntry, IsSlabSector}
-use Rattle.slab_codec.specs.Spelling.{block_bytes}
+use Rattle.slab_codec.specs.BlockBytes.{block_bytes}
 use Rattle.slab_codec.specs.declared.forms.SlabEntry.{SlabEntry}
 use Rattle.stop_laws.specs.Journals.{Surely}
 use Rattle.count_laws.specs.Closed.{HasClosedCounts}

@@ -33,7 +33,7 @@ use Rattle.slab_codec.specs.declared.forms.SlabEntry.{SlabEntry}
 use Rattle.count_laws.specs.Closed.{HasClosedCounts}
 use Rattle.count_laws.specs.Counters.{CountsStand, points_at}
 use Rattle.count_laws.specs.Points.{ArePointed}
-use Rattle.count_laws.specs.Running.{RunningCount}
+use Rattle.count_laws.specs.RunningCount.{RunningCount}
 use Rattle.count_laws.specs.Turns.{AreInTurn, ComesInTurn, HasMappingsAfter, IsPageAfter, IsUnusedAfter}
 use Rattle.count_laws.proofs.KeepLaws.{counts_begin, counts_grow}
 use Rattle.count_laws.proofs.StepLaws.{in_turn_rooted, new_mapping, new_trees_back, remap_other, remap_trees_back}

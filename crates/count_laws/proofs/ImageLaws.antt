@@ -22,7 +22,7 @@ use Rattle.slab_codec.specs.declared.forms.SlabEntry.{SlabEntry}
 use Rattle.count_laws.specs.Closed.{HasClosedCounts}
 use Rattle.count_laws.specs.Counters.{CountsStand, IsCounted, points_at}
 use Rattle.count_laws.specs.Points.{ArePointed, next_point, points_for}
-use Rattle.count_laws.specs.Running.{RunningCount}
+use Rattle.count_laws.specs.RunningCount.{RunningCount}
 use Rattle.count_laws.specs.Turns.{AreInTurn}
 use Rattle.count_laws.proofs.PointLaws.{of_all, points_below}
 use Rattle.count_laws.proofs.StoredLaws.{counters_of_image, known, stored}

@@ -21,7 +21,7 @@ use Rattle.journal_stops.specs.Mapped.{ShowsEntries, later_image, mapping_after}
 use Rattle.journal_stops.proofs.GrowLaws.{by_leaf}
 use Rattle.journal_stops.proofs.OpenedLaws.{page_with_none, slot_of_page}
 use Rattle.count_laws.specs.Points.{ArePointed, points_by, points_for}
-use Rattle.count_laws.specs.Running.{RunningCount}
+use Rattle.count_laws.specs.RunningCount.{RunningCount}
 use Rattle.count_laws.specs.Turns.{AreInTurn, AreUnsharedAfter, ComesInTurn, HasMappingsAfter, IsPageAfter, MayLeadTo}
 use Rattle.count_laws.proofs.BelowLaws.{same_up_to}
 use Rattle.count_laws.proofs.PointLaws.{count_goes_on}

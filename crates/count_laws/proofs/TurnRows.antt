@@ -17,7 +17,7 @@ use Rattle.image_model.specs.Maps.{Image}
 use Rattle.image_model.specs.Pages.{address_count}
 use Rattle.journal_stops.specs.Mapped.{mapping_after, page_after}
 use Rattle.plain_laws.specs.Sums.{bit}
-use Rattle.count_laws.specs.Running.{RunningCount}
+use Rattle.count_laws.specs.RunningCount.{RunningCount}
 use Rattle.count_laws.specs.Turns.{AreInTurn, AreUnsharedAfter, ComesInTurn, HasMappingsAfter, IsLinkedAfter, IsPageAfter, IsUnusedAfter, MayLeadTo}
 use Rattle.count_laws.proofs.StepLaws.{new_mapping}
 use Rattle.count_laws.proofs.TurnLaws.{one_number_after, opened_mapping}

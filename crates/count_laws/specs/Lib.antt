@@ -1,6 +1,6 @@
 pub mod Turns
 pub mod Points
-pub mod Running
+pub mod RunningCount
 pub mod Counters
 pub mod Closed
 pub mod Strays

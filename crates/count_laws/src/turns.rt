@@ -9,7 +9,7 @@ ghost use Rattle.image_model.specs.Maps.{Image};
 ghost use Rattle.image_model.specs.Sound.{AreUnshared};
 ghost use Rattle.journal_stops.specs.Mapped.{AreRooted, ShowsEntries, later_image};
 ghost use Rattle.count_laws.specs.Points.{ArePointed, points_for, points_in, those_of, updates_of};
-ghost use Rattle.count_laws.specs.Running.{RunningCount};
+ghost use Rattle.count_laws.specs.RunningCount.{RunningCount};
 ghost use Rattle.count_laws.specs.Strays.{FitsCounter};
 ghost use Rattle.count_laws.specs.Turns.{AreInTurn, AreUnsharedAfter, HasMappingsAfter, IsUnusedAfter};
 

@@ -10,7 +10,7 @@ use Rattle.disk_model.specs.declared.fuse.Fuse.{Fuse}
 use Rattle.disk_model.specs.declared.fuse.Fuse.TheVariants.{Passes, Spent, Unset}
 use Rattle.disk_model.specs.Fuses.{burnt, burnt_all, is_cut}
 use Rattle.disk_model.specs.Log.{Blocks, is_ok}
-use Rattle.disk_model.specs.Memory.{Fails, Memory, Succeeds, is_to_fail, kind_of, one_more, place_of}
+use Rattle.disk_model.specs.Memory.{Fails, Memory, Succeeds, is_to_fail, kind_of, one_more, block_of_call}
 use Rattle.disk_model.specs.Picks.{counted_log}
 use Rattle.disk_model.specs.Plans.{counted, named}
 use Rattle.crash_images.specs.Cuts.{IsCutDisk, IsCutOff, logs_of}
@@ -30,13 +30,13 @@ some_unkept n none = omega (arith, none)
 module _ (passes : ℕ) (old new : Memory) (is : IsCutDisk passes old) where
   -- without planned faults a call is to fail where the fuse is spent
   fails_by : (call : Call) → is_to_fail old call ≡ is_cut old.fuse
-  fails_by call = ap (λ (plan : List FaultAt). is_cut old.fuse || named plan (kind_of call) (place_of call)) is.plan ∙ or-false (is_cut old.fuse)
+  fails_by call = ap (λ (plan : List FaultAt). is_cut old.fuse || named plan (kind_of call) (block_of_call call)) is.plan ∙ or-false (is_cut old.fuse)
 
   cut_by : (call : Call) → IsCutOff passes old → is_to_fail old call ≡ nat_le passes (length old.log)
   cut_by call cut = fails_by call ∙ ap is_cut cut.fuse ∙ spent_by passes old.log
 
-  plan_stays : (call : Call) → counted old.plan (kind_of call) (place_of call) ≡ []
-  plan_stays call = ap (λ (plan : List FaultAt). counted plan (kind_of call) (place_of call)) is.plan
+  plan_stays : (call : Call) → counted old.plan (kind_of call) (block_of_call call) ≡ []
+  plan_stays call = ap (λ (plan : List FaultAt). counted plan (kind_of call) (block_of_call call)) is.plan
 
   -- after a call that succeeded
   after_one : (call : Call) (blocks : Blocks) → is_ok call ≡ true → Succeeds old new call blocks → IsCutDisk passes new

@@ -22,7 +22,7 @@ pub data Where : Type 0 where
 -- Where a phase is done; whether the request holds the lock of its address, has a claim on the block to which it maps that, may
 -- hold tickets, owes the increment of an entry that was handed in, has yet to draw its place, and has an entry that was handed in and of
 -- which neither the slot is set nor the address retired.
-pub record PhaseRow : Type 0 where
+pub record PhaseRule : Type 0 where
   pub zone : Where
   pub locks : Bool
   pub claims : Bool
@@ -31,27 +31,27 @@ pub record PhaseRow : Type 0 where
   pub arrives : Bool
   pub entered : Bool
 
-abbrev pub row : Phase → PhaseRow
-row phase.Arrive = record { zone = AtHome; locks = false; claims = false; asks = false; owes = false; arrives = true; entered = false }
-row phase.Wait = record { zone = InNoLane; locks = false; claims = false; asks = false; owes = false; arrives = false; entered = false }
-row phase.Look = record { zone = AtHome; locks = true; claims = false; asks = false; owes = false; arrives = false; entered = false }
-row phase.LoadLeaf = record { zone = AtDevice; locks = true; claims = false; asks = false; owes = false; arrives = false; entered = false }
-row phase.LoadedLeaf = record { zone = AtHome; locks = true; claims = false; asks = false; owes = false; arrives = false; entered = false }
-row phase.Claim = record { zone = AtPhysical; locks = true; claims = false; asks = true; owes = false; arrives = false; entered = false }
-row phase.Withdraw = record { zone = AtTicket; locks = true; claims = true; asks = true; owes = false; arrives = false; entered = false }
-row phase.Store = record { zone = AtDevice; locks = true; claims = true; asks = false; owes = false; arrives = false; entered = false }
-row phase.Enter = record { zone = AtJournal; locks = true; claims = true; asks = false; owes = false; arrives = false; entered = false }
-row phase.Pending = record { zone = InNoLane; locks = true; claims = true; asks = false; owes = true; arrives = false; entered = true }
-row phase.Count = record { zone = AtPhysical; locks = true; claims = true; asks = false; owes = true; arrives = false; entered = true }
-row phase.Settle = record { zone = AtHome; locks = true; claims = false; asks = false; owes = false; arrives = false; entered = true }
-row phase.Load = record { zone = AtDevice; locks = true; claims = false; asks = false; owes = false; arrives = false; entered = false }
-row phase.Loaded = record { zone = AtHome; locks = true; claims = false; asks = false; owes = false; arrives = false; entered = false }
-row phase.AbortClaim = record { zone = AtPhysical; locks = true; claims = true; asks = false; owes = false; arrives = false; entered = false }
-row phase.Abort = record { zone = AtHome; locks = true; claims = false; asks = false; owes = false; arrives = false; entered = false }
-row phase.AbortEnteredClaim = record { zone = AtPhysical; locks = true; claims = true; asks = false; owes = true; arrives = false; entered = true }
-row phase.AbortEntered = record { zone = AtHome; locks = true; claims = false; asks = false; owes = false; arrives = false; entered = true }
-row phase.Flush = record { zone = AtDevice; locks = false; claims = false; asks = false; owes = false; arrives = false; entered = false }
-row phase.Reply = record { zone = AtDesk; locks = false; claims = false; asks = false; owes = false; arrives = false; entered = false }
+abbrev pub phase_rule : Phase → PhaseRule
+phase_rule phase.Arrive = record { zone = AtHome; locks = false; claims = false; asks = false; owes = false; arrives = true; entered = false }
+phase_rule phase.Wait = record { zone = InNoLane; locks = false; claims = false; asks = false; owes = false; arrives = false; entered = false }
+phase_rule phase.Look = record { zone = AtHome; locks = true; claims = false; asks = false; owes = false; arrives = false; entered = false }
+phase_rule phase.LoadLeaf = record { zone = AtDevice; locks = true; claims = false; asks = false; owes = false; arrives = false; entered = false }
+phase_rule phase.LoadedLeaf = record { zone = AtHome; locks = true; claims = false; asks = false; owes = false; arrives = false; entered = false }
+phase_rule phase.Claim = record { zone = AtPhysical; locks = true; claims = false; asks = true; owes = false; arrives = false; entered = false }
+phase_rule phase.Withdraw = record { zone = AtTicket; locks = true; claims = true; asks = true; owes = false; arrives = false; entered = false }
+phase_rule phase.Store = record { zone = AtDevice; locks = true; claims = true; asks = false; owes = false; arrives = false; entered = false }
+phase_rule phase.Enter = record { zone = AtJournal; locks = true; claims = true; asks = false; owes = false; arrives = false; entered = false }
+phase_rule phase.Pending = record { zone = InNoLane; locks = true; claims = true; asks = false; owes = true; arrives = false; entered = true }
+phase_rule phase.Count = record { zone = AtPhysical; locks = true; claims = true; asks = false; owes = true; arrives = false; entered = true }
+phase_rule phase.Settle = record { zone = AtHome; locks = true; claims = false; asks = false; owes = false; arrives = false; entered = true }
+phase_rule phase.Load = record { zone = AtDevice; locks = true; claims = false; asks = false; owes = false; arrives = false; entered = false }
+phase_rule phase.Loaded = record { zone = AtHome; locks = true; claims = false; asks = false; owes = false; arrives = false; entered = false }
+phase_rule phase.AbortClaim = record { zone = AtPhysical; locks = true; claims = true; asks = false; owes = false; arrives = false; entered = false }
+phase_rule phase.Abort = record { zone = AtHome; locks = true; claims = false; asks = false; owes = false; arrives = false; entered = false }
+phase_rule phase.AbortEnteredClaim = record { zone = AtPhysical; locks = true; claims = true; asks = false; owes = true; arrives = false; entered = true }
+phase_rule phase.AbortEntered = record { zone = AtHome; locks = true; claims = false; asks = false; owes = false; arrives = false; entered = true }
+phase_rule phase.Flush = record { zone = AtDevice; locks = false; claims = false; asks = false; owes = false; arrives = false; entered = false }
+phase_rule phase.Reply = record { zone = AtDesk; locks = false; claims = false; asks = false; owes = false; arrives = false; entered = false }
 
 -- the number of the zone there, for a request of this home, whose block this zone counts, and whose oldest ticket is of this one;
 -- where it is in no lane, none to a zone's number
@@ -65,13 +65,13 @@ number_at sizes home counts ticket AtDevice = zone_number sizes id.Device
 number_at sizes home counts ticket InNoLane = zone_count sizes
 
 -- the zone where a stage is done, and the stage behind it; at Commit and at Fail the block's way ends
-pub record StageRow : Type 0 where
+pub record StageRule : Type 0 where
   pub zone : ZoneId
   pub next : Stage
 
-abbrev pub stage_row : Stage → StageRow
-stage_row stage.Cover = record { zone = id.Device; next = stage.Write }
-stage_row stage.Write = record { zone = id.Device; next = stage.Harden }
-stage_row stage.Harden = record { zone = id.Device; next = stage.Commit }
-stage_row stage.Commit = record { zone = id.Journal; next = stage.Commit }
-stage_row stage.Fail = record { zone = id.Journal; next = stage.Fail }
+abbrev pub stage_rule : Stage → StageRule
+stage_rule stage.Cover = record { zone = id.Device; next = stage.Write }
+stage_rule stage.Write = record { zone = id.Device; next = stage.Harden }
+stage_rule stage.Harden = record { zone = id.Device; next = stage.Commit }
+stage_rule stage.Commit = record { zone = id.Journal; next = stage.Commit }
+stage_rule stage.Fail = record { zone = id.Journal; next = stage.Fail }

@@ -3,7 +3,7 @@ ghost use Rattle.vdo_model.specs.DeskLog.{IsNextLine};
 ghost use Rattle.vdo_model.specs.declared.report.DeskLine.TheVariants as line;
 ghost use Rattle.data_vio.specs.declared.items.Item.TheVariants as item;
 ghost use Rattle.core_model.specs.declared.zones.ZoneData.TheVariants as at;
-ghost use Rattle.core_model.specs.DeskRules as rows;
+ghost use Rattle.core_model.specs.DeskRules as rules;
 ghost use Rattle.core_model.specs.Limits.{HasRoomToBegin};
 ghost use Rattle.core_model.specs.Steps.{MayBegin};
 ghost use Rattle.core_model.specs.Trace.{Trace};
@@ -48,9 +48,9 @@ fn arriving(sizes: &Sizes, request: Writer, asks: Asks, at: Lba) -> Begun
 fn begun_of(sizes: &Sizes, request: Writer, asked: &Request) -> Option<Begun>
     requires { 0 < sizes.now.zones }
     ensures some { IfSome result (λ begun.
-        rows.vio_of sizes.now request asked.now
+        rules.vio_of sizes.now request asked.now
         ≡ Some (under_way begun (value_written (Some asked.now)))) }
-    ensures none { IfNone result (rows.vio_of sizes.now request asked.now ≡ None) }
+    ensures none { IfNone result (rules.vio_of sizes.now request asked.now ≡ None) }
 {
     match asked {
         Request::Read(at) => Some(arriving(sizes, request, Asks::Read, *at)),
@@ -70,7 +70,7 @@ fn begun_of(sizes: &Sizes, request: Writer, asked: &Request) -> Option<Begun>
 // What a request is answered with at once.
 // A write after a stop draws no place, so none is printed; the request that met the failure has its place.
 fn at_once(sizes: &Sizes, notified: bool, asks: Asks, at: Lba) -> Option<Answer>
-    ensures { result ≡ rows.at_once sizes.now notified asks at.0 }
+    ensures { result ≡ rules.at_once sizes.now notified asks at.0 }
 {
     let logical = sizes.geometry.logical;
     match asks {
@@ -102,7 +102,7 @@ fn at_once(sizes: &Sizes, notified: bool, asks: Asks, at: Lba) -> Option<Answer>
 
 // A block request goes to the logical zone of its address, a flush to the device.
 fn first_zone(vio: &Vio) -> ZoneId
-    ensures { result ≡ rows.first_zone vio.now }
+    ensures { result ≡ rules.first_zone vio.now }
 {
     match vio.asks {
         Asks::Read | Asks::Write | Asks::Discard => vio.home,
@@ -136,7 +136,7 @@ fn next_of(sizes: &Sizes, desk: &Desk, stream: u8) -> Option<u32>
 // The next request of the lowest stream that may begin one.
 fn lowest(sizes: &Sizes, desk: &Desk) -> Option<Writer>
     requires { CanBegin sizes.now desk.now }
-    ensures next { IfSome result (rows.BeginsNext sizes.now.depth desk.now) }
+    ensures next { IfSome result (rules.BeginsNext sizes.now.depth desk.now) }
     ensures none { IfNone result (MayBegin sizes.now (at.Desk desk.now) → ⊥) }
 {
     for stream in 0..desk.streams_left() {
@@ -167,7 +167,7 @@ fn send(desk: &mut Desk, begun: Begun, posts: &mut Posts)
     ensures desk { desk.new ≡ record desk.old { log = line.Begin begun.request ∷ desk.old.log } }
     ensures posts { (vio : Vio) →
         vio ≡ under_way begun (value_written (request_at desk.old.requests begun.request)) →
-        posts.new ≡ (rows.first_zone vio, item.Request vio) ∷ [] }
+        posts.new ≡ (rules.first_zone vio, item.Request vio) ∷ [] }
 {
     let vio = desk.begin(begun);
     let to = first_zone(vio.get());
@@ -177,9 +177,9 @@ fn send(desk: &mut Desk, begun: Begun, posts: &mut Posts)
 // A request is begun, and answered at once or sent on.
 fn begin_one(sizes: &Sizes, desk: &mut Desk, request: Writer, posts: &mut Posts)
     requires can { CanBegin sizes.now desk.old }
-    requires next { rows.BeginsNext sizes.now.depth desk.old request }
+    requires next { rules.BeginsNext sizes.now.depth desk.old request }
     requires none { posts.old ≡ [] }
-    ensures { (made : Trace) × rows.DeskBegins sizes.now desk.old desk.new made posts.new }
+    ensures { (made : Trace) × rules.DeskBegins sizes.now desk.old desk.new made posts.new }
 {
     let notified = is_notified(sizes, desk);
     let requests = desk.requests().stream(request.stream);

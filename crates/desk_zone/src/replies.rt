@@ -3,7 +3,7 @@ ghost use Rattle.blk_base.specs.declared.request.Answer.{Answer};
 ghost use Rattle.blk_base.specs.declared.request.Answer.TheVariants.{NoSpace, Ok};
 ghost use Rattle.data_vio.specs.declared.items.Asks.TheVariants.{Flush};
 ghost use Rattle.data_vio.specs.declared.items.Phase.TheVariants.{Reply};
-ghost use Rattle.core_model.specs.DeskRules as rows;
+ghost use Rattle.core_model.specs.DeskRules as rules;
 ghost use Rattle.core_model.specs.Limits.{IsDeskWithin};
 ghost use Rattle.core_model.specs.Trace.{Trace};
 
@@ -14,14 +14,14 @@ use step_parts::Posts;
 
 /// Whether the stop notice of every zone has come to the desk.
 pub(crate) fn is_notified(sizes: &Sizes, desk: &Desk) -> bool
-    ensures { result ≡ rows.is_notified sizes.now desk.now }
+    ensures { result ≡ rules.is_notified sizes.now desk.now }
 {
     u32::from(sizes.physical) + u32::from(sizes.zones) < desk.notices()
 }
 
 // Whether an answer is that of a flush that returned.
 fn is_marked(asks: Asks, answer: &Answer) -> bool
-    ensures is { result ≡ rows.is_marked asks answer.now }
+    ensures is { result ≡ rules.is_marked asks answer.now }
     ensures so { result ≡ true → (asks ≡ Flush) × (answer.now ≡ Ok) }
 {
     matches!((asks, answer), (Asks::Flush, Answer::Ok))
@@ -29,7 +29,7 @@ fn is_marked(asks: Asks, answer: &Answer) -> bool
 
 // Whether an answer is that no block is free.
 fn is_no_space(answer: &Answer) -> bool
-    ensures is { result ≡ rows.is_no_space answer.now }
+    ensures is { result ≡ rules.is_no_space answer.now }
     ensures so { result ≡ true → answer.now ≡ NoSpace }
 {
     matches!(answer, Answer::NoSpace)
@@ -37,7 +37,7 @@ fn is_no_space(answer: &Answer) -> bool
 
 // Whether an answer waits until the stop notice of every zone has come.
 fn is_stopped(answer: &Answer) -> bool
-    ensures { result ≡ rows.is_stopped answer.now }
+    ensures { result ≡ rules.is_stopped answer.now }
 {
     matches!(answer, Answer::Stopped | Answer::Damaged)
 }
@@ -47,9 +47,9 @@ fn reply(sizes: &Sizes, desk: &mut Desk, vio: BoxedVio)
     requires phase { vio.phase ≡ Reply }
     requires answered { IsSome vio.answer }
     requires within { IsDeskWithin desk.old }
-    requires notified { (given : Answer) → vio.answer ≡ Some given → rows.is_stopped given ≡ true →
-        rows.is_notified sizes.now desk.old ≡ true }
-    ensures { (made : Trace) × rows.DeskServes sizes.now desk.old vio desk.new made [] }
+    requires notified { (given : Answer) → vio.answer ≡ Some given → rules.is_stopped given ≡ true →
+        rules.is_notified sizes.now desk.old ≡ true }
+    ensures { (made : Trace) × rules.DeskServes sizes.now desk.old vio desk.new made [] }
 {
     let asks = vio.get().asks;
     let Some(given) = &vio.get().answer else {
@@ -69,7 +69,7 @@ pub(crate) fn serve_desk(sizes: &Sizes, desk: &mut Desk, vio: BoxedVio)
     requires within { IsDeskWithin desk.old }
     requires phase { vio.phase ≡ Reply }
     requires answered { IsSome vio.answer }
-    ensures { (made : Trace) × rows.DeskServes sizes.now desk.old vio desk.new made [] }
+    ensures { (made : Trace) × rules.DeskServes sizes.now desk.old vio desk.new made [] }
 {
     let Some(given) = &vio.get().answer else {
         unreachable!();
@@ -85,8 +85,8 @@ pub(crate) fn serve_desk(sizes: &Sizes, desk: &mut Desk, vio: BoxedVio)
 pub(crate) fn hear_stop(desk: &mut Desk, posts: &mut Posts)
     requires within { IsDeskWithin desk.old }
     requires none { posts.old ≡ [] }
-    ensures desk { desk.new ≡ rows.with_notice desk.old }
-    ensures posts { posts.new ≡ rows.woken desk.old.parked }
+    ensures desk { desk.new ≡ rules.with_notice desk.old }
+    ensures posts { posts.new ≡ rules.woken desk.old.parked }
 {
     desk.hear();
     while let Some(vio) = desk.unpark() {

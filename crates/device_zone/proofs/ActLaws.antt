@@ -11,7 +11,7 @@ use Rattle.data_vio.specs.declared.items.Item.{Item}
 use Rattle.data_vio.specs.declared.items.Item.TheVariants as item
 use Rattle.data_vio.specs.declared.items.Phase.{Phase}
 use Rattle.data_vio.specs.declared.items.Phase.TheVariants as phase
-use Rattle.data_vio.specs.Phases.{AtDevice, row, stage_row}
+use Rattle.data_vio.specs.Phases.{AtDevice, phase_rule, stage_rule}
 use Rattle.data_vio.specs.declared.items.SealedBlock.{SealedBlock}
 use Rattle.data_vio.specs.declared.items.Vio.{Vio}
 use Rattle.data_vio.specs.declared.sizes.Sizes.{Sizes}
@@ -36,12 +36,12 @@ use Rattle.vdo_model.specs.declared.report.Damage.{Damage}
 pub acts : (tells honest : Bool) (sizes : Sizes) (old new : DeviceZone) (v : Vio) (posts : List Post) (before after : Seen)
     → ((made : Trace) × DeviceServes sizes old v new made posts × HasCalled tells honest before after made)
     → Acts tells honest sizes (at.Device old) (item.Request v ∷ []) (at.Device new) posts before after
-acts tells honest sizes old new v posts before after (made, row, log) = (made, calls row, log)
+acts tells honest sizes old new v posts before after (made, phase_rule, log) = (made, calls phase_rule, log)
 
 pub works_on : (tells honest : Bool) (sizes : Sizes) (old new : DeviceZone) (b : SealedBlock) (posts : List Post) (before after : Seen)
     → ((made : Trace) × DeviceWorks sizes old b new made posts × HasCalled tells honest before after made)
     → Acts tells honest sizes (at.Device old) (item.Block b ∷ []) (at.Device new) posts before after
-works_on tells honest sizes old new b posts before after (made, row, log) = (made, works row, log)
+works_on tells honest sizes old new b posts before after (made, phase_rule, log) = (made, works phase_rule, log)
 
 -- it is told of damage, and the device isn't called
 pub hears : (tells honest : Bool) (sizes : Sizes) (old new : DeviceZone) (damage : Damage) (held posts : List Post) (seen : Seen)
@@ -53,14 +53,14 @@ hears tells honest sizes old new damage held posts seen new_is none posts_are = 
   none_called (Hears damage ∷ []) refl refl refl tells honest seen,
 )
 
-served_there : (sizes : Sizes) (old : DeviceZone) (v : Vio) (q : Phase) → CanServe sizes old v q → (row q).zone ≡ AtDevice
+served_there : (sizes : Sizes) (old : DeviceZone) (v : Vio) (q : Phase) → CanServe sizes old v q → (phase_rule q).zone ≡ AtDevice
 served_there sizes old v phase.Store can = refl
 served_there sizes old v phase.Load can = refl
 served_there sizes old v phase.LoadLeaf can = refl
 served_there sizes old v phase.Flush can = refl
 served_there sizes old v other can = absurd can
 
-needed_there : (q : Stage) → needs_call q ≡ true → (stage_row q).zone ≡ id.Device
+needed_there : (q : Stage) → needs_call q ≡ true → (stage_rule q).zone ≡ id.Device
 needed_there stage.Cover is = refl
 needed_there stage.Write is = refl
 needed_there stage.Harden is = refl
@@ -101,7 +101,7 @@ waits_still : (sizes : Sizes) (old : DeviceZone) (front : Item) (w : Writer) (ne
 waits_still sizes old front w new made posts (device.succeeds call is goes h1 h2 h3) = unready sizes old true call is goes
 waits_still sizes old front w new made posts (device.fails call kept is goes h1 h2 h3) = unready sizes old false call is goes
 
-by_phase : (sizes : Sizes) (old : DeviceZone) (v : Vio) (q : Phase) → (row q).zone ≡ AtDevice → (IsReady old → ⊥) → CanServe sizes old v q
+by_phase : (sizes : Sizes) (old : DeviceZone) (v : Vio) (q : Phase) → (phase_rule q).zone ≡ AtDevice → (IsReady old → ⊥) → CanServe sizes old v q
 by_phase sizes old v phase.Store there waits = λ goes durable. absurd (waits (inr durable))
 by_phase sizes old v phase.Load there waits = λ ready. absurd (waits ready)
 by_phase sizes old v phase.LoadLeaf there waits = λ ready. absurd (waits ready)
@@ -124,7 +124,7 @@ serves sizes old v new made posts (device.flush_fails kept p r durable h1 h2 h3)
 serves sizes old v new made posts (device.flush_unmade p stops h1 h2 h3) = subst (CanServe sizes old v) (sym p) tt
 
 pub can_serve : (sizes : Sizes) (old : DeviceZone) (v : Vio) → HasAct sizes (at.Device old) (item.Request v ∷ []) → CanServe sizes old v v.phase
-can_serve sizes old v (new, made, posts, calls row) = serves sizes old v _ _ _ row
+can_serve sizes old v (new, made, posts, calls phase_rule) = serves sizes old v _ _ _ phase_rule
 
 -- and works on a block with entries that needs a call
 some_of_block : (b : SealedBlock) (v : Vio) (vs : List Vio) → b.vios ≡ v ∷ vs → 0 < length b.vios
@@ -136,7 +136,7 @@ needed sizes b slot ok call stage.Write is = refl
 needed sizes b slot ok call stage.Harden is = refl
 needed sizes b slot ok call other is = absurd cc
 
-there_needed : (q : Stage) → (stage_row q).zone ≡ id.Device → needs_call q ≡ true
+there_needed : (q : Stage) → (stage_rule q).zone ≡ id.Device → needs_call q ≡ true
 there_needed stage.Cover is = refl
 there_needed stage.Write is = refl
 there_needed stage.Harden is = refl

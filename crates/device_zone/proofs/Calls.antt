@@ -11,7 +11,7 @@ use Rattle.disk_model.specs.Causes.{Rose, HasCause}
 use Rattle.disk_model.specs.Images.{IsMixOf}
 use Rattle.disk_model.specs.Log.{Blocks, settled}
 use Rattle.disk_model.specs.Seen.{Seen, Stays}
-use Rattle.disk_model.specs.Telling.{FailedInLog}
+use Rattle.disk_model.specs.LogSteps.{FailedInLog}
 use Rattle.data_vio.specs.declared.items.Item.TheVariants as item
 use Rattle.data_vio.specs.declared.items.SealedBlock.{SealedBlock}
 use Rattle.data_vio.specs.declared.items.Stage.{Stage}

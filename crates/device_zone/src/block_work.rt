@@ -1,7 +1,7 @@
 ghost use Rattle.std.specs.Prelude.{◌≡◌, ◌<◌, [], ◌∷◌, true, false, Some, length, map, OnOk, OnErr};
 ghost use Rattle.disk_model.specs.declared.call.Call.{Call};
 ghost use Rattle.disk_model.specs.Seen.{Stays};
-ghost use Rattle.core_model.specs.DeviceRules as rows;
+ghost use Rattle.core_model.specs.DeviceRules as rules;
 ghost use Rattle.core_model.specs.DeviceRules.{DeviceWorks, call_of, journal_bytes};
 ghost use Rattle.core_model.specs.Trace.{Trace, Calls, entry_of};
 ghost use Rattle.data_vio.specs.Vios as vios;
@@ -54,7 +54,7 @@ fn sealed_bytes(sizes: &Sizes, block: &SealedBlock) -> Block
 
 // The stage behind this one.
 fn next_stage(stage: Stage) -> Stage
-    ensures { result ≡ rows.next_stage stage }
+    ensures { result ≡ rules.next_stage stage }
 {
     match stage {
         Stage::Cover => Stage::Write,
@@ -66,7 +66,7 @@ fn next_stage(stage: Stage) -> Stage
 
 // The zone that a sealed block goes to when it leaves this stage.
 fn next_zone(stage: Stage) -> ZoneId
-    ensures { result ≡ rows.next_zone stage }
+    ensures { result ≡ rules.next_zone stage }
 {
     match stage {
         Stage::Cover | Stage::Write => ZoneId::Device,

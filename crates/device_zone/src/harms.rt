@@ -1,5 +1,5 @@
 ghost use Rattle.std.specs.Prelude.{◌≡◌, ◌≤◌, ◌++◌, length};
-ghost use Rattle.core_model.specs.DeviceRules as rows;
+ghost use Rattle.core_model.specs.DeviceRules as rules;
 ghost use Rattle.step_parts.specs.ZoneSizes.{AreFew};
 
 use crate::stop_notices::notify;
@@ -12,8 +12,8 @@ use vdo_model::Damage;
 pub(crate) fn harm(sizes: &Sizes, zone: &mut DeviceZone, damage: Damage, posts: &mut Posts)
     requires few { AreFew sizes.now }
     requires room { length posts.old ≤ 1 }
-    ensures zone { zone.new ≡ rows.harmed damage zone.old }
-    ensures posts { posts.new ≡ posts.old ++ rows.notices_after zone.old.stopped sizes.now }
+    ensures zone { zone.new ≡ rules.harmed damage zone.old }
+    ensures posts { posts.new ≡ posts.old ++ rules.notices_after zone.old.stopped sizes.now }
 {
     if zone.damage.is_none() {
         zone.damage = Some(damage);

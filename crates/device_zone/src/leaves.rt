@@ -5,7 +5,7 @@ ghost use Rattle.blk_base.specs.declared.place.Mapping.{Mapping as Mapped};
 ghost use Rattle.blk_base.specs.declared.place.Mapping.TheVariants.{Unmapped};
 ghost use Rattle.disk_model.specs.Seen.{Stays};
 ghost use Rattle.page_codec.specs.Grammar.{IsPage, IsPageFault};
-ghost use Rattle.core_model.specs.DeviceRules as rows;
+ghost use Rattle.core_model.specs.DeviceRules as rules;
 ghost use Rattle.core_model.specs.DeviceRules.{DeviceServes, IsReady};
 ghost use Rattle.core_model.specs.PageLinks.{leaf_head};
 ghost use Rattle.core_model.specs.Trace.{Trace};
@@ -56,7 +56,7 @@ fn load_leaf<D: Disk>(
 )
     requires phase { vio.phase ≡ phase.LoadLeaf }
     requires leaf { vio.leaf ≡ Some leaf }
-    requires inside { rows.IsInside sizes.now leaf }
+    requires inside { rules.IsInside sizes.now leaf }
     requires ready { IsReady zone.old }
     requires may { MayServe sizes.now zone.old (D.seen disk.old) posts.old }
     ensures stays { Stays (D.seen disk.old) (D.seen disk.new) }

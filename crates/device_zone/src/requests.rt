@@ -2,7 +2,7 @@ ghost use Rattle.std.specs.Prelude.{◌≡◌, ◌<◌, [], ◌∷◌, true, fal
 ghost use Rattle.blk_base.specs.declared.place.Mapping.TheVariants.{At};
 ghost use Rattle.disk_model.specs.declared.call.Call.TheVariants as call;
 ghost use Rattle.disk_model.specs.Seen.{Stays};
-ghost use Rattle.core_model.specs.DeviceRules as rows;
+ghost use Rattle.core_model.specs.DeviceRules as rules;
 ghost use Rattle.core_model.specs.DeviceRules.{DeviceServes, IsReady};
 ghost use Rattle.core_model.specs.declared.zones.SuperblockStage.TheVariants.{Durable};
 ghost use Rattle.core_model.specs.Trace.{Calls, Trace};
@@ -24,7 +24,7 @@ use step_parts::{Posts, counts_of};
 
 // An empty page of the block map, at this block.
 fn empty_page(sizes: &Sizes, page: PageId, at: Pbn) -> Block
-    ensures { result ≡ rows.page_at sizes.now page at }
+    ensures { result ≡ rules.page_at sizes.now page at }
 {
     let page = MapPage {
         head: PageHead {
@@ -45,10 +45,10 @@ fn write_stored<D: Disk>(sizes: &Sizes, vio: &Vio, block: Pbn, disk: &mut D) -> 
     ensures stays { Stays (D.seen disk.old) (D.seen disk.new) }
     ensures ok { OnOk result
         (HasCalled D.tells D.honest (D.seen disk.old) (D.seen disk.new)
-        (Calls (call.Write block (rows.stored sizes.now vio.now block) true) ∷ [])) }
+        (Calls (call.Write block (rules.stored sizes.now vio.now block) true) ∷ [])) }
     ensures err { OnErr result
         (HasFailed D.tells D.honest (D.seen disk.old) (D.seen disk.new)
-        (call.Write block (rows.stored sizes.now vio.now block) false)) }
+        (call.Write block (rules.stored sizes.now vio.now block) false)) }
 {
     match vio.page {
         Some(page) => write_block(disk, block, &empty_page(sizes, page, block)),
@@ -67,7 +67,7 @@ fn store<D: Disk>(
 )
     requires phase { vio.phase ≡ phase.Store }
     requires block { vio.new ≡ At block }
-    requires inside { rows.IsInside sizes.now block }
+    requires inside { rules.IsInside sizes.now block }
     requires runs { zone.old.stopped ≡ false }
     requires durable { zone.old.superblock ≡ Durable }
     requires may { MayServe sizes.now zone.old (D.seen disk.old) posts.old }
@@ -96,7 +96,7 @@ fn load<D: Disk>(
 )
     requires phase { vio.phase ≡ phase.Load }
     requires block { vio.old ≡ At block }
-    requires inside { rows.IsInside sizes.now block }
+    requires inside { rules.IsInside sizes.now block }
     requires ready { IsReady zone.old }
     requires may { MayServe sizes.now zone.old (D.seen disk.old) posts.old }
     ensures stays { Stays (D.seen disk.old) (D.seen disk.new) }

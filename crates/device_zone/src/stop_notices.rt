@@ -1,5 +1,5 @@
 ghost use Rattle.std.specs.Prelude.{◌≡◌, ◌+◌, ◌≤◌, [], ◌∷◌, ◌++◌, length};
-ghost use Rattle.core_model.specs.DeviceRules as rows;
+ghost use Rattle.core_model.specs.DeviceRules as rules;
 ghost use Rattle.data_vio.specs.Zones.{logical_zones, notified, physical_zones};
 ghost use Rattle.step_parts.specs.ZoneSizes.{AreFew};
 
@@ -12,7 +12,7 @@ use step_parts::Posts;
 fn notify_physical(sizes: &Sizes, posts: &mut Posts)
     requires { length posts.old + sizes.now.physical ≤ POST_ROOM }
     ensures posts { posts.new
-        ≡ posts.old ++ rows.stop_notices (physical_zones sizes.now.physical) }
+        ≡ posts.old ++ rules.stop_notices (physical_zones sizes.now.physical) }
     ensures count { length posts.new ≡ length posts.old + sizes.now.physical }
 {
     let mut left = sizes.physical;
@@ -25,7 +25,7 @@ fn notify_physical(sizes: &Sizes, posts: &mut Posts)
 // The stop notice, to the logical zones, the last of them first.
 fn notify_logical(sizes: &Sizes, posts: &mut Posts)
     requires { length posts.old + sizes.now.zones ≤ POST_ROOM }
-    ensures { posts.new ≡ posts.old ++ rows.stop_notices (logical_zones sizes.now.zones) }
+    ensures { posts.new ≡ posts.old ++ rules.stop_notices (logical_zones sizes.now.zones) }
 {
     let mut left = sizes.zones;
     while left > 0 {
@@ -38,7 +38,7 @@ fn notify_logical(sizes: &Sizes, posts: &mut Posts)
 pub(crate) fn notify(sizes: &Sizes, posts: &mut Posts)
     requires few { AreFew sizes.now }
     requires room { length posts.old ≤ 1 }
-    ensures { posts.new ≡ posts.old ++ rows.stop_notices (notified sizes.now) }
+    ensures { posts.new ≡ posts.old ++ rules.stop_notices (notified sizes.now) }
 {
     posts.push(ZoneId::Journal, Item::StopNotice);
     notify_physical(sizes, posts);
@@ -49,8 +49,8 @@ pub(crate) fn notify(sizes: &Sizes, posts: &mut Posts)
 pub(crate) fn halt(sizes: &Sizes, zone: &mut DeviceZone, to: ZoneId, item: Item, posts: &mut Posts)
     requires few { AreFew sizes.now }
     requires none { posts.old ≡ [] }
-    ensures zone { zone.new ≡ rows.halted zone.old }
-    ensures posts { posts.new ≡ (to, item) ∷ rows.stop_notices (notified sizes.now) }
+    ensures zone { zone.new ≡ rules.halted zone.old }
+    ensures posts { posts.new ≡ (to, item) ∷ rules.stop_notices (notified sizes.now) }
 {
     zone.stopped = true;
     posts.first(to, item);

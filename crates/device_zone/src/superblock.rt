@@ -2,7 +2,7 @@ ghost use Rattle.std.specs.Prelude.{◌≡◌, ◌<◌, [], ◌∷◌, true, fal
 ghost use Rattle.blk_base.specs.declared.request.Writer.{Writer};
 ghost use Rattle.disk_model.specs.declared.call.Call.{Call};
 ghost use Rattle.disk_model.specs.Seen.{Stays};
-ghost use Rattle.core_model.specs.DeviceRules as rows;
+ghost use Rattle.core_model.specs.DeviceRules as rules;
 ghost use Rattle.core_model.specs.DeviceRules.{Announces, IsReady, superblock_call};
 ghost use Rattle.core_model.specs.Superblocks.{superblock_bytes};
 ghost use Rattle.core_model.specs.Trace.{Trace, Calls};
@@ -46,7 +46,7 @@ fn superblock(sizes: &Sizes) -> Block
 
 // The stage behind this one.
 fn next_stage(stage: SuperblockStage) -> SuperblockStage
-    ensures { result ≡ rows.next_superblock stage }
+    ensures { result ≡ rules.next_superblock stage }
 {
     match stage {
         SuperblockStage::AsOpened => SuperblockStage::Written,

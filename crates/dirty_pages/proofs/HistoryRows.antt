@@ -4,9 +4,9 @@ use Rattle.std.proofs.Common.{◌≢◌, None, Some, List, [], ◌∷◌, refl, 
 use Rattle.std.proofs.lemmas.Option.{none-some}
 use Rattle.blk_base.specs.declared.place.PageId.{PageId}
 use Rattle.blk_base.specs.declared.point.Point.{Point}
-use Rattle.dirty_pages.specs.declared.marks.Marks.{Marks}
+use Rattle.dirty_pages.specs.declared.dirty_points.DirtyPoints.{DirtyPoints}
 use Rattle.dirty_pages.specs.History.{AtMost, Becomes, Changed, Event, HandedOut, IsAfter, IsInWrite, IsUnreported, IsUnwritten, IsWaiting, Written}
-use Rattle.dirty_pages.specs.Marks.{clean}
+use Rattle.dirty_pages.specs.DirtyPoints.{clean}
 use Rattle.dirty_pages.proofs.Rows.{busy, changed, out, p, value}
 
 abbrev a : PageId
@@ -102,12 +102,12 @@ another_stays : Becomes (Changed a (p 5)) b clean clean
 another_stays = inr (a_is_not_b, refl)
 
 stays_clean : Becomes (Changed a (p 5)) a clean clean → ⊥
-stays_clean (inl is) = none-some (p 5) (ap (λ (m : Marks). m.dirty) is.1)
+stays_clean (inl is) = none-some (p 5) (ap (λ (m : DirtyPoints). m.dirty) is.1)
 stays_clean (inr is) = is.0 refl
 
 another_becomes_dirty : Becomes (Changed a (p 5)) b clean (changed 5) → ⊥
 another_becomes_dirty (inl is) = a_is_not_b is.0
-another_becomes_dirty (inr is) = none-some (p 5) (sym (ap (λ (m : Marks). m.dirty) is.1))
+another_becomes_dirty (inr is) = none-some (p 5) (sym (ap (λ (m : DirtyPoints). m.dirty) is.1))
 
 -- it is handed out
 becomes_out : Becomes (HandedOut a) a (changed 5) out
@@ -116,17 +116,17 @@ becomes_out = inl (refl, refl, refl)
 another_stays_dirty : Becomes (HandedOut a) b (changed 5) (changed 5)
 another_stays_dirty = inr (a_is_not_b, refl)
 
-becomes_out_twice : (new : Marks) → Becomes (HandedOut a) a busy new → ⊥
+becomes_out_twice : (new : DirtyPoints) → Becomes (HandedOut a) a busy new → ⊥
 becomes_out_twice new (inl is) = none-some (p 2) (sym is.1)
 becomes_out_twice new (inr is) = is.0 refl
 
 stays_dirty : Becomes (HandedOut a) a (changed 5) (changed 5) → ⊥
-stays_dirty (inl is) = none-some (p 5) (ap (λ (m : Marks). m.writing) is.2)
+stays_dirty (inl is) = none-some (p 5) (ap (λ (m : DirtyPoints). m.writing) is.2)
 stays_dirty (inr is) = is.0 refl
 
 another_becomes_out : Becomes (HandedOut a) b (changed 5) out → ⊥
 another_becomes_out (inl is) = a_is_not_b is.0
-another_becomes_out (inr is) = none-some (p 5) (sym (ap (λ (m : Marks). m.writing) is.1))
+another_becomes_out (inr is) = none-some (p 5) (sym (ap (λ (m : DirtyPoints). m.writing) is.1))
 
 -- it is written: what changed it since stays
 becomes_settled : Becomes (Written a) a busy (changed 3)
@@ -136,19 +136,19 @@ another_stays_out : Becomes (Written a) b out out
 another_stays_out = inr (a_is_not_b, refl)
 
 stays_out : Becomes (Written a) a out out → ⊥
-stays_out (inl is) = none-some (p 5) (sym (ap (λ (m : Marks). m.writing) is.1))
+stays_out (inl is) = none-some (p 5) (sym (ap (λ (m : DirtyPoints). m.writing) is.1))
 stays_out (inr is) = is.0 refl
 
 another_becomes_settled : Becomes (Written a) b out clean → ⊥
 another_becomes_settled (inl is) = a_is_not_b is.0
-another_becomes_settled (inr is) = none-some (p 5) (ap (λ (m : Marks). m.writing) is.1)
+another_becomes_settled (inr is) = none-some (p 5) (ap (λ (m : DirtyPoints). m.writing) is.1)
 
 -- IsAfter: in the order of the events
 after_both : IsAfter clean (HandedOut a ∷ change) a out
 after_both = (changed 5, (clean, refl, becomes_dirty), becomes_out)
 
 after_none : IsAfter clean [] a (changed 5) → ⊥
-after_none same = none-some (p 5) (sym (ap (λ (m : Marks). m.dirty) same))
+after_none same = none-some (p 5) (sym (ap (λ (m : DirtyPoints). m.dirty) same))
 
 -- AtMost
 at_most : AtMost (Some (p 5)) (p 5)

@@ -1,8 +1,8 @@
 pub mod MinimaLaws
-pub mod MarkLaws
+pub mod DirtyPointLaws
 pub mod HistoryLaws
 pub mod PageLists
 pub mod Rows
-pub mod MarkRows
+pub mod DirtyPointRows
 pub mod MinimaRows
 pub mod HistoryRows

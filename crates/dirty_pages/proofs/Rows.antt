@@ -2,8 +2,8 @@
 use Rattle.std.proofs.Common.{ℕ, zero, suc, ◌≡◌, ◌≢◌, ◌<◌, ◌≤◌, Option, None, Some, List, [], ◌∷◌, refl, ap, sym, arith}
 use Rattle.std.proofs.lemmas.Option.{none-some}
 use Rattle.blk_base.specs.declared.point.Point.{Point}
-use Rattle.dirty_pages.specs.declared.marks.Marks.{Marks}
-use Rattle.dirty_pages.specs.Marks.{clean, marks_at, IsDue, IsFirstDue, NoneIsEverDue, HandsOut}
+use Rattle.dirty_pages.specs.declared.dirty_points.DirtyPoints.{DirtyPoints}
+use Rattle.dirty_pages.specs.DirtyPoints.{clean, dirty_points_at, IsDue, IsFirstDue, NoneIsEverDue, HandsOut}
 use Rattle.dirty_pages.specs.Minima.{key_at, IsLeast}
 
 abbrev pub p : ℕ → Point
@@ -48,29 +48,29 @@ second_is_not_first is = is.first 1 (omega arith) refl
 
 -- HandsOut, IsFirstDue: two pages that were first changed at 5, one at 7, and one that was at 3 and is being written
 
-abbrev pub changed : ℕ → Marks
+abbrev pub changed : ℕ → DirtyPoints
 changed n = record { dirty = Some (p n); writing = None }
 
-abbrev pub busy : Marks
+abbrev pub busy : DirtyPoints
 busy = record { dirty = Some (p 3); writing = Some (p 2) }
 
-abbrev pub pages : List Marks
+abbrev pub pages : List DirtyPoints
 pages = changed 7 ∷ busy ∷ changed 5 ∷ changed 5 ∷ []
 
-abbrev pub out : Marks
+abbrev pub out : DirtyPoints
 out = record { dirty = None; writing = Some (p 5) }
 
-abbrev pub written : List Marks
+abbrev pub written : List DirtyPoints
 written = changed 7 ∷ busy ∷ out ∷ changed 5 ∷ []
 
-pub least : (other : ℕ) (later : Point) → IsDue (marks_at pages other) later → 5 ≤ later.0
+pub least : (other : ℕ) (later : Point) → IsDue (dirty_points_at pages other) later → 5 ≤ later.0
 least zero later due = omega (arith, ap value due.dirty)
 least (suc zero) later due = absurd (none-some (p 2) (sym due.idle))
 least (suc (suc zero)) later due = omega (arith, ap value due.dirty)
 least (suc (suc (suc zero))) later due = omega (arith, ap value due.dirty)
 least (suc (suc (suc (suc n)))) later due = absurd (none-some later due.dirty)
 
-lowest : (other : ℕ) → IsDue (marks_at pages other) (p 5) → 2 ≤ other
+lowest : (other : ℕ) → IsDue (dirty_points_at pages other) (p 5) → 2 ≤ other
 lowest zero due = omega (arith, ap value due.dirty)
 lowest (suc zero) due = absurd (none-some (p 2) (sym due.idle))
 lowest (suc (suc n)) due = omega arith
@@ -86,24 +86,24 @@ handed_out_first = record {
 }
 
 -- due: one that is being written isn't handed out
-while_it_is_written : (new : List Marks) → HandsOut pages new (p 5) 1 → ⊥
+while_it_is_written : (new : List DirtyPoints) → HandsOut pages new (p 5) 1 → ⊥
 while_it_is_written new is = none-some (p 2) (sym is.due.idle)
 
 -- reached: none is before its point
-before_its_point : (new : List Marks) → HandsOut pages new (p 4) 2 → ⊥
+before_its_point : (new : List DirtyPoints) → HandsOut pages new (p 4) 2 → ⊥
 before_its_point new is = omega (arith, is.reached, ap value is.due.dirty)
 
 -- least: nor one that was changed later
-a_later_one : (new : List Marks) → HandsOut pages new (p 7) 0 → ⊥
+a_later_one : (new : List DirtyPoints) → HandsOut pages new (p 7) 0 → ⊥
 a_later_one new is = omega (arith, is.least 2 (p 5) (record { idle = refl; dirty = refl }), ap value is.due.dirty)
 
 -- lowest: of two with the same first point the second isn't
-the_second_of_two : (new : List Marks) → HandsOut pages new (p 7) 3 → ⊥
+the_second_of_two : (new : List DirtyPoints) → HandsOut pages new (p 7) 3 → ⊥
 the_second_of_two new is = omega (arith, is.lowest 2 (record { idle = refl; dirty = is.due.dirty }))
 
 -- after: it is being written from then on
 stays_dirty : HandsOut pages pages (p 5) 2 → ⊥
-stays_dirty is = none-some (p 5) (ap (λ (ms : List Marks). (marks_at ms 2).writing) is.after)
+stays_dirty is = none-some (p 5) (ap (λ (ms : List DirtyPoints). (dirty_points_at ms 2).writing) is.after)
 
 first_due_is : IsFirstDue pages (p 5)
 first_due_is = record { number = 3; due = record { idle = refl; dirty = refl }; least = least }

@@ -3,8 +3,8 @@ use Rattle.std.specs.Prelude.{◌≡◌, ◌≢◌, ◌≤◌, ◌⊎◌, List, 
 use Rattle.blk_base.specs.declared.place.PageId.{PageId}
 use Rattle.blk_base.specs.declared.point.Point.{Point}
 use Rattle.plain_laws.specs.Leads.{LeadsBy}
-use Rattle.dirty_pages.specs.declared.marks.Marks.{Marks}
-use Rattle.dirty_pages.specs.Marks.{changed_at, handed_out, settled}
+use Rattle.dirty_pages.specs.declared.dirty_points.DirtyPoints.{DirtyPoints}
+use Rattle.dirty_pages.specs.DirtyPoints.{changed_at, handed_out, settled}
 
 -- a page is changed at a point, is handed out to be written, is reported as written
 pub data Event : Type 0 where
@@ -37,14 +37,14 @@ IsUnreported (Changed other at ∷ events) page = IsUnreported events page
 IsUnreported (HandedOut other ∷ events) page = IsUnreported events page
 IsUnreported (Written other ∷ events) page = (other ≢ page) × IsUnreported events page
 
--- what an event makes of the marks of a page: only a page that isn't being written is handed out
-abbrev pub Becomes : Event → PageId → Marks → Marks → Type 0
+-- what an event makes of the dirty points of a page: only a page that isn't being written is handed out
+abbrev pub Becomes : Event → PageId → DirtyPoints → DirtyPoints → Type 0
 Becomes (Changed other point) page old new = ((other ≡ page) × (new ≡ changed_at point old)) ⊎ ((other ≢ page) × (new ≡ old))
 Becomes (HandedOut other) page old new = ((other ≡ page) × (old.writing ≡ None) × (new ≡ handed_out old)) ⊎ ((other ≢ page) × (new ≡ old))
 Becomes (Written other) page old new = ((other ≡ page) × (new ≡ settled old)) ⊎ ((other ≢ page) × (new ≡ old))
 
--- the marks of a page after these events
-abbrev pub IsAfter : Marks → List Event → PageId → Marks → Type 0
+-- the dirty points of a page after these events
+abbrev pub IsAfter : DirtyPoints → List Event → PageId → DirtyPoints → Type 0
 IsAfter old events page new = LeadsBy (λ event before after. Becomes event page before after) old events new
 
 -- the point is there and is at most this one

@@ -1,3 +1,3 @@
-pub mod Marks
+pub mod DirtyPoints
 pub mod Minima
 pub mod History

@@ -12,15 +12,15 @@
 //! as many steps as the logarithm of the number of pages.
 #![tactic(auto)]
 
+mod dirty_points;
 mod laws;
-mod marks;
 mod minima;
 mod numbered;
 mod table;
 
+pub use dirty_points::DirtyPoints;
 pub use laws::{
     a_page_is_being_written_until_it_is_written, no_change_is_lost, the_next_page_to_write_is_one,
 };
-pub use marks::Marks;
 pub use minima::Minima;
 pub use table::DirtyPages;

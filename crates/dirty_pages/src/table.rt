@@ -1,34 +1,34 @@
 ghost use Rattle.std.specs.Prelude.{◌≡◌, ◌<◌, length, replicate, slice_set, IfOk, IfSome, IfNone};
-ghost use Rattle.dirty_pages.specs.Marks.{clean, changed_at, settled, marks_at, with_marks, IsFirstDue, NoneIsEverDue, HandsOut, NoneIsDue, IsBeingWritten, IsLowPoint, AreClean};
+ghost use Rattle.dirty_pages.specs.DirtyPoints.{clean, changed_at, settled, dirty_points_at, with_dirty_points, IsFirstDue, NoneIsEverDue, HandsOut, NoneIsDue, IsBeingWritten, IsLowPoint, AreClean};
 
-use crate::{Marks, Minima};
+use crate::{DirtyPoints, Minima};
 use blk_base::{Point, repeated};
 use std::alloc::{AllocError, Global};
 use std::marker::Model;
 
-/// The marks of pages, by their numbers.
+/// The dirty points of pages, by their numbers.
 ///
 /// A page that was changed is handed out to be written, and reported when that write is durable. What changes it in
 /// between is kept for the next time.
 #[derive(Drop)]
 pub struct DirtyPages {
-    marks: Vec<Marks>,
+    dirty_points: Vec<DirtyPoints>,
     due: Minima,
     unwritten: Minima,
 }
 
 impl Model for DirtyPages {
     ghost use Rattle.std.specs.Prelude.{◌≡◌, List, map};
-    ghost use Rattle.dirty_pages.specs.declared.marks.Marks.{Marks};
-    ghost use Rattle.dirty_pages.specs.Marks.{due_of, unwritten_of};
+    ghost use Rattle.dirty_pages.specs.declared.dirty_points.DirtyPoints.{DirtyPoints};
+    ghost use Rattle.dirty_pages.specs.DirtyPoints.{due_of, unwritten_of};
 
-    ghost Value = { List Marks };
+    ghost Value = { List DirtyPoints };
 
-    ghost view = { λ d. d.marks.items };
+    ghost view = { λ d. d.dirty_points.items };
 
     ghost invariant = { λ d. record {
-      due : d.due ≡ map due_of d.marks.items;
-      unwritten : d.unwritten ≡ map unwritten_of d.marks.items;
+      due : d.due ≡ map due_of d.dirty_points.items;
+      unwritten : d.unwritten ≡ map unwritten_of d.dirty_points.items;
     } };
 }
 
@@ -38,27 +38,27 @@ impl DirtyPages {
         ensures { IfOk result (λ dirty. dirty ≡ replicate pages clean) }
     {
         Ok(DirtyPages {
-            marks: repeated(alloc, Marks::clean(), pages as usize)?,
+            dirty_points: repeated(alloc, DirtyPoints::clean(), pages as usize)?,
             due: Minima::new(alloc, pages)?,
             unwritten: Minima::new(alloc, pages)?,
         })
     }
 
-    /// The marks of a page.
-    pub fn marks(&self, page: usize) -> Marks
+    /// The dirty points of a page.
+    pub fn dirty_points(&self, page: usize) -> DirtyPoints
         requires { page < length self.now }
-        ensures { result ≡ marks_at self.now page }
+        ensures { result ≡ dirty_points_at self.now page }
     {
-        self.marks[page]
+        self.dirty_points[page]
     }
 
     /// A page was changed by the journal's entry of this point.
     pub fn change(&mut self, page: usize, point: Point)
         requires { page < length self.old }
-        ensures { self.new ≡ with_marks self.old page (changed_at point) }
+        ensures { self.new ≡ with_dirty_points self.old page (changed_at point) }
     {
-        let marks = self.marks[page];
-        self.set(page, marks.changed(point));
+        let dirty_points = self.dirty_points[page];
+        self.set(page, dirty_points.changed(point));
     }
 
     /// Hands out a page to be written: of the pages that aren't being written the one with the least first dirty point, if
@@ -75,8 +75,8 @@ impl DirtyPages {
         if first > point.0 {
             return None;
         }
-        let marks = self.marks[page];
-        self.set(page, marks.handed_out());
+        let dirty_points = self.dirty_points[page];
+        self.set(page, dirty_points.handed_out());
         Some(page)
     }
 
@@ -92,11 +92,11 @@ impl DirtyPages {
 
     /// The write of a page that was handed out is durable: a flush covers it. What changed the page since isn't.
     pub fn written(&mut self, page: usize)
-        requires { IsBeingWritten (marks_at self.old page) }
-        ensures { self.new ≡ with_marks self.old page settled }
+        requires { IsBeingWritten (dirty_points_at self.old page) }
+        ensures { self.new ≡ with_dirty_points self.old page settled }
     {
-        let marks = self.marks[page];
-        self.set(page, marks.settled());
+        let dirty_points = self.dirty_points[page];
+        self.set(page, dirty_points.settled());
     }
 
     /// The least point of a change that isn't durable; `None` exactly where each page is clean.
@@ -108,13 +108,13 @@ impl DirtyPages {
         Some(Point(low))
     }
 
-    // Gives a page these marks.
-    fn set(&mut self, page: usize, marks: Marks)
+    // Gives a page these dirty points.
+    fn set(&mut self, page: usize, dirty_points: DirtyPoints)
         requires { page < length self.old }
-        ensures { self.new ≡ slice_set self.old page marks }
+        ensures { self.new ≡ slice_set self.old page dirty_points }
     {
-        self.marks[page] = marks;
-        self.due.set(page, marks.due());
-        self.unwritten.set(page, marks.unwritten());
+        self.dirty_points[page] = dirty_points;
+        self.due.set(page, dirty_points.due());
+        self.unwritten.set(page, dirty_points.unwritten());
     }
 }

@@ -12,7 +12,7 @@ use Rattle.disk_model.specs.Images.{IsImage, IsMixOf}
 use Rattle.disk_model.specs.Log.{Blocks, block_at, settled, contents}
 use Rattle.disk_model.specs.Seen.{Seen, Stays, Later}
 use Rattle.disk_model.specs.Since.{SinceThen, OnlyReads, IsUntouched, reads_of, AreGiven, WereRead, NextFailed}
-use Rattle.disk_model.specs.Telling.{FailedInLog}
+use Rattle.disk_model.specs.LogSteps.{FailedInLog}
 use Rattle.disk_model.proofs.ImageLaws.{block_of_mix, settled_are_contents}
 use Rattle.disk_model.proofs.SeenLaws.{stays_on, later_on, stays_yet, later_yet}
 

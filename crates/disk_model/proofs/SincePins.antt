@@ -5,12 +5,12 @@ use Rattle.blk_base.specs.Sectors.{sector}
 use Rattle.blk_base.specs.declared.place.Pbn.{Pbn}
 use Rattle.disk_model.specs.declared.call.Call.{Call}
 use Rattle.disk_model.specs.declared.call.Call.TheVariants.{Read, Write, Flush}
-use Rattle.disk_model.specs.declared.reads.ReadError.TheVariants.{Device, Memory}
+use Rattle.disk_model.specs.declared.reads.BlocksFault.TheVariants.{Device, Memory}
 use Rattle.disk_model.specs.Causes.{Rose}
 use Rattle.disk_model.specs.Log.{Blocks, block_at}
 use Rattle.disk_model.specs.Seen.{Seen, Stays, Later}
 use Rattle.disk_model.specs.Since.{SinceThen, OnlyReads, IsUntouched, reads_of, AreGiven, WereRead, NextFailed, StopsBefore, OfDevice}
-use Rattle.disk_model.specs.Telling.{FailedInLog}
+use Rattle.disk_model.specs.LogSteps.{FailedInLog}
 
 -- a block filled with one byte; blocks of different bytes differ in their first sectors
 unfoldable block : ℕ → List ℕ

@@ -3,7 +3,7 @@ pub mod Log
 pub mod Images
 pub mod OneImages
 pub mod Seen
-pub mod Telling
+pub mod LogSteps
 pub mod Since
 pub mod Plans
 pub mod Fuses

@@ -42,14 +42,14 @@ kind_of (Write _ _ _) = WriteKind
 kind_of (Flush _) = FlushKind
 
 -- the block of a call; a flush has none
-abbrev pub place_of : Call → ℕ
-place_of (Read at _ _) = at.0
-place_of (Write at _ _) = at.0
-place_of (Flush _) = 0
+abbrev pub block_of_call : Call → ℕ
+block_of_call (Read at _ _) = at.0
+block_of_call (Write at _ _) = at.0
+block_of_call (Flush _) = 0
 
 -- whether this call is to fail: the fuse is spent, or a planned fault names it
 abbrev pub is_to_fail : Memory → Call → Bool
-is_to_fail old call = is_cut old.fuse || named old.plan (kind_of call) (place_of call)
+is_to_fail old call = is_cut old.fuse || named old.plan (kind_of call) (block_of_call call)
 
 -- the blocks after a write that is to fail: where the fuse is spent, it has no effect
 abbrev pub after_failed_write : Memory → ℕ → List ℕ → Blocks
@@ -57,7 +57,7 @@ after_failed_write old at bytes = if not (is_cut old.fuse) && takes_effect old.p
 
 -- the plan after this call
 abbrev pub plan_after : Memory → Call → List FaultAt
-plan_after old call = counted old.plan (kind_of call) (place_of call)
+plan_after old call = counted old.plan (kind_of call) (block_of_call call)
 
 -- after a call that succeeded, and left these blocks
 abbrev pub after_success : Memory → Call → Blocks → Memory

@@ -2,13 +2,13 @@
 use Rattle.std.specs.Prelude.{ℕ, ◌≡◌, ◌+◌, ◌<◌, Bool, true, false, IsTrue, List, [], ◌∷◌, ◌++◌, length}
 use Rattle.disk_model.specs.declared.call.Call.{Call}
 use Rattle.disk_model.specs.declared.call.Call.TheVariants.{Read, Write, Flush}
-use Rattle.disk_model.specs.declared.reads.ReadError.{ReadError}
-use Rattle.disk_model.specs.declared.reads.ReadError.TheVariants.{Device, Memory}
+use Rattle.disk_model.specs.declared.reads.BlocksFault.{BlocksFault}
+use Rattle.disk_model.specs.declared.reads.BlocksFault.TheVariants.{Device, Memory}
 use Rattle.disk_model.specs.Causes.{Rose}
 use Rattle.disk_model.specs.Images.{IsMixOf}
 use Rattle.disk_model.specs.Log.{settled}
 use Rattle.disk_model.specs.Seen.{Seen, Stays, Later}
-use Rattle.disk_model.specs.Telling.{FailedInLog}
+use Rattle.disk_model.specs.LogSteps.{FailedInLog}
 
 -- the calls since the log was the first one
 abbrev pub SinceThen : (List Call → Type 0) → List Call → List Call → Type 0
@@ -62,6 +62,6 @@ abbrev pub StopsBefore : Bool → Bool → ℕ → ℕ → Seen → Seen → Typ
 StopsBefore tells honest from count before now = (blocks : List (List ℕ)) × (length blocks < count) × NextFailed tells honest from before now blocks
 
 -- of a fault of the device this is said; of want of memory nothing is
-abbrev pub OfDevice : Type 0 → ReadError → Type 0
+abbrev pub OfDevice : Type 0 → BlocksFault → Type 0
 OfDevice says Device = says
 OfDevice says Memory = Unit {0}

@@ -4,7 +4,7 @@ ghost use Rattle.disk_model.specs.Causes.{Rose, HasCause};
 ghost use Rattle.disk_model.specs.Images.{IsMixOf};
 ghost use Rattle.disk_model.specs.Log.{settled};
 ghost use Rattle.disk_model.specs.Seen.{Seen, Stays};
-ghost use Rattle.disk_model.specs.Telling.{FailedInLog};
+ghost use Rattle.disk_model.specs.LogSteps.{FailedInLog};
 
 use crate::Failed;
 use blk_base::{Block, Pbn};

@@ -32,5 +32,5 @@ pub use memory_streams::{MemSink, MemSource};
 pub use numbers::{next_state, number_in};
 pub use picks::a_picked_image_may_stand;
 pub use ram::RamDisk;
-pub use reads::{ReadError, read_block, read_blocks};
+pub use reads::{BlocksFault, read_block, read_blocks};
 pub use streams::{OpenGate, Sink, Source, ZoneGate};

@@ -9,7 +9,7 @@ ghost use Rattle.disk_model.specs.Log.{Blocks, block_at, settled};
 ghost use Rattle.disk_model.specs.Memory.{fresh, after_failed_write, seen_of, Succeeds, Fails};
 ghost use Rattle.disk_model.specs.Picks.{IsPicked, counted_log};
 ghost use Rattle.disk_model.specs.Seen.{Stays};
-ghost use Rattle.disk_model.specs.Telling.{FailedInLog};
+ghost use Rattle.disk_model.specs.LogSteps.{FailedInLog};
 
 use crate::faults::take_course;
 use crate::picks::{counted, pick_blocks};

@@ -7,7 +7,7 @@ use std::alloc::Global;
 
 /// Why the blocks of a device weren't read.
 #[derive(Clone, Copy, Debug, PartialEq, Eq)]
-pub enum ReadError {
+pub enum BlocksFault {
     /// A read failed.
     Device,
     /// There is no memory for them.
@@ -39,7 +39,7 @@ pub fn read_blocks<D: Disk>(
     device: &mut D,
     first: Pbn,
     count: u32,
-) -> Result<Vec<Block>, ReadError>
+) -> Result<Vec<Block>, BlocksFault>
     requires { first.0 + count ≤ (D.seen device.old).size }
     ensures count { IfOk result (λ blocks. length blocks.items ≡ count) }
     ensures read { IfOk result (λ blocks.
@@ -55,10 +55,10 @@ pub fn read_blocks<D: Disk>(
     let mut blocks = Vec::new(alloc);
     for i in 0..count {
         let Ok(block) = read_block(device, Pbn(first.0 + i)) else {
-            return Err(ReadError::Device);
+            return Err(BlocksFault::Device);
         };
         let Ok(()) = blocks.push(block) else {
-            return Err(ReadError::Memory);
+            return Err(BlocksFault::Memory);
         };
     }
     Ok(blocks)

@@ -6,8 +6,8 @@ use Rattle.std.proofs.lemmas.Option.{none-some}
 use Rattle.blk_base.specs.Regions.{references_of}
 use Rattle.blk_base.specs.declared.geometry.Geometry.{Geometry}
 use Rattle.blk_base.specs.declared.point.Point.{Point}
-use Rattle.dirty_pages.specs.Marks.{clean, marks_at}
-use Rattle.dirty_pages.specs.declared.marks.Marks.{Marks}
+use Rattle.dirty_pages.specs.DirtyPoints.{clean, dirty_points_at}
+use Rattle.dirty_pages.specs.declared.dirty_points.DirtyPoints.{DirtyPoints}
 use Rattle.slab_writes.specs.Due.{NoneDue}
 use Rattle.slab_codec.specs.declared.forms.SlabEntry.{SlabEntry}
 use Rattle.slab_writes.specs.Writes.{Writes, opening}
@@ -16,7 +16,7 @@ use Rattle.zone_counts.specs.Zone.{Zone}
 use Rattle.due_laws.specs.Still.{AreSpelled, NoneOut, NonePageOut}
 use Rattle.due_laws.specs.StillZones.{NoneOutIn}
 
-clean_at : (count b : ℕ) → marks_at (replicate count clean) b ≡ clean
+clean_at : (count b : ℕ) → dirty_points_at (replicate count clean) b ≡ clean
 clean_at count b = elim (cases_lt b count) [
   | inl below ↦ get_or-replicate count b clean clean below
   | inr past ↦ get_or_past (replicate count clean) b clean (omega (arith, past, length-replicate count clean))
@@ -25,21 +25,21 @@ clean_at count b = elim (cases_lt b count) [
 pub opened_out : (g : Geometry) (slab : ℕ) (commits : List Point) → NoneOut (opening g slab commits)
 opened_out g slab commits = record {
   journal = λ writing. omega (arith, writing);
-  references = λ b out. none-some out.first (sym (ap (λ (m : Marks). m.writing) (clean_at (references_of g) b)) ∙ out.is);
+  references = λ b out. none-some out.first (sym (ap (λ (m : DirtyPoints). m.writing) (clean_at (references_of g) b)) ∙ out.is);
 }
 
 pub opened_due : (g : Geometry) (slab : ℕ) (commits : List Point) → NoneDue Head (opening g slab commits)
 opened_due g slab commits = record {
   journal = λ wants. absurd (omega (arith, wants.0));
-  reference = λ wants block first few due. none-some first (sym (ap (λ (m : Marks). m.dirty) (clean_at (references_of g) block)) ∙ due.dirty);
+  reference = λ wants block first few due. none-some first (sym (ap (λ (m : DirtyPoints). m.dirty) (clean_at (references_of g) block)) ∙ due.dirty);
 }
 
 -- NonePageOut
 
-abbrev out : Marks
+abbrev out : DirtyPoints
 out = record { dirty = None; writing = Some (record { 0 = 5 }) }
 
-abbrev busy : List Marks
+abbrev busy : List DirtyPoints
 busy = clean ∷ out ∷ []
 
 none_out : NonePageOut (clean ∷ record clean { dirty = Some (record { 0 = 5 }) } ∷ [])

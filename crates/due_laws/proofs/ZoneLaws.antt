@@ -7,16 +7,16 @@ use Rattle.blk_base.specs.declared.opened.Opened.{Opened}
 use Rattle.reference_blocks.specs.References.{points_of}
 use Rattle.slab_journal.specs.Unsettled.{NoneUnsettled}
 use Rattle.slab_writes.specs.declared.forms.Need.TheVariants.{Head}
-use Rattle.slab_zone.specs.Calls.{AreAbove, Call, LeadTo, calls_of, updates_in}
+use Rattle.slab_zone.specs.Operations.{AreAbove, Operation, LeadTo, calls_of, updates_in}
 use Rattle.slab_zone.specs.Whole.{IsOpeningWhole, IsWhole, WholeZone, writes_at}
-use Rattle.slab_zone.specs.Writing.{NoneDueIn}
+use Rattle.slab_zone.specs.ZoneWrites.{NoneDueIn}
 use Rattle.slab_zone.proofs.RisingLaws.{points_many}
 use Rattle.slab_zone.proofs.ZoneLaws.{leads, rising}
 use Rattle.due_laws.specs.Still.{AreSpelled}
 use Rattle.due_laws.specs.StillZones.{NoneOutIn}
 use Rattle.due_laws.proofs.StillLaws.{slab_still}
 
-pub zone_still : (o : Opened) (zone zones room : ℕ) (first z : WholeZone) (calls : List Call) (slab : ℕ)
+pub zone_still : (o : Opened) (zone zones room : ℕ) (first z : WholeZone) (calls : List Operation) (slab : ℕ)
     → let g = o.head.geometry in
     let commits = o.commits.items in
     IsOpeningWhole o zone zones room first → IsWhole first → length commits ≡ g.slabs * sectors_per_slab g

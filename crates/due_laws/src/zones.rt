@@ -4,16 +4,16 @@ ghost use Rattle.blk_base.specs.declared.opened.Opened.{Opened};
 ghost use Rattle.reference_blocks.specs.References.{points_of};
 ghost use Rattle.slab_journal.specs.Unsettled.{NoneUnsettled};
 ghost use Rattle.slab_writes.specs.declared.forms.Need.TheVariants.{Head};
-ghost use Rattle.slab_zone.specs.Calls.{AreAbove, Call, LeadTo, updates_in};
+ghost use Rattle.slab_zone.specs.Operations.{AreAbove, Operation, LeadTo, updates_in};
 ghost use Rattle.slab_zone.specs.Whole.{IsOpeningWhole, IsWhole, WholeZone, writes_at};
-ghost use Rattle.slab_zone.specs.Writing.{NoneDueIn};
+ghost use Rattle.slab_zone.specs.ZoneWrites.{NoneDueIn};
 ghost use Rattle.due_laws.specs.Still.{AreSpelled};
 ghost use Rattle.due_laws.specs.StillZones.{NoneOutIn};
 
 /// The same of each slab of a zone, over every list of calls from an opened zone on, where the opening commit points of the slab
 /// are below the updates taken.
 pub fn no_slab_is_dirty_when_none_is_due()
-    ensures { (opened : Opened) (zone zones room : ℕ) (first z : WholeZone) (calls : List Call)
+    ensures { (opened : Opened) (zone zones room : ℕ) (first z : WholeZone) (calls : List Operation)
         (slab : ℕ) →
         let g = opened.head.geometry in
         let commits = opened.commits.items in

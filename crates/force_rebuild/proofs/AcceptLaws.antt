@@ -20,7 +20,7 @@ use Rattle.rebuild.specs.Recoveries.{IsTold}
 use Rattle.recovery_laws.proofs.CountsKept.{stored_fits}
 use Rattle.force_rebuild.proofs.ForceLaws.{windows_alike}
 use Rattle.force_rebuild.specs.Counted.{IsUncountable}
-use Rattle.force_rebuild.specs.Forcing.{HasRebuiltImage, HasWindow, IsForcing, IsRefusal, IsToRebuild, IsUsedUp}
+use Rattle.force_rebuild.specs.ForcedRebuild.{HasRebuiltImage, HasWindow, IsForcing, IsRefusal, IsToRebuild, IsUsedUp}
 use Rattle.force_rebuild.specs.Rebuildable.{IsRebuildable, rebuildable_image}
 use Rattle.force_rebuild.specs.declared.forms.Forced.{Forced}
 

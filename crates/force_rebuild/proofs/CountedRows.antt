@@ -11,7 +11,7 @@ use Rattle.replay_map.specs.declared.recovered.RecoveredMap.{RecoveredMap}
 use Rattle.disk_model.specs.Log.{Blocks}
 use Rattle.disk_model.specs.Seen.{Seen}
 use Rattle.force_rebuild.specs.Counted.{AreCounters, CountersFail, IsAbove, IsCountedTo, IsFaultOf, IsFirstAbove, IsLimitFault, IsUncountable}
-use Rattle.force_rebuild.specs.Forcing.{IsRefusal}
+use Rattle.force_rebuild.specs.ForcedRebuild.{IsRefusal}
 use Rattle.force_rebuild.specs.declared.forms.Forced.{Forced}
 
 -- The first number above the limit: the second of these.

@@ -13,7 +13,7 @@ use Rattle.byte_fields.proofs.FieldLaws.{length-le}
 use Rattle.count_updates.specs.Numbers.{block_number}
 use Rattle.image_model.proofs.ZeroLaws.{of_eight}
 use Rattle.image_model.specs.Sound.{IsDataPlace}
-use Rattle.sector_records.specs.Spelling.{sector_numbers}
+use Rattle.sector_records.specs.SectorBytes.{sector_numbers}
 use Rattle.slab_codec.proofs.CounterLaws.{counter_at, written_counters}
 use Rattle.slab_codec.specs.Reference.{counters_in, reference_bytes, reference_sector_bytes}
 use Rattle.slab_codec.specs.declared.forms.ReferenceSector.{ReferenceSector}

@@ -44,7 +44,7 @@ use Rattle.force_rebuild.proofs.ShownLaws.{accepted, forced_answer, found_here, 
 use Rattle.force_rebuild.proofs.StopLaws.{alike_is_kept}
 use Rattle.force_rebuild.specs.Starts.{IsStart, image_at}
 use Rattle.force_rebuild.specs.Counted.{AreCounters, CountersFail}
-use Rattle.force_rebuild.specs.Forcing.{CountingFails, ForcesUnclosed, IsForcing, IsToRebuild, UnclosedFails, unclosed}
+use Rattle.force_rebuild.specs.ForcedRebuild.{CountingFails, ForcesUnclosed, IsForcing, IsToRebuild, UnclosedFails, unclosed}
 use Rattle.force_rebuild.specs.Outcomes.{Ends, HasContents, IsKeptSince, WritesAll}
 use Rattle.force_rebuild.specs.Rebuildable.{IsRebuildable, rebuildable_image}
 use Rattle.force_rebuild.specs.declared.forms.Forced.{Forced}

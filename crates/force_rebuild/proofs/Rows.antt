@@ -33,7 +33,7 @@ use Rattle.force_rebuild.proofs.AcceptLaws.{sound_is_rebuildable}
 use Rattle.force_rebuild.proofs.OtherLaws.{no_slab_there}
 use Rattle.force_rebuild.proofs.PutLaws.{old_is_part}
 use Rattle.force_rebuild.specs.Calls.{ArePagePuts, closing_calls, slab_calls, slabs_below}
-use Rattle.force_rebuild.specs.Forcing.{IsToRebuild, unclosed}
+use Rattle.force_rebuild.specs.ForcedRebuild.{IsToRebuild, unclosed}
 use Rattle.force_rebuild.specs.Kept.{AreOthersKept, IsKept, IsRebuilt, IsSlabBlock, MapTheSame}
 use Rattle.force_rebuild.specs.Rebuildable.{IsCountable, IsRebuildable, rebuildable_image}
 use Rattle.force_rebuild.specs.Written.{AreMappings, AreRewritten, AreUnderway, commit_behind, counted_block, counted_sector, counters_of_slab, slab_block}

@@ -32,7 +32,7 @@ use Rattle.replay_map.proofs.HonestLaws.{all_shown}
 use Rattle.replay_map.proofs.ReadLaws.{blocks_untouched}
 use Rattle.replay_map.specs.Replayed.{IsFound}
 use Rattle.force_rebuild.specs.Counted.{IsCountedTo, IsUncountable}
-use Rattle.force_rebuild.specs.Forcing.{CountingFails, ForceFails, HasCounted, HasWindow, IsRefusal, IsResult, UnclosedFails, unclosed}
+use Rattle.force_rebuild.specs.ForcedRebuild.{CountingFails, ForceFails, HasCounted, HasWindow, IsRefusal, IsResult, UnclosedFails, unclosed}
 use Rattle.force_rebuild.specs.declared.forms.Forced.{Forced}
 
 -- The last call, of any device.

@@ -19,7 +19,7 @@ use Rattle.image_model.specs.Looked.{is_looked_at, looked_in}
 use Rattle.image_model.specs.Maps.{Image, head_of, page_at, says}
 use Rattle.page_codec.proofs.SpellingLaws.{length-head}
 use Rattle.page_codec.specs.Grammar.{HasHead, HoldsMapping, slot_bytes}
-use Rattle.page_codec.specs.Spelling.{head_bytes}
+use Rattle.page_codec.specs.PageBytes.{head_bytes}
 use Rattle.rebuild.proofs.WrittenLaws.{page_of_mix}
 use Rattle.recovery_laws.proofs.BlockLaws.{part_of_mix}
 use Rattle.recovery_laws.proofs.OldLaws.{own_slot, page_stands}

@@ -5,4 +5,4 @@ pub mod Calls
 pub mod Starts
 pub mod Counted
 pub mod Outcomes
-pub mod Forcing
+pub mod ForcedRebuild

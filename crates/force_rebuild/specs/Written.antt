@@ -15,7 +15,7 @@ use Rattle.image_model.specs.Counts.{HasMappings, block_of_data}
 use Rattle.image_model.specs.Maps.{Image, page_at}
 use Rattle.image_model.specs.Sound.{IsDataPlace}
 use Rattle.recovery_laws.specs.Written.{IsFullPage, IsPartPage}
-use Rattle.sector_records.specs.Spelling.{sector_numbers}
+use Rattle.sector_records.specs.SectorBytes.{sector_numbers}
 use Rattle.slab_codec.specs.Reference.{counters_in, reference_bytes}
 use Rattle.slab_codec.specs.declared.forms.ReferenceSector.{ReferenceSector}
 use Rattle.force_rebuild.specs.Kept.{AreOthersKept, IsSlabPlace}

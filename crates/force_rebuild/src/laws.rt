@@ -5,7 +5,7 @@ ghost use Rattle.image_model.specs.Sound.{IsSound};
 ghost use Rattle.image_model.specs.declared.fault.ImageFault.{ImageFault};
 ghost use Rattle.image_model.specs.declared.fault.ImageFault.TheVariants.{Device, Memory};
 ghost use Rattle.rebuild.specs.Recoveries.{IsTold};
-ghost use Rattle.force_rebuild.specs.Forcing.{HasRebuiltImage, IsForcing, IsRefusal, IsToRebuild};
+ghost use Rattle.force_rebuild.specs.ForcedRebuild.{HasRebuiltImage, IsForcing, IsRefusal, IsToRebuild};
 ghost use Rattle.force_rebuild.specs.Rebuildable.{IsRebuildable};
 ghost use Rattle.force_rebuild.specs.declared.forms.Forced.{Forced};
 

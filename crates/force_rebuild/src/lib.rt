@@ -18,12 +18,12 @@
 //! (`Answers`, `ForceFails`); of `IsRefusal` its kinds behind the superblock's, whose parts have rows in `image_model`.
 #![tactic(auto)]
 
-mod counting;
-mod forcing;
+mod counted_map;
+mod forced_rebuild;
 mod forms;
 mod laws;
 mod slabs;
 
-pub use forcing::force;
+pub use forced_rebuild::force;
 pub use forms::Forced;
 pub use laws::a_rebuildable_image_is_accepted;

@@ -17,7 +17,7 @@ use Rattle.blk_base.specs.declared.place.PageId.{PageId}
 use Rattle.blk_base.specs.declared.place.Pbn.{Pbn}
 use Rattle.blk_base.specs.declared.sizes.TheConstants.{PAGE_SLOTS}
 use Rattle.blk_base.specs.Pages.{above, page_below, slot_of, leaf_of, slot_of_address}
-use Rattle.block_map_tree.specs.Opening.{IsLed}
+use Rattle.block_map_tree.specs.OpenedTree.{IsLed}
 use Rattle.disk_model.specs.Log.{block_at}
 use Rattle.image_model.proofs.MapLaws.{slot_says_its_mapping}
 use Rattle.image_model.specs.Maps.{Image, ArePagesGood, IsReadable, mapping_of, page_at, put_by, put_last, says, target_of}
@@ -33,7 +33,7 @@ use Rattle.replay_map.proofs.UnderLaws.{page_is}
 use Rattle.replay_map.specs.declared.links.Link.{Link}
 use Rattle.session_opening.specs.Starts.{AreInnerPages}
 use Rattle.grow_image.proofs.SearchLaws.{address_is}
-use Rattle.grow_image.specs.Searching.{AreNewLeaves, HasUnreadable, IsBefore, IsLeastMapped, IsWithin, leaf_head}
+use Rattle.grow_image.specs.NewAddresses.{AreNewLeaves, HasUnreadable, IsBefore, IsLeastMapped, IsWithin, leaf_head}
 use Rattle.grow_image.specs.declared.address_range.AddressRange.{AddressRange}
 
 -- what is mapped to a block is mapped at it

@@ -34,7 +34,7 @@ use Rattle.image_model.proofs.EmptyLaws.{zero_counter}
 use Rattle.image_model.proofs.JournalLaws.{journals_alike}
 use Rattle.journal_codec.specs.Grammar.{IsSector}
 use Rattle.page_codec.specs.Grammar.{HasHead, HoldsMapping, IsSlot}
-use Rattle.page_codec.specs.Spelling.{head_bytes}
+use Rattle.page_codec.specs.PageBytes.{head_bytes}
 use Rattle.plain_laws.proofs.OptionLaws.{option_cases}
 use Rattle.plain_laws.specs.Sums.{bit}
 use Rattle.recovery_laws.proofs.CountsKept.{sector_inside, sectors_inside, stores_counter}

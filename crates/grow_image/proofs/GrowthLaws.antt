@@ -9,7 +9,7 @@ use Rattle.blk_base.specs.declared.opened.Opened.{Opened}
 use Rattle.blk_base.specs.declared.place.Lba.{Lba}
 use Rattle.blk_base.specs.declared.place.Pbn.{Pbn}
 use Rattle.page_codec.specs.declared.fault.PageFault.{PageFault}
-use Rattle.image_layout.specs.Planning.{plan_of}
+use Rattle.image_layout.specs.PossibleSizes.{plan_of}
 use Rattle.disk_model.specs.declared.call.Call.{Call}
 use Rattle.disk_model.specs.Log.{Blocks}
 use Rattle.disk_model.specs.Seen.{Seen, Stays}
@@ -42,9 +42,9 @@ use Rattle.grow_image.proofs.FreshLaws.{mapped_at, none_unreadable, unmapped_bef
 use Rattle.grow_image.proofs.StillLaws.{calls_right, reads_right}
 use Rattle.grow_image.proofs.WholeLaws.{failures_of, fresh_zeros, grown_of as all_grown, stops_of}
 use Rattle.grow_image.specs.Calls.{grow_calls}
-use Rattle.grow_image.specs.Growing.{AreStopsSound, GrowStops, GrowsOpened, GrowsTo, HasNoFault, IsFirstNew, IsGrowing, IsRefusal, IsResult, IsSearched, LeavesGrown, OfImage, OpenedFails, SearchingFails, UnmappedFails, new_addresses}
+use Rattle.grow_image.specs.Growth.{AreStopsSound, GrowStops, GrowsOpened, GrowsTo, HasNoFault, IsFirstNew, IsGrowing, IsRefusal, IsResult, IsSearched, LeavesGrown, OfImage, OpenedFails, SearchingFails, UnmappedFails, new_addresses}
 use Rattle.grow_image.specs.Kept.{AreStopsRight, AreUnmapped, IsToGrow}
-use Rattle.grow_image.specs.Searching.{HasUnreadable, IsLeastMapped, IsShownBy}
+use Rattle.grow_image.specs.NewAddresses.{HasUnreadable, IsLeastMapped, IsShownBy}
 use Rattle.grow_image.specs.Sizes.{CanGrow, IsMore, IsSmaller, PlanFails, grown_of, grown_sizes}
 use Rattle.grow_image.specs.declared.fault.GrowFault.{GrowFault}
 use Rattle.grow_image.specs.declared.fault.GrowFault.TheVariants.{Image, Smaller, Layout, Mapped}

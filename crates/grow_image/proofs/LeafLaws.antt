@@ -13,7 +13,7 @@ use Rattle.replay_map.proofs.ShareLaws.{grown}
 use Rattle.replay_map.proofs.TakenLaws.{only_one}
 use Rattle.replay_map.proofs.UnderLaws.{page_is}
 use Rattle.replay_map.specs.declared.links.Link.{Link}
-use Rattle.grow_image.specs.Searching.{AddsSlot, AreAdded, AreNewLeaves, IsBelowSlot, IsLeafBelow, IsWithin}
+use Rattle.grow_image.specs.NewAddresses.{AddsSlot, AreAdded, AreNewLeaves, IsBelowSlot, IsLeafBelow, IsWithin}
 use Rattle.grow_image.specs.declared.address_range.AddressRange.{AddressRange}
 
 -- the leaf to which a slot leads is the page below it

@@ -10,7 +10,7 @@ use Rattle.blk_base.specs.declared.place.PageId.{PageId}
 use Rattle.blk_base.specs.declared.place.Mapping.TheVariants.{Unmapped}
 use Rattle.blk_base.specs.declared.sizes.TheConstants.{PAGE_SLOTS}
 use Rattle.blk_base.specs.Pages.{slot_of}
-use Rattle.block_map_tree.specs.Opening.{IsOpened, all_trees}
+use Rattle.block_map_tree.specs.OpenedTree.{IsOpened, all_trees}
 use Rattle.block_map_tree.specs.Pages.{IsTreeOf}
 use Rattle.disk_model.specs.Seen.{Seen}
 use Rattle.disk_model.specs.declared.call.Failed.{Failed}
@@ -20,9 +20,9 @@ use Rattle.image_model.specs.declared.fault.ImageFault.TheVariants.{Super, Windo
 use Rattle.page_codec.specs.Grammar.{AreHeld, HoldsMapping}
 use Rattle.replay_map.specs.declared.links.Link.{Link}
 use Rattle.grow_image.specs.Calls.{growth_calls}
-use Rattle.grow_image.specs.Growing.{GrowsOpened, IsSearched, UnmappedFails, new_addresses}
+use Rattle.grow_image.specs.Growth.{GrowsOpened, IsSearched, UnmappedFails, new_addresses}
 use Rattle.grow_image.specs.Searches.{SearchFails}
-use Rattle.grow_image.specs.Searching.{AreNewLeaves, IsLeafBelow}
+use Rattle.grow_image.specs.NewAddresses.{AreNewLeaves, IsLeafBelow}
 use Rattle.grow_image.specs.Sizes.{CanGrow, grown_sizes}
 use Rattle.grow_image.specs.declared.fault.GrowFault.{GrowFault}
 use Rattle.grow_image.specs.declared.fault.GrowFault.TheVariants.{Image}

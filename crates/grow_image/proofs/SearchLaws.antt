@@ -25,7 +25,7 @@ use Rattle.replay_map.proofs.TakenLaws.{only_one}
 use Rattle.replay_map.specs.Reads.{IsPageBlock, ReadFails}
 use Rattle.replay_map.specs.declared.links.Link.{Link}
 use Rattle.grow_image.specs.Searches.{AreUnmappedBelow, IsMappedSlot, SearchFails}
-use Rattle.grow_image.specs.Searching.{HasUnreadable, IsBefore, IsFirstMapped, IsLeastMapped, IsMappedOf, IsShownBy, IsUnreadable, IsWithin, address_in, leaf_head}
+use Rattle.grow_image.specs.NewAddresses.{HasUnreadable, IsBefore, IsFirstMapped, IsLeastMapped, IsMappedOf, IsShownBy, IsUnreadable, IsWithin, address_in, leaf_head}
 use Rattle.grow_image.specs.declared.address_range.AddressRange.{AddressRange}
 
 -- Addresses and slots.

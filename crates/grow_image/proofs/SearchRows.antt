@@ -14,9 +14,9 @@ use Rattle.image_model.specs.declared.fault.ImageFault.TheVariants.{Unclean}
 use Rattle.page_codec.proofs.ReadLaws.{one_mapping}
 use Rattle.page_codec.specs.Grammar.{IsSlot}
 use Rattle.page_codec.specs.declared.forms.PageHead.{PageHead}
-use Rattle.grow_image.specs.Growing.{IsFirstNew, new_addresses}
+use Rattle.grow_image.specs.Growth.{IsFirstNew, new_addresses}
 use Rattle.grow_image.specs.Searches.{IsMappedSlot}
-use Rattle.grow_image.specs.Searching.{IsBefore, IsFirstMapped, IsMappedOf, IsWithin, address_in}
+use Rattle.grow_image.specs.NewAddresses.{IsBefore, IsFirstMapped, IsMappedOf, IsWithin, address_in}
 use Rattle.grow_image.specs.Sizes.{CanGrow, IsSmaller, PlanFails, grown_of, grown_sizes}
 use Rattle.grow_image.specs.declared.address_range.AddressRange.{AddressRange}
 use Rattle.grow_image.specs.declared.fault.GrowFault.TheVariants.{Image, Smaller, Layout, Mapped}

@@ -1,6 +1,6 @@
 pub mod Sizes
 pub mod Kept
 pub mod Calls
-pub mod Searching
+pub mod NewAddresses
 pub mod Searches
-pub mod Growing
+pub mod Growth

@@ -11,7 +11,7 @@ use Rattle.page_codec.specs.Grammar.{IsSlot}
 use Rattle.page_codec.specs.declared.forms.PageHead.{PageHead}
 use Rattle.replay_map.specs.Reads.{ReadFails}
 use Rattle.replay_map.specs.declared.links.Link.{Link}
-use Rattle.grow_image.specs.Searching.{HasUnreadable, IsShownBy, IsWithin, address_in}
+use Rattle.grow_image.specs.NewAddresses.{HasUnreadable, IsShownBy, IsWithin, address_in}
 use Rattle.grow_image.specs.declared.address_range.AddressRange.{AddressRange}
 
 -- The address of a slot of a leaf is there where it is one of these and mapped, in this block.

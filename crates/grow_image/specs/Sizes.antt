@@ -4,7 +4,7 @@ use Rattle.blk_base.specs.Limits.{IsGeometry}
 use Rattle.blk_base.specs.Regions.{Place, Superblock, JournalSlot, Root, IndexBlock, DataBlock, ReferenceBlock, SlabJournalSlot, needed_blocks}
 use Rattle.blk_base.specs.declared.geometry.Geometry.{Geometry}
 use Rattle.blk_base.specs.declared.geometry.Super.{Super as Superhead}
-use Rattle.image_layout.specs.Planning.{plan_of}
+use Rattle.image_layout.specs.PossibleSizes.{plan_of}
 use Rattle.image_layout.specs.declared.fault.Field.{Field}
 use Rattle.image_layout.specs.declared.fault.Field.TheVariants.{Height, Nonce, Logical, Slabs, SlabBlocks, Journal, Index, SlabJournal, Clean, Reserved, Start, Blocks}
 use Rattle.grow_image.specs.declared.fault.GrowFault.{GrowFault}

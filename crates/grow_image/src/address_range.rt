@@ -2,7 +2,7 @@ ghost use Rattle.std.specs.Prelude.{◌≡◌, ◌+◌, ◌*◌, ◌<◌, ◌^�
 ghost use Rattle.std.specs.Bool.{OnTrue, OnFalse};
 ghost use Rattle.blk_base.specs.declared.sizes.TheConstants.{PAGE_SLOTS as SLOTS, TREES as ALL_TREES};
 ghost use Rattle.blk_base.specs.Pages.{page_below, leaf_of};
-ghost use Rattle.grow_image.specs.Searching.{IsWithin, address_in};
+ghost use Rattle.grow_image.specs.NewAddresses.{IsWithin, address_in};
 
 use blk_base::{Lba, PAGE_SLOTS, PageId, TREES};
 

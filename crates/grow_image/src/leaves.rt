@@ -1,6 +1,6 @@
 ghost use Rattle.std.specs.Prelude.{◌≡◌, ◌<◌, IfOk, OnOk};
 ghost use Rattle.blk_base.specs.declared.sizes.TheConstants.{PAGE_SLOTS as SLOTS, TREES as ALL_TREES};
-ghost use Rattle.grow_image.specs.Searching.{AddsSlot, AreAdded, AreNewLeaves};
+ghost use Rattle.grow_image.specs.NewAddresses.{AddsSlot, AreAdded, AreNewLeaves};
 
 use crate::address_range::AddressRange;
 use blk_base::{Mapping, OpenedPage, PAGE_SLOTS, TREES};

@@ -6,8 +6,8 @@
 //! (`proofs/GrownLaws`), over the contents of one block (`PutLaws`), and over logs (`MomentLaws`).
 //!
 //! A slot past the logical size may hold a mapping, and would give a new address an old value: so those are looked at before
-//! anything is written (`specs/Searching`). The window puts nothing there, and the leaves' blocks tell it by themselves
-//! (`proofs/FreshLaws`).
+//! anything is written (`specs/NewAddresses`). The window puts nothing there, and the leaves' blocks tell it by
+//! themselves (`proofs/FreshLaws`).
 //!
 //! Not there: that what the reads of a device that isn't honest gave is what it has; of an image that isn't sound, what is
 //! left of it; which calls are made behind the reads, but in a growth that succeeds.
@@ -21,7 +21,7 @@ mod address_range;
 mod calls;
 mod fault;
 mod forms;
-mod growing;
+mod growth;
 mod laws;
 mod leaves;
 mod search;
@@ -29,5 +29,5 @@ mod sizes;
 
 pub use fault::GrowFault;
 pub use forms::Grown;
-pub use growing::grow;
+pub use growth::grow;
 pub use laws::an_image_grows_with_its_superblock;

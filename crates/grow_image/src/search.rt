@@ -4,7 +4,7 @@ ghost use Rattle.blk_base.specs.Regions.{IsDataBlock, needed_blocks};
 ghost use Rattle.blk_base.specs.declared.sizes.TheConstants.{PAGE_SLOTS as SLOTS, TREES};
 ghost use Rattle.disk_model.specs.Since.{IsUntouched};
 ghost use Rattle.replay_map.specs.declared.links.Link.{Link as Leaf};
-ghost use Rattle.grow_image.specs.Searching.{IsBefore, IsFirstMapped, IsLeastMapped, IsShownBy, IsUnreadable, leaf_head};
+ghost use Rattle.grow_image.specs.NewAddresses.{IsBefore, IsFirstMapped, IsLeastMapped, IsShownBy, IsUnreadable, leaf_head};
 ghost use Rattle.grow_image.specs.Searches.{IsMappedSlot, SearchFails};
 
 use crate::address_range::AddressRange;

@@ -6,7 +6,7 @@ use Rattle.std.specs.List.{list_any, remove}
 use Rattle.blk_base.specs.declared.point.Point.{Point}
 use Rattle.plain_laws.proofs.FirstLaws.{remove-position, find-nowhere, but_first-none}
 use Rattle.handed_parts.specs.declared.part.Part.{Part}
-use Rattle.handed_parts.specs.Parts.{Has, points_for, Handed, is_part, least_of, lesser, low_of, mark_of, rounded, without_part}
+use Rattle.handed_parts.specs.Parts.{Has, points_for, Handed, is_part, least_of, lesser, low_of, watermark_of, rounded, without_part}
 
 -- the least with one more part
 pub least_more : (z : ℕ) (parts : List Part) (part : Part) (bound : ℕ)
@@ -94,22 +94,22 @@ least_has p [] bound has = absurd has
 least_has p (q ∷ ps) bound (inl same) = omega (arith, same)
 least_has p (q ∷ ps) bound (inr has) = omega (arith, least_has p ps bound has)
 
--- what a mark is at most
-pub mark_adds : (handed : Handed) (z front mark : ℕ) → mark ≡ mark_of handed z front → mark % 2 ≡ 0
-mark_adds handed z front mark is = omega (arith, is)
+-- what a watermark is at most
+pub watermark_adds : (handed : Handed) (z front watermark : ℕ) → watermark ≡ watermark_of handed z front → watermark % 2 ≡ 0
+watermark_adds handed z front watermark is = omega (arith, is)
 
-pub mark_front : (handed : Handed) (z front mark : ℕ) → mark ≡ mark_of handed z front → mark ≤ front
-mark_front handed z front mark is =
+pub watermark_front : (handed : Handed) (z front watermark : ℕ) → watermark ≡ watermark_of handed z front → watermark ≤ front
+watermark_front handed z front watermark is =
     let least = least_within (points_for z handed.waiting) (lesser (low_of handed z) front) in
     let low = lesser_within (low_of handed z) front in
     omega (arith, is, least, low)
 
-pub mark_parts : (handed : Handed) (z front mark : ℕ) → mark ≡ mark_of handed z front → (p : ℕ) → Has p (points_for z handed.waiting) → mark ≤ rounded p
-mark_parts handed z front mark is p has = omega (arith, is, least_has p (points_for z handed.waiting) (lesser (low_of handed z) front) has)
+pub watermark_parts : (handed : Handed) (z front watermark : ℕ) → watermark ≡ watermark_of handed z front → (p : ℕ) → Has p (points_for z handed.waiting) → watermark ≤ rounded p
+watermark_parts handed z front watermark is p has = omega (arith, is, least_has p (points_for z handed.waiting) (lesser (low_of handed z) front) has)
 
-by_low : (o : Option ℕ) (ps : List ℕ) (front mark : ℕ) → mark ≡ rounded (least_of ps (lesser o front)) → IfSome o (λ low. mark ≤ rounded low)
-by_low None ps front mark is = tt
-by_low (Some low) ps front mark is = omega (arith, is, least_within ps (min low front))
+by_low : (o : Option ℕ) (ps : List ℕ) (front watermark : ℕ) → watermark ≡ rounded (least_of ps (lesser o front)) → IfSome o (λ low. watermark ≤ rounded low)
+by_low None ps front watermark is = tt
+by_low (Some low) ps front watermark is = omega (arith, is, least_within ps (min low front))
 
-pub mark_low : (handed : Handed) (z front mark : ℕ) → mark ≡ mark_of handed z front → IfSome (low_of handed z) (λ low. mark ≤ rounded low)
-mark_low handed z front mark is = by_low (low_of handed z) (points_for z handed.waiting) front mark is
+pub watermark_low : (handed : Handed) (z front watermark : ℕ) → watermark ≡ watermark_of handed z front → IfSome (low_of handed z) (λ low. watermark ≤ rounded low)
+watermark_low handed z front watermark is = by_low (low_of handed z) (points_for z handed.waiting) front watermark is

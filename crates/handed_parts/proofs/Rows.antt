@@ -2,7 +2,7 @@
 use Rattle.std.proofs.Common.{ℕ, ◌≡◌, inl, inr, true, false, None, Some, [], ◌∷◌, refl, arith}
 use Rattle.blk_base.specs.declared.point.Point.{Point}
 use Rattle.handed_parts.specs.declared.part.Part.{Part}
-use Rattle.handed_parts.specs.Parts.{Handed, Has, points_for, is_part, without_part, rounded, least_of, lesser, low_of, opening, handed_out, reported, mark_of}
+use Rattle.handed_parts.specs.Parts.{Handed, Has, points_for, is_part, without_part, rounded, least_of, lesser, low_of, opening, handed_out, reported, watermark_of}
 
 abbrev p : ℕ → Point
 p n = record { 0 = n }
@@ -102,21 +102,22 @@ last_low = refl
 no_low : low_of told 0 ≡ None
 no_low = refl
 
--- mark_of: a part that waits, the low point told last, and the first entry that wasn't handed out each hold the mark
+-- watermark_of: a part that waits, the low point told last, and the first entry that wasn't handed out each hold the
+-- watermark
 
-mark_of_front : mark_of first 1 514 ≡ 514
+mark_of_front : watermark_of first 1 514 ≡ 514
 mark_of_front = refl
 
-mark_of_part : mark_of handed 1 514 ≡ 512
+mark_of_part : watermark_of handed 1 514 ≡ 512
 mark_of_part = refl
 
--- The decrement was counted, and isn't durable: a mark that was not rounded down would let go of its entry.
-mark_of_low : mark_of told 1 514 ≡ 512
+-- The decrement was counted, and isn't durable: a watermark that was not rounded down would let go of its entry.
+mark_of_low : watermark_of told 1 514 ≡ 512
 mark_of_low = refl
 
-mark_of_all : mark_of (reported 1 None None told) 1 514 ≡ 514
+mark_of_all : watermark_of (reported 1 None None told) 1 514 ≡ 514
 mark_of_all = refl
 
 -- a part of another zone doesn't hold it
-mark_beside : mark_of (handed_out 0 (p 512) first) 1 514 ≡ 514
+mark_beside : watermark_of (handed_out 0 (p 512) first) 1 514 ≡ 514
 mark_beside = refl

@@ -1,4 +1,4 @@
--- The parts of committed entries that were handed out to zones and that they didn't report yet, and the marks that these leave.
+-- The parts of committed entries that were handed out to zones and that they didn't report yet, and the watermarks that these leave.
 use Rattle.std.specs.Prelude.{ℕ, ◌≡◌, ◌*◌, ◌/◌, ◌⊎◌, ◌==◌, ◌&&◌, Bool, min, if◌then◌else◌, Option, None, Some, List, [], ◌∷◌, ◌++◌, replicate, slice_index_or, slice_set}
 use Rattle.plain_laws.specs.Firsts.{but_first}
 use Rattle.blk_base.specs.declared.point.Point.{Point}
@@ -64,7 +64,7 @@ handed_out z p handed = record handed { waiting = handed.waiting ++ (record { zo
 abbrev pub reported : ℕ → Option Point → Option Point → Handed → Handed
 reported z part low handed = record handed { waiting = without_part z part handed.waiting; lows = slice_set handed.lows z low }
 
--- The mark of a zone: the least of its points that weren't reported, of its low point, and of the first entry that wasn't
+-- The watermark of a zone: the least of its points that weren't reported, of its low point, and of the first entry that wasn't
 -- handed out, of the half that adds.
-abbrev pub mark_of : Handed → ℕ → ℕ → ℕ
-mark_of handed z front = rounded (least_of (points_for z handed.waiting) (lesser (low_of handed z) front))
+abbrev pub watermark_of : Handed → ℕ → ℕ → ℕ
+watermark_of handed z front = rounded (least_of (points_for z handed.waiting) (lesser (low_of handed z) front))

@@ -38,7 +38,7 @@ pub(crate) fn lesser(low: Option<Point>, bound: u64) -> u64
 }
 
 /// The place of a zone's part at this point.
-pub(crate) fn place_of(parts: &[Part], zone: u32, at: u64) -> Option<usize>
+pub(crate) fn index_of(parts: &[Part], zone: u32, at: u64) -> Option<usize>
     ensures { result ≡ position (is_part zone at) parts.now }
 {
     parts
@@ -64,7 +64,7 @@ pub(crate) fn leave_out(parts: &mut Vec<Part>, zone: u32, point: Option<Point>)
     let Some(point) = point else {
         return;
     };
-    if let Some(place) = place_of(parts, zone, point.0) {
+    if let Some(place) = index_of(parts, zone, point.0) {
         let _ = parts.remove(place);
     }
 }

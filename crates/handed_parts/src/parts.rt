@@ -1,5 +1,5 @@
 ghost use Rattle.std.specs.Prelude.{◌≡◌, ◌<◌, ◌≤◌, ◌%◌, ◌↔◌, ℕ, length, IfOk, IfSome, IsTrue};
-ghost use Rattle.handed_parts.specs.Parts.{Has, opening, handed_out, reported, mark_of, points_for, rounded, low_of};
+ghost use Rattle.handed_parts.specs.Parts.{Has, opening, handed_out, reported, watermark_of, points_for, rounded, low_of};
 
 use crate::Part;
 use crate::least::{has_part, least_for, leave_out, lesser};
@@ -81,19 +81,19 @@ impl HandedParts {
     /// half that adds. Each part of the zone below it was reported, and the zone's low point isn't below it.
     pub fn watermark(&self, zone: u32, front: Point) -> Point
         requires { zone < length self.now.lows }
-        ensures value { result.0 ≡ mark_of self.now zone front.0 }
+        ensures value { result.0 ≡ watermark_of self.now zone front.0 }
         ensures adds { result.0 % 2 ≡ 0 }
         ensures front { result.0 ≤ front.0 }
         ensures parts { (p : ℕ) → Has p (points_for zone self.now.waiting) → result.0 ≤ rounded p }
         ensures low { IfSome (low_of self.now zone) (λ low. result.0 ≤ rounded low) }
     {
-        Point(self.mark(zone, front.0))
+        Point(self.watermark_number(zone, front.0))
     }
 
     // The number of a zone's watermark.
-    fn mark(&self, zone: u32, front: u64) -> u64
+    fn watermark_number(&self, zone: u32, front: u64) -> u64
         requires { zone < length self.now.lows }
-        ensures { result ≡ mark_of self.now zone front }
+        ensures { result ≡ watermark_of self.now zone front }
     {
         let bound = lesser(self.lows[zone as usize], front);
         least_for(&self.waiting, zone, bound) / 2 * 2

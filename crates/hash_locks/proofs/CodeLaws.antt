@@ -8,7 +8,7 @@ use Rattle.std.proofs.lemmas.Option.{same_Some}
 use Rattle.plain_laws.proofs.FirstLaws.{find-position, find-nowhere, find-passes, All-find, remove-position, but_first-none}
 use Rattle.hash_locks.specs.declared.role.Role.TheVariants.{Agent, Waits, Alone}
 use Rattle.hash_locks.specs.declared.waiter.Waiter.{Waiter}
-use Rattle.hash_locks.specs.Sharing.{Sharing, Lock, lock_of, but_lock_of, first_for, lock_with, Arrives, Leaves, Frees, AreInOrder}
+use Rattle.hash_locks.specs.LockedNames.{Sharing, Lock, lock_of, but_lock_of, first_for, lock_with, Arrives, Leaves, Frees, AreInOrder}
 use Rattle.hash_locks.proofs.SharingLaws.{is_of, waits_for, same_bytes, differ, lock_of-less, IsMatched}
 
 mapped : {X : Type 0} (o : Option X) (f : X → Bool) (b : Bool) → Some b ≡ option_map f o → (x : X) × (o ≡ Some x) × (f x ≡ b)

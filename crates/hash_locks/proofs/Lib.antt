@@ -1,3 +1,3 @@
 mod SharingLaws
 mod CodeLaws
-mod CallLaws
+mod OperationLaws

@@ -11,7 +11,7 @@ use Rattle.plain_laws.proofs.FirstLaws.{find-none, find-none_parts, find-but_fir
 use Rattle.hash_locks.specs.declared.role.Role.{Role}
 use Rattle.hash_locks.specs.declared.role.Role.TheVariants.{Agent, Waits, Alone}
 use Rattle.hash_locks.specs.declared.waiter.Waiter.{Waiter}
-use Rattle.hash_locks.specs.Sharing.{Sharing, Lock, HasRoom, lock_of, but_lock_of, lock_with, Arrives, Leaves, Frees, AreDistinct, AreInOrder}
+use Rattle.hash_locks.specs.LockedNames.{Sharing, Lock, HasRoom, lock_of, but_lock_of, lock_with, Arrives, Leaves, Frees, AreDistinct, AreInOrder}
 
 pub same_bytes : (xs ys : List ℕ) → bytes_eq xs ys ≡ true → xs ≡ ys
 same_bytes xs ys = (bytes_eq-Decides xs ys).0

@@ -1,2 +1,2 @@
-pub mod Sharing
-pub mod Calls
+pub mod LockedNames
+pub mod Operations

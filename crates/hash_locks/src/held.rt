@@ -14,7 +14,7 @@ pub(crate) struct Held {
 }
 
 impl Model for Held {
-    ghost use Rattle.hash_locks.specs.Sharing.{Lock};
+    ghost use Rattle.hash_locks.specs.LockedNames.{Lock};
 
     ghost Value = { Lock };
 

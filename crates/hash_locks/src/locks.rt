@@ -1,7 +1,7 @@
 ghost use Rattle.std.specs.Prelude.{ℕ, List, ◌≡◌, ◌+◌, ◌<◌, ◌≤◌, ◌∷◌, ◌++◌, [], length, position, vec_len, vec_capacity, IfOk, IfSome, IfNone};
 ghost use Rattle.std.specs.Option.{option_map};
 ghost use Rattle.std.specs.Str.{bytes_eq};
-ghost use Rattle.hash_locks.specs.Sharing.{nothing, HasRoom, Arrives, Leaves, Frees, lock_of, first_for};
+ghost use Rattle.hash_locks.specs.LockedNames.{nothing, HasRoom, Arrives, Leaves, Frees, lock_of, first_for};
 
 use crate::held::Held;
 use crate::{Role, Waiter};
@@ -27,7 +27,7 @@ pub struct HashLocks<V: HasBlock> {
 
 impl<V: HasBlock> Model for HashLocks<V> {
     ghost use Rattle.std.specs.Prelude.{◌≡◌, ◌+◌, ◌≤◌, vec_len, vec_capacity};
-    ghost use Rattle.hash_locks.specs.Sharing.{Sharing, AreInOrder};
+    ghost use Rattle.hash_locks.specs.LockedNames.{Sharing, AreInOrder};
 
     ghost Value = { Sharing V };
 

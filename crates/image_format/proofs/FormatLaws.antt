@@ -8,7 +8,7 @@ use Rattle.disk_model.specs.declared.call.Call.TheVariants.{Read, Write, Flush}
 use Rattle.disk_model.specs.Images.{IsImage, HasOneImage}
 use Rattle.disk_model.specs.Log.{Blocks, block_at}
 use Rattle.disk_model.specs.Seen.{Seen}
-use Rattle.disk_model.specs.Telling.{FailedInLog}
+use Rattle.disk_model.specs.LogSteps.{FailedInLog}
 use Rattle.disk_model.proofs.OneImageLaws.{one_image-later, one_image-opening, one_image-unique}
 use Rattle.image_format.specs.Calls.{format_calls}
 use Rattle.image_format.specs.Formats.{AreStopsRight, IsFailed, LastFailed, LeavesEmpty, StopsAreRight}

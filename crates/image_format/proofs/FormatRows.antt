@@ -10,7 +10,7 @@ use Rattle.disk_model.specs.declared.call.Call.TheVariants.{Read, Write, Flush}
 use Rattle.disk_model.specs.Log.{Blocks, block_at}
 use Rattle.disk_model.specs.Seen.{Seen}
 use Rattle.image_layout.specs.Opened.{super_of_image}
-use Rattle.image_layout.specs.Planning.{plan_of}
+use Rattle.image_layout.specs.PossibleSizes.{plan_of}
 use Rattle.image_layout.specs.Superblock.{is_within}
 use Rattle.image_layout.specs.declared.fault.Field.TheVariants.{Height}
 use Rattle.image_layout.specs.declared.fault.LayoutFault.{LayoutFault}

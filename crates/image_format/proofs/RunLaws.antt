@@ -5,7 +5,7 @@ use Rattle.disk_model.specs.declared.call.Call.{Call}
 use Rattle.disk_model.specs.declared.call.Failed.{Failed}
 use Rattle.disk_model.specs.Causes.{Rose, HasCause}
 use Rattle.disk_model.specs.Seen.{Seen, Stays}
-use Rattle.disk_model.specs.Telling.{FailedInLog}
+use Rattle.disk_model.specs.LogSteps.{FailedInLog}
 use Rattle.disk_model.proofs.SeenLaws.{stays_on, later_on, stays_yet, later_yet}
 use Rattle.image_format.specs.Calls.{calls_below}
 use Rattle.image_format.specs.Runs.{as_failed, WereMade, OneFailed, Makes}

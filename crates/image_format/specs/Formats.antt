@@ -10,9 +10,9 @@ use Rattle.disk_model.specs.Images.{IsImage, HasOneImage}
 use Rattle.disk_model.specs.Log.{Blocks, block_at}
 use Rattle.disk_model.specs.Seen.{Seen}
 use Rattle.disk_model.specs.Since.{SinceThen}
-use Rattle.disk_model.specs.Telling.{FailedInLog}
+use Rattle.disk_model.specs.LogSteps.{FailedInLog}
 use Rattle.image_layout.specs.Opened.{super_of_image}
-use Rattle.image_layout.specs.Planning.{plan_of}
+use Rattle.image_layout.specs.PossibleSizes.{plan_of}
 use Rattle.image_layout.specs.declared.fault.SuperFault.TheVariants.{NotAnImage}
 use Rattle.image_model.specs.Empty.{IsEmpty, IsUnused}
 use Rattle.image_format.specs.declared.fault.FormatFault.{FormatFault}

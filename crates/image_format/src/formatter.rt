@@ -1,6 +1,6 @@
 ghost use Rattle.std.specs.Prelude.{◌≡◌, Ok, IfOk, IfErr, IsTrue};
 ghost use Rattle.disk_model.specs.Seen.{Stays, Later};
-ghost use Rattle.image_layout.specs.Planning.{plan_of};
+ghost use Rattle.image_layout.specs.PossibleSizes.{plan_of};
 ghost use Rattle.image_format.specs.Formats.{FormatFails, LeavesEmpty, StopsAreRight};
 
 use crate::FormatFault;

@@ -3,7 +3,7 @@ use Rattle.std.specs.Prelude.{◌≡◌, ◌%◌, ◌==◌, Bool, true, false, i
 use Rattle.std.proofs.lemmas.Bool.{leb-true, eqb-true}
 use Rattle.blk_base.specs.declared.geometry.Geometry.{Geometry}
 use Rattle.blk_base.specs.Limits.{IsGeometry, logical_limit}
-use Rattle.image_layout.specs.Planning.{each_size, first_failing, fits_trees}
+use Rattle.image_layout.specs.PossibleSizes.{each_size, first_failing, fits_trees}
 use Rattle.image_layout.specs.Superblock.{is_within}
 use Rattle.image_layout.specs.declared.fault.LayoutFault.{LayoutFault}
 use Rattle.image_layout.proofs.CheckLaws.{both, within-right}

@@ -2,4 +2,4 @@ pub mod Faults
 pub mod Superblock
 pub mod Values
 pub mod Opened
-pub mod Planning
+pub mod PossibleSizes

@@ -65,7 +65,7 @@ pub enum SuperFault {
     BadField(Field),
 }
 
-/// Why an image of these sizes can't be had. Its text is `layout_fault_text` of it, in `specs/Planning`.
+/// Why an image of these sizes can't be had. Its text is `layout_fault_text` of it, in `specs/PossibleSizes`.
 #[derive(Clone, Copy, Debug, PartialEq, Eq, Error)]
 pub enum LayoutFault {
     /// The device has fewer blocks than the sizes need.

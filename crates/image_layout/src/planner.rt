@@ -1,6 +1,6 @@
 ghost use Rattle.std.specs.Prelude.{◌≡◌, ◌≤◌, ◌∷◌, [], Ok, Err, IfOk, IfErr};
 ghost use Rattle.blk_base.specs.Regions.{needed_blocks};
-ghost use Rattle.image_layout.specs.Planning.{each_size, first_failing, plan_of};
+ghost use Rattle.image_layout.specs.PossibleSizes.{each_size, first_failing, plan_of};
 
 use crate::superblock_reader::{is_within, logical_limit};
 use crate::{Field, LayoutFault};

@@ -10,7 +10,7 @@ use Rattle.blk_base.specs.declared.place.Mapping.TheVariants.{Unmapped, Zero, At
 use Rattle.blk_base.specs.declared.place.Pbn.{Pbn}
 use Rattle.byte_fields.specs.Fields.{number_at}
 use Rattle.slab_codec.specs.Grammar.{HoldsBlock, HoldsEntry, IsSlabSector}
-use Rattle.slab_codec.specs.Spelling.{block_bytes, entries_in}
+use Rattle.slab_codec.specs.BlockBytes.{block_bytes, entries_in}
 use Rattle.slab_codec.specs.declared.forms.SlabEntry.{SlabEntry}
 use Rattle.slab_codec.proofs.ReadLaws.{written, one_reading}
 use Rattle.image_model.specs.Counts.{leads_to, mapped_below, HasMappings, counter_of, commit_of, IsKept, Updates, IsUpdate, AreRising, AreUpdates, count_after, count_from, Stores}

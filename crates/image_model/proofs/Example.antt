@@ -9,7 +9,7 @@ use Rattle.blk_base.specs.declared.place.Mapping.TheVariants.{Unmapped, At}
 use Rattle.blk_base.specs.declared.place.Pbn.{Pbn}
 use Rattle.byte_fields.specs.Fields.{number_at}
 use Rattle.journal_codec.specs.Grammar.{HoldsEntry, HoldsBlock, IsSector}
-use Rattle.journal_codec.specs.Spelling.{block_bytes}
+use Rattle.journal_codec.specs.BlockBytes.{block_bytes}
 use Rattle.journal_codec.proofs.PrefixLaws.{written}
 use Rattle.journal_codec.proofs.ReadLaws.{fields_of, one_reading}
 

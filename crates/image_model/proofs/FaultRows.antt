@@ -12,7 +12,7 @@ use Rattle.blk_base.specs.declared.place.PageId.{PageId}
 use Rattle.byte_fields.specs.Fields.{le, number_at}
 use Rattle.byte_fields.specs.Mappings.{mapping_bytes}
 use Rattle.page_codec.specs.Grammar.{HasHead, IsSlot, slot_bytes, state_in}
-use Rattle.page_codec.specs.Spelling.{head_bytes}
+use Rattle.page_codec.specs.PageBytes.{head_bytes}
 use Rattle.page_codec.specs.declared.fault.PageFault.TheVariants.{Header, Compressed}
 use Rattle.image_model.specs.Counts.{IsUpdate, Stores, block_of_data, commit_of, counter_of}
 use Rattle.image_model.specs.Faults.{HasFault, IsPageFault, IsCountFault}

@@ -11,7 +11,7 @@ use Rattle.blk_base.specs.declared.place.PageId.{PageId}
 use Rattle.byte_fields.specs.Fields.{le, number_at}
 use Rattle.byte_fields.proofs.MappingLaws.{state_at, state_small}
 use Rattle.page_codec.specs.Grammar.{IsPage}
-use Rattle.page_codec.specs.Spelling.{head_bytes, page_bytes}
+use Rattle.page_codec.specs.PageBytes.{head_bytes, page_bytes}
 use Rattle.page_codec.proofs.HeldLaws.{held_unmapped}
 use Rattle.page_codec.proofs.ReadLaws.{slots}
 use Rattle.image_model.specs.Maps.{Image, mapping_in, page_at, mapping_of, value_of, HaveSameMap, head_of, IsReadable, IsGoodPage}

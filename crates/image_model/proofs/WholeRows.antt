@@ -30,7 +30,7 @@ use Rattle.image_layout.proofs.AgainLaws.{written_again}
 use Rattle.image_layout.proofs.SpellingLaws.{super_size}
 use Rattle.journal_codec.specs.Grammar.{IsSector}
 use Rattle.slab_codec.specs.Grammar.{HoldsBlock, HoldsEntry, IsSlabSector}
-use Rattle.slab_codec.specs.Spelling.{block_bytes}
+use Rattle.slab_codec.specs.BlockBytes.{block_bytes}
 use Rattle.slab_codec.proofs.ReadLaws.{written}
 use Rattle.image_model.specs.Counts.{Stores, IsKept, commit_at, commit_of, count_from, counter_of, HasMappings, block_of_data, reference_sector_at}
 use Rattle.image_model.specs.Empty.{IsEmpty, IsMade, empty_root, empty_super, made_block, root_head}

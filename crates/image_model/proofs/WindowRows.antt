@@ -10,7 +10,7 @@ use Rattle.blk_base.specs.declared.journal_entry.Entry.TheVariants.{Remap, NewPa
 use Rattle.blk_base.specs.declared.place.Mapping.TheVariants.{Unmapped, Zero, At}
 use Rattle.blk_base.specs.declared.place.PageId.{PageId}
 use Rattle.journal_codec.specs.Grammar.{IsPrefix, IsSector}
-use Rattle.journal_codec.specs.Spelling.{entries_in}
+use Rattle.journal_codec.specs.BlockBytes.{entries_in}
 use Rattle.journal_codec.proofs.PrefixLaws.{ends-none, one_prefix, prefix_partial, run-first, written_prefix}
 use Rattle.journal_codec.proofs.ReadLaws.{fields_of, length-sector_bytes}
 use Rattle.byte_fields.specs.Fields.{number_at}

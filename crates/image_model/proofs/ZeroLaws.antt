@@ -7,7 +7,7 @@ use Rattle.journal_codec.specs.Grammar.{IsSector}
 use Rattle.journal_codec.proofs.ReadLaws.{fields_of}
 use Rattle.slab_codec.specs.Grammar.{IsSlabSector}
 use Rattle.slab_codec.specs.Lengths.{length-head}
-use Rattle.slab_codec.specs.Spelling.{entry_bytes, head_bytes}
+use Rattle.slab_codec.specs.BlockBytes.{entry_bytes, head_bytes}
 use Rattle.slab_codec.specs.declared.forms.SlabEntry.{SlabEntry}
 use Rattle.sector_records.proofs.SectorLaws.{sector-number}
 

@@ -10,7 +10,7 @@ use Rattle.blk_base.specs.declared.place.Pbn.{Pbn}
 use Rattle.blk_base.specs.declared.sizes.TheConstants.{PAGE_SLOTS}
 use Rattle.disk_model.specs.Log.{Blocks, block_at}
 use Rattle.image_layout.specs.Opened.{super_of_image}
-use Rattle.page_codec.specs.Spelling.{page_bytes}
+use Rattle.page_codec.specs.PageBytes.{page_bytes}
 use Rattle.page_codec.specs.declared.forms.PageHead.{PageHead}
 use Rattle.image_model.specs.Counts.{HasMappings, Stores}
 use Rattle.image_model.specs.Faults.{IsOpened}

@@ -10,7 +10,7 @@ use Rattle.byte_fields.specs.Fields.{le, number_at}
 use Rattle.byte_fields.specs.Mappings.{state_of, target_of, mapping_bytes, HoldsMapping}
 use Rattle.byte_fields.proofs.FieldLaws.{length-le, number_behind}
 use Rattle.byte_fields.proofs.MappingLaws.{length-mapping, target_small, one_mapping}
-use Rattle.journal_codec.specs.Spelling.{entry_form, entry_bytes, head_bytes}
+use Rattle.journal_codec.specs.BlockBytes.{entry_form, entry_bytes, head_bytes}
 use Rattle.journal_codec.specs.Grammar.{HoldsEntry}
 
 -- entries

@@ -7,7 +7,7 @@ use Rattle.std.proofs.lemmas.List.Elements.{All-nil, All-append, All-same, All-t
 use Rattle.blk_base.specs.declared.journal_entry.Entry.{Entry}
 use Rattle.blk_base.specs.Sectors.{sector}
 use Rattle.sector_records.proofs.SectorLaws.{few_in, written_sector}
-use Rattle.journal_codec.specs.Spelling.{entries_in, block_bytes}
+use Rattle.journal_codec.specs.BlockBytes.{entries_in, block_bytes}
 use Rattle.journal_codec.specs.Grammar.{joined, HoldsEntry, HoldsBlock, IsSector, IsRun, IsPrefix, IsTorn}
 use Rattle.journal_codec.proofs.ReadLaws.{length-sector_bytes, one_reading}
 

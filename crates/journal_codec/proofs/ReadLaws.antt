@@ -4,7 +4,7 @@ use Rattle.std.proofs.Common.{sym, ◌∙◌, ap, lit≤, arith}
 use Rattle.blk_base.specs.declared.journal_entry.Entry.{Entry}
 use Rattle.byte_fields.specs.Fields.{number_at}
 use Rattle.sector_records.proofs.SectorLaws.{records_fit, length-sector, sector-head, sector-number, sector-records, one_list}
-use Rattle.journal_codec.specs.Spelling.{entry_bytes, head_bytes, sector_bytes}
+use Rattle.journal_codec.specs.BlockBytes.{entry_bytes, head_bytes, sector_bytes}
 use Rattle.journal_codec.specs.Grammar.{HoldsEntry, IsSector}
 use Rattle.journal_codec.specs.Lengths.{length-entry, length-head}
 use Rattle.journal_codec.proofs.FieldLaws.{entry_injective, sequence_read, head_read, count_read}

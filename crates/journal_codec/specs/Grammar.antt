@@ -6,7 +6,7 @@ use Rattle.blk_base.specs.declared.journal_entry.Entry.TheVariants.{Remap, NewPa
 use Rattle.blk_base.specs.Sectors.{sector}
 use Rattle.blk_base.specs.declared.sizes.TheConstants.{JOURNAL_ENTRIES, TREES}
 use Rattle.byte_fields.specs.Mappings.{HoldsMapping}
-use Rattle.journal_codec.specs.Spelling.{sector_bytes, entries_in}
+use Rattle.journal_codec.specs.BlockBytes.{sector_bytes, entries_in}
 
 -- what the form can hold: mappings, and a new page of one of the trees
 abbrev pub HoldsEntry : Entry → Type 0

@@ -7,7 +7,7 @@ use Rattle.blk_base.specs.declared.journal_entry.Entry.{Entry}
 use Rattle.blk_base.specs.declared.journal_entry.Entry.TheVariants.{Remap, NewPage}
 use Rattle.byte_fields.proofs.FieldLaws.{length-le}
 use Rattle.byte_fields.proofs.MappingLaws.{length-mapping}
-use Rattle.journal_codec.specs.Spelling.{entry_form, entry_bytes, head_bytes}
+use Rattle.journal_codec.specs.BlockBytes.{entry_form, entry_bytes, head_bytes}
 
 length-form : (kind tree level number : ℕ) (old new : Mapping) → length (entry_form kind tree level number old new) ≡ 20
 unfolding entry_form

@@ -1,3 +1,3 @@
-pub mod Spelling
+pub mod BlockBytes
 pub mod Grammar
 pub mod Lengths

@@ -1,5 +1,5 @@
 ghost use Rattle.std.specs.Prelude.{◌≡◌, length};
-ghost use Rattle.journal_codec.specs.Spelling.{entry_form};
+ghost use Rattle.journal_codec.specs.BlockBytes.{entry_form};
 
 use blk_base::{Entry, Lba, Mapping, PageId, Pbn};
 use byte_fields::{
@@ -20,7 +20,7 @@ pub(crate) struct JournalHead {
 
 impl Format for JournalHead {
     ghost use Rattle.std.proofs.Common.{lit≤, lit<};
-    ghost use Rattle.journal_codec.specs.Spelling.{entry_bytes, head_bytes};
+    ghost use Rattle.journal_codec.specs.BlockBytes.{entry_bytes, head_bytes};
     ghost use Rattle.journal_codec.specs.Grammar.{HoldsEntry};
     ghost use Rattle.journal_codec.specs.Lengths.{length-entry, length-head};
 
@@ -41,7 +41,7 @@ impl Format for JournalHead {
 
     ghost is_spelled = { HoldsEntry };
 
-    #[tactic(auto, unfolding(crate::specs::Spelling::head_bytes))]
+    #[tactic(auto, unfolding(crate::specs::BlockBytes::head_bytes))]
     fn put_head(&self, number: u16, count: u16, sector: &mut [u8]) {
         put_u64(sector, 0, self.nonce);
         put_u64(sector, 8, self.sequence);
@@ -96,7 +96,7 @@ impl Format for JournalHead {
     ghost few = { lit< tt };
 }
 
-#[tactic(auto, unfolding(crate::specs::Spelling::entry_form))]
+#[tactic(auto, unfolding(crate::specs::BlockBytes::entry_form))]
 fn put_form(into: &mut [u8], kind: u8, tree: u8, level: u8, number: u32, old: Mapping, new: Mapping)
     requires { length into.old ≡ 20 }
     ensures { into.new ≡ entry_form kind tree level number old new }

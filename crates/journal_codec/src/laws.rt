@@ -1,7 +1,7 @@
 ghost use Rattle.std.specs.Prelude.{◌≡◌, ◌<◌, ℕ, Bool, true, List, [], IsTrue, All, length, take};
 ghost use Rattle.blk_base.specs.declared.journal_entry.Entry.{Entry};
 ghost use Rattle.blk_base.specs.Sectors.{sector};
-ghost use Rattle.journal_codec.specs.Spelling.{entries_in, block_bytes};
+ghost use Rattle.journal_codec.specs.BlockBytes.{entries_in, block_bytes};
 ghost use Rattle.journal_codec.specs.Grammar.{HoldsEntry, HoldsBlock, joined, IsSector, IsRun, IsPrefix, IsTorn};
 
 /// Bytes say one sector, if they are a valid one, and a block has one prefix, if it has one.

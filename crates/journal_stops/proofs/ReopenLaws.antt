@@ -14,10 +14,10 @@ use Rattle.image_model.specs.Windows.{in_slot, IsFirst, IsLast, IsReplayable, Ar
 use Rattle.image_model.specs.Sound.{IsSound}
 use Rattle.image_model.proofs.EmptyLaws.{sizes_of_image}
 use Rattle.journal_codec.specs.Grammar.{IsSector, IsRun, IsPrefix}
-use Rattle.journal_codec.specs.Spelling.{entries_in}
+use Rattle.journal_codec.specs.BlockBytes.{entries_in}
 use Rattle.journal_codec.proofs.ReadLaws.{one_reading}
 use Rattle.stop_laws.specs.Journals.{Surely, block_of_slot}
-use Rattle.journal_stops.specs.Rings.{place_of, IsWhole, HasNothingLater, StandWhole, IsAtRest}
+use Rattle.journal_stops.specs.Rings.{ring_slot_of, IsWhole, HasNothingLater, StandWhole, IsAtRest}
 use Rattle.journal_stops.specs.Sealed.{Sealed, next_of, head_of, lists_of, since, window_of}
 use Rattle.journal_stops.proofs.ShownLaws.{slot_there, begins_anew}
 
@@ -41,7 +41,7 @@ module _ (g : Geometry) (start : ℕ) (image : Blocks) (last first : ℕ) (low :
       ] in
       (is.has.0, subst (λ (n : ℕ). IsRun g.nonce (in_slot g (journal_of g image) sequence) sequence is.has.0 n entries) (prefix.all.0 whole) prefix.run)
 
-  stands_there : (sequence : ℕ) (block : Sealed) → IsWhole g sequence block (in_slot g (journal_of g image) sequence) → Surely image [] (place_of g sequence) (IsWhole g sequence block)
+  stands_there : (sequence : ℕ) (block : Sealed) → IsWhole g sequence block (in_slot g (journal_of g image) sequence) → Surely image [] (ring_slot_of g sequence) (IsWhole g sequence block)
   stands_there sequence block is = (subst (IsWhole g sequence block) (slot_there g image (journal_slot_of g sequence) (mod-lt sequence slots)) is, tt)
 
   reaped_stand : (n : ℕ) → start + n ≤ first → StandWhole image [] g start first (replicate n (record { head = start; entries = [] }))
@@ -63,7 +63,7 @@ module _ (g : Geometry) (start : ℕ) (image : Blocks) (last first : ℕ) (low :
       let here : sequence ≡ next_of start (before.0 ++ reaped) = omega (arith, count, reaped_size, length-append before.0 reaped, low) in (
         block ∷ before.0,
         ap (λ (rest : List (List Entry)). entries ∷ rest) before.1,
-        (λ reached. (found.1.fits, are.0.each, subst (λ (n : ℕ). Surely image [] (place_of g n) (IsWhole g n block)) here (stands_there sequence block found.1)), before.2),
+        (λ reached. (found.1.fits, are.0.each, subst (λ (n : ℕ). Surely image [] (ring_slot_of g n) (IsWhole g n block)) here (stands_there sequence block found.1)), before.2),
       )
 
   -- the head that they name is the first sequence of the window
@@ -79,9 +79,9 @@ module _ (g : Geometry) (start : ℕ) (image : Blocks) (last first : ℕ) (low :
       let here : next_of start (older ++ reaped) ≡ last = omega (arith, count, reaped_size, length-append older reaped, low) in
       let whole = (stand.0 (omega (arith, here, count))).2.0.sectors 0 (omega arith) in
       let place = journal_slot_of g last in
-      let said = subst (λ (n : ℕ). IsSector g.nonce 0 (sector 0 (block_at image (place_of g n))) n block.head (entries_in 0 block.entries)) here whole in
+      let said = subst (λ (n : ℕ). IsSector g.nonce 0 (sector 0 (block_at image (ring_slot_of g n))) n block.head (entries_in 0 block.entries)) here whole in
       let there = subst (λ (bytes : List ℕ). IsSector g.nonce 0 (sector 0 bytes) last first some.1.0) (slot_there g image place (mod-lt last slots)) some.1.1 in
-      (one_reading g.nonce 0 (sector 0 (block_at image (place_of g last))) last block.head last first (entries_in 0 block.entries) some.1.0 said there).1
+      (one_reading g.nonce 0 (sector 0 (block_at image (ring_slot_of g last))) last block.head last first (entries_in 0 block.entries) some.1.0 said there).1
 
   -- the window is theirs
   window_is : (blocks : List Sealed) (lists : List (List Entry)) → lists_of blocks ≡ lists → first + length lists ≡ last + 1 → head_of start (blocks ++ reaped) ≡ first

@@ -13,20 +13,20 @@ use Rattle.disk_model.specs.Log.{Blocks}
 use Rattle.image_model.proofs.Example.{small, pbn, maps, one, block, holds, has_sector, only_sector}
 use Rattle.image_model.proofs.ZeroLaws.{no_journal_sector, of_eight}
 use Rattle.journal_codec.specs.Grammar.{IsSector}
-use Rattle.journal_codec.specs.Spelling.{entries_in}
+use Rattle.journal_codec.specs.BlockBytes.{entries_in}
 use Rattle.journal_codec.proofs.PrefixLaws.{written}
 use Rattle.journal_codec.proofs.ReadLaws.{length-sector_bytes}
 use Rattle.stop_laws.specs.Journals.{Surely, block_of_slot}
-use Rattle.journal_stops.specs.Rings.{place_of, IsWhole, HasNothingLater, IsTornOver, StandWhole, IsRing, IsAtRest, IsUnderWay, IsWritten}
+use Rattle.journal_stops.specs.Rings.{ring_slot_of, IsWhole, HasNothingLater, IsTornOver, StandWhole, IsRing, IsAtRest, IsUnderWay, IsWritten}
 use Rattle.journal_stops.specs.Sealed.{Sealed, head_of}
 use Rattle.journal_stops.proofs.SealedRows.{names, first_sealed}
 use Rattle.journal_stops.proofs.StepLaws.{spelled_whole, whole_is_last, whole_is_torn, earlier_is_torn, begins, is_written, ends}
 
 -- sequence 9 stands where 1 stood
-place_is : place_of small 9 ≡ 2
+place_is : ring_slot_of small 9 ≡ 2
 place_is = refl
 
-place_of_last : place_of small 7 ≡ 8
+place_of_last : ring_slot_of small 7 ≡ 8
 place_of_last = refl
 
 -- A whole block.
@@ -182,7 +182,7 @@ stands_below = (λ reached. absurd (omega (arith, reached)), tt)
 stands_past_size : StandWhole empty (Flush true ∷ wrote) (record small { logical = 5 }) 1 1 (names 1 ∷ []) → ⊥
 stands_past_size stands = let each = (stands.0 (omega arith)).1 in let below = (All-head (IsOfImage (record small { logical = 5 })) (maps 86) [] each).0 in omega (arith, below)
 
-stands_full : (log : List Call) (big : Sealed) → length big.entries ≡ 192 → All (IsOfImage small) big.entries → Surely empty log (place_of small 1) (IsWhole small 1 big)
+stands_full : (log : List Call) (big : Sealed) → length big.entries ≡ 192 → All (IsOfImage small) big.entries → Surely empty log (ring_slot_of small 1) (IsWhole small 1 big)
     → StandWhole empty log small 1 1 (big ∷ [])
 stands_full log big many each whole = (λ reached. (omega (arith, many), each, whole), tt)
 

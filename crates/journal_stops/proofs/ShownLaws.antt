@@ -17,11 +17,11 @@ use Rattle.disk_model.proofs.ImageLaws.{all_weaker, sector_of_mix}
 use Rattle.image_layout.specs.Values.{journal_of}
 use Rattle.image_model.specs.Windows.{in_slot, IsThere, IsFirst, IsLast, IsOfImage, IsReplayable, AreReplayable, IsWindow}
 use Rattle.journal_codec.specs.Grammar.{IsSector, IsRun, IsPrefix}
-use Rattle.journal_codec.specs.Spelling.{entries_in}
+use Rattle.journal_codec.specs.BlockBytes.{entries_in}
 use Rattle.journal_codec.proofs.PrefixLaws.{prefix_partial, prefix_whole}
 use Rattle.journal_codec.proofs.ReadLaws.{one_reading}
 use Rattle.stop_laws.specs.Journals.{Surely, block_of_slot}
-use Rattle.journal_stops.specs.Rings.{place_of, IsWhole, IsEarlier, HasNothingLater, IsTornOver, StandWhole, IsRing, IsAtRest, IsUnderWay}
+use Rattle.journal_stops.specs.Rings.{ring_slot_of, IsWhole, IsEarlier, HasNothingLater, IsTornOver, StandWhole, IsRing, IsAtRest, IsUnderWay}
 use Rattle.journal_stops.specs.Sealed.{Sealed, IsSealed, next_of, head_of, lists_of, since, window_of, front_of}
 use Rattle.journal_stops.proofs.StepLaws.{head_within, ring_has_slots}
 
@@ -73,12 +73,12 @@ module _ (opening : Blocks) (log : List Call) (g : Geometry) (start : ℕ) (imag
       sector_shown (IsEarlier g next number) slot number below small
       (all_weaker (HasNothingLater g next) (λ content. IsEarlier g next number (sector number content)) (contents opening log (block_of_slot slot)) (λ content has. has number small) none)
 
-  torn_shown : (sequence : ℕ) (block : Sealed) → 0 < g.journal → Surely opening log (place_of g sequence) (IsTornOver g sequence block)
+  torn_shown : (sequence : ℕ) (block : Sealed) → 0 < g.journal → Surely opening log (ring_slot_of g sequence) (IsTornOver g sequence block)
       → IsTornOver g sequence block (in_slot g (journal_of g image) sequence)
   torn_shown sequence block some torn number small =
       sector_shown (λ bytes. IsSector g.nonce number bytes sequence block.head (entries_in number block.entries) ⊎ IsEarlier g sequence number bytes) (journal_slot_of g sequence) number (mod-lt sequence some) small
       (all_weaker (IsTornOver g sequence block) (λ content. IsSector g.nonce number (sector number content) sequence block.head (entries_in number block.entries) ⊎ IsEarlier g sequence number (sector number content))
-      (contents opening log (place_of g sequence)) (λ content has. has number small) torn)
+      (contents opening log (ring_slot_of g sequence)) (λ content has. has number small) torn)
 
 -- The blocks of the window.
 

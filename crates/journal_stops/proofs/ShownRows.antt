@@ -4,10 +4,10 @@ use Rattle.std.specs.List.{sum_by}
 use Rattle.std.proofs.lemmas.List.Concat.{length-flat_map}
 use Rattle.blk_base.proofs.SectorLaws.{zero_size}
 use Rattle.image_model.proofs.ZeroLaws.{of_eight}
-use Rattle.journal_codec.specs.Spelling.{block_bytes, sector_bytes, entries_in}
+use Rattle.journal_codec.specs.BlockBytes.{block_bytes, sector_bytes, entries_in}
 use Rattle.journal_codec.proofs.ReadLaws.{length-sector_bytes}
 use Rattle.sector_records.proofs.SectorLaws.{few_in}
-use Rattle.sector_records.specs.Spelling.{eight_sectors, sector_numbers}
+use Rattle.sector_records.specs.SectorBytes.{eight_sectors, sector_numbers}
 use Rattle.blk_base.specs.declared.journal_entry.CommittedEntry.{CommittedEntry}
 use Rattle.disk_model.specs.declared.call.Call.TheVariants.{Flush}
 use Rattle.disk_model.specs.Images.{IsImage}

@@ -13,12 +13,12 @@ use Rattle.disk_model.specs.Log.{Blocks, Misses, block_at, contents, settled}
 use Rattle.disk_model.proofs.ImageLaws.{kept, all_weaker, settled-misses, settled-write, contents-write}
 use Rattle.disk_model.specs.OneImages.{HasOneImageIn}
 use Rattle.journal_codec.specs.Grammar.{HoldsBlock}
-use Rattle.journal_codec.specs.Spelling.{block_bytes, entries_in}
+use Rattle.journal_codec.specs.BlockBytes.{block_bytes, entries_in}
 use Rattle.journal_codec.proofs.PrefixLaws.{written}
 use Rattle.journal_codec.proofs.ReadLaws.{one_reading}
 use Rattle.stop_laws.specs.Journals.{Surely, MissesJournal, block_of_slot}
 use Rattle.stop_laws.proofs.JournalLaws.{slots_apart}
-use Rattle.journal_stops.specs.Rings.{place_of, IsWhole, HasNothingLater, IsTornOver, StandWhole, IsRing, IsAtRest, IsUnderWay, IsWritten}
+use Rattle.journal_stops.specs.Rings.{ring_slot_of, IsWhole, HasNothingLater, IsTornOver, StandWhole, IsRing, IsAtRest, IsUnderWay, IsWritten}
 use Rattle.journal_stops.specs.Sealed.{Sealed, IsSealed, next_of, head_of, front_of}
 use Rattle.image_model.proofs.LookedLaws.{looked_low}
 use Rattle.image_model.specs.Looked.{is_looked_at}
@@ -87,7 +87,7 @@ whole_since opening log g start from later (block ∷ older) le whole =
     (λ reached. whole.0 (omega (arith, le, reached)), whole_since opening log g start from later older le whole.1)
 
 whole_kept : (opening : Blocks) (log : List Call) (g : Geometry) (start from : ℕ) (call : Call) (blocks : List Sealed)
-    → ((sequence : ℕ) → from ≤ sequence → sequence < next_of start blocks → Misses call (place_of g sequence))
+    → ((sequence : ℕ) → from ≤ sequence → sequence < next_of start blocks → Misses call (ring_slot_of g sequence))
     → StandWhole opening log g start from blocks → StandWhole opening (call ∷ log) g start from blocks
 whole_kept opening log g start from call [] misses whole = tt
 whole_kept opening log g start from call (block ∷ older) misses whole = (
@@ -129,7 +129,7 @@ misses_others : (at : Pbn) (bytes : List ℕ) (ok : Bool) (slot other : ℕ) →
 misses_others at bytes ok slot other is apart same = apart (omega (arith, is, same))
 
 pub begins : (opening : Blocks) (log : List Call) (g : Geometry) (start : ℕ) (blocks : List Sealed) (block : Sealed) (at : Pbn) (bytes : List ℕ) (ok : Bool)
-    → at.0 ≡ place_of g (next_of start blocks) → IsSealed g start blocks block → IsWhole g (next_of start blocks) block bytes
+    → at.0 ≡ ring_slot_of g (next_of start blocks) → IsSealed g start blocks block → IsWhole g (next_of start blocks) block bytes
     → IsAtRest opening log g start blocks → IsUnderWay opening (Write at bytes ok ∷ log) g start blocks block
 begins opening log g start blocks block at bytes ok place is_sealed says rest =
     let next = next_of start blocks in
@@ -150,7 +150,7 @@ begins opening log g start blocks block at bytes ok place is_sealed says rest =
     }
 
 pub is_written : (opening : Blocks) (log : List Call) (g : Geometry) (start : ℕ) (blocks : List Sealed) (block : Sealed) (at : Pbn) (bytes : List ℕ)
-    → at.0 ≡ place_of g (next_of start blocks) → IsWhole g (next_of start blocks) block bytes → IsWritten opening (Write at bytes true ∷ log) g start blocks block
+    → at.0 ≡ ring_slot_of g (next_of start blocks) → IsWhole g (next_of start blocks) block bytes → IsWritten opening (Write at bytes true ∷ log) g start blocks block
 is_written opening log g start blocks block at bytes place says =
     subst (λ (b : ℕ). AllByRecursion (IsWhole g (next_of start blocks) block) (settled opening (Write at bytes true ∷ log) b)) place
     (rw (settled-write opening log at bytes) (says, tt))
@@ -187,7 +187,7 @@ one_whole : (opening : Blocks) (log : List Call) (image : Blocks) (g : Geometry)
 one_whole opening log image g start from [] some inside one whole = tt
 one_whole opening log image g start from (block ∷ older) some inside one whole = (
   λ reached. let was = whole.0 reached in let below = mod-lt (next_of start older) some in
-      (was.0, was.1, one_content g opening log image (place_of g (next_of start older)) (IsWhole g (next_of start older) block) (omega (arith, below, inside)) (omega (arith, below)) one was.2),
+      (was.0, was.1, one_content g opening log image (ring_slot_of g (next_of start older)) (IsWhole g (next_of start older) block) (omega (arith, below, inside)) (omega (arith, below)) one was.2),
   one_whole opening log image g start from older some inside one whole.1,
 )
 

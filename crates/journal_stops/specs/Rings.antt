@@ -11,13 +11,13 @@ use Rattle.disk_model.specs.declared.call.Call.{Call}
 use Rattle.disk_model.specs.Log.{Blocks, settled}
 use Rattle.image_model.specs.Windows.{IsOfImage}
 use Rattle.journal_codec.specs.Grammar.{IsSector, IsRun}
-use Rattle.journal_codec.specs.Spelling.{entries_in}
+use Rattle.journal_codec.specs.BlockBytes.{entries_in}
 use Rattle.stop_laws.specs.Journals.{Surely, block_of_slot}
 use Rattle.journal_stops.specs.Sealed.{Sealed, IsSealed, next_of, head_of}
 
 -- the block in which a sequence stands
-abbrev pub place_of : Geometry → ℕ → ℕ
-place_of g sequence = block_of_slot (journal_slot_of g sequence)
+abbrev pub ring_slot_of : Geometry → ℕ → ℕ
+ring_slot_of g sequence = block_of_slot (journal_slot_of g sequence)
 
 -- What stands in a block.
 
@@ -46,7 +46,7 @@ abbrev pub StandWhole : Blocks → List Call → Geometry → ℕ → ℕ → Li
 StandWhole opening log g start from [] = Unit {0}
 StandWhole opening log g start from (block ∷ older) =
     (from ≤ next_of start older → (length block.entries ≤ JOURNAL_ENTRIES) × All (IsOfImage g) block.entries
-    × Surely opening log (place_of g (next_of start older)) (IsWhole g (next_of start older) block))
+    × Surely opening log (ring_slot_of g (next_of start older)) (IsWhole g (next_of start older) block))
     × StandWhole opening log g start from older
 
 -- The ring of these blocks: the newest one names one of them as the head, and the slot of the next sequence has none of those
@@ -71,11 +71,11 @@ pub record IsUnderWay (opening : Blocks) (log : List Call) (g : Geometry) (start
   pub ring : IsRing g start blocks
   pub is_sealed : IsSealed g start blocks block
   pub whole : StandWhole opening log g start (head_of start blocks) blocks
-  pub here : Surely opening log (place_of g (next_of start blocks)) (IsTornOver g (next_of start blocks) block)
+  pub here : Surely opening log (ring_slot_of g (next_of start blocks)) (IsTornOver g (next_of start blocks) block)
   pub none : (slot : ℕ) → slot < g.journal → slot ≢ journal_slot_of g (next_of start blocks)
       → Surely opening log (block_of_slot slot) (HasNothingLater g (next_of start blocks))
 
 -- the next block was written: a read of its place, and a flush, gives it
 abbrev pub IsWritten : Blocks → List Call → Geometry → ℕ → List Sealed → Sealed → Type 0
 IsWritten opening log g start blocks block =
-    AllByRecursion (IsWhole g (next_of start blocks) block) (settled opening log (place_of g (next_of start blocks)))
+    AllByRecursion (IsWhole g (next_of start blocks) block) (settled opening log (ring_slot_of g (next_of start blocks)))

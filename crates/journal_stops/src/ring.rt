@@ -15,9 +15,9 @@ ghost use Rattle.image_model.specs.Sound.{IsSound};
 ghost use Rattle.image_model.specs.Windows.{in_slot, IsWindow};
 ghost use Rattle.image_model.specs.Looked.{is_looked_at};
 ghost use Rattle.journal_codec.specs.Grammar.{HoldsBlock, IsSector, IsPrefix};
-ghost use Rattle.journal_codec.specs.Spelling.{block_bytes};
+ghost use Rattle.journal_codec.specs.BlockBytes.{block_bytes};
 ghost use Rattle.stop_laws.specs.Journals.{MissesJournal};
-ghost use Rattle.journal_stops.specs.Rings.{IsWhole, IsRing, IsAtRest, IsUnderWay, IsWritten, place_of};
+ghost use Rattle.journal_stops.specs.Rings.{IsWhole, IsRing, IsAtRest, IsUnderWay, IsWritten, ring_slot_of};
 ghost use Rattle.journal_stops.specs.Sealed.{Sealed, IsSealed, next_of, head_of, window_of, front_of};
 
 /// A journal in which no sector is as late as the first sequence is at rest, and has no block; and where nothing is
@@ -93,7 +93,7 @@ pub fn the_blocks_from_the_head_on_stand()
         → IsAtRest opening log g start blocks → IsAtRest opening (call ∷ log) g start blocks }
     ensures begins { (opening : Blocks) (log : List Call) (g : Geometry) (start : ℕ)
         (blocks : List Sealed) (block : Sealed) (at : Pbn) (bytes : List ℕ) (ok : Bool)
-        → at.0 ≡ place_of g (next_of start blocks) → IsSealed g start blocks block →
+        → at.0 ≡ ring_slot_of g (next_of start blocks) → IsSealed g start blocks block →
         IsWhole g (next_of start blocks) block bytes
         → IsAtRest opening log g start blocks →
         IsUnderWay opening (Write at bytes ok ∷ log) g start blocks block }
@@ -103,7 +103,7 @@ pub fn the_blocks_from_the_head_on_stand()
         IsUnderWay opening (call ∷ log) g start blocks block }
     ensures written { (opening : Blocks) (log : List Call) (g : Geometry) (start : ℕ)
         (blocks : List Sealed) (block : Sealed) (at : Pbn) (bytes : List ℕ)
-        → at.0 ≡ place_of g (next_of start blocks) → IsWhole g (next_of start blocks) block bytes →
+        → at.0 ≡ ring_slot_of g (next_of start blocks) → IsWhole g (next_of start blocks) block bytes →
         IsWritten opening (Write at bytes true ∷ log) g start blocks block }
     ensures stays_written { (opening : Blocks) (log : List Call) (g : Geometry) (start : ℕ)
         (blocks : List Sealed) (block : Sealed) (call : Call) → 0 < g.journal → MissesJournal g call

@@ -10,7 +10,7 @@ use Rattle.blk_base.specs.declared.journal_entry.Entry.{Entry}
 use Rattle.blk_base.specs.declared.point.Half.TheVariants.{Increment}
 use Rattle.journal_codec.proofs.PrefixLaws.{one_prefix}
 use Rattle.journal_codec.specs.Grammar.{IsSector, IsPrefix}
-use Rattle.journal_codec.specs.Spelling.{entries_in}
+use Rattle.journal_codec.specs.BlockBytes.{entries_in}
 use Rattle.image_model.proofs.WindowLaws.{each_replayable}
 use Rattle.image_model.specs.Windows.{in_slot, IsOfImage, IsReplayable, with_points, entries_from}
 use Rattle.image_model.specs.declared.fault.ImageFault.{ImageFault}

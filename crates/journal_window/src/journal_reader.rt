@@ -6,7 +6,7 @@ ghost use Rattle.journal_window.specs.Reads.{IsJournalRead, IsWindowRead, Journa
 
 use crate::{JournalWindow, window_of};
 use blk_base::{Block, Layout, Super};
-use disk_model::{Disk, ReadError, read_blocks};
+use disk_model::{BlocksFault, Disk, read_blocks};
 use image_model::ImageFault;
 use std::alloc::Global;
 
@@ -55,7 +55,7 @@ fn read_journal<D: Disk>(
     let first = layout.journal_slot(0);
     match read_blocks(alloc, device, first, layout.geometry.journal) {
         Ok(journal) => Ok(journal),
-        Err(ReadError::Device) => Err(ImageFault::Device),
-        Err(ReadError::Memory) => Err(ImageFault::Memory),
+        Err(BlocksFault::Device) => Err(ImageFault::Device),
+        Err(BlocksFault::Memory) => Err(ImageFault::Memory),
     }
 }

@@ -1,7 +1,7 @@
 ghost use Rattle.std.specs.Prelude.{◌≡◌, ◌+◌, ◌<◌, ◌≤◌, [], ◌∷◌, ◌++◌, false, length, true};
 ghost use Rattle.blk_base.specs.declared.place.ZoneId.TheVariants as id;
 ghost use Rattle.blk_base.specs.declared.request.Answer.TheVariants.{Stopped};
-ghost use Rattle.core_model.specs.JournalRules as rows;
+ghost use Rattle.core_model.specs.JournalRules as rules;
 ghost use Rattle.core_model.specs.JournalRules.{HasNext, IsSealable, JournalEnds};
 ghost use Rattle.core_model.specs.Limits.{IsJournalWithin};
 ghost use Rattle.core_model.specs.Trace.{Trace};
@@ -21,7 +21,7 @@ use step_parts::{Posts, counts_of, physical_of};
 fn pass_on(sizes: &Sizes, vio: BoxedVio, posts: &mut Posts)
     requires physical { HasPhysical sizes.now }
     requires room { length posts.old < POST_ROOM }
-    ensures { posts.new ≡ posts.old ++ rows.hands_to sizes.now vio vio.new ∷ [] }
+    ensures { posts.new ≡ posts.old ++ rules.hands_to sizes.now vio vio.new ∷ [] }
 {
     let (to, phase) = match vio.get().new {
         Mapping::At(_) => (counts_of(sizes, vio.get()), Phase::Count),
@@ -34,7 +34,7 @@ fn pass_on(sizes: &Sizes, vio: BoxedVio, posts: &mut Posts)
 fn post_decrement(sizes: &Sizes, page: Option<PageId>, entry: Remapping, posts: &mut Posts)
     requires physical { HasPhysical sizes.now }
     requires room { length posts.old < POST_ROOM }
-    ensures posts { posts.new ≡ posts.old ++ rows.decrement_for sizes.now page entry entry.old }
+    ensures posts { posts.new ≡ posts.old ++ rules.decrement_for sizes.now page entry entry.old }
     ensures one { length posts.new ≤ length posts.old + 1 }
 {
     if let (None, Mapping::At(at)) = (page, entry.old) {
@@ -55,8 +55,8 @@ fn commit(
     requires physical { HasPhysical sizes.now }
     requires within { IsJournalWithin zone.old }
     requires none { posts.old ≡ [] }
-    ensures zone { zone.new ≡ rows.committed_by vio zone.old }
-    ensures posts { posts.new ≡ rows.hands_out sizes.now vio ++ (id.Journal, Block block) ∷ [] }
+    ensures zone { zone.new ≡ rules.committed_by vio zone.old }
+    ensures posts { posts.new ≡ rules.hands_out sizes.now vio ++ (id.Journal, Block block) ∷ [] }
 {
     zone.commit(&vio);
     let page = vio.get().page;
@@ -72,7 +72,7 @@ fn come_to_rest(zone: &mut JournalZone, block: SealedBlock, posts: &mut Posts)
     requires within { IsJournalWithin zone.old }
     requires none { posts.old ≡ [] }
     ensures zone { zone.new ≡ record zone.old { busy = false; waiting = [] } }
-    ensures posts { posts.new ≡ rows.all_again zone.old.waiting }
+    ensures posts { posts.new ≡ rules.all_again zone.old.waiting }
 {
     zone.rest(block);
     send_again(zone, posts);
@@ -84,10 +84,10 @@ fn seal_next(zone: &mut JournalZone, block: SealedBlock, posts: &mut Posts)
     requires due { IsSealable zone.old.log }
     requires within { IsJournalWithin zone.old }
     requires none { posts.old ≡ [] }
-    ensures zone { zone.new ≡ rows.sealed_by zone.old }
+    ensures zone { zone.new ≡ rules.sealed_by zone.old }
     ensures posts { posts.new
-        ≡ (id.Device, Block (rows.next_block zone.old Cover zone.old.filling))
-        ∷ rows.all_again zone.old.waiting }
+        ≡ (id.Device, Block (rules.next_block zone.old Cover zone.old.filling))
+        ∷ rules.all_again zone.old.waiting }
 {
     let sealed = zone.seal(block);
     posts.first(ZoneId::Device, Item::Block(sealed));
@@ -154,7 +154,7 @@ pub(crate) fn hear_stop(sizes: &Sizes, zone: &mut JournalZone, posts: &mut Posts
     requires none { posts.old ≡ [] }
     ensures zone { zone.new ≡ record zone.old { notified = true; waiting = [] } }
     ensures posts { posts.new
-        ≡ (id.Desk, StopNotice) ∷ rows.all_refused sizes.now Stopped zone.old.waiting }
+        ≡ (id.Desk, StopNotice) ∷ rules.all_refused sizes.now Stopped zone.old.waiting }
 {
     zone.hear_stop();
     posts.first(ZoneId::Desk, Item::StopNotice);

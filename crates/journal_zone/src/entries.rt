@@ -1,6 +1,6 @@
 ghost use Rattle.std.specs.Prelude.{◌≡◌, [], ◌∷◌, true, false};
 ghost use Rattle.blk_base.specs.declared.place.ZoneId.TheVariants as id;
-ghost use Rattle.core_model.specs.JournalRules as rows;
+ghost use Rattle.core_model.specs.JournalRules as rules;
 ghost use Rattle.core_model.specs.JournalRules.{JournalServes};
 ghost use Rattle.core_model.specs.Limits.{IsJournalWithin};
 ghost use Rattle.core_model.specs.Trace.{Trace};
@@ -20,7 +20,7 @@ fn go_round(zone: &mut JournalZone, posts: &mut Posts)
     requires none { posts.old ≡ [] }
     ensures busy { zone.old.busy ≡ true → (zone.new ≡ zone.old) × (posts.new ≡ []) }
     ensures idle { zone.old.busy ≡ false → (zone.new ≡ record zone.old { busy = true })
-        × (posts.new ≡ (id.Journal, Block (rows.next_block zone.old Commit [])) ∷ []) }
+        × (posts.new ≡ (id.Journal, Block (rules.next_block zone.old Commit [])) ∷ []) }
 {
     if zone.is_busy() {
         return;
@@ -32,8 +32,8 @@ fn go_round(zone: &mut JournalZone, posts: &mut Posts)
 // An entry is handed in, or waits for the next block.
 fn hand_in(sizes: &Sizes, zone: &mut JournalZone, vio: BoxedVio, posts: &mut Posts)
     requires phase { vio.phase ≡ Enter }
-    requires opened { rows.is_closed zone.old ≡ false }
-    requires block { rows.has_block zone.old ≡ true }
+    requires opened { rules.is_closed zone.old ≡ false }
+    requires block { rules.has_block zone.old ≡ true }
     requires within { IsJournalWithin zone.old }
     requires none { posts.old ≡ [] }
     ensures { (made : Trace) × JournalServes sizes.now zone.old vio zone.new made posts.new }

@@ -1,5 +1,5 @@
 ghost use Rattle.std.specs.Prelude.{◌≡◌, ◌+◌, ◌<◌, ◌≤◌, [], ◌∷◌, ◌++◌, length};
-ghost use Rattle.core_model.specs.JournalRules as rows;
+ghost use Rattle.core_model.specs.JournalRules as rules;
 ghost use Rattle.step_parts.specs.ZoneSizes.{HasPhysical};
 ghost use Rattle.journal_zone.specs.Refusals.{answer_for};
 
@@ -29,7 +29,7 @@ fn answered(refusal: Refusal) -> Answer
 pub(crate) fn refuse(sizes: &Sizes, refusal: Refusal, vio: BoxedVio, posts: &mut Posts)
     requires physical { HasPhysical sizes.now }
     requires room { length posts.old < POST_ROOM }
-    ensures { posts.new ≡ posts.old ++ rows.refused sizes.now (answer_for refusal) vio ∷ [] }
+    ensures { posts.new ≡ posts.old ++ rules.refused sizes.now (answer_for refusal) vio ∷ [] }
 {
     let to = counts_of(sizes, vio.get());
     let refused = vio.end(Phase::AbortClaim, answered(refusal));
@@ -42,7 +42,7 @@ pub(crate) fn refuse_waiting(sizes: &Sizes, zone: &mut JournalZone, posts: &mut 
     requires room { length posts.old + length zone.old.waiting ≤ POST_ROOM }
     ensures zone { zone.new ≡ record zone.old { waiting = [] } }
     ensures posts { posts.new
-        ≡ posts.old ++ rows.all_refused sizes.now (answer_for Refusal.Stopped) zone.old.waiting }
+        ≡ posts.old ++ rules.all_refused sizes.now (answer_for Refusal.Stopped) zone.old.waiting }
 {
     while let Some(vio) = zone.pop_waiting() {
         refuse(sizes, Refusal::Stopped, vio, posts);
@@ -53,7 +53,7 @@ pub(crate) fn refuse_waiting(sizes: &Sizes, zone: &mut JournalZone, posts: &mut 
 pub(crate) fn send_again(zone: &mut JournalZone, posts: &mut Posts)
     requires { length posts.old + length zone.old.waiting ≤ POST_ROOM }
     ensures zone { zone.new ≡ record zone.old { waiting = [] } }
-    ensures posts { posts.new ≡ posts.old ++ rows.all_again zone.old.waiting }
+    ensures posts { posts.new ≡ posts.old ++ rules.all_again zone.old.waiting }
 {
     while let Some(vio) = zone.pop_waiting() {
         posts.push(ZoneId::Journal, Item::Request(vio));

@@ -1,2 +1,2 @@
 mod LockLaws
-mod CallLaws
+mod OperationLaws

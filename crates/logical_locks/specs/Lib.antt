@@ -1,2 +1,2 @@
 pub mod Holders
-pub mod Calls
+pub mod Operations

@@ -10,7 +10,7 @@ use Rattle.blk_base.specs.declared.place.Mapping.TheVariants.{Unmapped}
 use Rattle.blk_base.specs.declared.place.PageId.{PageId}
 use Rattle.blk_base.specs.declared.sizes.TheConstants.{TREES}
 use Rattle.block_map_tree.proofs.PageLaws.{above_inner}
-use Rattle.block_map_tree.specs.Opening.{IsListed, IsOpening}
+use Rattle.block_map_tree.specs.OpenedTree.{IsListed, IsOpening}
 use Rattle.block_map_tree.specs.Pages.{IsForest, IsInner, IsLower, IsTreeOf}
 use Rattle.block_map_tree.specs.Tree.{Tree, mapping_of, mappings_of}
 use Rattle.block_map_tree.specs.declared.forms.Forest.{Forest}

@@ -8,7 +8,7 @@ mod dispatch;
 mod pages;
 mod reports;
 mod requests;
-mod settling;
+mod slot_changes;
 mod start;
 mod trees;
 mod waiters;

@@ -2,7 +2,7 @@ ghost use Rattle.std.specs.Prelude.{◌≡◌, ◌+◌, ◌-◌, ◌≤◌, ◌^
 ghost use Rattle.blk_base.specs.declared.place.Mapping.TheVariants.{At};
 ghost use Rattle.data_vio.specs.declared.items.Phase.TheVariants as phase;
 ghost use Rattle.core_model.specs.Limits.{IsLogicalWithin};
-ghost use Rattle.core_model.specs.LogicalRules as rows;
+ghost use Rattle.core_model.specs.LogicalRules as rules;
 ghost use Rattle.core_model.specs.PageTrees.{HasPath};
 ghost use Rattle.core_model.specs.Trace.{Aborts, Sets};
 ghost use Rattle.data_vio.specs.Vios as vios;
@@ -18,7 +18,7 @@ use step_parts::{Posts, counts_of};
 /// The highest page that a write lacks; nothing else needs its leaf.
 pub(crate) fn lacks(zone: &LogicalZone, vio: &BoxedVio) -> Option<PageId>
     requires { HasPath zone.now.tree vio.now.at.0 }
-    ensures { result ≡ rows.lacks zone.now vio.now }
+    ensures { result ≡ rules.lacks zone.now vio.now }
 {
     match vio.get().asks {
         Asks::Write => zone.missing(vio.get().at),
@@ -36,11 +36,11 @@ pub(crate) fn make(
 )
     requires phase { vio.phase ≡ phase.Look }
     requires path { HasPath zone.old.tree vio.at.0 }
-    requires lacks { rows.lacks zone.old vio ≡ Some page }
+    requires lacks { rules.lacks zone.old vio ≡ Some page }
     requires physical { HasPhysical sizes.now }
     requires within { IsLogicalWithin (2 ^ 64 - 2) zone.old }
     requires none { posts.old ≡ [] }
-    ensures { rows.LogicalServes sizes.now zone.old vio zone.new [] posts.new }
+    ensures { rules.LogicalServes sizes.now zone.old vio zone.new [] posts.new }
 {
     if zone.is_unlinkable(page) {
         let at = vio.get().at;
@@ -60,7 +60,7 @@ pub(crate) fn make(
 fn wake(zone: &mut LogicalZone, posts: &mut Posts)
     requires { length posts.old + length zone.old.lacking ≤ POST_ROOM }
     ensures zone { zone.new ≡ record zone.old { lacking = [] } }
-    ensures posts { posts.new ≡ posts.old ++ rows.all_again zone.old.lacking }
+    ensures posts { posts.new ≡ posts.old ++ rules.all_again zone.old.lacking }
 {
     while let Some(vio) = zone.next_lacking() {
         let home = vio.get().home;
@@ -93,7 +93,7 @@ pub(crate) fn link(
     requires can { CanSettle zone.old (Some page) vio.new }
     requires within { IsLogicalWithin (2 ^ 64 - 2) zone.old }
     requires none { posts.old ≡ [] }
-    ensures { rows.LogicalServes sizes.now zone.old vio zone.new
+    ensures { rules.LogicalServes sizes.now zone.old vio zone.new
         (Sets (vios.logged vio) ∷ []) posts.new }
 {
     let at = new_block(vio.get().new);
@@ -115,7 +115,7 @@ pub(crate) fn unmake(
     requires page { vio.page ≡ Some page }
     requires within { IsLogicalWithin (2 ^ 64 - 2) zone.old }
     requires none { posts.old ≡ [] }
-    ensures { rows.LogicalServes sizes.now zone.old vio zone.new [] posts.new }
+    ensures { rules.LogicalServes sizes.now zone.old vio zone.new [] posts.new }
 {
     let at = vio.get().at;
     posts.first(ZoneId::Desk, Item::Request(vio.give_up()));
@@ -137,7 +137,7 @@ pub(crate) fn drop_page(
     requires page { vio.page ≡ Some page }
     requires within { IsLogicalWithin (2 ^ 64 - 2) zone.old }
     requires none { posts.old ≡ [] }
-    ensures { rows.LogicalServes sizes.now zone.old vio zone.new
+    ensures { rules.LogicalServes sizes.now zone.old vio zone.new
         (Aborts (vios.logged vio) ∷ []) posts.new }
 {
     let at = vio.get().at;

@@ -1,9 +1,9 @@
 ghost use Rattle.std.specs.Prelude.{◌≡◌, ◌-◌, ◌^◌, []};
 ghost use Rattle.core_model.specs.Limits.{IsLogicalWithin};
-ghost use Rattle.core_model.specs.LogicalRules as rows;
+ghost use Rattle.core_model.specs.LogicalRules as rules;
 ghost use Rattle.core_model.specs.Trace.{Trace};
 
-use crate::settling::set_slot;
+use crate::slot_changes::set_slot;
 use core_model::LogicalZone;
 use data_vio::{Remapping, Sizes};
 use step_parts::Posts;
@@ -17,7 +17,7 @@ pub(crate) fn hear_report(
 )
     requires within { IsLogicalWithin (2 ^ 64 - 2) zone.old }
     requires none { posts.old ≡ [] }
-    ensures { (made : Trace) × rows.LogicalHears sizes.now zone.old entry zone.new made posts.new }
+    ensures { (made : Trace) × rules.LogicalHears sizes.now zone.old entry zone.new made posts.new }
 {
     match zone.take_settling(entry.request) {
         Some(vio) => set_slot(zone, vio, posts),

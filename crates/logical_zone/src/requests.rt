@@ -3,7 +3,7 @@ ghost use Rattle.blk_base.specs.declared.place.ZoneId.TheVariants as id;
 ghost use Rattle.data_vio.specs.declared.items.Item.TheVariants as item;
 ghost use Rattle.data_vio.specs.declared.items.Phase.TheVariants as phase;
 ghost use Rattle.core_model.specs.Limits.{IsLogicalWithin};
-ghost use Rattle.core_model.specs.LogicalRules as rows;
+ghost use Rattle.core_model.specs.LogicalRules as rules;
 ghost use Rattle.core_model.specs.PageTrees.{HasPath};
 ghost use Rattle.core_model.specs.Trace.{Trace, Aborts, Draws, Gives, Passes};
 ghost use Rattle.data_vio.specs.Vios as vios;
@@ -11,7 +11,7 @@ ghost use Rattle.step_parts.specs.ZoneSizes.{HasPhysical};
 ghost use Rattle.logical_zone.specs.Served.{CanServe, GoesOn, GoesWithAll};
 
 use crate::pages::{drop_page, lacks, make, unmake};
-use crate::settling::settle;
+use crate::slot_changes::settle;
 use crate::waiters::stop_all;
 use blk_base::{Answer, Block, Lba, Mapping, ZoneId};
 use core_model::LogicalZone;
@@ -21,7 +21,7 @@ use step_parts::{Posts, counts_of};
 
 // Where a read goes that knows what is mapped at its address: it reads the mapped block, or is given zeros.
 fn read_next(vio: BoxedVio, mapping: Mapping) -> (ZoneId, Item)
-    ensures { result ≡ rows.read_next vio mapping }
+    ensures { result ≡ rules.read_next vio mapping }
 {
     match mapping {
         Mapping::At(_) => {
@@ -38,7 +38,7 @@ fn read_next(vio: BoxedVio, mapping: Mapping) -> (ZoneId, Item)
 
 // One that needs no block hands in its entry.
 fn enter_with(vio: BoxedVio, new: Mapping) -> (ZoneId, Item)
-    ensures { result ≡ rows.enters_with new vio }
+    ensures { result ≡ rules.enters_with new vio }
 {
     let enters = vio.map_to(Phase::Enter, new);
     (ZoneId::Journal, Item::Request(enters))
@@ -46,7 +46,7 @@ fn enter_with(vio: BoxedVio, new: Mapping) -> (ZoneId, Item)
 
 // Whether a block has zeros alone.
 fn are_zeros(bytes: &Block) -> bool
-    ensures { result ≡ rows.are_zeros bytes.now }
+    ensures { result ≡ rules.are_zeros bytes.now }
 {
     is_zero(bytes)
 }
@@ -54,7 +54,7 @@ fn are_zeros(bytes: &Block) -> bool
 // Where a write goes that knows it: it takes a block, but for one of zeros.
 fn write_next(sizes: &Sizes, vio: BoxedVio) -> (ZoneId, Item)
     requires { HasPhysical sizes.now }
-    ensures { result ≡ rows.write_next sizes.now vio }
+    ensures { result ≡ rules.write_next sizes.now vio }
 {
     if are_zeros(&vio.get().bytes) {
         enter_with(vio, Mapping::Zero)
@@ -68,7 +68,7 @@ fn write_next(sizes: &Sizes, vio: BoxedVio) -> (ZoneId, Item)
 // Where a request goes that knows what is mapped at its address; a flush takes no lock.
 fn goes_on(sizes: &Sizes, vio: BoxedVio) -> Option<(ZoneId, Item)>
     requires { HasPhysical sizes.now }
-    ensures { result ≡ rows.goes_on sizes.now vio }
+    ensures { result ≡ rules.goes_on sizes.now vio }
 {
     let asks = vio.get().asks;
     let mapping = vio.get().old;
@@ -84,7 +84,7 @@ fn goes_on(sizes: &Sizes, vio: BoxedVio) -> Option<(ZoneId, Item)>
 // its leaf has to say it.
 fn known(zone: &LogicalZone, at: Lba) -> Option<Mapping>
     requires { HasPath zone.now.tree at.0 }
-    ensures { result ≡ rows.known_at zone.now at.0 }
+    ensures { result ≡ rules.known_at zone.now at.0 }
 {
     match zone.latest(at) {
         Some(write) => Some(write.new),
@@ -98,7 +98,7 @@ fn known(zone: &LogicalZone, at: Lba) -> Option<Mapping>
 // Whether a discard passes: no slot of its address was set, and it lacks a page of its path.
 fn passes(zone: &LogicalZone, vio: &BoxedVio) -> bool
     requires { HasPath zone.now.tree vio.now.at.0 }
-    ensures { result ≡ rows.passes_by zone.now vio.now }
+    ensures { result ≡ rules.passes_by zone.now vio.now }
 {
     let at = vio.get().at;
     is_discard(vio.get().asks) && zone.latest(at).is_none() && zone.missing(at).is_some()
@@ -106,14 +106,14 @@ fn passes(zone: &LogicalZone, vio: &BoxedVio) -> bool
 
 // Whether it is a discard.
 fn is_discard(asks: Asks) -> bool
-    ensures { result ≡ rows.is_discard asks }
+    ensures { result ≡ rules.is_discard asks }
 {
     matches!(asks, Asks::Discard)
 }
 
 // Whoever gets the lock of an address looks up what is mapped there.
 fn look_up(vio: BoxedVio) -> (ZoneId, Item)
-    ensures { result ≡ rows.looks_up vio }
+    ensures { result ≡ rules.looks_up vio }
 {
     let home = vio.get().home;
     let looks = vio.turn(Phase::Look);
@@ -123,8 +123,8 @@ fn look_up(vio: BoxedVio) -> (ZoneId, Item)
 /// The lock of an address goes to the first that waits for it, or is released.
 pub(crate) fn release(zone: &mut LogicalZone, at: Lba, posts: &mut Posts)
     requires { length posts.old ≤ 1 }
-    ensures zone { zone.new ≡ rows.released at.0 zone.old }
-    ensures posts { posts.new ≡ posts.old ++ rows.granted at.0 zone.old }
+    ensures zone { zone.new ≡ rules.released at.0 zone.old }
+    ensures posts { posts.new ≡ posts.old ++ rules.granted at.0 zone.old }
 {
     if let Some(vio) = zone.release(at) {
         let (to, item) = look_up(vio);
@@ -137,8 +137,8 @@ fn arrive(sizes: &Sizes, zone: &mut LogicalZone, vio: BoxedVio, posts: &mut Post
     requires phase { vio.phase ≡ phase.Arrive }
     requires within { IsLogicalWithin (2 ^ 64 - 2) zone.old }
     requires none { posts.old ≡ [] }
-    ensures { rows.LogicalServes sizes.now zone.old vio zone.new
-        (Draws (rows.place_of_vio zone.old vio) ∷ []) posts.new }
+    ensures { rules.LogicalServes sizes.now zone.old vio zone.new
+        (Draws (rules.place_of_vio zone.old vio) ∷ []) posts.new }
 {
     if zone.is_retired(vio.get().at) {
         let stopped = zone.draw(vio).end(Phase::Reply, Answer::Stopped);
@@ -153,13 +153,13 @@ fn arrive(sizes: &Sizes, zone: &mut LogicalZone, vio: BoxedVio, posts: &mut Post
 fn go_on(sizes: &Sizes, zone: &LogicalZone, vio: BoxedVio, mapping: Mapping, posts: &mut Posts)
     requires phase { vio.phase ≡ phase.Look }
     requires path { HasPath zone.now.tree vio.at.0 }
-    requires stays { rows.passes_by zone.now vio ≡ false }
-    requires leaf { rows.lacks zone.now vio ≡ None }
-    requires knows { rows.known_at zone.now vio.at.0 ≡ Some mapping }
-    requires goes { GoesOn sizes.now (rows.looked zone.now mapping vio) }
+    requires stays { rules.passes_by zone.now vio ≡ false }
+    requires leaf { rules.lacks zone.now vio ≡ None }
+    requires knows { rules.known_at zone.now vio.at.0 ≡ Some mapping }
+    requires goes { GoesOn sizes.now (rules.looked zone.now mapping vio) }
     requires physical { HasPhysical sizes.now }
     requires none { posts.old ≡ [] }
-    ensures { rows.LogicalServes sizes.now zone.now vio zone.now [] posts.new }
+    ensures { rules.LogicalServes sizes.now zone.now vio zone.now [] posts.new }
 {
     let latest = zone.latest(vio.get().at);
     let Some((to, item)) = goes_on(sizes, vio.look(mapping, latest)) else {
@@ -172,11 +172,11 @@ fn go_on(sizes: &Sizes, zone: &LogicalZone, vio: BoxedVio, mapping: Mapping, pos
 fn read_leaf(sizes: &Sizes, zone: &LogicalZone, vio: BoxedVio, posts: &mut Posts)
     requires phase { vio.phase ≡ phase.Look }
     requires path { HasPath zone.now.tree vio.at.0 }
-    requires stays { rows.passes_by zone.now vio ≡ false }
-    requires leaf { rows.lacks zone.now vio ≡ None }
-    requires unknown { rows.known_at zone.now vio.at.0 ≡ None }
+    requires stays { rules.passes_by zone.now vio ≡ false }
+    requires leaf { rules.lacks zone.now vio ≡ None }
+    requires unknown { rules.known_at zone.now vio.at.0 ≡ None }
     requires none { posts.old ≡ [] }
-    ensures { rows.LogicalServes sizes.now zone.now vio zone.now [] posts.new }
+    ensures { rules.LogicalServes sizes.now zone.now vio zone.now [] posts.new }
 {
     let Some(leaf) = zone.leaf(vio.get().at) else {
         unreachable!();
@@ -188,12 +188,12 @@ fn read_leaf(sizes: &Sizes, zone: &LogicalZone, vio: BoxedVio, posts: &mut Posts
 fn find(sizes: &Sizes, zone: &LogicalZone, vio: BoxedVio, posts: &mut Posts)
     requires phase { vio.phase ≡ phase.Look }
     requires path { HasPath zone.now.tree vio.at.0 }
-    requires stays { rows.passes_by zone.now vio ≡ false }
-    requires leaf { rows.lacks zone.now vio ≡ None }
+    requires stays { rules.passes_by zone.now vio ≡ false }
+    requires leaf { rules.lacks zone.now vio ≡ None }
     requires goes { GoesWithAll sizes.now zone.now vio }
     requires physical { HasPhysical sizes.now }
     requires none { posts.old ≡ [] }
-    ensures { rows.LogicalServes sizes.now zone.now vio zone.now [] posts.new }
+    ensures { rules.LogicalServes sizes.now zone.now vio zone.now [] posts.new }
 {
     let at = vio.get().at;
     match known(zone, at) {
@@ -208,7 +208,7 @@ fn go_on_leafed(sizes: &Sizes, zone: &LogicalZone, vio: BoxedVio, posts: &mut Po
     requires goes { GoesOn sizes.now vio }
     requires physical { HasPhysical sizes.now }
     requires none { posts.old ≡ [] }
-    ensures { rows.LogicalServes sizes.now zone.now vio zone.now [] posts.new }
+    ensures { rules.LogicalServes sizes.now zone.now vio zone.now [] posts.new }
 {
     let Some((to, item)) = goes_on(sizes, vio) else {
         unreachable!();
@@ -220,10 +220,10 @@ fn go_on_leafed(sizes: &Sizes, zone: &LogicalZone, vio: BoxedVio, posts: &mut Po
 fn pass(sizes: &Sizes, zone: &mut LogicalZone, vio: BoxedVio, posts: &mut Posts)
     requires phase { vio.phase ≡ phase.Look }
     requires path { HasPath zone.old.tree vio.at.0 }
-    requires passes { rows.passes_by zone.old vio ≡ true }
+    requires passes { rules.passes_by zone.old vio ≡ true }
     requires none { posts.old ≡ [] }
-    ensures { rows.LogicalServes sizes.now zone.old vio zone.new
-        (Passes (rows.pass_of vio) ∷ []) posts.new }
+    ensures { rules.LogicalServes sizes.now zone.old vio zone.new
+        (Passes (rules.pass_of vio) ∷ []) posts.new }
 {
     let at = vio.get().at;
     posts.first(
@@ -240,7 +240,7 @@ fn look_on(sizes: &Sizes, zone: &mut LogicalZone, vio: BoxedVio, posts: &mut Pos
     requires physical { HasPhysical sizes.now }
     requires within { IsLogicalWithin (2 ^ 64 - 2) zone.old }
     requires none { posts.old ≡ [] }
-    ensures { (made : Trace) × rows.LogicalServes sizes.now zone.old vio zone.new made posts.new }
+    ensures { (made : Trace) × rules.LogicalServes sizes.now zone.old vio zone.new made posts.new }
 {
     if passes(zone, &vio) {
         pass(sizes, zone, vio, posts);
@@ -256,7 +256,7 @@ fn give(sizes: &Sizes, zone: &mut LogicalZone, vio: BoxedVio, posts: &mut Posts)
     requires phase { vio.phase ≡ phase.Loaded }
     requires within { IsLogicalWithin (2 ^ 64 - 2) zone.old }
     requires none { posts.old ≡ [] }
-    ensures { rows.LogicalServes sizes.now zone.old vio zone.new
+    ensures { rules.LogicalServes sizes.now zone.old vio zone.new
         (Gives (vios.gift vio) ∷ []) posts.new }
 {
     let at = vio.get().at;
@@ -269,7 +269,7 @@ fn abort(sizes: &Sizes, zone: &mut LogicalZone, vio: BoxedVio, posts: &mut Posts
     requires phase { vio.phase ≡ phase.Abort }
     requires within { IsLogicalWithin (2 ^ 64 - 2) zone.old }
     requires none { posts.old ≡ [] }
-    ensures { rows.LogicalServes sizes.now zone.old vio zone.new [] posts.new }
+    ensures { rules.LogicalServes sizes.now zone.old vio zone.new [] posts.new }
 {
     if let Some(page) = vio.get().page {
         unmake(sizes, zone, vio, page, posts);
@@ -285,7 +285,7 @@ fn abort_entered(sizes: &Sizes, zone: &mut LogicalZone, vio: BoxedVio, posts: &m
     requires phase { vio.phase ≡ phase.AbortEntered }
     requires within { IsLogicalWithin (2 ^ 64 - 2) zone.old }
     requires none { posts.old ≡ [] }
-    ensures { rows.LogicalServes sizes.now zone.old vio zone.new
+    ensures { rules.LogicalServes sizes.now zone.old vio zone.new
         (Aborts (vios.logged vio) ∷ []) posts.new }
 {
     if let Some(page) = vio.get().page {
@@ -304,7 +304,7 @@ pub(crate) fn serve_logical(sizes: &Sizes, zone: &mut LogicalZone, vio: BoxedVio
     requires can { CanServe sizes.now zone.old vio vio.phase }
     requires physical { HasPhysical sizes.now }
     requires none { posts.old ≡ [] }
-    ensures { (made : Trace) × rows.LogicalServes sizes.now zone.old vio zone.new made posts.new }
+    ensures { (made : Trace) × rules.LogicalServes sizes.now zone.old vio zone.new made posts.new }
 {
     let phase = vio.get().phase;
     match phase {

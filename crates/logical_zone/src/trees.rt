@@ -1,6 +1,6 @@
 ghost use Rattle.std.specs.Prelude.{◌<◌, ◌≤◌, [], IfOk};
 ghost use Rattle.blk_base.specs.Limits.{IsGeometry};
-ghost use Rattle.block_map_tree.specs.Opening.{IsOpened, all_trees};
+ghost use Rattle.block_map_tree.specs.OpenedTree.{IsOpened, all_trees};
 ghost use Rattle.core_model.specs.PageLinks.{opened_page};
 ghost use Rattle.core_model.specs.PageTrees.{IsMapTree};
 ghost use Rattle.core_model.specs.SessionLimits.{most_zones};

@@ -1,5 +1,5 @@
 ghost use Rattle.std.specs.Prelude.{◌≡◌, ◌+◌, ◌≤◌, ◌++◌, length};
-ghost use Rattle.core_model.specs.LogicalRules as rows;
+ghost use Rattle.core_model.specs.LogicalRules as rules;
 
 use blk_base::{Answer, Lba, ZoneId};
 use core_model::LogicalZone;
@@ -11,8 +11,8 @@ pub(crate) fn stop_all(zone: &mut LogicalZone, at: Lba, posts: &mut Posts)
     requires { length posts.old + length zone.old.waiting ≤ POST_ROOM }
     ensures zone { zone.new
         ≡ record zone.old
-        { held = rows.without at.0 zone.old.held; waiting = rows.none_for at.0 zone.old.waiting } }
-    ensures posts { posts.new ≡ posts.old ++ rows.all_stopped (rows.all_for at.0 zone.old.waiting) }
+        { held = rules.without at.0 zone.old.held; waiting = rules.none_for at.0 zone.old.waiting } }
+    ensures posts { posts.new ≡ posts.old ++ rules.all_stopped (rules.all_for at.0 zone.old.waiting) }
 {
     while let Some(vio) = zone.release(at) {
         let stopped = vio.end(Phase::Reply, Answer::Stopped);

@@ -11,9 +11,9 @@ use Rattle.blk_base.specs.declared.geometry.Geometry.{Geometry}
 use Rattle.page_codec.specs.declared.forms.MapPage.{MapPage}
 use Rattle.page_codec.specs.Grammar.{HoldsMapping}
 use Rattle.page_codec.proofs.HeldLaws.{held-set}
-use Rattle.dirty_pages.specs.declared.marks.Marks.{Marks}
-use Rattle.dirty_pages.specs.Marks.{IsBeingWritten, clean, marks_at, with_marks, clean_of}
-use Rattle.dirty_pages.proofs.MarkLaws.{changed_elsewhere}
+use Rattle.dirty_pages.specs.declared.dirty_points.DirtyPoints.{DirtyPoints}
+use Rattle.dirty_pages.specs.DirtyPoints.{IsBeingWritten, clean, dirty_points_at, with_dirty_points, clean_of}
+use Rattle.dirty_pages.proofs.DirtyPointLaws.{changed_elsewhere}
 use Rattle.dirty_pages.proofs.PageLists.{replicate_at}
 use Rattle.map_page_cache.specs.Index.{Index, HasSlot}
 use Rattle.map_page_cache.specs.CachedPages.{CachedPages, IsCache, IsPageOf, IsThere, IsIn, IsWriting, HasNoFrame, with_mapping}
@@ -42,33 +42,33 @@ content_at cache page frame at =
     let content = get_or cache.pages frame d in
     (content, at_in cache page frame content at (sym (get_or_default cache.pages frame content d at.inside)))
 
--- a page whose marks have a point of its write
-pub being_written : (cache : CachedPages) (page : PageId) (frame : ℕ) → IsAt cache.pages page frame → IsBeingWritten (marks_at cache.marks frame) → IsWriting cache page
+-- a page whose dirty points have a point of its write
+pub being_written : (cache : CachedPages) (page : PageId) (frame : ℕ) → IsAt cache.pages page frame → IsBeingWritten (dirty_points_at cache.dirty_points frame) → IsWriting cache page
 being_written cache page frame at out =
     let found = content_at cache page frame at in
-    record { frame = frame; content = found.0; stands = found.1; marks = out }
+    record { frame = frame; content = found.0; stands = found.1; dirty_points = out }
 
 -- a page without a frame isn't there
 pub no_slot_absent : (index : Index) (frames : ℕ) (pages : List MapPage) (page : PageId) → Follows index frames pages
     → ((frame : ℕ) → HasSlot index page frame → ⊥) → All (λ content. content.head.page ≢ page) pages
 no_slot_absent index frames pages page follows none = none_absent pages page (λ k at. none k (follows.all page k at))
 
--- other marks, none of them of an empty frame
-pub form-marks : (cache : CachedPages) (marks : List Marks) → IsCache cache → length marks ≡ length cache.marks
-    → ((frame : ℕ) → length cache.pages ≤ frame → marks_at marks frame ≡ marks_at cache.marks frame) → IsCache (record cache { marks = marks })
-form-marks cache marks form size same = record {
+-- other dirty points, none of them of an empty frame
+pub form-dirty_points : (cache : CachedPages) (dirty_points : List DirtyPoints) → IsCache cache → length dirty_points ≡ length cache.dirty_points
+    → ((frame : ℕ) → length cache.pages ≤ frame → dirty_points_at dirty_points frame ≡ dirty_points_at cache.dirty_points frame) → IsCache (record cache { dirty_points = dirty_points })
+form-dirty_points cache dirty_points form size same = record {
   fits = form.fits;
-  marks = size ∙ form.marks;
+  dirty_points = size ∙ form.dirty_points;
   each = form.each;
   apart = form.apart;
   empty = λ frame past. same frame past ∙ form.empty frame past;
 }
 
-pub form-change : (cache : CachedPages) (frame : ℕ) (change : Marks → Marks) → IsCache cache → frame < length cache.pages
-    → IsCache (record cache { marks = with_marks cache.marks frame change })
+pub form-change : (cache : CachedPages) (frame : ℕ) (change : DirtyPoints → DirtyPoints) → IsCache cache → frame < length cache.pages
+    → IsCache (record cache { dirty_points = with_dirty_points cache.dirty_points frame change })
 form-change cache frame change form inside =
-    form-marks cache (with_marks cache.marks frame change) form (length-set cache.marks frame (change (marks_at cache.marks frame)))
-    (λ other past. changed_elsewhere cache.marks frame other change (omega arith))
+    form-dirty_points cache (with_dirty_points cache.dirty_points frame change) form (length-set cache.dirty_points frame (change (dirty_points_at cache.dirty_points frame)))
+    (λ other past. changed_elsewhere cache.dirty_points frame other change (omega arith))
 
 -- another page in a frame
 pub form-set : (cache : CachedPages) (frame : ℕ) (content : MapPage) → IsCache cache → frame < length cache.pages → IsPageOf cache.geometry content
@@ -78,7 +78,7 @@ form-set cache frame content form inside held differs =
     let fits = form.fits in
     record {
       fits = omega arith;
-      marks = form.marks;
+      dirty_points = form.dirty_points;
       each = All-set (IsPageOf cache.geometry) cache.pages frame content held form.each;
       apart = apart-change cache.pages (set cache.pages frame content) frame content.head.page form.apart (λ page k at. set_at cache.pages frame k content page inside at) differs;
       empty = λ other past. form.empty other (omega arith);
@@ -91,7 +91,7 @@ form-push cache content form room held absent =
     let size = length-append cache.pages (content ∷ []) in
     record {
       fits = omega arith;
-      marks = form.marks;
+      dirty_points = form.dirty_points;
       each = All-push (IsPageOf cache.geometry) cache.pages content form.each held;
       apart = apart-change cache.pages (cache.pages ++ content ∷ []) (length cache.pages) content.head.page form.apart (λ page k at. push_at cache.pages k content page at)
           (λ k other at. absent_at cache.pages content.head.page absent k at);
@@ -115,19 +115,19 @@ form-entry cache page frame slot mapping content form stood holds =
     (λ k other at. other (one_frame cache.pages page k frame form.apart (subst (λ (p : PageId). IsAt cache.pages p k) stood.named at) (in_at cache page frame content stood)))
 
 -- a cache without a page
-pub opened_form : (g : Geometry) (frames : ℕ) (pages : List MapPage) (marks : List Marks) (turns : Turns) → pages ≡ [] → marks ≡ replicate frames clean
-    → IsCache (record { geometry = g; frames = frames; pages = pages; marks = marks; turns = turns })
-opened_form g frames pages marks turns none are_clean = rw (none, are_clean) (record {
+pub opened_form : (g : Geometry) (frames : ℕ) (pages : List MapPage) (dirty_points : List DirtyPoints) (turns : Turns) → pages ≡ [] → dirty_points ≡ replicate frames clean
+    → IsCache (record { geometry = g; frames = frames; pages = pages; dirty_points = dirty_points; turns = turns })
+opened_form g frames pages dirty_points turns none are_clean = rw (none, are_clean) (record {
   fits = omega arith;
-  marks = length-replicate frames clean;
+  dirty_points = length-replicate frames clean;
   each = All-nil (IsPageOf g);
   apart = λ j k d below other same. absurd (omega arith);
   empty = λ frame past. replicate_at frames frame clean;
 })
 
 -- the flags of the frames with clean pages: there are none at first
-pub no_flags : (turns : Turns) (frames count : ℕ) (marks : List Marks) → turns ≡ no_turns frames → count ≡ 0 → AreFlags (flags_of turns) frames count marks
-no_flags turns frames count marks is none =
+pub no_flags : (turns : Turns) (frames count : ℕ) (dirty_points : List DirtyPoints) → turns ≡ no_turns frames → count ≡ 0 → AreFlags (flags_of turns) frames count dirty_points
+no_flags turns frames count dirty_points is none =
     let flags : flags_of turns ≡ map (λ (o : Option ℕ). is_some o) (replicate frames None) = ap (λ (t : Turns). flags_of t) is in
     record {
       size = ap (λ (fs : List Bool). length fs) flags ∙ length-map (replicate frames None) (λ (o : Option ℕ). is_some o) ∙ length-replicate frames None;
@@ -137,7 +137,7 @@ no_flags turns frames count marks is none =
     }
 
 -- where no frame is empty or has a clean page, there is none for another page
-pub no_frame : (cache : CachedPages) → IsCache cache → AreFlags (flags_of cache.turns) cache.frames (length cache.pages) cache.marks → cache.frames ≤ length cache.pages
+pub no_frame : (cache : CachedPages) → IsCache cache → AreFlags (flags_of cache.turns) cache.frames (length cache.pages) cache.dirty_points → cache.frames ≤ length cache.pages
     → NoneClean cache.turns → HasNoFrame cache
 no_frame cache form are full none = record {
   full = omega (arith, form.fits);
@@ -150,11 +150,11 @@ no_frame cache form are full none = record {
     true-false : true ≡ false → ⊥
     true-false is = cc
 
--- the flag of one frame is set as its marks are now, and those of the others stayed; no other frame has a page that had none
-pub flags-set : (flags flags' : List Bool) (frames count count' frame : ℕ) (flag : Bool) (marks marks' : List Marks) → AreFlags flags frames count marks → frame < frames
-    → frame < count' → count ≤ count' → ((other : ℕ) → other ≢ frame → other < count' → other < count) → flag ≡ clean_of (marks_at marks' frame)
-    → ((other : ℕ) → other ≢ frame → marks_at marks' other ≡ marks_at marks other) → flags' ≡ set flags frame flag → AreFlags flags' frames count' marks'
-flags-set flags flags' frames count count' frame flag marks marks' are inside below more few is same written =
+-- the flag of one frame is set as its dirty points are now, and those of the others stayed; no other frame has a page that had none
+pub flags-set : (flags flags' : List Bool) (frames count count' frame : ℕ) (flag : Bool) (dirty_points dirty_points' : List DirtyPoints) → AreFlags flags frames count dirty_points → frame < frames
+    → frame < count' → count ≤ count' → ((other : ℕ) → other ≢ frame → other < count' → other < count) → flag ≡ clean_of (dirty_points_at dirty_points' frame)
+    → ((other : ℕ) → other ≢ frame → dirty_points_at dirty_points' other ≡ dirty_points_at dirty_points other) → flags' ≡ set flags frame flag → AreFlags flags' frames count' dirty_points'
+flags-set flags flags' frames count count' frame flag dirty_points dirty_points' are inside below more few is same written =
     let size = are.size in
     rw written (record {
       size = length-set flags frame flag ∙ are.size;

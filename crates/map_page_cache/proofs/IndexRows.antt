@@ -5,12 +5,12 @@ use Rattle.std.specs.declared.cmp.Ordering.TheVariants.{Equal, Greater, Less}
 use Rattle.std.specs.List.{AllWithin}
 use Rattle.blk_base.specs.Pages.{page_order}
 use Rattle.blk_base.specs.declared.place.PageId.{PageId}
-use Rattle.dirty_pages.specs.Marks.{clean, marks_at, clean_of}
+use Rattle.dirty_pages.specs.DirtyPoints.{clean, dirty_points_at, clean_of}
 use Rattle.page_codec.specs.declared.forms.MapPage.{MapPage}
 use Rattle.map_page_cache.specs.Frames.{AreFlags, Follows, IsAt}
 use Rattle.map_page_cache.specs.Index.{Adds, AreInOrder, HasSlot, Index, IsGapFor, IsPlaceOf, Removes, no_entries}
 use Rattle.map_page_cache.specs.declared.index.IndexEntry.{IndexEntry}
-use Rattle.map_page_cache.proofs.CallRows.{dirty, leaf, page}
+use Rattle.map_page_cache.proofs.OperationRows.{dirty, leaf, page}
 
 abbrev entry : ℕ → ℕ → IndexEntry
 entry index slot = record { page = page index; slot = slot }
@@ -242,7 +242,7 @@ follows_without_one is = elim (of_two 0 0 0 0 (page 1) 1 (is.all (page 1) 1 is_a
 are_flags : AreFlags (true ∷ false ∷ false ∷ []) 3 2 (clean ∷ dirty ∷ clean ∷ [])
 are_flags = record { size = refl; here = λ frame below. at frame below; empty = λ frame past. behind frame past }
   where
-    at : (frame : ℕ) → frame < 2 → slice_index_or (true ∷ false ∷ false ∷ []) frame false ≡ clean_of (marks_at (clean ∷ dirty ∷ clean ∷ []) frame)
+    at : (frame : ℕ) → frame < 2 → slice_index_or (true ∷ false ∷ false ∷ []) frame false ≡ clean_of (dirty_points_at (clean ∷ dirty ∷ clean ∷ []) frame)
     at zero below = refl
     at (suc zero) below = refl
     at (suc (suc k)) below = absurd (omega (arith, below))

@@ -5,6 +5,6 @@ pub mod RunLaws
 pub mod StepLaws
 pub mod OneLaws
 pub mod Rows
-pub mod CallRows
+pub mod OperationRows
 pub mod IndexRows
 pub mod RunRows

@@ -6,11 +6,11 @@ use Rattle.std.proofs.lemmas.List.{get_or_default}
 use Rattle.blk_base.specs.declared.place.PageId.{PageId}
 use Rattle.blk_base.specs.declared.point.Point.{Point}
 use Rattle.page_codec.specs.declared.forms.MapPage.{MapPage}
-use Rattle.dirty_pages.specs.declared.marks.Marks.{Marks}
-use Rattle.dirty_pages.specs.Marks.{NoneIsDue, changed_at, clean_of, handed_out, marks_at, settled, with_marks}
-use Rattle.dirty_pages.proofs.MarkLaws.{one_is_handed_out, out_or_none}
+use Rattle.dirty_pages.specs.declared.dirty_points.DirtyPoints.{DirtyPoints}
+use Rattle.dirty_pages.specs.DirtyPoints.{NoneIsDue, changed_at, clean_of, handed_out, dirty_points_at, settled, with_dirty_points}
+use Rattle.dirty_pages.proofs.DirtyPointLaws.{one_is_handed_out, out_or_none}
 use Rattle.map_page_cache.specs.CachedPages.{CachedPages, Expires, Fills, GivesUp, HasNoFrame, IsCache, IsIn, with_mapping}
-use Rattle.map_page_cache.specs.Runs.{Call, HandOut, Install, Leads, Set, Write}
+use Rattle.map_page_cache.specs.Runs.{Operation, HandOut, Install, Leads, Set, Write}
 use Rattle.map_page_cache.specs.Turns.{IsLongestClean, Turns, with_turn}
 use Rattle.map_page_cache.proofs.CacheLaws.{in_at}
 use Rattle.map_page_cache.proofs.FrameLaws.{one_frame}
@@ -55,14 +55,14 @@ install_one old new other content (inr gives) (inr gives') =
 abbrev mapped : CachedPages → ℕ → Point → ℕ → MapPage → CachedPages
 mapped old slot point k content = record old {
   pages = set old.pages k content;
-  marks = with_marks old.marks k (changed_at point);
+  dirty_points = with_dirty_points old.dirty_points k (changed_at point);
   turns = with_turn k false old.turns;
 }
 
 abbrev settled_at : CachedPages → ℕ → CachedPages
-settled_at old k = record old { marks = with_marks old.marks k settled; turns = with_turn k (clean_of (settled (marks_at old.marks k))) old.turns }
+settled_at old k = record old { dirty_points = with_dirty_points old.dirty_points k settled; turns = with_turn k (clean_of (settled (dirty_points_at old.dirty_points k))) old.turns }
 
-pub call_one : (old new other : CachedPages) (call : Call) → IsCache old → Leads old call new → Leads old call other → new ≡ other
+pub call_one : (old new other : CachedPages) (call : Operation) → IsCache old → Leads old call new → Leads old call other → new ≡ other
 call_one old new other (Install content) form (absent, one) (absent', two) = install_one old new other content one two
 call_one old new other (Set page slot mapping point) form one two =
     let same = frame_one old page one.frame two.frame one.content two.content form one.stood two.stood in
@@ -71,8 +71,8 @@ call_one old new other (Set page slot mapping point) form one two =
     ∙ ap (λ (c : MapPage). mapped old slot point two.frame (with_mapping slot mapping c)) content ∙ sym two.after
 call_one old new other (HandOut page) form (point, copy, one) (point', copy', two) =
     let same = frame_one old page one.frame two.frame copy copy' form one.stood two.stood in
-    let marks = one.marks.after ∙ ap (λ (k : ℕ). with_marks old.marks k handed_out) same ∙ sym two.marks.after in
-    one.after ∙ ap (λ (ms : List Marks). let c : CachedPages = record old { marks = ms } in c) marks ∙ sym two.after
+    let dirty_points = one.dirty_points.after ∙ ap (λ (k : ℕ). with_dirty_points old.dirty_points k handed_out) same ∙ sym two.dirty_points.after in
+    one.after ∙ ap (λ (ms : List DirtyPoints). let c : CachedPages = record old { dirty_points = ms } in c) dirty_points ∙ sym two.after
 call_one old new other (Write page) form (out, one) (out', two) =
     let same = frame_one old page one.frame two.frame one.content two.content form one.stood two.stood in
     one.after ∙ ap (λ (k : ℕ). settled_at old k) same ∙ sym two.after
@@ -81,12 +81,12 @@ call_one old new other (Write page) form (out, one) (out', two) =
 pub out_one : (old new other : CachedPages) (point : Point) (page out : PageId) (copy into : MapPage) → Expires old new point page copy → Expires old other point out into
     → (page ≡ out) × (copy ≡ into) × (new ≡ other)
 out_one old new other point page out copy into one two =
-    let same = one_is_handed_out old.marks new.marks other.marks point one.frame two.frame one.marks two.marks in
+    let same = one_is_handed_out old.dirty_points new.dirty_points other.dirty_points point one.frame two.frame one.dirty_points two.dirty_points in
     let content = content_one old page out one.frame two.frame copy into one.stood two.stood same.0 in (
       sym one.stood.named ∙ ap (λ (c : MapPage). c.head.page) content ∙ two.stood.named,
       content,
-      one.after ∙ ap (λ (ms : List Marks). let c : CachedPages = record old { marks = ms } in c) same.1 ∙ sym two.after,
+      one.after ∙ ap (λ (ms : List DirtyPoints). let c : CachedPages = record old { dirty_points = ms } in c) same.1 ∙ sym two.after,
     )
 
-pub page_or_none : (old new : CachedPages) (point : Point) (page : PageId) (copy : MapPage) → Expires old new point page copy → NoneIsDue old.marks point → ⊥
-page_or_none old new point page copy expires none = out_or_none old.marks new.marks point expires.frame expires.marks none
+pub page_or_none : (old new : CachedPages) (point : Point) (page : PageId) (copy : MapPage) → Expires old new point page copy → NoneIsDue old.dirty_points point → ⊥
+page_or_none old new point page copy expires none = out_or_none old.dirty_points new.dirty_points point expires.frame expires.dirty_points none

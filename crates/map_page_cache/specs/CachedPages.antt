@@ -6,22 +6,22 @@ use Rattle.blk_base.specs.declared.point.Point.{Point}
 use Rattle.blk_base.specs.declared.geometry.Geometry.{Geometry}
 use Rattle.page_codec.specs.declared.forms.MapPage.{MapPage}
 use Rattle.page_codec.specs.Grammar.{AreHeld}
-use Rattle.dirty_pages.specs.declared.marks.Marks.{Marks}
-use Rattle.dirty_pages.specs.Marks.{clean, clean_of, marks_at, with_marks, changed_at, settled, HandsOut, IsBeingWritten}
+use Rattle.dirty_pages.specs.declared.dirty_points.DirtyPoints.{DirtyPoints}
+use Rattle.dirty_pages.specs.DirtyPoints.{clean, clean_of, dirty_points_at, with_dirty_points, changed_at, settled, HandsOut, IsBeingWritten}
 use Rattle.map_page_cache.specs.Turns.{IsLongestClean, Turns, no_turns, with_turn}
 
 -- The sizes of the image, how many frames there are, the pages in those that aren't empty, which are the first ones, the
--- marks of all frames, and in which order they came to have clean pages.
+-- dirty points of all frames, and in which order they came to have clean pages.
 pub record CachedPages : Type 0 where
   pub geometry : Geometry
   pub frames : ℕ
   pub pages : List MapPage
-  pub marks : List Marks
+  pub dirty_points : List DirtyPoints
   pub turns : Turns
 
 -- each frame is empty
 abbrev pub no_pages : Geometry → ℕ → CachedPages
-no_pages g frames = record { geometry = g; frames = frames; pages = []; marks = replicate frames clean; turns = no_turns frames }
+no_pages g frames = record { geometry = g; frames = frames; pages = []; dirty_points = replicate frames clean; turns = no_turns frames }
 
 -- a page of an image with these sizes, with what the format of pages can hold
 pub record IsPageOf (g : Geometry) (content : MapPage) : Type 0 where
@@ -34,13 +34,13 @@ AreApart pages =
     (j k : ℕ) (d : MapPage) → j < length pages → k < length pages
     → (slice_index_or pages j d).head.page ≡ (slice_index_or pages k d).head.page → j ≡ k
 
--- Holds of each cache: its pages are of its image, no two are the same, and empty frames have no marks.
+-- Holds of each cache: its pages are of its image, no two are the same, and empty frames have no dirty points.
 pub record IsCache (cache : CachedPages) : Type 0 where
   pub fits : length cache.pages ≤ cache.frames
-  pub marks : length cache.marks ≡ cache.frames
+  pub dirty_points : length cache.dirty_points ≡ cache.frames
   pub each : All (IsPageOf cache.geometry) cache.pages
   pub apart : AreApart cache.pages
-  pub empty : (frame : ℕ) → length cache.pages ≤ frame → marks_at cache.marks frame ≡ clean
+  pub empty : (frame : ℕ) → length cache.pages ≤ frame → dirty_points_at cache.dirty_points frame ≡ clean
 
 -- the page is there, with this content
 abbrev pub IsThere : CachedPages → PageId → MapPage → Type 0
@@ -62,14 +62,14 @@ pub record GivesUp (old new : CachedPages) (content : MapPage) : Type 0 where
   pub full : length old.pages ≡ old.frames
   pub frame : ℕ
   pub inside : frame < length old.pages
-  pub clean : marks_at old.marks frame ≡ clean
+  pub clean : dirty_points_at old.dirty_points frame ≡ clean
   pub longest : IsLongestClean old.turns frame
   pub after : new ≡ record old { pages = slice_set old.pages frame content; turns = with_turn frame true old.turns }
 
 -- every frame has a page that is dirty or being written
 pub record HasNoFrame (cache : CachedPages) : Type 0 where
   pub full : length cache.pages ≡ cache.frames
-  pub unclean : (frame : ℕ) → frame < cache.frames → marks_at cache.marks frame ≡ clean → ⊥
+  pub unclean : (frame : ℕ) → frame < cache.frames → dirty_points_at cache.dirty_points frame ≡ clean → ⊥
 
 -- the page is in this frame, with this content
 pub record IsIn (cache : CachedPages) (page : PageId) (frame : ℕ) (content : MapPage) : Type 0 where
@@ -89,7 +89,7 @@ pub record Sets (old new : CachedPages) (page : PageId) (slot : ℕ) (mapping : 
   pub stood : IsIn old page frame content
   pub after : new ≡ record old {
     pages = slice_set old.pages frame (with_mapping slot mapping content);
-    marks = with_marks old.marks frame (changed_at point);
+    dirty_points = with_dirty_points old.dirty_points frame (changed_at point);
     turns = with_turn frame false old.turns;
   }
 
@@ -98,15 +98,15 @@ pub record Expires (old new : CachedPages) (point : Point) (page : PageId) (copy
   pub form : IsCache new
   pub frame : ℕ
   pub stood : IsIn old page frame copy
-  pub marks : HandsOut old.marks new.marks point frame
-  pub after : new ≡ record old { marks = new.marks }
+  pub dirty_points : HandsOut old.dirty_points new.dirty_points point frame
+  pub after : new ≡ record old { dirty_points = new.dirty_points }
 
 -- the page was handed out, and its write isn't durable yet
 pub record IsWriting (cache : CachedPages) (page : PageId) : Type 0 where
   pub frame : ℕ
   pub content : MapPage
   pub stands : IsIn cache page frame content
-  pub marks : IsBeingWritten (marks_at cache.marks frame)
+  pub dirty_points : IsBeingWritten (dirty_points_at cache.dirty_points frame)
 
 -- the page is written, but for what was set since it was handed out
 pub record Writes (old new : CachedPages) (page : PageId) : Type 0 where
@@ -115,6 +115,6 @@ pub record Writes (old new : CachedPages) (page : PageId) : Type 0 where
   pub content : MapPage
   pub stood : IsIn old page frame content
   pub after : new ≡ record old {
-    marks = with_marks old.marks frame settled;
-    turns = with_turn frame (clean_of (settled (marks_at old.marks frame))) old.turns;
+    dirty_points = with_dirty_points old.dirty_points frame settled;
+    turns = with_turn frame (clean_of (settled (dirty_points_at old.dirty_points frame))) old.turns;
   }

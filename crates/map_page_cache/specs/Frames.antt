@@ -2,8 +2,8 @@
 use Rattle.std.specs.Prelude.{ℕ, ◌≡◌, ◌<◌, ◌≤◌, Bool, false, List, length, slice_index_or}
 use Rattle.blk_base.specs.declared.place.PageId.{PageId}
 use Rattle.page_codec.specs.declared.forms.MapPage.{MapPage}
-use Rattle.dirty_pages.specs.declared.marks.Marks.{Marks}
-use Rattle.dirty_pages.specs.Marks.{marks_at, clean_of}
+use Rattle.dirty_pages.specs.declared.dirty_points.DirtyPoints.{DirtyPoints}
+use Rattle.dirty_pages.specs.DirtyPoints.{dirty_points_at, clean_of}
 use Rattle.map_page_cache.specs.Index.{Index, HasSlot}
 
 -- the page is in this frame
@@ -19,7 +19,7 @@ pub record Follows (index : Index) (frames : ℕ) (pages : List MapPage) : Type 
   pub all : (page : PageId) (frame : ℕ) → IsAt pages page frame → HasSlot index page frame
 
 -- a flag for each frame that has a clean page
-pub record AreFlags (flags : List Bool) (frames count : ℕ) (marks : List Marks) : Type 0 where
+pub record AreFlags (flags : List Bool) (frames count : ℕ) (dirty_points : List DirtyPoints) : Type 0 where
   pub size : length flags ≡ frames
-  pub here : (frame : ℕ) → frame < count → slice_index_or flags frame false ≡ clean_of (marks_at marks frame)
+  pub here : (frame : ℕ) → frame < count → slice_index_or flags frame false ≡ clean_of (dirty_points_at dirty_points frame)
   pub empty : (frame : ℕ) → count ≤ frame → slice_index_or flags frame false ≡ false

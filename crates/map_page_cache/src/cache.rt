@@ -1,7 +1,7 @@
 ghost use Rattle.std.specs.Prelude.{◌≡◌, ◌<◌, IfOk, OnOk, OnErr, ◌⊎◌, IfSome, IfNone, IsTrue, ◌↔◌, length};
 ghost use Rattle.page_codec.specs.declared.forms.MapPage.{MapPage};
 ghost use Rattle.page_codec.specs.Grammar.{HoldsMapping};
-ghost use Rattle.dirty_pages.specs.Marks.{clean, marks_at, NoneIsDue, IsFirstDue, NoneIsEverDue, IsLowPoint, AreClean};
+ghost use Rattle.dirty_pages.specs.DirtyPoints.{clean, dirty_points_at, NoneIsDue, IsFirstDue, NoneIsEverDue, IsLowPoint, AreClean};
 ghost use Rattle.map_page_cache.specs.CachedPages.{CachedPages, no_pages, IsPageOf, IsCache, IsThere, IsAbsent, Fills, GivesUp, HasNoFrame, with_mapping, Sets, Expires, IsWriting, Writes};
 ghost use Rattle.map_page_cache.specs.Frames.{IsAt};
 ghost use Rattle.map_page_cache.specs.Turns.{IsLongestClean};
@@ -25,7 +25,7 @@ pub struct Cache {
     room: u32,
     // By frame; the frames behind these are empty.
     pages: Vec<MapPage>,
-    marks: DirtyPages,
+    dirty_points: DirtyPages,
     // The frame of each page, and the order in which pages are given up.
     index: PageIndex,
     clean: CleanFrames,
@@ -43,7 +43,7 @@ impl Model for Cache {
       geometry = c.geometry;
       frames = c.room;
       pages = c.pages.items;
-      marks = c.marks;
+      dirty_points = c.dirty_points;
       turns = c.clean;
     } };
 
@@ -52,12 +52,12 @@ impl Model for Cache {
         geometry = c.geometry;
         frames = c.room;
         pages = c.pages.items;
-        marks = c.marks;
+        dirty_points = c.dirty_points;
         turns = c.clean;
       });
       room : c.room ≤ vec_capacity c.pages;
       index : Follows c.index c.room c.pages.items;
-      clean : AreFlags (flags_of c.clean) c.room (length c.pages.items) c.marks;
+      clean : AreFlags (flags_of c.clean) c.room (length c.pages.items) c.dirty_points;
     } };
 }
 
@@ -73,7 +73,7 @@ impl Cache {
             geometry: *geometry,
             room: frames,
             pages: Vec::with_capacity(alloc, frames as usize)?,
-            marks: DirtyPages::new(alloc, frames)?,
+            dirty_points: DirtyPages::new(alloc, frames)?,
             index: PageIndex::new(alloc, frames)?,
             clean: CleanFrames::new(alloc, frames)?,
         })
@@ -147,7 +147,7 @@ impl Cache {
         requires held { IsPageOf self.old.geometry from.now }
         requires full { length self.old.pages ≡ self.old.frames }
         requires inside { frame < length self.old.pages }
-        requires clean { marks_at self.old.marks frame ≡ clean }
+        requires clean { dirty_points_at self.old.dirty_points frame ≡ clean }
         requires longest { IsLongestClean self.old.turns frame }
         ensures { GivesUp self.old self.new from.now }
     {
@@ -167,7 +167,7 @@ impl Cache {
     {
         let frame = self.frame_of(page);
         map_slot(&mut self.pages[frame], slot, mapping);
-        self.marks.change(frame, point);
+        self.dirty_points.change(frame, point);
         self.clean.set(frame, false);
     }
 
@@ -178,10 +178,10 @@ impl Cache {
     /// `None` exactly where no page that isn't being written has a first dirty point at or below this one.
     pub fn take_expired(&mut self, point: Point, into: &mut MapPage) -> Option<PageId>
         ensures some { IfSome result (λ page. Expires self.old self.new point page into.new) }
-        ensures none { IfNone result (NoneIsDue self.old.marks point) }
+        ensures none { IfNone result (NoneIsDue self.old.dirty_points point) }
         ensures same { IfNone result ((self.new ≡ self.old) × (into.new ≡ into.old)) }
     {
-        let frame = self.marks.take_expired(point)?;
+        let frame = self.dirty_points.take_expired(point)?;
         copy_page(&self.pages[frame], into);
         Some(into.head.page)
     }
@@ -191,7 +191,11 @@ impl Cache {
         ensures { IsTrue result ↔ IsWriting self.now page }
     {
         match self.index.find(page) {
-            Some(frame) => self.marks.marks(frame as usize).writing.is_some(),
+            Some(frame) => self
+                .dirty_points
+                .dirty_points(frame as usize)
+                .writing
+                .is_some(),
             None => false,
         }
     }
@@ -199,10 +203,10 @@ impl Cache {
     /// The least point with which a page is due to be written: the first dirty point of those that aren't being written.
     /// `None` exactly where there is none.
     pub fn first_due(&self) -> Option<Point>
-        ensures some { IfSome result (IsFirstDue self.now.marks) }
-        ensures none { IfNone result (NoneIsEverDue self.now.marks) }
+        ensures some { IfSome result (IsFirstDue self.now.dirty_points) }
+        ensures none { IfNone result (NoneIsEverDue self.now.dirty_points) }
     {
-        self.marks.first_due()
+        self.dirty_points.first_due()
     }
 
     /// The write of a page that was handed out is durable: a flush covers it. What was set since isn't.
@@ -211,17 +215,17 @@ impl Cache {
         ensures { Writes self.old self.new page }
     {
         let frame = self.frame_of(page);
-        self.marks.written(frame);
-        let marks = self.marks.marks(frame);
-        self.clean.set(frame, marks.is_clean());
+        self.dirty_points.written(frame);
+        let dirty_points = self.dirty_points.dirty_points(frame);
+        self.clean.set(frame, dirty_points.is_clean());
     }
 
     /// The least point of an entry that isn't durable; `None` exactly where each page is clean.
     pub fn low_point(&self) -> Option<Point>
-        ensures some { IfSome result (IsLowPoint self.now.marks) }
-        ensures none { IfNone result (AreClean self.now.marks) }
+        ensures some { IfSome result (IsLowPoint self.now.dirty_points) }
+        ensures none { IfNone result (AreClean self.now.dirty_points) }
     {
-        self.marks.low_point()
+        self.dirty_points.low_point()
     }
 }
 

@@ -52,7 +52,7 @@ impl PageIndex {
         ensures some { IfSome result (λ slot. HasSlot self.now page slot) }
         ensures none { IfNone result ((slot : ℕ) → HasSlot self.now page slot → ⊥) }
     {
-        match place_of(&self.entries, page) {
+        match index_of(&self.entries, page) {
             Ok(place) => Some(self.entries[place].slot),
             Err(_) => None,
         }
@@ -64,7 +64,7 @@ impl PageIndex {
         requires absent { (s : ℕ) → HasSlot self.old page s → ⊥ }
         ensures { Adds self.old self.new page slot }
     {
-        match place_of(&self.entries, page) {
+        match index_of(&self.entries, page) {
             Ok(_) => unreachable!(),
             Err(place) => {
                 let Ok(()) = self.entries.insert(place, IndexEntry { page, slot }) else {
@@ -79,7 +79,7 @@ impl PageIndex {
         requires { (slot : ℕ) × HasSlot self.old page slot }
         ensures { Removes self.old self.new page }
     {
-        match place_of(&self.entries, page) {
+        match index_of(&self.entries, page) {
             Ok(place) => {
                 let _entry = self.entries.remove(place);
             }
@@ -89,7 +89,7 @@ impl PageIndex {
 }
 
 // Where the page's entry stands, or would stand.
-fn place_of(entries: &[IndexEntry], page: PageId) -> Result<usize, usize>
+fn index_of(entries: &[IndexEntry], page: PageId) -> Result<usize, usize>
     requires { AreInOrder entries.now }
     ensures found { IfOk result (IsPlaceOf entries.now page) }
     ensures gap { IfErr result (IsGapFor entries.now page) }

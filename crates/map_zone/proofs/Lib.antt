@@ -1,6 +1,6 @@
 pub mod KeepLaws
 pub mod StepLaws
-pub mod CallLaws
+pub mod OperationLaws
 pub mod ShownLaws
 pub mod OneLaws
 pub mod OutLaws

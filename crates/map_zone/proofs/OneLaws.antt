@@ -9,9 +9,9 @@ use Rattle.blk_base.specs.declared.place.Mapping.TheVariants.{Unmapped}
 use Rattle.blk_base.specs.declared.place.PageId.{PageId}
 use Rattle.blk_base.specs.declared.place.Pbn.{Pbn}
 use Rattle.blk_base.specs.declared.point.Point.{Point}
-use Rattle.dirty_pages.proofs.MarkLaws.{same_point}
+use Rattle.dirty_pages.proofs.DirtyPointLaws.{same_point}
 use Rattle.page_codec.specs.Grammar.{IsPage}
-use Rattle.page_codec.specs.Spelling.{page_bytes}
+use Rattle.page_codec.specs.PageBytes.{page_bytes}
 use Rattle.page_codec.specs.declared.forms.MapPage.{MapPage}
 use Rattle.page_codec.proofs.ReadLaws.{one_page}
 use Rattle.block_map_tree.specs.Tree.{IsAt, Tree}
@@ -21,9 +21,9 @@ use Rattle.map_page_cache.specs.CachedPages as cached
 use Rattle.map_page_cache.specs.Runs as runs
 use Rattle.map_page_cache.proofs.OneLaws as cache_laws
 use Rattle.map_page_cache.proofs.RunLaws.{one_content}
-use Rattle.map_zone.specs.Calls.{Apply, Call, HandOut, Install, Leads, Write}
-use Rattle.map_zone.specs.Serving.{IsLooked, MissesPage, NeedsLeaf, Shows}
-use Rattle.map_zone.specs.Writing.{IsLow, NoneDue, Takes, TakesLeaf, TakesNode}
+use Rattle.map_zone.specs.Operations.{Apply, Operation, HandOut, Install, Leads, Write}
+use Rattle.map_zone.specs.Lookups.{IsLooked, MissesPage, NeedsLeaf, Shows}
+use Rattle.map_zone.specs.PageWrites.{IsLow, NoneDue, Takes, TakesLeaf, TakesNode}
 use Rattle.map_zone.specs.ZoneMap.{IsZoneMap, ZoneMap, head_at}
 use Rattle.map_zone.specs.declared.forms.Looked.{Looked}
 use Rattle.map_zone.specs.declared.forms.Looked.TheVariants as looked
@@ -45,7 +45,7 @@ by_tree old new other after after' same = after ∙ ap (λ (t : Tree). with_tree
 leaf_level : (m : ZoneMap) (page : PageId) (frame : ℕ) (content : MapPage) → IsZoneMap m → IsIn m.cache page frame content → page.level ≡ 0
 leaf_level m page frame content form stands = (form.leaves page content ((frame, stands.inside, stands.is), stands.named)).level
 
-pub call_one : (old new other : ZoneMap) (call : Call) → IsZoneMap old → Leads old call new → Leads old call other → new ≡ other
+pub call_one : (old new other : ZoneMap) (call : Operation) → IsZoneMap old → Leads old call new → Leads old call other → new ≡ other
 call_one old new other (Apply (Remap at was now) point) form (may, one) (may', two) =
     by_cache old new other one.after two.after (cache_laws.call_one old.cache new.cache other.cache (runs.Set (leaf_of at.0) (at.0 % 812) now point) form.cache one.sets two.sets)
 call_one old new other (Apply (NewPage page at) point) form (may, one) (may', two) =
@@ -80,8 +80,8 @@ call_one old new other (Write page) form (out, inr one) (out', inr two) = by_tre
 -- the page that is handed out is one
 never_both : (old new other : ZoneMap) (point : Point) (page out : PageId) (at b : Pbn) (bytes given : List ℕ) → TakesLeaf old new point page at bytes → TakesNode old other point out b given → ⊥
 never_both old new other point page out at b bytes given leaf node =
-    let below = leaf.first _ node.expires.marks.first node.expires.marks.due in
-    let above = node.first leaf.expires.frame leaf.expires.marks.first leaf.expires.marks.due in
+    let below = leaf.first _ node.expires.dirty_points.first node.expires.dirty_points.due in
+    let above = node.first leaf.expires.frame leaf.expires.dirty_points.first leaf.expires.dirty_points.due in
     omega (arith, below, above)
 
 pub out_one : (old new other : ZoneMap) (point : Point) (page out : PageId) (at b : Pbn) (bytes given : List ℕ) → IsZoneMap old → Takes old new point page at bytes

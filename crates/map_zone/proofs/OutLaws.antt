@@ -9,10 +9,10 @@ use Rattle.blk_base.specs.declared.place.Pbn.{Pbn}
 use Rattle.blk_base.specs.declared.point.Point.{Point}
 use Rattle.blk_base.proofs.PageIdLaws.{same_or_not}
 use Rattle.blk_base.specs.Pages.{above, slot_of}
-use Rattle.dirty_pages.specs.declared.marks.Marks.{Marks}
+use Rattle.dirty_pages.specs.declared.dirty_points.DirtyPoints.{DirtyPoints}
 use Rattle.dirty_pages.specs.History.{IsUnreported}
-use Rattle.dirty_pages.specs.Marks.{handed_out, marks_at}
-use Rattle.dirty_pages.proofs.MarkLaws.{changed_here, due_inside}
+use Rattle.dirty_pages.specs.DirtyPoints.{handed_out, dirty_points_at}
+use Rattle.dirty_pages.proofs.DirtyPointLaws.{changed_here, due_inside}
 use Rattle.page_codec.specs.Grammar.{AreHeld, IsPage, IsSlot}
 use Rattle.page_codec.specs.declared.forms.MapPage.{MapPage}
 use Rattle.page_codec.specs.declared.forms.PageHead.{PageHead}
@@ -23,28 +23,28 @@ use Rattle.block_map_tree.specs.Tree.{IsAt, Tree, as_root, by_link, mappings_of}
 use Rattle.block_map_tree.specs.Tree as trees
 use Rattle.block_map_tree.proofs.HistoryLaws as tree_laws
 use Rattle.block_map_tree.proofs.OneLaws.{one_at}
-use Rattle.block_map_tree.proofs.TreeLaws.{marks_move_none_back}
+use Rattle.block_map_tree.proofs.TreeLaws.{dirty_points_move_none_back}
 use Rattle.map_page_cache.specs.CachedPages.{CachedPages, IsIn}
 use Rattle.map_page_cache.specs.CachedPages as cached
 use Rattle.map_page_cache.proofs.RunLaws as cache_laws
-use Rattle.map_zone.specs.Calls.{Apply, Call, HandOut, HasLink, Install, LeadTo, Leads, Write, events_of}
-use Rattle.map_zone.specs.Writing.{IsOut, Takes}
+use Rattle.map_zone.specs.Operations.{Apply, Operation, HandOut, HasLink, Install, LeadTo, Leads, Write, events_of}
+use Rattle.map_zone.specs.PageWrites.{IsOut, Takes}
 use Rattle.map_zone.specs.ZoneMap.{IsZoneMap, ZoneMap, head_at}
-use Rattle.map_zone.proofs.CallLaws.{in_level, split_of}
+use Rattle.map_zone.proofs.OperationLaws.{in_level, split_of}
 use Rattle.map_zone.proofs.KeepLaws.{stays_at}
 use Rattle.map_zone.proofs.ShownLaws.{same_head}
 
 leaf_is_out : (old new : CachedPages) (point : Point) (page : PageId) (copy : MapPage) → cached.Expires old new point page copy → cached.IsWriting new page
 leaf_is_out old new point page copy expires =
-    let stood : IsIn (record old { marks = new.marks }) page expires.frame copy = record { inside = expires.stood.inside; is = expires.stood.is; named = expires.stood.named } in
-    let inside = due_inside old.marks expires.frame expires.marks.first expires.marks.due in
+    let stood : IsIn (record old { dirty_points = new.dirty_points }) page expires.frame copy = record { inside = expires.stood.inside; is = expires.stood.is; named = expires.stood.named } in
+    let inside = due_inside old.dirty_points expires.frame expires.dirty_points.first expires.dirty_points.due in
     record {
       frame = expires.frame;
       content = copy;
       stands = subst (λ (c : CachedPages). IsIn c page expires.frame copy) (sym expires.after) stood;
-      marks = record {
-        first = expires.marks.first;
-        is = ap (λ (m : Marks). m.writing) (ap (λ (ms : List Marks). marks_at ms expires.frame) expires.marks.after ∙ changed_here old.marks expires.frame handed_out inside) ∙ expires.marks.due.dirty;
+      dirty_points = record {
+        first = expires.dirty_points.first;
+        is = ap (λ (m : DirtyPoints). m.writing) (ap (λ (ms : List DirtyPoints). dirty_points_at ms expires.frame) expires.dirty_points.after ∙ changed_here old.dirty_points expires.frame handed_out inside) ∙ expires.dirty_points.due.dirty;
       };
     }
 
@@ -52,7 +52,7 @@ pub taken_out : (old new : ZoneMap) (point : Point) (page : PageId) (at : Pbn) (
 taken_out old new point page at bytes (inl takes) = inl (leaf_is_out old.cache new.cache point page takes.copy takes.expires)
 taken_out old new point page at bytes (inr takes) = inr (tree_laws.is_out old.tree new.tree page point takes.copy takes.expires)
 
-pub stays_out : (old new : ZoneMap) (calls : List Call) (page : PageId) → IsZoneMap old → LeadTo old calls new → IsUnreported (events_of calls) page → IsOut old page → IsOut new page
+pub stays_out : (old new : ZoneMap) (calls : List Operation) (page : PageId) → IsZoneMap old → LeadTo old calls new → IsUnreported (events_of calls) page → IsOut old page → IsOut new page
 stays_out old new calls page form lead none (inl leaf) =
     let split = split_of old new calls form lead in
     let level = in_level old page leaf.frame leaf.content form leaf.stands in
@@ -98,7 +98,7 @@ tree_same between new page at after stands = subst (λ (t : Tree). IsAt t page a
 tree_was : (between new : ZoneMap) (page : PageId) (at : Pbn) → new ≡ record between { cache = new.cache } → IsAt new.tree page at → IsAt between.tree page at
 tree_was between new page at after stands = subst (λ (t : Tree). IsAt t page at) (ap (λ (m : ZoneMap). m.tree) after) stands
 
-still_at : (between new : ZoneMap) (call : Call) (page : PageId) (at : Pbn) → IsZoneMap between → Leads between call new → IsAt between.tree page at → IsAt new.tree page at
+still_at : (between new : ZoneMap) (call : Operation) (page : PageId) (at : Pbn) → IsZoneMap between → Leads between call new → IsAt between.tree page at → IsAt new.tree page at
 still_at between new (Apply (Remap address was now) point) page at form leads stands = tree_same between new page at leads.1.after stands
 still_at between new (Apply (NewPage linked b) point) page at form (may, adds) stands =
     stays_at between.tree new.tree (history.Link linked b point) page at form.tree may.missing (may.linkable, adds.links) stands
@@ -109,13 +109,13 @@ still_at between new (HandOut out b bytes) page at form (point, inr takes) stand
 still_at between new (Write out) page at form (is, inl settles) stands = tree_same between new page at settles.after stands
 still_at between new (Write out) page at form (is, inr settles) stands = stays_at between.tree new.tree (history.Write out) page at form.tree tt (settles.out, settles.writes) stands
 
-pub linked_at : (old new : ZoneMap) (calls : List Call) (page : PageId) (at : Pbn) → IsZoneMap old → LeadTo old calls new → IsAt old.tree page at ⊎ HasLink calls page at → IsAt new.tree page at
+pub linked_at : (old new : ZoneMap) (calls : List Operation) (page : PageId) (at : Pbn) → IsZoneMap old → LeadTo old calls new → IsAt old.tree page at ⊎ HasLink calls page at → IsAt new.tree page at
 linked_at old new [] page at form same (inl stands) = subst (λ (m : ZoneMap). IsAt m.tree page at) (sym same) stands
 linked_at old new [] page at form same (inr never) = absurd never
 linked_at old new (call ∷ calls) page at form lead has =
     step call lead.2 (split_of old lead.0 calls form lead.1).form (λ was. linked_at old lead.0 calls page at form lead.1 was) has
   where
-    step : (c : Call) → Leads lead.0 c new → IsZoneMap lead.0 → (IsAt old.tree page at ⊎ HasLink calls page at → IsAt lead.0.tree page at)
+    step : (c : Operation) → Leads lead.0 c new → IsZoneMap lead.0 → (IsAt old.tree page at ⊎ HasLink calls page at → IsAt lead.0.tree page at)
         → IsAt old.tree page at ⊎ HasLink (c ∷ calls) page at → IsAt new.tree page at
     step (Apply (NewPage linked b) point) (may, adds) form' before (inr (inl this)) =
         subst (λ (k : Pbn). IsAt new.tree page k) this.1 (subst (λ (p : PageId). IsAt new.tree p b) this.0
@@ -128,7 +128,7 @@ linked_at old new (call ∷ calls) page at form lead has =
     step (Write out) leads form' before has' = still_at lead.0 new (Write out) page at form' leads (before has')
 
 -- and only there
-was_at : (between new : ZoneMap) (call : Call) (page : PageId) (at : Pbn) → IsZoneMap between → Leads between call new → IsAt new.tree page at
+was_at : (between new : ZoneMap) (call : Operation) (page : PageId) (at : Pbn) → IsZoneMap between → Leads between call new → IsAt new.tree page at
     → IsAt between.tree page at ⊎ HasLink (call ∷ []) page at
 was_at between new (Apply (Remap address was now) point) page at form leads stands = inl (tree_was between new page at leads.1.after stands)
 was_at between new (Apply (NewPage linked b) point) page at form (may, adds) stands = elim (same_or_not linked page) [
@@ -140,11 +140,11 @@ was_at between new (Apply (NewPage linked b) point) page at form (may, adds) sta
 was_at between new (Install leaf bytes) page at form leads stands = inl (tree_was between new page at leads.1.after stands)
 was_at between new (HandOut out b bytes) page at form (point, inl takes) stands = inl (tree_was between new page at takes.after stands)
 was_at between new (HandOut out b bytes) page at form (point, inr takes) stands =
-    inl (marks_move_none_back between.tree _ page at (subst (λ (t : Tree). IsAt t page at) takes.expires.set stands))
+    inl (dirty_points_move_none_back between.tree _ page at (subst (λ (t : Tree). IsAt t page at) takes.expires.set stands))
 was_at between new (Write out) page at form (is, inl settles) stands = inl (tree_was between new page at settles.after stands)
-was_at between new (Write out) page at form (is, inr settles) stands = inl (marks_move_none_back between.tree _ page at (subst (λ (t : Tree). IsAt t page at) settles.writes.set stands))
+was_at between new (Write out) page at form (is, inr settles) stands = inl (dirty_points_move_none_back between.tree _ page at (subst (λ (t : Tree). IsAt t page at) settles.writes.set stands))
 
-one_more : (call : Call) (calls : List Call) (page : PageId) (at : Pbn) → HasLink (call ∷ []) page at ⊎ HasLink calls page at → HasLink (call ∷ calls) page at
+one_more : (call : Operation) (calls : List Operation) (page : PageId) (at : Pbn) → HasLink (call ∷ []) page at ⊎ HasLink calls page at → HasLink (call ∷ calls) page at
 one_more (Apply (NewPage linked b) point) calls page at (inl (inl this)) = inl this
 one_more (Apply (NewPage linked b) point) calls page at (inl (inr never)) = absurd never
 one_more (Apply (NewPage linked b) point) calls page at (inr was) = inr was
@@ -157,7 +157,7 @@ one_more (HandOut out b bytes) calls page at (inr was) = was
 one_more (Write out) calls page at (inl never) = absurd never
 one_more (Write out) calls page at (inr was) = was
 
-pub link_from : (old new : ZoneMap) (calls : List Call) (page : PageId) (at : Pbn) → IsZoneMap old → LeadTo old calls new → IsAt new.tree page at → IsAt old.tree page at ⊎ HasLink calls page at
+pub link_from : (old new : ZoneMap) (calls : List Operation) (page : PageId) (at : Pbn) → IsZoneMap old → LeadTo old calls new → IsAt new.tree page at → IsAt old.tree page at ⊎ HasLink calls page at
 link_from old new [] page at form same stands = inl (subst (λ (m : ZoneMap). IsAt m.tree page at) same stands)
 link_from old new (call ∷ calls) page at form lead stands =
     elim (was_at lead.0 new call page at (split_of old lead.0 calls form lead.1).form lead.2 stands) [

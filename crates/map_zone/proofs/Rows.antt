@@ -15,13 +15,13 @@ use Rattle.blk_base.specs.declared.place.Mapping.TheVariants.{At, Unmapped, Zero
 use Rattle.blk_base.specs.declared.place.PageId.{PageId}
 use Rattle.blk_base.specs.declared.place.Pbn.{Pbn}
 use Rattle.blk_base.specs.declared.point.Point.{Point}
-use Rattle.dirty_pages.specs.Marks.{changed_at, clean, marks_at, with_marks}
-use Rattle.dirty_pages.specs.declared.marks.Marks.{Marks}
+use Rattle.dirty_pages.specs.DirtyPoints.{changed_at, clean, dirty_points_at, with_dirty_points}
+use Rattle.dirty_pages.specs.declared.dirty_points.DirtyPoints.{DirtyPoints}
 use Rattle.page_codec.specs.Grammar.{AreHeld, HoldsMapping, IsPage, IsPageFault}
-use Rattle.page_codec.specs.Spelling.{page_bytes}
+use Rattle.page_codec.specs.PageBytes.{page_bytes}
 use Rattle.page_codec.specs.declared.fault.PageFault.{PageFault}
 use Rattle.page_codec.specs.declared.forms.MapPage.{MapPage}
-use Rattle.block_map_tree.specs.Opening.{IsOpening, forest_of}
+use Rattle.block_map_tree.specs.OpenedTree.{IsOpening, forest_of}
 use Rattle.block_map_tree.specs.Pages.{IsLower, IsOnPath, IsTreeOf}
 use Rattle.block_map_tree.specs.Tree.{IsAt, IsThere, IsTree, Links, Tree, as_root, by_link, number_of}
 use Rattle.block_map_tree.specs.declared.forms.Forest.{Forest}
@@ -29,7 +29,7 @@ use Rattle.map_page_cache.specs.CachedPages.{CachedPages, IsCache, IsPageOf}
 use Rattle.map_page_cache.specs.CachedPages as cached
 use Rattle.map_page_cache.specs.Turns.{Turns, no_turns, with_turn}
 use Rattle.map_zone.specs.declared.forms.Applied.TheVariants as applied
-use Rattle.map_zone.specs.Serving.{AddsPage, Applies, HasPath, Installs, IsLooked, IsOtherPage, IsOwn, IsRefused, IsTooMany, MayAddPage, MayApply, MayInstall, MayRemap, MissesPage, NeedsLeaf, Remaps, Shows}
+use Rattle.map_zone.specs.Lookups.{AddsPage, Applies, HasPath, Installs, IsLooked, IsOtherPage, IsOwn, IsRefused, IsTooMany, MayAddPage, MayApply, MayInstall, MayRemap, MissesPage, NeedsLeaf, Remaps, Shows}
 use Rattle.map_zone.specs.declared.forms.Looked.TheVariants as looked
 use Rattle.map_zone.specs.declared.forms.NotInstalled.TheVariants as refused
 use Rattle.map_zone.specs.ZoneMap.{head_at, IsLeafAt, IsOpened, IsZoneMap, ZoneMap}
@@ -79,8 +79,8 @@ pub held_at : (offset : ℕ) → offset < 64 → IsDataBlock g (85 + offset) × 
 held_at offset below = (record { slab = 0; offset = offset; inside = (omega arith, below); stands = omega arith }, omega (arith, below))
 
 -- the leaf is linked, at block 90; or isn't
-abbrev rooted : Mapping → Marks → Tree
-rooted first marks = record { forest = forest; pages = (first ∷ Unmapped ∷ others) ∷ []; marks = marks ∷ [] }
+abbrev rooted : Mapping → DirtyPoints → Tree
+rooted first dirty_points = record { forest = forest; pages = (first ∷ Unmapped ∷ others) ∷ []; dirty_points = dirty_points ∷ [] }
 
 abbrev pub linked : Tree
 linked = rooted (At (b 90)) clean
@@ -88,13 +88,13 @@ linked = rooted (At (b 90)) clean
 abbrev pub unlinked : Tree
 unlinked = rooted Unmapped clean
 
-pub is_tree : (first : Mapping) (marks : Marks) → HoldsMapping g 1 first → IsTree (rooted first marks)
-is_tree first marks holds = record {
+pub is_tree : (first : Mapping) (dirty_points : DirtyPoints) → HoldsMapping g 1 first → IsTree (rooted first dirty_points)
+is_tree first dirty_points holds = record {
   forest = record { sizes = small_is; zone = omega arith; zones = omega arith };
   room = λ page path above. first_number page path above;
   most = omega arith;
   held = All-cons (AreHeld g 1) (first ∷ Unmapped ∷ others) [] (held 1 first Unmapped holds tt) (All-nil (AreHeld g 1));
-  marks = refl;
+  dirty_points = refl;
   there = λ page point inner has. elim inner.there [
     | inl is ↦ record { at = b (block_of g (Root page.tree)); stands = as_root is refl }
     | inr lower ↦ absurd (let level = lower.level in let some = inner.level in omega (arith, level, some))
@@ -125,22 +125,22 @@ abbrev pub content : MapPage
 content = with_second (At (b 100))
 
 abbrev pub full : CachedPages
-full = record { geometry = g; frames = 1; pages = content ∷ []; marks = clean ∷ []; turns = no_turns 1 }
+full = record { geometry = g; frames = 1; pages = content ∷ []; dirty_points = clean ∷ []; turns = no_turns 1 }
 
 abbrev pub empty : CachedPages
-empty = record { geometry = g; frames = 1; pages = []; marks = clean ∷ []; turns = no_turns 1 }
+empty = record { geometry = g; frames = 1; pages = []; dirty_points = clean ∷ []; turns = no_turns 1 }
 
-pub is_cache : (mapping : Mapping) (marks : Marks) (turns : Turns) → HoldsMapping g 0 mapping
-    → IsCache (record { geometry = g; frames = 1; pages = with_second mapping ∷ []; marks = marks ∷ []; turns = turns })
-is_cache mapping marks turns holds = record {
+pub is_cache : (mapping : Mapping) (dirty_points : DirtyPoints) (turns : Turns) → HoldsMapping g 0 mapping
+    → IsCache (record { geometry = g; frames = 1; pages = with_second mapping ∷ []; dirty_points = dirty_points ∷ []; turns = turns })
+is_cache mapping dirty_points turns holds = record {
   fits = omega arith;
-  marks = refl;
+  dirty_points = refl;
   each = All-cons (IsPageOf g) (with_second mapping) [] (record { geometry = refl; held = held 0 Unmapped mapping tt holds }) (All-nil (IsPageOf g));
   apart = λ j k d first second same. omega (arith, first, second);
   empty = λ frame past. none_behind frame past;
 }
   where
-    none_behind : (frame : ℕ) → 1 ≤ frame → marks_at (marks ∷ []) frame ≡ clean
+    none_behind : (frame : ℕ) → 1 ≤ frame → dirty_points_at (dirty_points ∷ []) frame ≡ clean
     none_behind zero past = absurd (omega (arith, past))
     none_behind (suc k) past = refl
 
@@ -153,12 +153,12 @@ unread = record { tree = linked; cache = empty }
 abbrev bare : ZoneMap
 bare = record { tree = unlinked; cache = empty }
 
-pub clean_at : (number : ℕ) → marks_at (clean ∷ []) number ≡ clean
+pub clean_at : (number : ℕ) → dirty_points_at (clean ∷ []) number ≡ clean
 clean_at zero = refl
 clean_at (suc k) = refl
 
 -- a page that was changed at a point
-abbrev pub changed : ℕ → List Marks
+abbrev pub changed : ℕ → List DirtyPoints
 changed n = (record { dirty = Some (p n); writing = None }) ∷ []
 
 pub there : cached.IsThere full leaf content
@@ -203,8 +203,8 @@ not_linked_any_more : IsZoneMap (record { tree = unlinked; cache = full }) → �
 not_linked_any_more is = is_missing (record { at = b 90; stands = (is.leaves leaf content there).stands })
 
 -- tree, cache: each is whole
-without_marks : IsZoneMap (record m { tree = record linked { marks = [] } }) → ⊥
-without_marks is = omega (arith, is.tree.marks)
+without_dirty_points : IsZoneMap (record m { tree = record linked { dirty_points = [] } }) → ⊥
+without_dirty_points is = omega (arith, is.tree.dirty_points)
 
 more_than_its_frames : IsZoneMap (record m { cache = record full { frames = 0 } }) → ⊥
 more_than_its_frames is = omega (arith, is.cache.fits)
@@ -229,15 +229,15 @@ whole = record {
 -- IsOpened: an opened image of these sizes
 
 no_leaves : IsCache empty
-no_leaves = record { fits = omega arith; marks = refl; each = All-nil (IsPageOf g); apart = λ j k d first second same. omega (arith, first); empty = λ frame past. clean_at frame }
+no_leaves = record { fits = omega arith; dirty_points = refl; each = All-nil (IsPageOf g); apart = λ j k d first second same. omega (arith, first); empty = λ frame past. clean_at frame }
 
 module _ (opened : Opened) (of_sizes : opened.head.geometry ≡ g) where
   opened_so : IsOpening (forest_of opened 0 60) opened.pages.items unlinked → IsOpened opened 0 60 1 bare
   opened_so tree = record { form = record { tree = tree.form; cache = no_leaves; geometry = refl; leaves = λ page given is. absurd (omega (arith, is.0.1)) }; tree = tree; cache = rw of_sizes refl }
 
   -- form
-  opened_in_pieces : IsOpened opened 0 60 1 (record bare { tree = record unlinked { marks = [] } }) → ⊥
-  opened_in_pieces is = omega (arith, is.form.tree.marks)
+  opened_in_pieces : IsOpened opened 0 60 1 (record bare { tree = record unlinked { dirty_points = [] } }) → ⊥
+  opened_in_pieces is = omega (arith, is.form.tree.dirty_points)
 
   -- tree: it is of that zone
   opened_by_another_zone : IsOpened opened 1 60 1 bare → ⊥
@@ -377,7 +377,7 @@ may_not_install_a_root is = omega (arith, is.level)
 -- Remaps, AddsPage: what the cache or the tree makes of it, ..
 
 abbrev pub zeroed : CachedPages
-zeroed = record full { pages = with_second Zero ∷ []; marks = changed 5; turns = with_turn 0 false (no_turns 1) }
+zeroed = record full { pages = with_second Zero ∷ []; dirty_points = changed 5; turns = with_turn 0 false (no_turns 1) }
 
 sets : cached.Sets full zeroed leaf 1 Zero (p 5)
 sets = record {
@@ -392,10 +392,10 @@ pub remaps : Remaps m (record m { cache = zeroed }) 1 Zero (p 5)
 remaps = record { sets = sets; after = refl }
 
 remaps_nothing : Remaps m m 1 Zero (p 5) → ⊥
-remaps_nothing is = never is.sets.frame is.sets.stood.inside (ap (λ (c : CachedPages). c.marks) is.sets.after)
+remaps_nothing is = never is.sets.frame is.sets.stood.inside (ap (λ (c : CachedPages). c.dirty_points) is.sets.after)
   where
-    never : (frame : ℕ) → frame < 1 → clean ∷ [] ≡ with_marks (clean ∷ []) frame (changed_at (p 5)) → ⊥
-    never zero inside same = none-some (p 5) (ap (λ (marks : List Marks). (marks_at marks 0).dirty) same)
+    never : (frame : ℕ) → frame < 1 → clean ∷ [] ≡ with_dirty_points (clean ∷ []) frame (changed_at (p 5)) → ⊥
+    never zero inside same = none-some (p 5) (ap (λ (dirty_points : List DirtyPoints). (dirty_points_at dirty_points 0).dirty) same)
     never (suc k) inside same = omega (arith, inside)
 
 links : Links unlinked (rooted (At (b 90)) (changed_at (p 5) clean)) leaf (b 90) (p 5)
@@ -405,7 +405,7 @@ adds : AddsPage bare (record bare { tree = rooted (At (b 90)) (changed_at (p 5) 
 adds = record { links = links; after = refl }
 
 adds_nothing : AddsPage bare bare leaf (b 90) (p 5) → ⊥
-adds_nothing is = none-some (p 5) (ap (λ (t : Tree). (marks_at t.marks 0).dirty) is.links.set)
+adds_nothing is = none-some (p 5) (ap (λ (t : Tree). (dirty_points_at t.dirty_points 0).dirty) is.links.set)
 
 -- Applies: what needs a leaf changes nothing, and a new page needs none
 

@@ -15,7 +15,7 @@ use Rattle.blk_base.specs.declared.place.Pbn.{Pbn}
 use Rattle.blk_base.specs.declared.point.Point.{Point}
 use Rattle.dirty_pages.specs.History.{IsWaiting}
 use Rattle.page_codec.specs.Grammar.{AreHeld, HoldsMapping, IsPage, IsSlot}
-use Rattle.page_codec.specs.Spelling.{page_bytes}
+use Rattle.page_codec.specs.PageBytes.{page_bytes}
 use Rattle.page_codec.specs.declared.forms.MapPage.{MapPage}
 use Rattle.page_codec.specs.declared.forms.PageHead.{PageHead}
 use Rattle.page_codec.proofs.ReadLaws.{one_mapping, slots}
@@ -23,11 +23,11 @@ use Rattle.block_map_tree.specs.declared.forms.Forest.{Forest}
 use Rattle.map_page_cache.specs.CachedPages.{CachedPages, IsPageOf, IsThere}
 use Rattle.map_page_cache.specs.Runs as runs
 use Rattle.map_page_cache.proofs.RunLaws as cache_laws
-use Rattle.map_zone.specs.Calls.{Apply, AreReadBack, Call, HandOut, HasNoLeaf, Install, IsStored, LeadTo, Leads, SayOf, Write, events_of, mapped}
-use Rattle.map_zone.specs.Serving.{Installs, MayInstall, Remaps, Shows}
-use Rattle.map_zone.specs.Writing.{Settles, Takes, TakesLeaf, TakesNode}
+use Rattle.map_zone.specs.Operations.{Apply, AreReadBack, Operation, HandOut, HasNoLeaf, Install, IsStored, LeadTo, Leads, SayOf, Write, events_of, mapped}
+use Rattle.map_zone.specs.Lookups.{Installs, MayInstall, Remaps, Shows}
+use Rattle.map_zone.specs.PageWrites.{Settles, Takes, TakesLeaf, TakesNode}
 use Rattle.map_zone.specs.ZoneMap.{IsZoneMap, ZoneMap, head_at}
-use Rattle.map_zone.proofs.CallLaws.{Split, split_of}
+use Rattle.map_zone.proofs.OperationLaws.{Split, split_of}
 
 pub same_head : (h k : PageHead) → h.geometry ≡ k.geometry → h.page ≡ k.page → h.at ≡ k.at → h ≡ k
 same_head h k geometry page at =
@@ -75,15 +75,15 @@ SaysSo g page bytes mapping =
     → (address : ℕ) → leaf_of address ≡ page → slice_index_or mappings (address % PAGE_SLOTS) Unmapped ≡ mapping address
 
 -- a leaf in memory says what its addresses are mapped to; and so do the bytes of one that wasn't changed since they were handed out
-record Known (g : Geometry) (first : PageId → List ℕ) (opened : ℕ → Mapping) (calls : List Call) (m : ZoneMap) : Type 0 where
+record Known (g : Geometry) (first : PageId → List ℕ) (opened : ℕ → Mapping) (calls : List Operation) (m : ZoneMap) : Type 0 where
   there : (address : ℕ) (content : MapPage) → IsThere m.cache (leaf_of address) content → slice_index_or content.mappings (address % PAGE_SLOTS) Unmapped ≡ mapped opened calls address
   stored : (page : PageId) (bytes : List ℕ) → IsStored first calls page bytes → ((point : Point) → IsWaiting (events_of calls) page point → ⊥)
       → SaysSo g page bytes (mapped opened calls)
 
-module _ (g : Geometry) (first : PageId → List ℕ) (opened : ℕ → Mapping) (begun between new : ZoneMap) (calls : List Call) (split : Split begun calls between) (begun_form : IsZoneMap begun)
+module _ (g : Geometry) (first : PageId → List ℕ) (opened : ℕ → Mapping) (begun between new : ZoneMap) (calls : List Operation) (split : Split begun calls between) (begun_form : IsZoneMap begun)
     (same : between.tree.forest.geometry ≡ g) (known : Known g first opened calls between) where
   -- what is there after a call of the cache
-  content_now : (c : runs.Call) (page : PageId) (content : MapPage) → runs.Leads between.cache c new.cache → IsThere new.cache page content → runs.IsContent between.cache (c ∷ []) page content
+  content_now : (c : runs.Operation) (page : PageId) (content : MapPage) → runs.Leads between.cache c new.cache → IsThere new.cache page content → runs.IsContent between.cache (c ∷ []) page content
   content_now c page content leads there = cache_laws.content_after between.cache new.cache (c ∷ []) page content split.form.cache (between.cache, refl, leads) there
 
   -- and after one of the tree
@@ -186,7 +186,7 @@ module _ (g : Geometry) (first : PageId → List ℕ) (opened : ℕ → Mapping)
     stored = λ other bytes is none. known.stored other bytes is none;
   }
 
-  known_step : (call : Call) → Leads between call new → AreReadBack first (call ∷ calls) → Known g first opened (call ∷ calls) new
+  known_step : (call : Operation) → Leads between call new → AreReadBack first (call ∷ calls) → Known g first opened (call ∷ calls) new
   known_step (Apply (Remap at was now) point) leads read = remapped at was now point leads.1
   known_step (Apply (NewPage page at) point) leads read = added page at point leads.1.after
   known_step (Install page bytes) leads read = installed page bytes leads.0 leads.1 read.0
@@ -194,13 +194,13 @@ module _ (g : Geometry) (first : PageId → List ℕ) (opened : ℕ → Mapping)
   known_step (HandOut page at bytes) (point, inr takes) read = node_out page at bytes point takes
   known_step (Write page) leads read = written_out page leads.1
 
-read_before : (first : PageId → List ℕ) (call : Call) (calls : List Call) → AreReadBack first (call ∷ calls) → AreReadBack first calls
+read_before : (first : PageId → List ℕ) (call : Operation) (calls : List Operation) → AreReadBack first (call ∷ calls) → AreReadBack first calls
 read_before first (Install page bytes) calls read = read.1
 read_before first (Apply entry point) calls read = read
 read_before first (HandOut page at bytes) calls read = read
 read_before first (Write page) calls read = read
 
-known_of : (first : PageId → List ℕ) (opened : ℕ → Mapping) (old new : ZoneMap) (calls : List Call) → IsZoneMap old → HasNoLeaf old → SayOf old.tree.forest.geometry first opened
+known_of : (first : PageId → List ℕ) (opened : ℕ → Mapping) (old new : ZoneMap) (calls : List Operation) → IsZoneMap old → HasNoLeaf old → SayOf old.tree.forest.geometry first opened
     → LeadTo old calls new → AreReadBack first calls → Known old.tree.forest.geometry first opened calls new
 known_of first opened old new [] form empty say same read = subst (λ (m : ZoneMap). Known old.tree.forest.geometry first opened [] m) (sym same) (record {
   there = λ address content there. absurd (empty (leaf_of address) content there);
@@ -213,13 +213,13 @@ known_of first opened old new (call ∷ calls) form empty say lead read =
     (known_of first opened old lead.0 calls form empty say lead.1 (read_before first call calls read)) call lead.2 read
 
 -- what was applied is shown
-pub shown : (first : PageId → List ℕ) (opened : ℕ → Mapping) (old new : ZoneMap) (calls : List Call) (address : ℕ) (mapping : Mapping) → IsZoneMap old → HasNoLeaf old
+pub shown : (first : PageId → List ℕ) (opened : ℕ → Mapping) (old new : ZoneMap) (calls : List Operation) (address : ℕ) (mapping : Mapping) → IsZoneMap old → HasNoLeaf old
     → SayOf old.tree.forest.geometry first opened → LeadTo old calls new → AreReadBack first calls → Shows new address mapping → mapping ≡ mapped opened calls address
 shown first opened old new calls address mapping form empty say lead read shows =
     shows.says ∙ (known_of first opened old new calls form empty say lead read).there address shows.content shows.there
 
 -- a leaf that is handed out says what was applied, and nothing else
-pub says : (first : PageId → List ℕ) (opened : ℕ → Mapping) (old between new : ZoneMap) (calls : List Call) (point : Point) (page : PageId) (at : Pbn) (bytes : List ℕ) (address : ℕ)
+pub says : (first : PageId → List ℕ) (opened : ℕ → Mapping) (old between new : ZoneMap) (calls : List Operation) (point : Point) (page : PageId) (at : Pbn) (bytes : List ℕ) (address : ℕ)
     → IsZoneMap old → HasNoLeaf old → SayOf old.tree.forest.geometry first opened → LeadTo old calls between → AreReadBack first calls → Takes between new point page at bytes
     → leaf_of address ≡ page → IsSlot (head_at between page at) bytes (address % PAGE_SLOTS) (mapped opened calls address)
 says first opened old between new calls point page at bytes address form empty say lead read (inr takes) of_page =

@@ -11,9 +11,9 @@ use Rattle.blk_base.specs.declared.place.Mapping.{Mapping}
 use Rattle.blk_base.specs.declared.place.PageId.{PageId}
 use Rattle.blk_base.specs.declared.place.Pbn.{Pbn}
 use Rattle.blk_base.specs.declared.point.Point.{Point}
-use Rattle.dirty_pages.specs.declared.marks.Marks.{Marks}
-use Rattle.dirty_pages.specs.Marks.{AreClean, HasPoint, IsDue, IsFirstDue, IsLowPoint, NoneIsDue, NoneIsEverDue, marks_at}
-use Rattle.page_codec.specs.Spelling.{page_bytes}
+use Rattle.dirty_pages.specs.declared.dirty_points.DirtyPoints.{DirtyPoints}
+use Rattle.dirty_pages.specs.DirtyPoints.{AreClean, HasPoint, IsDue, IsFirstDue, IsLowPoint, NoneIsDue, NoneIsEverDue, dirty_points_at}
+use Rattle.page_codec.specs.PageBytes.{page_bytes}
 use Rattle.page_codec.specs.declared.forms.MapPage.{MapPage}
 use Rattle.page_codec.specs.declared.forms.PageHead.{PageHead}
 use Rattle.block_map_tree.specs.Tree as trees
@@ -22,8 +22,8 @@ use Rattle.map_page_cache.specs.CachedPages as cached
 use Rattle.map_page_cache.specs.Runs as runs
 use Rattle.map_zone.specs.declared.forms.Applied.{Applied}
 use Rattle.map_zone.specs.declared.forms.Applied.TheVariants as applied
-use Rattle.map_zone.specs.Serving.{Applies, MayInstall, NeedsLeaf, Remaps}
-use Rattle.map_zone.specs.Writing.{IsClean, IsLeafFirst, IsLow, IsNodeFirst, IsOut, NoneDue, TakesLeaf, TakesNode, comes_first, lesser_point}
+use Rattle.map_zone.specs.Lookups.{Applies, MayInstall, NeedsLeaf, Remaps}
+use Rattle.map_zone.specs.PageWrites.{IsClean, IsLeafFirst, IsLow, IsNodeFirst, IsOut, NoneDue, TakesLeaf, TakesNode, comes_first, lesser_point}
 use Rattle.map_zone.specs.ZoneMap.{IsLeafAt, IsZoneMap, ZoneMap, head_at}
 use Rattle.map_zone.proofs.KeepLaws.{cache_keeps}
 
@@ -54,8 +54,8 @@ node_out known m page same form out level =
     ]
 
 -- which page is due first
-pub leaf_first : (known m : ZoneMap) (leaf node : Option Point) (result : Bool) → m ≡ known → IfSome leaf (IsFirstDue m.cache.marks) → IfSome node (IsFirstDue m.tree.marks)
-    → IfNone node (NoneIsEverDue m.tree.marks) → result ≡ comes_first leaf node → IsTrue result → IsLeafFirst known
+pub leaf_first : (known m : ZoneMap) (leaf node : Option Point) (result : Bool) → m ≡ known → IfSome leaf (IsFirstDue m.cache.dirty_points) → IfSome node (IsFirstDue m.tree.dirty_points)
+    → IfNone node (NoneIsEverDue m.tree.dirty_points) → result ≡ comes_first leaf node → IsTrue result → IsLeafFirst known
 leaf_first known m None other result same is_leaf is_node no_node is yes' = absurd (let no' : true ≡ false = sym yes' ∙ is in cc)
 leaf_first known m (Some leaf) None result same is_leaf is_node no_node is yes' =
     subst (λ (z : ZoneMap). IsLeafFirst z) same (record { leaf = leaf; due = is_leaf; first = λ number other due. absurd (no_node number other due) })
@@ -63,8 +63,8 @@ leaf_first known m (Some leaf) (Some node) result same is_leaf is_node no_node i
     let below = leb-true leaf.0 node.0 (sym is ∙ yes') in
     subst (λ (z : ZoneMap). IsLeafFirst z) same (record { leaf = leaf; due = is_leaf; first = λ number other due. omega (arith, below, is_node.least number other due) })
 
-pub node_first : (known m : ZoneMap) (leaf node : Option Point) (result : Bool) → m ≡ known → IfSome leaf (IsFirstDue m.cache.marks) → IfSome node (IsFirstDue m.tree.marks)
-    → IfNone leaf (NoneIsEverDue m.cache.marks) → result ≡ comes_first leaf node → result ≡ false → IsNodeFirst known
+pub node_first : (known m : ZoneMap) (leaf node : Option Point) (result : Bool) → m ≡ known → IfSome leaf (IsFirstDue m.cache.dirty_points) → IfSome node (IsFirstDue m.tree.dirty_points)
+    → IfNone leaf (NoneIsEverDue m.cache.dirty_points) → result ≡ comes_first leaf node → result ≡ false → IsNodeFirst known
 node_first known m None other result same is_leaf is_node no_leaf is no' = subst (λ (z : ZoneMap). IsNodeFirst z) same (record { first = λ number other due. absurd (no_leaf number other due) })
 node_first known m (Some leaf) None result same is_leaf is_node no_leaf is no' = absurd (let yes' : true ≡ false = sym is ∙ no' in cc)
 node_first known m (Some leaf) (Some node) result same is_leaf is_node no_leaf is no' =
@@ -73,13 +73,13 @@ node_first known m (Some leaf) (Some node) result same is_leaf is_node no_leaf i
     subst (λ (z : ZoneMap). IsNodeFirst z) same (record { first = λ number other due. (node, is_node, omega (arith, above, is_leaf.least number other due)) })
 
 -- where the one that is due first isn't due yet, none is
-pub no_leaf_due : (m : ZoneMap) (point : Point) → IsLeafFirst m → NoneIsDue m.cache.marks point → NoneDue m point
+pub no_leaf_due : (m : ZoneMap) (point : Point) → IsLeafFirst m → NoneIsDue m.cache.dirty_points point → NoneDue m point
 no_leaf_due m point first none = record {
   leaves = none;
   nodes = λ number node due. omega (arith, none first.due.number first.leaf first.due.due, first.first number node due);
 }
 
-pub no_node_due : (m : ZoneMap) (point : Point) → IsNodeFirst m → NoneIsDue m.tree.marks point → NoneDue m point
+pub no_node_due : (m : ZoneMap) (point : Point) → IsNodeFirst m → NoneIsDue m.tree.dirty_points point → NoneDue m point
 no_node_due m point first none = record {
   leaves = λ number leaf due.
       let before = first.first number leaf due in
@@ -89,15 +89,15 @@ no_node_due m point first none = record {
 
 -- the page that is handed out is the one that is due first
 pub leaf_taken : (old : ZoneMap) (new : cached.CachedPages) (point : Point) (page : PageId) (copy : MapPage) → IsLeafFirst old → (expires : cached.Expires old.cache new point page copy)
-    → (number : ℕ) (node : Point) → IsDue (marks_at old.tree.marks number) node → expires.marks.first.0 ≤ node.0
+    → (number : ℕ) (node : Point) → IsDue (dirty_points_at old.tree.dirty_points number) node → expires.dirty_points.first.0 ≤ node.0
 leaf_taken old new point page copy first expires number node due =
-    omega (arith, expires.marks.least first.due.number first.leaf first.due.due, first.first number node due)
+    omega (arith, expires.dirty_points.least first.due.number first.leaf first.due.due, first.first number node due)
 
 pub node_taken : (old : ZoneMap) (new : trees.Tree) (point : Point) (page : PageId) (copy : MapPage) → IsNodeFirst old → (expires : trees.Expires old.tree new point page copy)
-    → (number : ℕ) (leaf : Point) → IsDue (marks_at old.cache.marks number) leaf → expires.marks.first.0 < leaf.0
+    → (number : ℕ) (leaf : Point) → IsDue (dirty_points_at old.cache.dirty_points number) leaf → expires.dirty_points.first.0 < leaf.0
 node_taken old new point page copy first expires number leaf due =
     let before = first.first number leaf due in
-    omega (arith, expires.marks.least before.1.number before.0 before.1.due, before.2)
+    omega (arith, expires.dirty_points.least before.1.number before.0 before.1.due, before.2)
 
 pub takes_leaf : (known m : ZoneMap) (new : cached.CachedPages) (point : Point) (page : PageId) (at : Pbn) (copy : MapPage) (bytes : List ℕ) → m ≡ known → IsLeafFirst known
     → cached.Expires m.cache new point page copy → at ≡ copy.head.at → bytes ≡ page_bytes copy.head copy.mappings → TakesLeaf known (record m { cache = new }) point page at bytes
@@ -124,27 +124,27 @@ takes_node known m new point page at copy bytes same first expires at_is said =
     })
 
 -- the least point of what isn't durable
-pub no_point : (marks : List Marks) (number : ℕ) (point : Point) → AreClean marks → HasPoint (marks_at marks number) point → ⊥
-no_point marks number point are (inl dirty) = none-some point (sym (ap (λ (m : Marks). m.dirty) (are number)) ∙ dirty)
-no_point marks number point are (inr writing) = none-some point (sym (ap (λ (m : Marks). m.writing) (are number)) ∙ writing)
+pub no_point : (dirty_points : List DirtyPoints) (number : ℕ) (point : Point) → AreClean dirty_points → HasPoint (dirty_points_at dirty_points number) point → ⊥
+no_point dirty_points number point are (inl dirty) = none-some point (sym (ap (λ (m : DirtyPoints). m.dirty) (are number)) ∙ dirty)
+no_point dirty_points number point are (inr writing) = none-some point (sym (ap (λ (m : DirtyPoints). m.writing) (are number)) ∙ writing)
 
-pub low_some : (known m : ZoneMap) (leaf node result : Option Point) → m ≡ known → IfSome leaf (IsLowPoint m.cache.marks) → IfNone leaf (AreClean m.cache.marks)
-    → IfSome node (IsLowPoint m.tree.marks) → IfNone node (AreClean m.tree.marks) → result ≡ lesser_point leaf node → IfSome result (IsLow known)
+pub low_some : (known m : ZoneMap) (leaf node result : Option Point) → m ≡ known → IfSome leaf (IsLowPoint m.cache.dirty_points) → IfNone leaf (AreClean m.cache.dirty_points)
+    → IfSome node (IsLowPoint m.tree.dirty_points) → IfNone node (AreClean m.tree.dirty_points) → result ≡ lesser_point leaf node → IfSome result (IsLow known)
 low_some known m leaf node result same is_leaf no_leaf is_node no_node is =
     subst (λ (z : ZoneMap). IfSome result (IsLow z)) same (subst (λ (o : Option Point). IfSome o (IsLow m)) (sym is) (low leaf node is_leaf no_leaf is_node no_node))
   where
-    low : (leaf node : Option Point) → IfSome leaf (IsLowPoint m.cache.marks) → IfNone leaf (AreClean m.cache.marks)
-        → IfSome node (IsLowPoint m.tree.marks) → IfNone node (AreClean m.tree.marks) → IfSome (lesser_point leaf node) (IsLow m)
+    low : (leaf node : Option Point) → IfSome leaf (IsLowPoint m.cache.dirty_points) → IfNone leaf (AreClean m.cache.dirty_points)
+        → IfSome node (IsLowPoint m.tree.dirty_points) → IfNone node (AreClean m.tree.dirty_points) → IfSome (lesser_point leaf node) (IsLow m)
     low None None is_leaf no_leaf is_node no_node = tt
     low None (Some node) is_leaf no_leaf is_node no_node = record {
       own = inr is_node;
-      leaves = λ number point has. absurd (no_point m.cache.marks number point no_leaf has);
+      leaves = λ number point has. absurd (no_point m.cache.dirty_points number point no_leaf has);
       nodes = is_node.least;
     }
     low (Some leaf) None is_leaf no_leaf is_node no_node = record {
       own = inl is_leaf;
       leaves = is_leaf.least;
-      nodes = λ number point has. absurd (no_point m.tree.marks number point no_node has);
+      nodes = λ number point has. absurd (no_point m.tree.dirty_points number point no_node has);
     }
     low (Some leaf) (Some node) is_leaf no_leaf is_node no_node = elim (leb_tells leaf.0 node.0) [
       | inl below ↦
@@ -163,12 +163,12 @@ low_some known m leaf node result same is_leaf no_leaf is_node no_node is =
           })
     ]
 
-pub low_none : (known m : ZoneMap) (leaf node result : Option Point) → m ≡ known → IfNone leaf (AreClean m.cache.marks) → IfNone node (AreClean m.tree.marks)
+pub low_none : (known m : ZoneMap) (leaf node result : Option Point) → m ≡ known → IfNone leaf (AreClean m.cache.dirty_points) → IfNone node (AreClean m.tree.dirty_points)
     → result ≡ lesser_point leaf node → IfNone result (IsClean known)
 low_none known m leaf node result same no_leaf no_node is =
     subst (λ (z : ZoneMap). IfNone result (IsClean z)) same (subst (λ (o : Option Point). IfNone o (IsClean m)) (sym is) (none leaf node no_leaf no_node))
   where
-    none : (leaf node : Option Point) → IfNone leaf (AreClean m.cache.marks) → IfNone node (AreClean m.tree.marks) → IfNone (lesser_point leaf node) (IsClean m)
+    none : (leaf node : Option Point) → IfNone leaf (AreClean m.cache.dirty_points) → IfNone node (AreClean m.tree.dirty_points) → IfNone (lesser_point leaf node) (IsClean m)
     none None None no_leaf no_node = record { leaves = no_leaf; nodes = no_node }
     none None (Some node) no_leaf no_node = tt
     none (Some leaf) None no_leaf no_node = tt

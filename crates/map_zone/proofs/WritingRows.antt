@@ -10,12 +10,12 @@ use Rattle.blk_base.specs.declared.place.PageId.{PageId}
 use Rattle.blk_base.specs.declared.place.Pbn.{Pbn}
 use Rattle.blk_base.specs.declared.point.Point.{Point}
 use Rattle.dirty_pages.specs.History.{Changed, HandedOut, Written}
-use Rattle.dirty_pages.specs.Marks.{HandsOut, HasPoint, IsDue, marks_at, settled, with_marks}
-use Rattle.dirty_pages.specs.declared.marks.Marks.{Marks}
+use Rattle.dirty_pages.specs.DirtyPoints.{HandsOut, HasPoint, IsDue, dirty_points_at, settled, with_dirty_points}
+use Rattle.dirty_pages.specs.declared.dirty_points.DirtyPoints.{DirtyPoints}
 use Rattle.page_codec.proofs.HeldLaws.{held_unmapped}
 use Rattle.page_codec.proofs.ReadLaws.{one_mapping, slots}
 use Rattle.page_codec.specs.Grammar.{IsSlot}
-use Rattle.page_codec.specs.Spelling.{page_bytes}
+use Rattle.page_codec.specs.PageBytes.{page_bytes}
 use Rattle.page_codec.specs.declared.forms.MapPage.{MapPage}
 use Rattle.page_codec.specs.declared.forms.PageHead.{PageHead}
 use Rattle.block_map_tree.specs.Pages.{IsRoot}
@@ -24,8 +24,8 @@ use Rattle.block_map_tree.specs.Tree as trees
 use Rattle.map_page_cache.specs.CachedPages.{CachedPages}
 use Rattle.map_page_cache.specs.CachedPages as cached
 use Rattle.map_page_cache.specs.Turns.{no_turns}
-use Rattle.map_zone.specs.Calls.{Apply, AreReadBack, Call, HandOut, HasLink, HasNoLeaf, Install, IsStored, LeadTo, Leads, SayOf, Write, changed_by, events_of, mapped}
-use Rattle.map_zone.specs.Writing.{IsOut, Settles, SettlesLeaf, SettlesNode, Takes, TakesLeaf, TakesNode, IsClean, IsLeafFirst, IsLow, IsNodeFirst, IsSpelled, NoneDue, comes_first, lesser_point}
+use Rattle.map_zone.specs.Operations.{Apply, AreReadBack, Operation, HandOut, HasLink, HasNoLeaf, Install, IsStored, LeadTo, Leads, SayOf, Write, changed_by, events_of, mapped}
+use Rattle.map_zone.specs.PageWrites.{IsOut, Settles, SettlesLeaf, SettlesNode, Takes, TakesLeaf, TakesNode, IsClean, IsLeafFirst, IsLow, IsNodeFirst, IsSpelled, NoneDue, comes_first, lesser_point}
 use Rattle.map_zone.specs.ZoneMap.{ZoneMap}
 use Rattle.map_zone.proofs.Rows.{installs, may_install, may_not_install_it_again, may_not_past_the_last, remaps, zeroed, p, b, lba, g, forest, root, leaf, own, below, others, held, held_at, linked, unlinked, is_tree, stands, content, full, empty, is_cache, m, unread, clean_at, changed, there, whole, filled, fills, bytes, reads}
 
@@ -66,16 +66,16 @@ spelled_otherwise bytes other is = other is.said
 -- IsLeafFirst, IsNodeFirst, NoneDue: the leaf was changed first at 6, the root at 5
 
 abbrev both : ZoneMap
-both = record { tree = record linked { marks = changed 5 }; cache = record full { marks = changed 6 } }
+both = record { tree = record linked { dirty_points = changed 5 }; cache = record full { dirty_points = changed 6 } }
 
 abbrev value : Option Point → ℕ
 value None = 0
 value (Some q) = q.0
 
-due_at : (n : ℕ) → IsDue (marks_at (changed n) 0) (p n)
+due_at : (n : ℕ) → IsDue (dirty_points_at (changed n) 0) (p n)
 due_at n = record { idle = refl; dirty = refl }
 
-due_from : (n number : ℕ) (first : Point) → IsDue (marks_at (changed n) number) first → first.0 ≡ n
+due_from : (n number : ℕ) (first : Point) → IsDue (dirty_points_at (changed n) number) first → first.0 ≡ n
 due_from n zero first due = sym (ap value due.dirty)
 due_from n (suc k) first due = absurd (none-some first due.dirty)
 
@@ -85,14 +85,14 @@ root_first = record { first = λ number first due. (p 5, record { number = 0; du
 leaf_not_first : IsLeafFirst both → ⊥
 leaf_not_first is = omega (arith, is.first 0 (p 5) (due_at 5), due_from 6 is.due.number is.leaf is.due.due)
 
-leaf_first_now : IsLeafFirst (record both { tree = record linked { marks = changed 6 } })
+leaf_first_now : IsLeafFirst (record both { tree = record linked { dirty_points = changed 6 } })
 leaf_first_now = record {
   leaf = p 6;
   due = record { number = 0; due = due_at 6; least = λ k later due'. omega (arith, due_from 6 k later due') };
   first = λ number node due. omega (arith, due_from 6 number node due);
 }
 
-root_not_before_it : IsNodeFirst (record both { tree = record linked { marks = changed 6 } }) → ⊥
+root_not_before_it : IsNodeFirst (record both { tree = record linked { dirty_points = changed 6 } }) → ⊥
 root_not_before_it is =
     let node = is.first 0 (p 6) (due_at 6) in
     omega (arith, due_from 6 node.1.number node.0 node.1.due, node.2)
@@ -108,7 +108,7 @@ leaf_is_due none = omega (arith, none.leaves 0 (p 6) (due_at 6))
 
 -- IsLow, IsClean
 
-has_from : (n number : ℕ) (point : Point) → HasPoint (marks_at (changed n) number) point → point.0 ≡ n
+has_from : (n number : ℕ) (point : Point) → HasPoint (dirty_points_at (changed n) number) point → point.0 ≡ n
 has_from n zero point (inl dirty) = sym (ap value dirty)
 has_from n zero point (inr writing) = absurd (none-some point writing)
 has_from n (suc k) point (inl dirty) = absurd (none-some point dirty)
@@ -121,7 +121,7 @@ low = record {
   nodes = λ k q has. omega (arith, has_from 5 k q has);
 }
 
-low_of_a_leaf : IsLow (record both { tree = record linked { marks = changed 6 } }) (p 6)
+low_of_a_leaf : IsLow (record both { tree = record linked { dirty_points = changed 6 } }) (p 6)
 low_of_a_leaf = record {
   own = inl (record { number = 0; has = inl refl; least = λ k q has. omega (arith, has_from 6 k q has) });
   leaves = λ k q has. omega (arith, has_from 6 k q has);
@@ -141,15 +141,15 @@ low_of_nothing is = elim is.own [ inl leaf ↦ omega (arith, has_from 6 leaf.num
 is_clean : IsClean m
 is_clean = record { leaves = clean_at; nodes = clean_at }
 
-leaf_is_dirty : IsClean (record m { cache = record full { marks = changed 6 } }) → ⊥
-leaf_is_dirty is = none-some (p 6) (sym (ap (λ (marks : Marks). marks.dirty) (is.leaves 0)))
+leaf_is_dirty : IsClean (record m { cache = record full { dirty_points = changed 6 } }) → ⊥
+leaf_is_dirty is = none-some (p 6) (sym (ap (λ (dirty_points : DirtyPoints). dirty_points.dirty) (is.leaves 0)))
 
-root_is_dirty : IsClean (record m { tree = record linked { marks = changed 5 } }) → ⊥
-root_is_dirty is = none-some (p 5) (sym (ap (λ (marks : Marks). marks.dirty) (is.nodes 0)))
+root_is_dirty : IsClean (record m { tree = record linked { dirty_points = changed 5 } }) → ⊥
+root_is_dirty is = none-some (p 5) (sym (ap (λ (dirty_points : DirtyPoints). dirty_points.dirty) (is.nodes 0)))
 
 -- Calls: the leaf is linked, installed, address 1 is mapped anew, and the leaf is handed out and written
 
-abbrev calls : List Call
+abbrev calls : List Operation
 calls = HandOut leaf (b 90) (1 ∷ []) ∷ Apply (Remap (lba 1) Unmapped Zero) (p 514) ∷ Install leaf (0 ∷ []) ∷ Apply (NewPage leaf (b 90)) (p 512) ∷ []
 
 changes_the_leaf : changed_by (Remap (lba 1) Unmapped Zero) ≡ leaf
@@ -210,7 +210,7 @@ links_elsewhere (inr never) = never
 
 -- TakesLeaf, TakesNode: what was changed is handed out, and marked as being written
 
-abbrev handed : ℕ → List Marks
+abbrev handed : ℕ → List DirtyPoints
 handed n = (record { dirty = None; writing = Some (p n) }) ∷ []
 
 hands_out : (n : ℕ) → n ≤ 9 → HandsOut (changed n) (handed n) (p 9) 0
@@ -223,12 +223,12 @@ hands_out n reached = record {
   after = refl;
 }
 
-leaf_expires : cached.Expires both.cache (record full { marks = handed 6 }) (p 9) leaf content
+leaf_expires : cached.Expires both.cache (record full { dirty_points = handed 6 }) (p 9) leaf content
 leaf_expires = record {
   form = is_cache (At (b 100)) (record { dirty = None; writing = Some (p 6) }) (no_turns 1) (held_at 15 (omega arith));
   frame = 0;
   stood = record { inside = omega arith; is = refl; named = refl };
-  marks = hands_out 6 (omega arith);
+  dirty_points = hands_out 6 (omega arith);
   after = refl;
 }
 
@@ -238,10 +238,10 @@ root_page = record { head = record { geometry = g; page = root; at = b 9 }; mapp
 is_root : IsRoot forest root
 is_root = record { tree = own; level = refl; index = refl }
 
-root_expires : trees.Expires both.tree (record linked { marks = handed 5 }) (p 9) root root_page
+root_expires : trees.Expires both.tree (record linked { dirty_points = handed 5 }) (p 9) root root_page
 root_expires = record {
   inner = record { level = omega arith; there = inl is_root };
-  marks = hands_out 5 (omega arith);
+  dirty_points = hands_out 5 (omega arith);
   geometry = refl;
   page = refl;
   at = as_root is_root refl;
@@ -254,17 +254,17 @@ root_expires = record {
 -- first: the root was changed before
 takes_the_later_one : (after : ZoneMap) (point : Point) (given : List ℕ) → TakesLeaf both after point leaf (b 90) given → ⊥
 takes_the_later_one after point given takes =
-    omega (arith, takes.first 0 (p 5) (due_at 5), due_from 6 takes.expires.frame takes.expires.marks.first takes.expires.marks.due)
+    omega (arith, takes.first 0 (p 5) (due_at 5), due_from 6 takes.expires.frame takes.expires.dirty_points.first takes.expires.dirty_points.due)
 
 -- where both were changed first at the same point
 abbrev alike : ZoneMap
-alike = record both { tree = record linked { marks = changed 6 } }
+alike = record both { tree = record linked { dirty_points = changed 6 } }
 
 abbrev alone : ZoneMap
 alone = record both { tree = linked }
 
-takes_leaf : TakesLeaf alike (record alike { cache = record full { marks = handed 6 } }) (p 9) leaf (b 90) bytes
-takes_leaf = record { copy = content; expires = leaf_expires; first = λ number node due. omega (arith, due_from 6 number node due, due_from 6 leaf_expires.frame leaf_expires.marks.first leaf_expires.marks.due); spelled = spelled; after = refl }
+takes_leaf : TakesLeaf alike (record alike { cache = record full { dirty_points = handed 6 } }) (p 9) leaf (b 90) bytes
+takes_leaf = record { copy = content; expires = leaf_expires; first = λ number node due. omega (arith, due_from 6 number node due, due_from 6 leaf_expires.frame leaf_expires.dirty_points.first leaf_expires.dirty_points.due); spelled = spelled; after = refl }
 
 -- after: the tree stays
 takes_leaf_and_a_link : (after : ZoneMap) (point : Point) (given : List ℕ) → after.tree ≡ unlinked → TakesLeaf alone after point leaf (b 90) given → ⊥
@@ -279,11 +279,11 @@ takes_leaf_elsewhere after point given takes = never takes.expires.frame takes.c
     never zero copy' inside is placed = omega (arith, ap (λ (k : Pbn). k.0) (placed ∙ ap (λ (c : MapPage). c.head.at) (sym is)))
     never (suc k) copy' inside is placed = omega (arith, inside)
 
-takes_node : TakesNode both (record both { tree = record linked { marks = handed 5 } }) (p 9) root (b 9) (page_bytes root_page.head root_page.mappings)
+takes_node : TakesNode both (record both { tree = record linked { dirty_points = handed 5 } }) (p 9) root (b 9) (page_bytes root_page.head root_page.mappings)
 takes_node = record {
   copy = root_page;
   expires = root_expires;
-  first = λ number first due. omega (arith, due_from 6 number first due, due_from 5 0 root_expires.marks.first root_expires.marks.due);
+  first = λ number first due. omega (arith, due_from 6 number first due, due_from 5 0 root_expires.dirty_points.first root_expires.dirty_points.due);
   spelled = record { placed = refl; said = refl };
   after = refl;
 }
@@ -298,28 +298,28 @@ takes_node_elsewhere after point given takes = never takes.copy takes.expires.at
 -- expires: nothing was changed
 takes_a_clean_leaf : (after : ZoneMap) (point : Point) (bytes : List ℕ) → TakesLeaf m after point leaf (b 90) bytes → ⊥
 takes_a_clean_leaf after point bytes takes =
-    none-some takes.expires.marks.first (sym (ap (λ (marks : Marks). marks.dirty) (clean_at takes.expires.frame)) ∙ takes.expires.marks.due.dirty)
+    none-some takes.expires.dirty_points.first (sym (ap (λ (dirty_points : DirtyPoints). dirty_points.dirty) (clean_at takes.expires.frame)) ∙ takes.expires.dirty_points.due.dirty)
 
 takes_a_clean_node : (after : ZoneMap) (point : Point) (bytes : List ℕ) → TakesNode m after point root (b 9) bytes → ⊥
-takes_a_clean_node after point bytes takes = none-some takes.expires.marks.first takes.expires.marks.due.dirty
+takes_a_clean_node after point bytes takes = none-some takes.expires.dirty_points.first takes.expires.dirty_points.due.dirty
 
 -- TakesNode: the leaf was changed before, or at the same point
-takes_a_node_too_soon : (new : ZoneMap) (bytes : List ℕ) → TakesNode (record both { tree = record linked { marks = changed 6 } }) new (p 9) root (b 9) bytes → ⊥
-takes_a_node_too_soon new bytes takes = omega (arith, takes.first 0 (p 6) (due_at 6), due_from 6 0 takes.expires.marks.first takes.expires.marks.due)
+takes_a_node_too_soon : (new : ZoneMap) (bytes : List ℕ) → TakesNode (record both { tree = record linked { dirty_points = changed 6 } }) new (p 9) root (b 9) bytes → ⊥
+takes_a_node_too_soon new bytes takes = omega (arith, takes.first 0 (p 6) (due_at 6), due_from 6 0 takes.expires.dirty_points.first takes.expires.dirty_points.due)
 
 -- SettlesLeaf, SettlesNode: a page that isn't being written isn't settled
 settles_one_that_is_not_out : (new : ZoneMap) → SettlesLeaf m new leaf → ⊥
-settles_one_that_is_not_out new is = none-some is.out.marks.first (sym (ap (λ (marks : Marks). marks.writing) (clean_at is.out.frame)) ∙ is.out.marks.is)
+settles_one_that_is_not_out new is = none-some is.out.dirty_points.first (sym (ap (λ (dirty_points : DirtyPoints). dirty_points.writing) (clean_at is.out.frame)) ∙ is.out.dirty_points.is)
 
 settles_a_root_that_is_not_out : (new : ZoneMap) → SettlesNode m new root → ⊥
-settles_a_root_that_is_not_out new is = none-some is.out.marks.first is.out.marks.is
+settles_a_root_that_is_not_out new is = none-some is.out.dirty_points.first is.out.dirty_points.is
 
 -- writes: it isn't being written any longer
-abbrev under_way : List Marks
+abbrev under_way : List DirtyPoints
 under_way = handed 6
 
 abbrev out : ZoneMap
-out = record { tree = record linked { marks = under_way }; cache = record full { marks = under_way } }
+out = record { tree = record linked { dirty_points = under_way }; cache = record full { dirty_points = under_way } }
 
 leaf_is_written : cached.Writes out.cache filled leaf
 leaf_is_written = record {
@@ -332,20 +332,20 @@ leaf_is_written = record {
 
 settles_leaf : SettlesLeaf out (record out { cache = filled }) leaf
 settles_leaf = record {
-  out = record { frame = 0; content = content; stands = record { inside = omega arith; is = refl; named = refl }; marks = record { first = p 6; is = refl } };
+  out = record { frame = 0; content = content; stands = record { inside = omega arith; is = refl; named = refl }; dirty_points = record { first = p 6; is = refl } };
   writes = leaf_is_written;
   after = refl;
 }
 
 settles_no_leaf : SettlesLeaf out out leaf → ⊥
-settles_no_leaf is = never is.writes.frame is.writes.stood.inside (ap (λ (c : CachedPages). c.marks) is.writes.after)
+settles_no_leaf is = never is.writes.frame is.writes.stood.inside (ap (λ (c : CachedPages). c.dirty_points) is.writes.after)
   where
-    never : (frame : ℕ) → frame < 1 → under_way ≡ with_marks under_way frame settled → ⊥
-    never zero inside same = none-some (p 6) (sym (ap (λ (marks : List Marks). (marks_at marks 0).writing) same))
+    never : (frame : ℕ) → frame < 1 → under_way ≡ with_dirty_points under_way frame settled → ⊥
+    never zero inside same = none-some (p 6) (sym (ap (λ (dirty_points : List DirtyPoints). (dirty_points_at dirty_points 0).writing) same))
     never (suc k) inside same = omega (arith, inside)
 
 root_is_there : trees.IsWriting out.tree root
-root_is_there = record { inner = record { level = omega arith; there = inl is_root }; marks = record { first = p 6; is = refl } }
+root_is_there = record { inner = record { level = omega arith; there = inl is_root }; dirty_points = record { first = p 6; is = refl } }
 
 root_is_written : trees.Writes out.tree linked root
 root_is_written = record { form = whole.tree; set = refl }
@@ -354,14 +354,14 @@ settles_node : SettlesNode out (record out { tree = linked }) root
 settles_node = record { out = root_is_there; writes = root_is_written; after = refl }
 
 settles_no_node : SettlesNode out out root → ⊥
-settles_no_node is = none-some (p 6) (sym (ap (λ (t : Tree). (marks_at t.marks 0).writing) is.writes.set))
+settles_no_node is = none-some (p 6) (sym (ap (λ (t : Tree). (dirty_points_at t.dirty_points 0).writing) is.writes.set))
 
 -- IsOut, LeadTo: a page that isn't being written isn't reported
 root_is_out : IsOut out root
 root_is_out = inr root_is_there
 
 none_is_out : IsOut m leaf → ⊥
-none_is_out (inl is) = none-some is.marks.first (sym (ap (λ (marks : Marks). marks.writing) (clean_at is.frame)) ∙ is.marks.is)
+none_is_out (inl is) = none-some is.dirty_points.first (sym (ap (λ (dirty_points : DirtyPoints). dirty_points.writing) (clean_at is.frame)) ∙ is.dirty_points.is)
 none_is_out (inr is) = omega (arith, is.inner.level)
 
 -- Leads: an entry is applied, a leaf is installed, a page is handed out; and none that may not be
@@ -371,7 +371,7 @@ leads_by_an_entry = (record { inside = omega arith; linked = record { at = b 90;
 leads_by_a_leaf : Leads unread (Install leaf bytes) (record m { cache = filled })
 leads_by_a_leaf = (may_install, installs)
 
-leads_by_a_page : Leads both (HandOut root (b 9) (page_bytes root_page.head root_page.mappings)) (record both { tree = record linked { marks = handed 5 } })
+leads_by_a_page : Leads both (HandOut root (b 9) (page_bytes root_page.head root_page.mappings)) (record both { tree = record linked { dirty_points = handed 5 } })
 leads_by_a_page = (p 9, inr takes_node)
 
 leads_past_the_last : (new : ZoneMap) → Leads unread (Apply (Remap (lba 1000) Unmapped Zero) (p 5)) new → ⊥
@@ -427,10 +427,10 @@ says_otherwise : ¬ SayOf g (λ page. bytes) (λ n. Unmapped)
 says_otherwise say = let no' : At (b 100) ≡ Unmapped = say leaf (b 90) content.mappings reads 1 refl in cc
 
 -- Takes, Settles: each of its two ways, and none of the other's
-takes_one_of_the_leaves : Takes alike (record alike { cache = record full { marks = handed 6 } }) (p 9) leaf (b 90) bytes
+takes_one_of_the_leaves : Takes alike (record alike { cache = record full { dirty_points = handed 6 } }) (p 9) leaf (b 90) bytes
 takes_one_of_the_leaves = inl takes_leaf
 
-takes_one_of_the_others : Takes both (record both { tree = record linked { marks = handed 5 } }) (p 9) root (b 9) (page_bytes root_page.head root_page.mappings)
+takes_one_of_the_others : Takes both (record both { tree = record linked { dirty_points = handed 5 } }) (p 9) root (b 9) (page_bytes root_page.head root_page.mappings)
 takes_one_of_the_others = inr takes_node
 
 takes_none : (after : ZoneMap) (point : Point) (given : List ℕ) → ¬ Takes m after point leaf (b 90) given

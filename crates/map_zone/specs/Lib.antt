@@ -1,4 +1,4 @@
 pub mod ZoneMap
-pub mod Serving
-pub mod Writing
-pub mod Calls
+pub mod Lookups
+pub mod PageWrites
+pub mod Operations

@@ -5,7 +5,7 @@ use Rattle.blk_base.specs.declared.place.PageId.{PageId}
 use Rattle.blk_base.specs.declared.place.Pbn.{Pbn}
 use Rattle.page_codec.specs.declared.forms.MapPage.{MapPage}
 use Rattle.page_codec.specs.declared.forms.PageHead.{PageHead}
-use Rattle.block_map_tree.specs.Opening.{IsOpening, forest_of}
+use Rattle.block_map_tree.specs.OpenedTree.{IsOpening, forest_of}
 use Rattle.block_map_tree.specs.Tree.{IsAt, IsTree, Tree}
 use Rattle.map_page_cache.specs.CachedPages.{CachedPages, IsCache, IsThere, no_pages}
 

@@ -11,19 +11,19 @@ ghost use Rattle.dirty_pages.specs.History.{IsUnreported, IsUnwritten};
 ghost use Rattle.block_map_tree.specs.Pages.{IsLower};
 ghost use Rattle.block_map_tree.specs.Tree.{IsAt};
 ghost use Rattle.page_codec.specs.Grammar.{IsSlot};
-ghost use Rattle.map_zone.specs.Calls.{AreReadBack, Call, HasLink, HasNoLeaf, LeadTo, Leads, SayOf, events_of, mapped};
-ghost use Rattle.map_zone.specs.Serving.{IsLooked, Shows};
-ghost use Rattle.map_zone.specs.Writing.{IsClean, IsLow, IsOut, NoneDue, Takes};
+ghost use Rattle.map_zone.specs.Operations.{AreReadBack, Operation, HasLink, HasNoLeaf, LeadTo, Leads, SayOf, events_of, mapped};
+ghost use Rattle.map_zone.specs.Lookups.{IsLooked, Shows};
+ghost use Rattle.map_zone.specs.PageWrites.{IsClean, IsLow, IsOut, NoneDue, Takes};
 ghost use Rattle.map_zone.specs.ZoneMap.{IsOpened, IsZoneMap, ZoneMap, head_at};
 ghost use Rattle.map_zone.specs.declared.forms.Looked.{Looked};
 
 /// Over every list of calls, an entry that was applied to a page and isn't written since the page was handed out isn't below the
 /// low point; and there is one.
 pub fn nothing_unwritten_is_below_the_low_point()
-    ensures low { (old new : ZoneMap) (calls : List Call) (page : PageId) (point low : Point) →
+    ensures low { (old new : ZoneMap) (calls : List Operation) (page : PageId) (point low : Point) →
         IsZoneMap old → LeadTo old calls new
         → IsUnwritten (events_of calls) page point → IsLow new low → low.0 ≤ point.0 }
-    ensures some { (old new : ZoneMap) (calls : List Call) (page : PageId) (point : Point) →
+    ensures some { (old new : ZoneMap) (calls : List Operation) (page : PageId) (point : Point) →
         IsZoneMap old → LeadTo old calls new
         → IsUnwritten (events_of calls) page point → IsClean new → ⊥ }
 {}
@@ -35,12 +35,12 @@ pub fn what_was_applied_is_shown()
     ensures opened { (opened : Opened) (zone zones frames : ℕ) (m : ZoneMap) →
         IsOpened opened zone zones frames m → IsZoneMap m × HasNoLeaf m }
     ensures shown { (first : PageId → List ℕ) (opened : ℕ → Mapping) (old new : ZoneMap)
-        (calls : List Call) (address : ℕ) (mapping : Mapping) → IsZoneMap old → HasNoLeaf old
+        (calls : List Operation) (address : ℕ) (mapping : Mapping) → IsZoneMap old → HasNoLeaf old
         → SayOf old.tree.forest.geometry first opened → LeadTo old calls new →
         AreReadBack first calls → Shows new address mapping →
         mapping ≡ mapped opened calls address }
     ensures says { (first : PageId → List ℕ) (opened : ℕ → Mapping) (old between new : ZoneMap)
-        (calls : List Call) (point : Point) (page : PageId) (at : Pbn) (bytes : List ℕ)
+        (calls : List Operation) (point : Point) (page : PageId) (at : Pbn) (bytes : List ℕ)
         (address : ℕ) → IsZoneMap old → HasNoLeaf old →
         SayOf old.tree.forest.geometry first opened → LeadTo old calls between →
         AreReadBack first calls
@@ -51,7 +51,7 @@ pub fn what_was_applied_is_shown()
 
 /// Each call has one result and one answer, also which page it gives up or hands out.
 pub fn a_call_has_one_result()
-    ensures after { (old new other : ZoneMap) (call : Call) → IsZoneMap old → Leads old call new →
+    ensures after { (old new other : ZoneMap) (call : Operation) → IsZoneMap old → Leads old call new →
         Leads old call other → new ≡ other }
     ensures looked { (m : ZoneMap) (address : ℕ) (one two : Looked) → IsZoneMap m →
         IsLooked m address one → IsLooked m address two → one ≡ two }
@@ -69,7 +69,7 @@ pub fn a_call_has_one_result()
 pub fn a_page_is_out_until_it_is_written()
     ensures taken { (old new : ZoneMap) (point : Point) (page : PageId) (at : Pbn)
         (bytes : List ℕ) → Takes old new point page at bytes → IsOut new page }
-    ensures kept { (old new : ZoneMap) (calls : List Call) (page : PageId) → IsZoneMap old →
+    ensures kept { (old new : ZoneMap) (calls : List Operation) (page : PageId) → IsZoneMap old →
         LeadTo old calls new → IsUnreported (events_of calls) page
         → IsOut old page → IsOut new page }
     ensures idle { (old new : ZoneMap) (point : Point) (page : PageId) (at : Pbn) (bytes : List ℕ) →
@@ -80,10 +80,10 @@ pub fn a_page_is_out_until_it_is_written()
 /// Over every list of calls a page stands where it stood at first or was linked, and nowhere else. A page that is handed out and
 /// is no leaf leads to each page below it that is linked, and to no other.
 pub fn links_are_those_that_were_applied()
-    ensures stands { (old new : ZoneMap) (calls : List Call) (page : PageId) (at : Pbn) →
+    ensures stands { (old new : ZoneMap) (calls : List Operation) (page : PageId) (at : Pbn) →
         IsZoneMap old → LeadTo old calls new
         → IsAt old.tree page at ⊎ HasLink calls page at → IsAt new.tree page at }
-    ensures only { (old new : ZoneMap) (calls : List Call) (page : PageId) (at : Pbn) →
+    ensures only { (old new : ZoneMap) (calls : List Operation) (page : PageId) (at : Pbn) →
         IsZoneMap old → LeadTo old calls new → IsAt new.tree page at
         → IsAt old.tree page at ⊎ HasLink calls page at }
     ensures says { (old new : ZoneMap) (point : Point) (page : PageId) (at : Pbn) (bytes : List ℕ)

@@ -1,5 +1,5 @@
 ghost use Rattle.std.specs.Prelude.{◌≡◌};
-ghost use Rattle.map_zone.specs.Writing.{comes_first, lesser_point};
+ghost use Rattle.map_zone.specs.PageWrites.{comes_first, lesser_point};
 
 use blk_base::Point;
 

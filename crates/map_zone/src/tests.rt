@@ -1,7 +1,7 @@
 ghost use Rattle.std.specs.Prelude.{◌≡◌, ◌∷◌, [], IfOk, replicate};
 ghost use Rattle.blk_base.specs.declared.place.Mapping.TheVariants.{Unmapped};
 ghost use Rattle.blk_base.specs.Limits.{IsGeometry};
-ghost use Rattle.block_map_tree.specs.Opening.{IsOpened, forest_of};
+ghost use Rattle.block_map_tree.specs.OpenedTree.{IsOpened, forest_of};
 
 use crate::{Applied, Looked, MapZone, NotInstalled};
 use blk_base::{

@@ -1,7 +1,7 @@
 ghost use Rattle.std.specs.Prelude.{◌≡◌, ◌<◌, ◌≤◌, ◌↔◌, IfOk, IfErr, OnOk, OnErr, IfSome, IfNone, IsTrue, false};
 ghost use Rattle.blk_base.specs.Pages.{leaf_of};
 ghost use Rattle.blk_base.specs.Limits.{IsGeometry};
-ghost use Rattle.block_map_tree.specs.Opening.{IsOpened as AreOpened, forest_of};
+ghost use Rattle.block_map_tree.specs.OpenedTree.{IsOpened as AreOpened, forest_of};
 ghost use Rattle.block_map_tree.specs.Tree.{IsAt, IsThere as IsLinked};
 ghost use Rattle.blk_base.specs.declared.place.PageId.{PageId};
 ghost use Rattle.blk_base.specs.declared.place.Pbn.{Pbn};
@@ -10,8 +10,8 @@ ghost use Rattle.page_codec.specs.declared.forms.MapPage.{MapPage};
 ghost use Rattle.map_page_cache.specs.CachedPages.{IsAbsent, IsThere};
 ghost use Rattle.map_zone.specs.declared.forms.Applied.TheVariants.{Done, NeedLeaf};
 ghost use Rattle.map_zone.specs.ZoneMap.{IsOpened};
-ghost use Rattle.map_zone.specs.Serving.{AddsPage, Applies, HasPath, Installs, IsLooked, IsOwn, IsRefused, MayAddPage, MayApply, MayInstall, MayRemap, NeedsLeaf, Remaps};
-ghost use Rattle.map_zone.specs.Writing.{IsClean, IsLeafFirst, IsLow, IsNodeFirst, IsOut, NoneDue, Settles, Takes, TakesLeaf, TakesNode};
+ghost use Rattle.map_zone.specs.Lookups.{AddsPage, Applies, HasPath, Installs, IsLooked, IsOwn, IsRefused, MayAddPage, MayApply, MayInstall, MayRemap, NeedsLeaf, Remaps};
+ghost use Rattle.map_zone.specs.PageWrites.{IsClean, IsLeafFirst, IsLow, IsNodeFirst, IsOut, NoneDue, Settles, Takes, TakesLeaf, TakesNode};
 
 use crate::points::{comes_first, lesser_point};
 use crate::{Applied, Looked, NotInstalled};

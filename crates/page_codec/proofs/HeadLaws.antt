@@ -6,7 +6,7 @@ use Rattle.blk_base.specs.declared.place.PageId.{PageId}
 use Rattle.byte_fields.specs.Fields.{le, number_at}
 use Rattle.byte_fields.proofs.FieldLaws.{length-le, number_behind}
 use Rattle.page_codec.specs.declared.forms.PageHead.{PageHead}
-use Rattle.page_codec.specs.Spelling.{head_bytes}
+use Rattle.page_codec.specs.PageBytes.{head_bytes}
 use Rattle.page_codec.specs.Grammar.{IsHead, HasHead}
 
 nonce_read : (h : PageHead) → IsHead h → number_at 8 4 (head_bytes h) ≡ h.geometry.nonce

@@ -8,7 +8,7 @@ use Rattle.byte_fields.proofs.FieldLaws.{length-le, length-records, record_at, p
 use Rattle.byte_fields.proofs.MappingLaws.{length-mapping}
 use Rattle.page_codec.specs.declared.forms.PageHead.{PageHead}
 use Rattle.byte_fields.specs.Mappings.{mapping_bytes}
-use Rattle.page_codec.specs.Spelling.{head_bytes, page_bytes}
+use Rattle.page_codec.specs.PageBytes.{head_bytes, page_bytes}
 use Rattle.page_codec.specs.Grammar.{slot_bytes}
 
 pub length-head : (head : PageHead) → length (head_bytes head) ≡ 36

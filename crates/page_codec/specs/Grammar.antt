@@ -11,7 +11,7 @@ use Rattle.page_codec.specs.declared.forms.PageHead.{PageHead}
 use Rattle.page_codec.specs.declared.fault.PageFault.{PageFault}
 use Rattle.page_codec.specs.declared.fault.PageFault.TheVariants.{Header, Compressed, OutOfRange}
 use Rattle.byte_fields.specs.Mappings.{mapping_bytes}
-use Rattle.page_codec.specs.Spelling.{head_bytes, page_bytes}
+use Rattle.page_codec.specs.PageBytes.{head_bytes, page_bytes}
 
 -- what a page of a level can hold: zeros only in a leaf, and only data blocks
 abbrev pub HoldsMapping : Geometry → ℕ → Mapping → Type 0

@@ -1,3 +1,3 @@
-pub mod Spelling
+pub mod PageBytes
 pub mod Grammar
 pub mod Runs

@@ -3,7 +3,7 @@ ghost use Rattle.std.specs.Bool.{OnTrue};
 ghost use Rattle.blk_base.specs.declared.place.Mapping.TheVariants.{Unmapped};
 ghost use Rattle.blk_base.specs.declared.sizes.TheConstants.{PAGE_SLOTS};
 ghost use Rattle.byte_fields.specs.Mappings.{mapping_bytes};
-ghost use Rattle.page_codec.specs.Spelling.{head_bytes, page_bytes};
+ghost use Rattle.page_codec.specs.PageBytes.{head_bytes, page_bytes};
 
 use crate::{MapPage, PageHead};
 use blk_base::{Block, Mapping};
@@ -44,7 +44,7 @@ pub fn encode_unmapped(head: &PageHead, into: &mut Block)
 }
 
 /// Writes the first bytes of a page.
-#[tactic(auto, unfolding(crate::specs::Spelling::head_bytes))]
+#[tactic(auto, unfolding(crate::specs::PageBytes::head_bytes))]
 pub(crate) fn put_head(page: &mut [u8], head: &PageHead)
     requires { 36 ≤ length page.old }
     ensures { take 36 page.new ≡ head_bytes head.now }

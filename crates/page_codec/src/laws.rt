@@ -3,7 +3,7 @@ ghost use Rattle.blk_base.specs.declared.place.Mapping.{Mapping};
 ghost use Rattle.blk_base.specs.declared.place.Mapping.TheVariants.{Unmapped};
 ghost use Rattle.page_codec.specs.declared.forms.PageHead.{PageHead};
 ghost use Rattle.page_codec.specs.declared.fault.PageFault.{PageFault};
-ghost use Rattle.page_codec.specs.Spelling.{page_bytes};
+ghost use Rattle.page_codec.specs.PageBytes.{page_bytes};
 ghost use Rattle.page_codec.specs.Grammar.{AreHeld, IsPage, IsHead, HasHead, IsSlot, IsSlotFault, IsPageFault, IsTorn, IsFrom};
 
 use blk_base::PAGE_SLOTS;

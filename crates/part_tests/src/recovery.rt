@@ -27,7 +27,7 @@ fn add(journal: &mut Journal, number: u32) -> Option<(u64, usize)>
     requires { journal.old.sequence < 2 ^ 55 }
     ensures sequence { journal.new.sequence ≡ journal.old.sequence }
     ensures committed { journal.new.committed ≡ journal.old.committed }
-    ensures zones { length journal.new.marks ≡ length journal.old.marks }
+    ensures zones { length journal.new.watermarks ≡ length journal.old.watermarks }
 {
     match journal.append(entry(number)) {
         Ok(place) => Some((place.sequence, usize::from(place.entry))),
@@ -50,7 +50,7 @@ fn seals_none(journal: &mut Journal) -> bool
 fn write(journal: &mut Journal, number: u32) -> Option<Written>
     requires { journal.old.sequence < 2 ^ 54 }
     ensures sequence { journal.new.sequence ≤ journal.old.sequence + 1 }
-    ensures zones { length journal.new.marks ≡ length journal.old.marks }
+    ensures zones { length journal.new.watermarks ≡ length journal.old.watermarks }
 {
     let block = journal.seal()?;
     let sealed = (block.sequence, block.head, block.entries.len());
@@ -63,7 +63,7 @@ fn write(journal: &mut Journal, number: u32) -> Option<Written>
 // Hands out an entry.
 fn hand_out(journal: &mut Journal) -> Option<(Entry, u64)>
     ensures sequence { journal.new.sequence ≡ journal.old.sequence }
-    ensures zones { length journal.new.marks ≡ length journal.old.marks }
+    ensures zones { length journal.new.watermarks ≡ length journal.old.watermarks }
 {
     match journal.next_committed() {
         Some(next) => Some((next.entry, next.point.0)),
@@ -74,9 +74,9 @@ fn hand_out(journal: &mut Journal) -> Option<(Entry, u64)>
 // Reports that the zone's part of every entry below this point is durable, or of all that were handed out.
 fn reap(journal: &mut Journal, zone: u32, point: u64) -> u64
     requires sequence { journal.old.sequence < 2 ^ 55 }
-    requires zone { zone < length journal.old.marks }
+    requires zone { zone < length journal.old.watermarks }
     ensures sequence { journal.new.sequence ≡ journal.old.sequence }
-    ensures zones { length journal.new.marks ≡ length journal.old.marks }
+    ensures zones { length journal.new.watermarks ≡ length journal.old.watermarks }
 {
     let below = cmp::min(point, journal.first_unhanded().0);
     journal.watermark(zone, Point(below));
@@ -86,9 +86,9 @@ fn reap(journal: &mut Journal, zone: u32, point: u64) -> u64
 // An entry that is handed out, with its point, and the point below which entries are reaped then.
 fn hand_out_and_reap(journal: &mut Journal) -> (Option<(Entry, u64)>, u64)
     requires sequence { journal.old.sequence < 2 ^ 55 }
-    requires zones { length journal.old.marks ≡ 1 }
+    requires zones { length journal.old.watermarks ≡ 1 }
     ensures sequence { journal.new.sequence ≡ journal.old.sequence }
-    ensures zones { length journal.new.marks ≡ 1 }
+    ensures zones { length journal.new.watermarks ≡ 1 }
 {
     let handed_out = hand_out(journal);
     (handed_out, reap(journal, 0, u64::MAX))
@@ -98,9 +98,9 @@ fn hand_out_and_reap(journal: &mut Journal) -> (Option<(Entry, u64)>, u64)
 fn write_blocks(journal: &mut Journal, first: u32, last: u32) -> Option<Written>
     requires first { first ≤ last }
     requires sequence { journal.old.sequence ≤ first }
-    requires zones { length journal.old.marks ≡ 1 }
+    requires zones { length journal.old.watermarks ≡ 1 }
     ensures sequence { journal.new.sequence ≤ last + 1 }
-    ensures zones { length journal.new.marks ≡ 1 }
+    ensures zones { length journal.new.watermarks ≡ 1 }
 {
     for number in first..last {
         let _ = write(journal, number);
@@ -118,9 +118,9 @@ fn fill(
     (Option<(Entry, u64)>, u64),
 )
     requires sequence { journal.old.sequence ≡ 1 }
-    requires zones { length journal.old.marks ≡ 1 }
+    requires zones { length journal.old.watermarks ≡ 1 }
     ensures sequence { journal.new.sequence ≤ 10 }
-    ensures zones { length journal.new.marks ≡ 1 }
+    ensures zones { length journal.new.watermarks ≡ 1 }
 {
     let added = add(journal, 1);
     let written = write(journal, 2);
@@ -134,7 +134,7 @@ fn reap_and_add(
     journal: &mut Journal,
 ) -> ([Option<(u64, usize)>; 2], (Option<(Entry, u64)>, u64), u64)
     requires sequence { journal.old.sequence ≤ 10 }
-    requires zones { length journal.old.marks ≡ 1 }
+    requires zones { length journal.old.watermarks ≡ 1 }
 {
     let refused = add(journal, 9);
     let reaped = hand_out_and_reap(journal);

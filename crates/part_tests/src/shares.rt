@@ -1,5 +1,5 @@
 ghost use Rattle.std.specs.Prelude.{List, ℕ, ◌≡◌, ◌+◌, ◌<◌, ◌≤◌, length};
-ghost use Rattle.hash_locks.specs.Sharing.{nothing};
+ghost use Rattle.hash_locks.specs.LockedNames.{nothing};
 
 use blk_base::{Block, HasBlock};
 use block_names::Name;

@@ -3,7 +3,7 @@ ghost use Rattle.blk_base.specs.Pages.{page_above as page_of};
 ghost use Rattle.blk_base.specs.Limits.{logical_limit};
 ghost use Rattle.blk_base.specs.declared.place.Mapping.TheVariants.{Unmapped, At};
 ghost use Rattle.block_map_tree.specs.Tree.{IsTree};
-ghost use Rattle.block_map_tree.specs.Opening.{IsOpened, forest_of};
+ghost use Rattle.block_map_tree.specs.OpenedTree.{IsOpened, forest_of};
 
 use blk_base::{Geometry, Lba, Mapping, Mappings, Opened, OpenedPage, PageId, Pbn, Point, Super};
 use block_map_tree::{Forest, Found, TreeNodes, path};

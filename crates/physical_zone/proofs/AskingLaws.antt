@@ -18,7 +18,7 @@ use Rattle.slab_tickets.specs.declared.forms.Withdrawn.TheVariants.{Block, Nothi
 use Rattle.slab_tickets.specs.Tickets.{Desk, IsNow, IsOutAt, begun}
 use Rattle.step_parts.specs.Rules.{Applies}
 use Rattle.zone_counts.proofs.OneAnswer.{one_begun, one_worth}
-use Rattle.zone_counts.specs.Asking.{WithdrawsFrom}
+use Rattle.zone_counts.specs.ZoneAnswers.{WithdrawsFrom}
 use Rattle.zone_counts.specs.ByBlock.{served_ticket}
 use Rattle.zone_counts.specs.Zone.{BeginsStep, Changes, IsClaimedIn, NoneFree, Zone, slab_of}
 

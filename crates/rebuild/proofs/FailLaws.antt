@@ -6,7 +6,7 @@ use Rattle.disk_model.specs.declared.call.Failed.{Failed}
 use Rattle.disk_model.specs.Causes.{Rose}
 use Rattle.disk_model.specs.Seen.{Later, Seen}
 use Rattle.disk_model.specs.Since.{IsUntouched, NextFailed, reads_of}
-use Rattle.disk_model.specs.Telling.{FailedInLog}
+use Rattle.disk_model.specs.LogSteps.{FailedInLog}
 use Rattle.image_format.proofs.FormatLaws.{last_failed}
 use Rattle.image_format.specs.Formats.{LastFailed}
 use Rattle.image_format.specs.Runs.{Makes}

@@ -2,7 +2,7 @@
 use Rattle.std.proofs.Common.{ℕ, ◌≡◌, ◌≤◌, Bool, IsTrue, true, false, List, All, Result, Ok, Err, IsErrAnd, length, refl, sym, ◌∙◌, ap, subst, inl, inr}
 use Rattle.audit.proofs.AuditLaws.{both_follow}
 use Rattle.audit.specs.Audits.{AuditWithFails, BothShow, IsOpenedTo}
-use Rattle.block_map_tree.specs.Opening.{IsOpened as AreTrees, all_trees}
+use Rattle.block_map_tree.specs.OpenedTree.{IsOpened as AreTrees, all_trees}
 use Rattle.blk_base.specs.Counters.{limit_of}
 use Rattle.blk_base.specs.Limits.{IsGeometry}
 use Rattle.blk_base.specs.Regions.{needed_blocks}

@@ -37,7 +37,7 @@ use Rattle.rebuild.proofs.RecoveryRows.{head_there, with_head}
 use Rattle.rebuild.proofs.Rows.{seen}
 use Rattle.rebuild.proofs.ShownLaws.{audit_last}
 use Rattle.blk_base.specs.declared.opened.OpenedPage.{OpenedPage}
-use Rattle.block_map_tree.specs.Opening.{IsOpened, all_trees}
+use Rattle.block_map_tree.specs.OpenedTree.{IsOpened, all_trees}
 use Rattle.replay_map.specs.Forms.{HasForm}
 use Rattle.replay_map.specs.declared.links.Link.{Link}
 use Rattle.session_opening.specs.Pages.{ArePages}

@@ -14,7 +14,7 @@ use Rattle.disk_model.specs.Log.{Blocks, block_at, contents, settled}
 use Rattle.disk_model.specs.OneImages.{HasOneImageIn}
 use Rattle.disk_model.specs.Seen.{Seen}
 use Rattle.disk_model.specs.Since.{WereRead}
-use Rattle.disk_model.specs.Telling.{FailedInLog}
+use Rattle.disk_model.specs.LogSteps.{FailedInLog}
 use Rattle.disk_model.proofs.ImageLaws.{all_weaker, settled_are_contents}
 use Rattle.disk_model.proofs.SeenLaws.{stays_on}
 use Rattle.image_format.proofs.StopLaws.{all_append}

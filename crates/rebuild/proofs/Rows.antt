@@ -10,7 +10,7 @@ use Rattle.disk_model.specs.Causes.{Rose}
 use Rattle.disk_model.specs.Log.{Blocks}
 use Rattle.disk_model.specs.Seen.{Seen}
 use Rattle.disk_model.specs.Since.{OnlyReads}
-use Rattle.disk_model.specs.Telling.{FailedInLog}
+use Rattle.disk_model.specs.LogSteps.{FailedInLog}
 use Rattle.disk_model.proofs.SinceLaws.{untouched_yet}
 use Rattle.image_format.specs.Formats.{IsFailed, LastFailed}
 use Rattle.image_model.proofs.Example.{pbn}

@@ -41,7 +41,7 @@ use Rattle.image_model.specs.Looked.{is_looked_at, looked_in}
 use Rattle.page_codec.proofs.HeldLaws.{holds_block}
 use Rattle.page_codec.proofs.SpellingLaws.{length-head}
 use Rattle.page_codec.specs.Grammar.{HasHead, HoldsMapping, slot_bytes}
-use Rattle.page_codec.specs.Spelling.{head_bytes}
+use Rattle.page_codec.specs.PageBytes.{head_bytes}
 use Rattle.plain_laws.proofs.OptionLaws.{option_cases}
 use Rattle.recovery_blocks.specs.Counters.{AreCountsPut}
 use Rattle.recovery_blocks.specs.Patches.{IsPatched}

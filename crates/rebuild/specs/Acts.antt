@@ -9,7 +9,7 @@ use Rattle.disk_model.specs.declared.call.Call.TheVariants.{Read, Write, Flush}
 use Rattle.disk_model.specs.declared.call.Failed.{Failed}
 use Rattle.disk_model.specs.Log.{Blocks, settled}
 use Rattle.disk_model.specs.Seen.{Seen, Stays, Later}
-use Rattle.disk_model.specs.Telling.{FailedInLog}
+use Rattle.disk_model.specs.LogSteps.{FailedInLog}
 use Rattle.image_format.specs.Formats.{LastFailed}
 use Rattle.image_format.specs.Runs.{as_failed}
 use Rattle.image_model.specs.Maps.{Image, page_at}

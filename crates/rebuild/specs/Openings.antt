@@ -8,7 +8,7 @@ use Rattle.blk_base.specs.declared.geometry.Super.{Super as Superblock}
 use Rattle.blk_base.specs.declared.journal_entry.CommittedEntry.{CommittedEntry}
 use Rattle.blk_base.specs.declared.opened.Opened.{Opened}
 use Rattle.blk_base.specs.declared.place.Pbn.{Pbn}
-use Rattle.block_map_tree.specs.Opening.{IsOpened, all_trees}
+use Rattle.block_map_tree.specs.OpenedTree.{IsOpened, all_trees}
 use Rattle.count_updates.specs.Numbers.{all_blocks, all_sectors}
 use Rattle.disk_model.specs.Log.{Blocks}
 use Rattle.disk_model.specs.Seen.{Seen}

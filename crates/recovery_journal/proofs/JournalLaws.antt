@@ -34,7 +34,7 @@ kept_added log e kept number room =
       committed = kept.committed;
       ring = kept.ring;
       ring_filling = λ some. room;
-      marks = kept.marks;
+      watermarks = kept.watermarks;
       unhanded = kept.unhanded;
       needed = kept.needed;
     }
@@ -53,19 +53,19 @@ first_least (e ∷ es) sequence rising =
     let P : CommittedEntry → Type 0 = λ f. point_at (e.point.0 / 512) 0 ≤ f.point.0 in
     points_from_first 0 (e ∷ es) (sequence * 192) (point_at (e.point.0 / 512) 0) rising (All-cons P e [] (omega arith) (All-nil P))
 
-needed_first : (marks : List Point) (es : List CommittedEntry) (sequence : ℕ) → All (λ e. IsNeeded marks e.point) es
-    → (first_sequence es sequence ≡ sequence) ⊎ Any (λ e. IsNeeded marks e.point × (e.point.0 / 512 ≡ first_sequence es sequence)) es
-needed_first marks [] sequence needed = inl refl
-needed_first marks (e ∷ es) sequence needed = inr (0, e, omega arith, refl, (All-head (λ (f : CommittedEntry). IsNeeded marks f.point) e es needed, refl))
+needed_first : (watermarks : List Point) (es : List CommittedEntry) (sequence : ℕ) → All (λ e. IsNeeded watermarks e.point) es
+    → (first_sequence es sequence ≡ sequence) ⊎ Any (λ e. IsNeeded watermarks e.point × (e.point.0 / 512 ≡ first_sequence es sequence)) es
+needed_first watermarks [] sequence needed = inl refl
+needed_first watermarks (e ∷ es) sequence needed = inr (0, e, omega arith, refl, (All-head (λ (f : CommittedEntry). IsNeeded watermarks f.point) e es needed, refl))
 
 pub is_head : (log : Log) → IsKept log → IsHead log (head_of log)
 is_head log kept =
     record {
       reached = head_reached log kept;
       least = All-weaker (λ (e : CommittedEntry). point_at (first_sequence log.entries log.sequence) 0 ≤ e.point.0)
-          (λ (e : CommittedEntry). IsNeeded log.marks e.point → point_at (head_of log) 0 ≤ e.point.0)
+          (λ (e : CommittedEntry). IsNeeded log.watermarks e.point → point_at (head_of log) 0 ≤ e.point.0)
           (λ e above needed. omega (arith, head_below log kept, above)) log.entries (first_least log.entries log.sequence kept.rising);
-      needed = needed_first log.marks log.entries log.sequence kept.needed;
+      needed = needed_first log.watermarks log.entries log.sequence kept.needed;
     }
 
 -- handing out
@@ -116,7 +116,7 @@ kept_handed log e kept inside is =
       committed = kept.committed;
       ring = kept.ring;
       ring_filling = kept.ring_filling;
-      marks = kept.marks;
+      watermarks = kept.watermarks;
       unhanded = All-rest (λ (f : CommittedEntry). AreBelow log f.point.0) e (drop (log.handed + 1) log.entries) (drop log.handed log.entries)
           (rest_is log.entries log.handed e inside is) kept.unhanded;
       needed = kept.needed;
@@ -160,9 +160,9 @@ placed_named sequence number (f ∷ fs) some =
     All-cons IsNamed (record { entry = f; point = record { 0 = point_at sequence number } }) (placed sequence (number + 1) fs)
     (omega arith) (placed_named sequence (number + 1) fs some)
 
-needed_by_first : (marks : List Point) (point : Point) → 0 < length marks → All (λ mark. mark.0 ≤ point.0) marks → IsNeeded marks point
+needed_by_first : (watermarks : List Point) (point : Point) → 0 < length watermarks → All (λ watermark. watermark.0 ≤ point.0) watermarks → IsNeeded watermarks point
 needed_by_first [] point some below = absurd (omega arith)
-needed_by_first (mark ∷ marks) point some below = (0, mark, omega arith, refl, below 0 mark (omega arith))
+needed_by_first (watermark ∷ watermarks) point some below = (0, watermark, omega arith, refl, below 0 watermark (omega arith))
 
 pub kept_sealed : (log : Log) → IsKept log → 0 < length log.filling → length log.filling ≤ 192 → log.sequence ≤ log.committed
     → IsKept (record log { sequence = log.sequence + 1; filling = []; entries = log.entries ++ placed log.sequence 0 log.filling })
@@ -172,7 +172,7 @@ kept_sealed log kept waits few written =
     let from = placed_from log.sequence 0 (point_at log.sequence 0) log.filling (omega arith) in
     let behind : All (λ e. AreBelow log e.point.0) new
     = All-weaker (λ (e : CommittedEntry). point_at log.sequence 0 ≤ e.point.0) (λ (e : CommittedEntry). AreBelow log e.point.0)
-    (λ e above. All-weaker (λ (mark : Point). mark.0 ≤ point_at log.sequence 0) (λ (mark : Point). mark.0 ≤ e.point.0) (λ mark below. omega (arith, below, above)) log.marks kept.marks) new from in
+    (λ e above. All-weaker (λ (watermark : Point). watermark.0 ≤ point_at log.sequence 0) (λ (watermark : Point). watermark.0 ≤ e.point.0) (λ watermark below. omega (arith, below, above)) log.watermarks kept.watermarks) new from in
     record {
       zones = kept.zones;
       size = kept.size;
@@ -186,50 +186,50 @@ kept_sealed log kept waits few written =
       committed = (omega (arith, kept.committed.0), omega arith);
       ring = omega (arith, head, kept.ring_filling waits);
       ring_filling = λ some. absurd (omega (arith, some));
-      marks = All-weaker (λ (mark : Point). mark.0 ≤ point_at log.sequence 0) (λ (mark : Point). mark.0 ≤ point_at (log.sequence + 1) 0) (λ mark below. omega (arith, below)) log.marks kept.marks;
+      watermarks = All-weaker (λ (watermark : Point). watermark.0 ≤ point_at log.sequence 0) (λ (watermark : Point). watermark.0 ≤ point_at (log.sequence + 1) 0) (λ watermark below. omega (arith, below)) log.watermarks kept.watermarks;
       unhanded = All-same (λ (e : CommittedEntry). AreBelow log e.point.0) (drop log.handed (log.entries ++ new)) (drop log.handed log.entries ++ new)
           (drop-append-le log.handed log.entries new kept.handed)
           (All-append (λ (e : CommittedEntry). AreBelow log e.point.0) (drop log.handed log.entries) new kept.unhanded behind);
-      needed = All-append (λ (e : CommittedEntry). IsNeeded log.marks e.point) log.entries new kept.needed
-          (All-weaker (λ (e : CommittedEntry). AreBelow log e.point.0) (λ (e : CommittedEntry). IsNeeded log.marks e.point)
-          (λ e below. needed_by_first log.marks e.point kept.zones below) new behind);
+      needed = All-append (λ (e : CommittedEntry). IsNeeded log.watermarks e.point) log.entries new kept.needed
+          (All-weaker (λ (e : CommittedEntry). AreBelow log e.point.0) (λ (e : CommittedEntry). IsNeeded log.watermarks e.point)
+          (λ e below. needed_by_first log.watermarks e.point kept.zones below) new behind);
     }
 
--- marks
+-- watermarks
 
-marks_below : (marks : List Point) (zone p : ℕ) (point : Point) → zone < length marks → point.0 ≤ p → All (λ mark. mark.0 ≤ p) marks → All (λ mark. mark.0 ≤ p) (raised marks zone point)
-marks_below marks zone p point inside below all =
-    All-set (λ (mark : Point). mark.0 ≤ p) marks zone (record { 0 = max (get_or marks zone point).0 point.0 }) (omega (arith, all zone point inside)) all
+watermarks_below : (watermarks : List Point) (zone p : ℕ) (point : Point) → zone < length watermarks → point.0 ≤ p → All (λ watermark. watermark.0 ≤ p) watermarks → All (λ watermark. watermark.0 ≤ p) (raised watermarks zone point)
+watermarks_below watermarks zone p point inside below all =
+    All-set (λ (watermark : Point). watermark.0 ≤ p) watermarks zone (record { 0 = max (get_or watermarks zone point).0 point.0 }) (omega (arith, all zone point inside)) all
 
 -- what `watermark` finds: how many entries at the front are durable
 pub record Found (log : Log) (zone : ℕ) (point : Point) (count : ℕ) : Type 0 where
-  pub inside : zone < length log.marks
+  pub inside : zone < length log.watermarks
   pub behind : IsBehind log point
   pub few : count ≤ length log.entries
-  pub durable : All (λ e. IsDurable (raised log.marks zone point) e.point) (take count log.entries)
-  pub next : All (λ e. IsNeeded (raised log.marks zone point) e.point) (take 1 (drop count log.entries))
+  pub durable : All (λ e. IsDurable (raised log.watermarks zone point) e.point) (take count log.entries)
+  pub next : All (λ e. IsNeeded (raised log.watermarks zone point) e.point) (take 1 (drop count log.entries))
 
 abbrev pub advanced : Log → ℕ → Point → ℕ → Log
-advanced log zone point count = record log { entries = drop count log.entries; handed = log.handed - count; marks = raised log.marks zone point }
+advanced log zone point count = record log { entries = drop count log.entries; handed = log.handed - count; watermarks = raised log.watermarks zone point }
 
 an_entry : (es : List CommittedEntry) → 0 < length es → CommittedEntry
 an_entry [] some = absurd (omega arith)
 an_entry (e ∷ es) some = e
 
-needed_from_first : (marks : List Point) (es : List CommittedEntry) (high : ℕ) → AreRising 0 es high → All (λ e. IsNeeded marks e.point) (take 1 es) → All (λ e. IsNeeded marks e.point) es
-needed_from_first marks [] high rising first = All-nil (λ (e : CommittedEntry). IsNeeded marks e.point)
-needed_from_first marks (e ∷ es) high rising first =
+needed_from_first : (watermarks : List Point) (es : List CommittedEntry) (high : ℕ) → AreRising 0 es high → All (λ e. IsNeeded watermarks e.point) (take 1 es) → All (λ e. IsNeeded watermarks e.point) es
+needed_from_first watermarks [] high rising first = All-nil (λ (e : CommittedEntry). IsNeeded watermarks e.point)
+needed_from_first watermarks (e ∷ es) high rising first =
     let needs = first 0 e (omega arith) in
     let P : CommittedEntry → Type 0 = λ f. needs.1.0 ≤ f.point.0 in
-    All-weaker P (λ (f : CommittedEntry). IsNeeded marks f.point) (λ f above. (needs.0, needs.1, needs.2, needs.3, above)) (e ∷ es)
+    All-weaker P (λ (f : CommittedEntry). IsNeeded watermarks f.point) (λ f above. (needs.0, needs.1, needs.2, needs.3, above)) (e ∷ es)
     (points_from_first 0 (e ∷ es) high needs.1.0 rising (All-cons P e [] needs.4 (All-nil P)))
 
 module _ (log : Log) (zone : ℕ) (point : Point) (count : ℕ) (kept : IsKept log) (found : Found log zone point count) where
-  unhanded_marks : All (λ e. All (λ mark. mark.0 ≤ e.point.0) (raised log.marks zone point)) (unhanded log)
-  unhanded_marks = λ k d inside. marks_below log.marks zone (get_or (unhanded log) k d).point.0 point found.inside (found.behind.sealed k d inside) (kept.unhanded k d inside)
+  unhanded_watermarks : All (λ e. All (λ watermark. watermark.0 ≤ e.point.0) (raised log.watermarks zone point)) (unhanded log)
+  unhanded_watermarks = λ k d inside. watermarks_below log.watermarks zone (get_or (unhanded log) k d).point.0 point found.inside (found.behind.sealed k d inside) (kept.unhanded k d inside)
 
-  some_marks : 0 < length (raised log.marks zone point)
-  some_marks = omega (arith, length-set log.marks zone (record { 0 = max (get_or log.marks zone point).0 point.0 }), kept.zones)
+  some_watermarks : 0 < length (raised log.watermarks zone point)
+  some_watermarks = omega (arith, length-set log.watermarks zone (record { 0 = max (get_or log.watermarks zone point).0 point.0 }), kept.zones)
 
   pub only_handed : count ≤ log.handed
   only_handed =
@@ -242,15 +242,15 @@ module _ (log : Log) (zone : ℕ) (point : Point) (count : ℕ) (kept : IsKept l
             let dropped = get_or-drop log.handed log.entries 0 d in
             let size = length-drop log.handed log.entries in
             let inside : log.handed < length (take count log.entries) = omega (arith, length-take-le count log.entries few) in
-            let low = found.durable log.handed d inside 0 point some_marks in
-            let high = unhanded_marks 0 d (omega arith) 0 point some_marks in
+            let low = found.durable log.handed d inside 0 point some_watermarks in
+            let high = unhanded_watermarks 0 d (omega arith) 0 point some_watermarks in
             let place : log.handed + 0 ≡ log.handed = omega arith in
             absurd (omega (arith, low, high, ap (λ (e : CommittedEntry). e.point.0) taken, ap (λ (e : CommittedEntry). e.point.0) dropped, ap (λ (n : ℕ). (get_or log.entries n d).point.0) place))
       ]
 
-  left_needed : All (λ e. IsNeeded (raised log.marks zone point) e.point) (drop count log.entries)
+  left_needed : All (λ e. IsNeeded (raised log.watermarks zone point) e.point) (drop count log.entries)
   left_needed =
-      needed_from_first (raised log.marks zone point) (drop count log.entries) (log.sequence * 192) (AreRising-drop count 0 log.entries (log.sequence * 192) kept.rising) found.next
+      needed_from_first (raised log.watermarks zone point) (drop count log.entries) (log.sequence * 192) (AreRising-drop count 0 log.entries (log.sequence * 192) kept.rising) found.next
 
   pub head_rises : head_of log ≤ head_of (advanced log zone point count)
   head_rises = first_rises 0 count log.entries log.sequence kept.rising
@@ -261,7 +261,7 @@ module _ (log : Log) (zone : ℕ) (point : Point) (count : ℕ) (kept : IsKept l
       let rises = head_rises in
       let place : count + (log.handed - count) ≡ log.handed = omega arith in
       record {
-        zones = some_marks;
+        zones = some_watermarks;
         size = kept.size;
         first = kept.first;
         number = kept.number;
@@ -272,10 +272,10 @@ module _ (log : Log) (zone : ℕ) (point : Point) (count : ℕ) (kept : IsKept l
         committed = kept.committed;
         ring = omega (arith, kept.ring);
         ring_filling = λ some. omega (arith, kept.ring_filling some);
-        marks = marks_below log.marks zone (point_at log.sequence 0) point found.inside found.behind.filling kept.marks;
-        unhanded = All-same (λ (e : CommittedEntry). All (λ (mark : Point). mark.0 ≤ e.point.0) (raised log.marks zone point))
+        watermarks = watermarks_below log.watermarks zone (point_at log.sequence 0) point found.inside found.behind.filling kept.watermarks;
+        unhanded = All-same (λ (e : CommittedEntry). All (λ (watermark : Point). watermark.0 ≤ e.point.0) (raised log.watermarks zone point))
             (drop (log.handed - count) (drop count log.entries)) (drop log.handed log.entries)
-            (drop-drop (log.handed - count) count log.entries ∙ ap (λ (n : ℕ). drop n log.entries) place) unhanded_marks;
+            (drop-drop (log.handed - count) count log.entries ∙ ap (λ (n : ℕ). drop n log.entries) place) unhanded_watermarks;
         needed = left_needed;
       }
 
@@ -284,7 +284,7 @@ module _ (log : Log) (zone : ℕ) (point : Point) (count : ℕ) (kept : IsKept l
       let handed = only_handed in
       record {
         durable = take count log.entries;
-        marks = refl;
+        watermarks = refl;
         parts = sym (take-append-drop count log.entries);
         done = found.durable;
         needed = left_needed;
@@ -299,53 +299,53 @@ pub kept_sealed_as : (log : Log) (left seen : List Entry) (es : List CommittedEn
     → IsKept (record log { sequence = log.sequence + 1; filling = left; entries = es })
 kept_sealed_as log left seen es kept waits few written empty same added = rw (empty, added, same) (kept_sealed log kept waits few written)
 
-pub found_as : (log now : Log) (zone : ℕ) (point : Point) (count : ℕ) (seen : List Point) → log ≡ now → seen ≡ raised log.marks zone point
-    → zone < length now.marks → IsBehind now point → count ≤ length log.entries
+pub found_as : (log now : Log) (zone : ℕ) (point : Point) (count : ℕ) (seen : List Point) → log ≡ now → seen ≡ raised log.watermarks zone point
+    → zone < length now.watermarks → IsBehind now point → count ≤ length log.entries
     → All (λ e. IsDurable seen e.point) (take count log.entries) → All (λ e. IsNeeded seen e.point) (take 1 (drop count log.entries)) → Found log zone point count
 found_as log now zone point count seen is risen inside behind few durable next =
     record {
-      inside = subst (λ (l : Log). zone < length l.marks) (sym is) inside;
+      inside = subst (λ (l : Log). zone < length l.watermarks) (sym is) inside;
       behind = subst (λ (l : Log). IsBehind l point) (sym is) behind;
       few = few;
       durable = subst (λ (ms : List Point). All (λ e. IsDurable ms e.point) (take count log.entries)) risen durable;
       next = subst (λ (ms : List Point). All (λ e. IsNeeded ms e.point) (take 1 (drop count log.entries))) risen next;
     }
 
-pub advanced_as : (log : Log) (zone : ℕ) (point : Point) (count : ℕ) (marks : List Point) (es : List CommittedEntry) → marks ≡ raised log.marks zone point → es ≡ drop count log.entries
-    → record log { entries = es; handed = log.handed - count; marks = marks } ≡ advanced log zone point count
-advanced_as log zone point count marks es risen left = rw (risen, left)
+pub advanced_as : (log : Log) (zone : ℕ) (point : Point) (count : ℕ) (watermarks : List Point) (es : List CommittedEntry) → watermarks ≡ raised log.watermarks zone point → es ≡ drop count log.entries
+    → record log { entries = es; handed = log.handed - count; watermarks = watermarks } ≡ advanced log zone point count
+advanced_as log zone point count watermarks es risen left = rw (risen, left)
 
 -- the entries before the first that some zone needs, as code finds it
 
 abbrev pub needs : List Point → CommittedEntry → Bool
-needs marks e = list_any (λ mark. nat_le mark.0 e.point.0) marks
+needs watermarks e = list_any (λ watermark. nat_le watermark.0 e.point.0) watermarks
 
-needed_by : (marks : List Point) (e : CommittedEntry) → needs marks e ≡ true → IsNeeded marks e.point
-needed_by marks e passes =
-    let one = Any-from_list_any (λ (mark : Point). nat_le mark.0 e.point.0) marks passes in
+needed_by : (watermarks : List Point) (e : CommittedEntry) → needs watermarks e ≡ true → IsNeeded watermarks e.point
+needed_by watermarks e passes =
+    let one = Any-from_list_any (λ (watermark : Point). nat_le watermark.0 e.point.0) watermarks passes in
     (one.0, one.1, one.2, one.3, leb-true one.1.0 e.point.0 one.4)
 
-durable_by : (marks : List Point) (e : CommittedEntry) → needs marks e ≡ false → IsDurable marks e.point
-durable_by marks e fails = λ k d inside.
-    elim (cases_lt e.point.0 (get_or marks k d).0) [
+durable_by : (watermarks : List Point) (e : CommittedEntry) → needs watermarks e ≡ false → IsDurable watermarks e.point
+durable_by watermarks e fails = λ k d inside.
+    elim (cases_lt e.point.0 (get_or watermarks k d).0) [
       | inl below ↦ below
       | inr reached ↦
-          let passes = list_any_at (λ (mark : Point). nat_le mark.0 e.point.0) marks k d inside (le-leb (get_or marks k d).0 e.point.0 reached) in
+          let passes = list_any_at (λ (watermark : Point). nat_le watermark.0 e.point.0) watermarks k d inside (le-leb (get_or watermarks k d).0 e.point.0 reached) in
           absurd (cc (passes, fails))
     ]
 
-pub all_durable : (marks : List Point) (es : List CommittedEntry) → position (needs marks) es ≡ None → All (λ e. IsDurable marks e.point) es
-all_durable marks es none =
-    All-weaker (λ e. needs marks e ≡ false) (λ (e : CommittedEntry). IsDurable marks e.point) (λ e fails. durable_by marks e fails) es
-    (find-none (needs marks) es (find-nowhere (needs marks) es none))
+pub all_durable : (watermarks : List Point) (es : List CommittedEntry) → position (needs watermarks) es ≡ None → All (λ e. IsDurable watermarks e.point) es
+all_durable watermarks es none =
+    All-weaker (λ e. needs watermarks e ≡ false) (λ (e : CommittedEntry). IsDurable watermarks e.point) (λ e fails. durable_by watermarks e fails) es
+    (find-none (needs watermarks) es (find-nowhere (needs watermarks) es none))
 
-pub needed_next : (marks : List Point) (es : List CommittedEntry) (first : ℕ) → position (needs marks) es ≡ Some first → All (λ e. IsNeeded marks e.point) (take 1 (drop first es))
-needed_next marks es first found = λ k d inside.
-    let at = position-Some (needs marks) es first d found in
+pub needed_next : (watermarks : List Point) (es : List CommittedEntry) (first : ℕ) → position (needs watermarks) es ≡ Some first → All (λ e. IsNeeded watermarks e.point) (take 1 (drop first es))
+needed_next watermarks es first found = λ k d inside.
+    let at = position-Some (needs watermarks) es first d found in
     let e = get_or es first d in
     let next = rest_is es first e at.0 (get_or_default es first d e at.0) in
-    let P : CommittedEntry → Type 0 = λ f. IsNeeded marks f.point in
-    subst (λ (xs : List CommittedEntry). All P (take 1 xs)) (sym next) (All-cons P e [] (needed_by marks e at.1) (All-nil P)) k d inside
+    let P : CommittedEntry → Type 0 = λ f. IsNeeded watermarks f.point in
+    subst (λ (xs : List CommittedEntry). All P (take 1 xs)) (sym next) (All-cons P e [] (needed_by watermarks e at.1) (All-nil P)) k d inside
 
 -- the block that is sealed is one that the format can hold
 pub block_held : (log : Log) (head : ℕ) (entries : List Entry) → IsKept log → 0 < length log.filling → length log.filling ≤ 192 → head ≡ head_of log → entries ≡ log.filling

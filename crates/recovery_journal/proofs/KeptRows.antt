@@ -3,7 +3,7 @@ use Rattle.std.proofs.Common.{zero, suc, ◌≡◌, ◌+◌, ◌^◌, ◌≤◌,
 use Rattle.blk_base.specs.declared.point.Point.{Point}
 use Rattle.recovery_journal.specs.Kept.{AreBelow, AreRising, IsKept, rank}
 use Rattle.recovery_journal.specs.Log.{IsNamed, IsNeeded}
-use Rattle.recovery_journal.proofs.LogRows.{at, both, empty, maps, mark, one, the_log, two_marks}
+use Rattle.recovery_journal.proofs.LogRows.{at, both, empty, maps, watermark, one, the_log, two_watermarks}
 
 -- Places: 192 in each block, of which two points each are one.
 rank_is : rank 1026 ≡ 385
@@ -26,10 +26,10 @@ too_high : AreRising 0 (at 1536 ∷ []) 576 → ⊥
 too_high (few, low, end) = omega (arith, end)
 
 below : AreBelow the_log 1026
-below = two_marks (λ m. m.0 ≤ 1026) (mark 1026) (mark 1024) (omega arith) (omega arith)
+below = two_watermarks (λ m. m.0 ≤ 1026) (watermark 1026) (watermark 1024) (omega arith) (omega arith)
 
 not_below : AreBelow the_log 1025 → ⊥
-not_below all = let first = all 0 (mark 0) (omega arith) in omega (arith, first)
+not_below all = let first = all 0 (watermark 0) (omega arith) in omega (arith, first)
 
 -- All of it.
 
@@ -46,18 +46,18 @@ kept = record {
   committed = (omega arith, omega arith);
   ring = omega arith;
   ring_filling = λ some. omega arith;
-  marks = two_marks (λ m. m.0 ≤ 1536) (mark 1026) (mark 1024) (omega arith) (omega arith);
+  watermarks = two_watermarks (λ m. m.0 ≤ 1536) (watermark 1026) (watermark 1024) (omega arith) (omega arith);
   unhanded = one (λ entry. AreBelow the_log entry.point.0) (at 1026) below;
-  needed = both (λ entry. IsNeeded the_log.marks entry.point) (at 1024) (at 1026) (1, mark 1024, omega arith, refl, omega arith) (0, mark 1026, omega arith, refl, omega arith);
+  needed = both (λ entry. IsNeeded the_log.watermarks entry.point) (at 1024) (at 1026) (1, watermark 1024, omega arith, refl, omega arith) (0, watermark 1026, omega arith, refl, omega arith);
 }
 
-of_no_zone : IsKept (record empty { marks = [] }) → ⊥
+of_no_zone : IsKept (record empty { watermarks = [] }) → ⊥
 of_no_zone is = let some = is.zones in omega (arith, some)
 
 too_large : IsKept (record empty { size = 1025 }) → ⊥
 too_large is = let size = is.size in omega (arith, size)
 
-from_nothing : IsKept (record empty { sequence = 1; committed = 0; marks = mark 512 ∷ [] }) → ⊥
+from_nothing : IsKept (record empty { sequence = 1; committed = 0; watermarks = watermark 512 ∷ [] }) → ⊥
 from_nothing is = let first = is.first in omega (arith, first)
 
 past_the_end : IsKept (record empty { sequence = 2 ^ 55 + 1; committed = 2 ^ 55 + 1 }) → ⊥
@@ -66,10 +66,10 @@ past_the_end is = let number = is.number in omega (arith, number)
 filled_at_the_end : IsKept (record empty { sequence = 2 ^ 55; committed = 2 ^ 55; filling = maps 87 ∷ [] }) → ⊥
 filled_at_the_end is = let number = is.number_filling (omega arith) in omega (arith, number)
 
-one_place_twice : IsKept (record empty { entries = at 1024 ∷ at 1024 ∷ []; marks = mark 1024 ∷ [] }) → ⊥
+one_place_twice : IsKept (record empty { entries = at 1024 ∷ at 1024 ∷ []; watermarks = watermark 1024 ∷ [] }) → ⊥
 one_place_twice is = twice is.rising
 
-of_no_block : IsKept (record empty { entries = at 0 ∷ []; marks = mark 0 ∷ [] }) → ⊥
+of_no_block : IsKept (record empty { entries = at 0 ∷ []; watermarks = watermark 0 ∷ [] }) → ⊥
 of_no_block is = let named = is.named 0 (at 0) (omega arith) in omega (arith, named)
 
 more_handed : IsKept (record empty { handed = 1 }) → ⊥
@@ -87,15 +87,15 @@ no_ring is = let ring = is.ring in omega (arith, ring)
 filled_over : IsKept (record empty { size = 1; filling = maps 87 ∷ [] }) → ⊥
 filled_over is = let ring = is.ring_filling (omega arith) in omega (arith, ring)
 
-mark_ahead : IsKept (record empty { marks = mark 1537 ∷ [] }) → ⊥
-mark_ahead is = let low = is.marks 0 (mark 0) (omega arith) in omega (arith, low)
+watermark_ahead : IsKept (record empty { watermarks = watermark 1537 ∷ [] }) → ⊥
+watermark_ahead is = let low = is.watermarks 0 (watermark 0) (omega arith) in omega (arith, low)
 
-mark_past_unhanded : IsKept (record the_log { handed = 0 }) → ⊥
-mark_past_unhanded is = let low = is.unhanded 0 (at 0) (omega arith) 0 (mark 0) (omega arith) in omega (arith, low)
+watermark_past_unhanded : IsKept (record the_log { handed = 0 }) → ⊥
+watermark_past_unhanded is = let low = is.unhanded 0 (at 0) (omega arith) 0 (watermark 0) (omega arith) in omega (arith, low)
 
-not_needed_any_more : IsKept (record the_log { marks = mark 1026 ∷ [] }) → ⊥
+not_needed_any_more : IsKept (record the_log { watermarks = watermark 1026 ∷ [] }) → ⊥
 not_needed_any_more is = of_needed (is.needed 0 (at 0) (omega arith))
   where
-    of_needed : IsNeeded (mark 1026 ∷ []) (mark 1024) → ⊥
+    of_needed : IsNeeded (watermark 1026 ∷ []) (watermark 1024) → ⊥
     of_needed (zero, x, inside, same, low) = let point = ap (λ (p : Point). p.0) same in omega (arith, point, low)
     of_needed (suc k, x, inside, same, low) = omega (arith, inside)

@@ -18,8 +18,8 @@ maps block = Remap (record { 0 = 5 }) Unmapped (At (record { 0 = block }))
 abbrev pub at : ℕ → CommittedEntry
 at point = record { entry = maps 86; point = record { 0 = point } }
 
-abbrev pub mark : ℕ → Point
-mark point = record { 0 = point }
+abbrev pub watermark : ℕ → Point
+watermark point = record { 0 = point }
 
 abbrev pub the_log : Log
 the_log = record {
@@ -30,18 +30,18 @@ the_log = record {
   entries = at 1024 ∷ at 1026 ∷ [];
   handed = 1;
   committed = 3;
-  marks = mark 1026 ∷ mark 1024 ∷ [];
+  watermarks = watermark 1026 ∷ watermark 1024 ∷ [];
 }
 
 -- one without entries
 abbrev pub empty : Log
-empty = record the_log { filling = []; entries = []; handed = 0; marks = mark 1536 ∷ [] }
+empty = record the_log { filling = []; entries = []; handed = 0; watermarks = watermark 1536 ∷ [] }
 
 pub both : (P : CommittedEntry → Type 0) (x y : CommittedEntry) → P x → P y → All P (x ∷ y ∷ [])
 both P x y first second = All-cons P x (y ∷ []) first (All-cons P y [] second (All-nil P))
 
-pub two_marks : (P : Point → Type 0) (x y : Point) → P x → P y → All P (x ∷ y ∷ [])
-two_marks P x y first second = All-cons P x (y ∷ []) first (All-cons P y [] second (All-nil P))
+pub two_watermarks : (P : Point → Type 0) (x y : Point) → P x → P y → All P (x ∷ y ∷ [])
+two_watermarks P x y first second = All-cons P x (y ∷ []) first (All-cons P y [] second (All-nil P))
 
 pub one : (P : CommittedEntry → Type 0) (x : CommittedEntry) → P x → All P (x ∷ [])
 one P x first = All-cons P x [] first (All-nil P)
@@ -57,19 +57,19 @@ named = omega arith
 not_named : IsNamed (at 511) → ⊥
 not_named is = omega (arith, is)
 
--- needed where a zone's mark is at the entry's point or below it, durable where each is above
-needed : IsNeeded (mark 1026 ∷ mark 1024 ∷ []) (mark 1024)
-needed = (1, mark 1024, omega arith, refl, omega arith)
+-- needed where a zone's watermark is at the entry's point or below it, durable where each is above
+needed : IsNeeded (watermark 1026 ∷ watermark 1024 ∷ []) (watermark 1024)
+needed = (1, watermark 1024, omega arith, refl, omega arith)
 
-not_needed : IsNeeded (mark 1026 ∷ []) (mark 1024) → ⊥
+not_needed : IsNeeded (watermark 1026 ∷ []) (watermark 1024) → ⊥
 not_needed (zero, x, below, same, is) = let point = ap (λ (p : Point). p.0) same in omega (arith, point, is)
 not_needed (suc k, x, below, same, is) = omega (arith, below)
 
-durable : IsDurable (mark 1026 ∷ mark 1025 ∷ []) (mark 1024)
-durable = two_marks (λ m. 1024 < m.0) (mark 1026) (mark 1025) (omega arith) (omega arith)
+durable : IsDurable (watermark 1026 ∷ watermark 1025 ∷ []) (watermark 1024)
+durable = two_watermarks (λ m. 1024 < m.0) (watermark 1026) (watermark 1025) (omega arith) (omega arith)
 
-not_durable : IsDurable (mark 1026 ∷ mark 1024 ∷ []) (mark 1024) → ⊥
-not_durable all = let second = all 1 (mark 0) (omega arith) in omega (arith, second)
+not_durable : IsDurable (watermark 1026 ∷ watermark 1024 ∷ []) (watermark 1024) → ⊥
+not_durable all = let second = all 1 (watermark 0) (omega arith) in omega (arith, second)
 
 -- The head.
 
@@ -85,12 +85,12 @@ head_is = refl
 the_head : IsHead the_log 2
 the_head = record {
   reached = omega arith;
-  least = both (λ entry. IsNeeded the_log.marks entry.point → 1024 ≤ entry.point.0) (at 1024) (at 1026) (λ is. omega arith) (λ is. omega arith);
-  needed = inr (0, at 1024, omega arith, refl, ((1, mark 1024, omega arith, refl, omega arith), refl));
+  least = both (λ entry. IsNeeded the_log.watermarks entry.point → 1024 ≤ entry.point.0) (at 1024) (at 1026) (λ is. omega arith) (λ is. omega arith);
+  needed = inr (0, at 1024, omega arith, refl, ((1, watermark 1024, omega arith, refl, omega arith), refl));
 }
 
 of_no_entries : IsHead empty 3
-of_no_entries = record { reached = omega arith; least = All-nil (λ entry. IsNeeded empty.marks entry.point → 1536 ≤ entry.point.0); needed = inl refl }
+of_no_entries = record { reached = omega arith; least = All-nil (λ entry. IsNeeded empty.watermarks entry.point → 1536 ≤ entry.point.0); needed = inl refl }
 
 -- reached: not behind the block being filled
 not_reached : IsHead (record empty { sequence = 2 }) 3 → ⊥
@@ -98,7 +98,7 @@ not_reached is = let reached = is.reached in omega (arith, reached)
 
 -- least: not behind an entry that is needed
 past_needed : IsHead the_log 3 → ⊥
-past_needed is = let least = is.least 0 (at 0) (omega arith) (1, mark 1024, omega arith, refl, omega arith) in omega (arith, least)
+past_needed is = let least = is.least 0 (at 0) (omega arith) (1, watermark 1024, omega arith, refl, omega arith) in omega (arith, least)
 
 -- needed: not before every one
 before_needed : IsHead the_log 1 → ⊥
@@ -144,14 +144,14 @@ written is = omega (arith, is)
 
 -- Sealing.
 
-with_points : placed 3 0 (maps 87 ∷ maps 88 ∷ []) ≡ record { entry = maps 87; point = mark 1536 } ∷ record { entry = maps 88; point = mark 1538 } ∷ []
+with_points : placed 3 0 (maps 87 ∷ maps 88 ∷ []) ≡ record { entry = maps 87; point = watermark 1536 } ∷ record { entry = maps 88; point = watermark 1538 } ∷ []
 with_points = refl
 
 abbrev the_block : JournalBlock
 the_block = record { nonce = 1; sequence = 3; head = 2; entries = maps 87 ∷ [] }
 
 abbrev sealed : Log
-sealed = record the_log { sequence = 4; filling = []; entries = at 1024 ∷ at 1026 ∷ record { entry = maps 87; point = mark 1536 } ∷ [] }
+sealed = record the_log { sequence = 4; filling = []; entries = at 1024 ∷ at 1026 ∷ record { entry = maps 87; point = watermark 1536 } ∷ [] }
 
 seals : Seals the_log sealed the_block
 seals = record { waits = omega arith; none_writing = refl; records = refl; follows = refl }
@@ -205,53 +205,53 @@ one_committed none = let low = none 0 (at 0) (omega arith) in omega (arith, low)
 
 -- up to where all was handed out
 
-all_before : IsBehind the_log (mark 1026)
+all_before : IsBehind the_log (watermark 1026)
 all_before = record { sealed = one (λ entry. 1026 ≤ entry.point.0) (at 1026) (omega arith); filling = omega arith }
 
-one_before : IsBehind the_log (mark 1027) → ⊥
+one_before : IsBehind the_log (watermark 1027) → ⊥
 one_before is = let low = is.sealed 0 (at 0) (omega arith) in omega (arith, low)
 
-past_filling : IsBehind empty (mark 1537) → ⊥
+past_filling : IsBehind empty (watermark 1537) → ⊥
 past_filling is = let low = is.filling in omega (arith, low)
 
--- A mark rises.
+-- A watermark rises.
 
 abbrev advanced : Log
-advanced = record the_log { marks = mark 1026 ∷ mark 1026 ∷ []; entries = at 1026 ∷ []; handed = 0 }
+advanced = record the_log { watermarks = watermark 1026 ∷ watermark 1026 ∷ []; entries = at 1026 ∷ []; handed = 0 }
 
-abbrev still_needs : IsNeeded (mark 1026 ∷ mark 1026 ∷ []) (mark 1026)
-still_needs = (0, mark 1026, omega arith, refl, omega arith)
+abbrev still_needs : IsNeeded (watermark 1026 ∷ watermark 1026 ∷ []) (watermark 1026)
+still_needs = (0, watermark 1026, omega arith, refl, omega arith)
 
-abbrev is_done : IsDurable (mark 1026 ∷ mark 1026 ∷ []) (mark 1024)
-is_done = two_marks (λ m. 1024 < m.0) (mark 1026) (mark 1026) (omega arith) (omega arith)
+abbrev is_done : IsDurable (watermark 1026 ∷ watermark 1026 ∷ []) (watermark 1024)
+is_done = two_watermarks (λ m. 1024 < m.0) (watermark 1026) (watermark 1026) (omega arith) (omega arith)
 
-advances : Advances the_log advanced 1 (mark 1026)
+advances : Advances the_log advanced 1 (watermark 1026)
 advances = record {
   durable = at 1024 ∷ [];
-  marks = refl;
+  watermarks = refl;
   parts = refl;
-  done = one (λ entry. IsDurable advanced.marks entry.point) (at 1024) is_done;
-  needed = one (λ entry. IsNeeded advanced.marks entry.point) (at 1026) still_needs;
+  done = one (λ entry. IsDurable advanced.watermarks entry.point) (at 1024) is_done;
+  needed = one (λ entry. IsNeeded advanced.watermarks entry.point) (at 1026) still_needs;
   handed = refl;
   rest = refl;
 }
 
--- a lower mark changes nothing
-lower : Advances the_log the_log 0 (mark 512)
+-- a lower watermark changes nothing
+lower : Advances the_log the_log 0 (watermark 512)
 lower = record {
   durable = [];
-  marks = refl;
+  watermarks = refl;
   parts = refl;
-  done = All-nil (λ entry. IsDurable the_log.marks entry.point);
-  needed = both (λ entry. IsNeeded the_log.marks entry.point) (at 1024) (at 1026) (1, mark 1024, omega arith, refl, omega arith) (0, mark 1026, omega arith, refl, omega arith);
+  done = All-nil (λ entry. IsDurable the_log.watermarks entry.point);
+  needed = both (λ entry. IsNeeded the_log.watermarks entry.point) (at 1024) (at 1026) (1, watermark 1024, omega arith, refl, omega arith) (0, watermark 1026, omega arith, refl, omega arith);
   handed = refl;
   rest = refl;
 }
 
-not_raised : Advances the_log the_log 1 (mark 1026) → ⊥
-not_raised is = let same = ap (λ (marks : List Point). (slice_index_or marks 1 (mark 0)).0) is.marks in omega (arith, same)
+not_raised : Advances the_log the_log 1 (watermark 1026) → ⊥
+not_raised is = let same = ap (λ (watermarks : List Point). (slice_index_or watermarks 1 (watermark 0)).0) is.watermarks in omega (arith, same)
 
-another_left : Advances the_log (record advanced { entries = at 1028 ∷ [] }) 1 (mark 1026) → ⊥
+another_left : Advances the_log (record advanced { entries = at 1028 ∷ [] }) 1 (watermark 1026) → ⊥
 another_left is = elim_durable is.durable is.parts
   where
     elim_durable : (durable : List CommittedEntry) → the_log.entries ≡ durable ++ (at 1028 ∷ []) → ⊥
@@ -259,25 +259,25 @@ another_left is = elim_durable is.durable is.parts
     elim_durable (x ∷ []) same = let point = ap (λ (es : List CommittedEntry). (slice_index_or es 1 (at 0)).point.0) same in omega (arith, point)
     elim_durable (x ∷ y ∷ more) same = let size = ap length same in omega (arith, size, length-append more (at 1028 ∷ []))
 
-left_out_early : Advances the_log (record the_log { entries = []; handed = 0 }) 0 (mark 1026) → ⊥
+left_out_early : Advances the_log (record the_log { entries = []; handed = 0 }) 0 (watermark 1026) → ⊥
 left_out_early is =
     let whole : the_log.entries ≡ is.durable = is.parts ∙ append-nil is.durable in
-    let all = subst (All (λ (e : CommittedEntry). IsDurable (mark 1026 ∷ mark 1024 ∷ []) e.point)) (sym whole) is.done in
+    let all = subst (All (λ (e : CommittedEntry). IsDurable (watermark 1026 ∷ watermark 1024 ∷ []) e.point)) (sym whole) is.done in
     not_durable (all 0 (at 0) (omega arith))
 
-kept_though_durable : Advances the_log (record the_log { marks = mark 1026 ∷ mark 1026 ∷ [] }) 1 (mark 1026) → ⊥
+kept_though_durable : Advances the_log (record the_log { watermarks = watermark 1026 ∷ watermark 1026 ∷ [] }) 1 (watermark 1026) → ⊥
 kept_though_durable is = of_needed (is.needed 0 (at 0) (omega arith))
   where
-    of_needed : IsNeeded (mark 1026 ∷ mark 1026 ∷ []) (mark 1024) → ⊥
+    of_needed : IsNeeded (watermark 1026 ∷ watermark 1026 ∷ []) (watermark 1024) → ⊥
     of_needed (zero, x, below, same, low) = let point = ap (λ (p : Point). p.0) same in omega (arith, point, low)
     of_needed (suc zero, x, below, same, low) = let point = ap (λ (p : Point). p.0) same in omega (arith, point, low)
     of_needed (suc (suc k), x, below, same, low) = omega (arith, below)
 
-count_kept : Advances the_log (record advanced { handed = 1 }) 1 (mark 1026) → ⊥
+count_kept : Advances the_log (record advanced { handed = 1 }) 1 (watermark 1026) → ⊥
 count_kept is =
     let sizes = ap length is.parts in let count = is.handed in omega (arith, sizes, count, length-append is.durable (at 1026 ∷ []))
 
-another_sequence : Advances the_log (record advanced { sequence = 4 }) 1 (mark 1026) → ⊥
+another_sequence : Advances the_log (record advanced { sequence = 4 }) 1 (watermark 1026) → ⊥
 another_sequence is = let same = ap (λ (l : Log). l.sequence) is.rest in omega (arith, same)
 
 -- A journal at its start.
@@ -291,7 +291,7 @@ module _ (geometry : Geometry) where
   begins_committed : (opening geometry 3 2).committed ≡ 3
   begins_committed = refl
 
-  begins_with_marks : (opening geometry 3 2).marks ≡ mark 1536 ∷ mark 1536 ∷ []
+  begins_with_marks : (opening geometry 3 2).watermarks ≡ watermark 1536 ∷ watermark 1536 ∷ []
   begins_with_marks = refl
 
   begins_in_its_ring : ((opening geometry 3 2).size ≡ geometry.journal) × ((opening geometry 3 2).nonce ≡ geometry.nonce)

@@ -26,14 +26,14 @@ kept_opening geometry start zones sizes early some =
       committed = (omega arith, omega arith);
       ring = omega (arith, sizes.journal);
       ring_filling = λ waits. absurd (omega (arith, waits));
-      marks = All-replicate (λ (mark : Point). mark.0 ≤ point_at start 0) zones first (omega arith);
+      watermarks = All-replicate (λ (watermark : Point). watermark.0 ≤ point_at start 0) zones first (omega arith);
       unhanded = All-nil (λ (entry : CommittedEntry). AreBelow (opening geometry start zones) entry.point.0);
       needed = All-nil (λ (entry : CommittedEntry). IsNeeded (replicate zones first) entry.point);
     }
 
 -- the fields of a new journal, from what made them
-pub is_opening : (geometry : Geometry) (start zones size : ℕ) (filling : List Entry) (entries : List CommittedEntry) (first : Point) (marks : List Point)
-    → size ≡ geometry.journal → filling ≡ [] → entries ≡ [] → first.0 ≡ point_at start 0 → marks ≡ replicate zones first
+pub is_opening : (geometry : Geometry) (start zones size : ℕ) (filling : List Entry) (entries : List CommittedEntry) (first : Point) (watermarks : List Point)
+    → size ≡ geometry.journal → filling ≡ [] → entries ≡ [] → first.0 ≡ point_at start 0 → watermarks ≡ replicate zones first
     → ◌≡◌ {A = Log} (record {
       nonce = geometry.nonce;
       size = size;
@@ -42,8 +42,8 @@ pub is_opening : (geometry : Geometry) (start zones size : ℕ) (filling : List 
       entries = entries;
       handed = 0;
       committed = start;
-      marks = marks;
+      watermarks = watermarks;
     }) (opening geometry start zones)
-is_opening geometry start zones size filling entries first marks same none no_entries at all =
+is_opening geometry start zones size filling entries first watermarks same none no_entries at all =
     let point : first ≡ record { 0 = point_at start 0 } = ap (λ (p : ℕ). record { 0 = p }) at in
     rw (same, none, no_entries, all, point)

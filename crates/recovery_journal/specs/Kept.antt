@@ -13,12 +13,12 @@ abbrev pub AreRising : ℕ → List CommittedEntry → ℕ → Type 0
 AreRising low [] high = low ≤ high
 AreRising low (entry ∷ entries) high = (entry.point.0 % 512 < 384) × (low ≤ rank entry.point.0) × AreRising (rank entry.point.0 + 1) entries high
 
--- the marks are at or below the point of this entry
+-- the watermarks are at or below the point of this entry
 abbrev pub AreBelow : Log → ℕ → Type 0
-AreBelow log point = All (λ mark. mark.0 ≤ point) log.marks
+AreBelow log point = All (λ watermark. watermark.0 ≤ point) log.watermarks
 
 pub record IsKept (log : Log) : Type 0 where
-  pub zones : 0 < length log.marks
+  pub zones : 0 < length log.watermarks
   pub size : log.size ≤ 1024
   pub first : 1 ≤ log.committed
   pub number : log.sequence ≤ 2 ^ 55
@@ -29,6 +29,6 @@ pub record IsKept (log : Log) : Type 0 where
   pub committed : (log.committed ≤ log.sequence) × (log.sequence ≤ log.committed + 1)
   pub ring : log.sequence + 1 ≤ head_of log + log.size
   pub ring_filling : 0 < length log.filling → log.sequence + 2 ≤ head_of log + log.size
-  pub marks : AreBelow log (point_at log.sequence 0)
+  pub watermarks : AreBelow log (point_at log.sequence 0)
   pub unhanded : All (λ entry. AreBelow log entry.point.0) (unhanded log)
-  pub needed : All (λ entry. IsNeeded log.marks entry.point) log.entries
+  pub needed : All (λ entry. IsNeeded log.watermarks entry.point) log.entries

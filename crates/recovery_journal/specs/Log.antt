@@ -13,7 +13,7 @@ use Rattle.blk_base.specs.declared.sizes.TheConstants.{JOURNAL_ENTRIES}
 -- `size` is how many blocks the ring on the device has. `sequence` is that of the block being filled, and `filling` its
 -- entries. `entries` are those of sealed blocks that some zone still needs, in the order of their points; the first
 -- `handed` of them were handed out. The blocks below `committed` are committed. Each zone's part of every entry below its
--- mark is durable.
+-- watermark is durable.
 pub record Log : Type 0 where
   pub nonce : ℕ
   pub size : ℕ
@@ -22,7 +22,7 @@ pub record Log : Type 0 where
   pub entries : List CommittedEntry
   pub handed : ℕ
   pub committed : ℕ
-  pub marks : List Point
+  pub watermarks : List Point
 
 -- the point of an entry of a block
 abbrev pub point_at : ℕ → ℕ → ℕ
@@ -39,7 +39,7 @@ opening geometry start zones =
       entries = [];
       handed = 0;
       committed = start;
-      marks = replicate zones (record { 0 = point_at start 0 });
+      watermarks = replicate zones (record { 0 = point_at start 0 });
     }
 
 -- the entry's block has a sequence of at least 1
@@ -48,11 +48,11 @@ IsNamed entry = point_at 1 0 ≤ entry.point.0
 
 -- some zone's part of the entry at this point isn't durable
 abbrev pub IsNeeded : List Point → Point → Type 0
-IsNeeded marks point = Any (λ mark. mark.0 ≤ point.0) marks
+IsNeeded watermarks point = Any (λ watermark. watermark.0 ≤ point.0) watermarks
 
 -- every zone's part of it is
 abbrev pub IsDurable : List Point → Point → Type 0
-IsDurable marks point = All (λ mark. point.0 < mark.0) marks
+IsDurable watermarks point = All (λ watermark. point.0 < watermark.0) watermarks
 
 -- the sequence of the first of these entries, or else this one
 abbrev pub first_sequence : List CommittedEntry → ℕ → ℕ
@@ -66,8 +66,8 @@ head_of log = first_sequence log.entries log.sequence
 -- the least sequence with an entry that some zone still needs; where there is none, that of the block being filled
 pub record IsHead (log : Log) (head : ℕ) : Type 0 where
   pub reached : head ≤ log.sequence
-  pub least : All (λ entry. IsNeeded log.marks entry.point → point_at head 0 ≤ entry.point.0) log.entries
-  pub needed : (head ≡ log.sequence) ⊎ Any (λ entry. IsNeeded log.marks entry.point × (entry.point.0 / 512 ≡ head)) log.entries
+  pub least : All (λ entry. IsNeeded log.watermarks entry.point → point_at head 0 ≤ entry.point.0) log.entries
+  pub needed : (head ≡ log.sequence) ⊎ Any (λ entry. IsNeeded log.watermarks entry.point × (entry.point.0 / 512 ≡ head)) log.entries
 
 -- the block being filled takes one more entry, and its slot in the ring has a block that nobody needs
 pub record HasRoom (log : Log) : Type 0 where
@@ -123,12 +123,12 @@ pub record IsBehind (log : Log) (point : Point) : Type 0 where
   pub sealed : All (λ entry. point.0 ≤ entry.point.0) (unhanded log)
   pub filling : point.0 ≤ point_at log.sequence 0
 
--- the zone's mark rose, and the entries of which every zone's part is durable are left out
+-- the zone's watermark rose, and the entries of which every zone's part is durable are left out
 pub record Advances (old new : Log) (zone : ℕ) (point : Point) : Type 0 where
   pub durable : List CommittedEntry
-  pub marks : new.marks ≡ raised old.marks zone point
+  pub watermarks : new.watermarks ≡ raised old.watermarks zone point
   pub parts : old.entries ≡ durable ++ new.entries
-  pub done : All (λ entry. IsDurable new.marks entry.point) durable
-  pub needed : All (λ entry. IsNeeded new.marks entry.point) new.entries
+  pub done : All (λ entry. IsDurable new.watermarks entry.point) durable
+  pub needed : All (λ entry. IsNeeded new.watermarks entry.point) new.entries
   pub handed : old.handed ≡ length durable + new.handed
-  pub rest : new ≡ record old { marks = new.marks; entries = new.entries; handed = new.handed }
+  pub rest : new ≡ record old { watermarks = new.watermarks; entries = new.entries; handed = new.handed }

@@ -12,5 +12,5 @@ log_of journal =
       entries = journal.entries.items;
       handed = journal.handed;
       committed = journal.committed;
-      marks = journal.marks.items;
+      watermarks = journal.watermarks.items;
     }

@@ -27,8 +27,8 @@ pub struct Journal {
     handed: usize,
     // The blocks below this sequence are committed.
     committed: u64,
-    // Each zone's part of every entry below its mark is durable.
-    marks: Vec<Point>,
+    // Each zone's part of every entry below its watermark is durable.
+    watermarks: Vec<Point>,
 }
 
 impl Model for Journal {
@@ -65,7 +65,7 @@ impl Journal {
         ensures { IfOk result (λ journal. journal ≡ opening geometry.now start zones) }
     {
         let first = Point::of(start, 0, Half::Increment);
-        let marks = repeated(alloc, first, zones as usize)?;
+        let watermarks = repeated(alloc, first, zones as usize)?;
         let entries = VecDeque::with_capacity(alloc, geometry.journal as usize * JOURNAL_ENTRIES)?;
         Ok(Journal {
             nonce: geometry.nonce,
@@ -75,7 +75,7 @@ impl Journal {
             entries,
             handed: 0,
             committed: start,
-            marks,
+            watermarks,
         })
     }
 
@@ -208,13 +208,13 @@ impl Journal {
     /// the half that adds, so that an entry below it is so with both its halves. A report that says less than an earlier
     /// one changes nothing.
     pub fn watermark(&mut self, zone: u32, point: Point)
-        requires zone { zone < length self.old.marks }
+        requires zone { zone < length self.old.watermarks }
         requires handed { IsBehind self.old point }
         ensures advances { Advances self.old self.new zone point }
         ensures head { head_of self.old ≤ head_of self.new }
     {
-        raise(&mut self.marks, zone as usize, point);
-        let durable = count_durable(&self.entries, &self.marks);
+        raise(&mut self.watermarks, zone as usize, point);
+        let durable = count_durable(&self.entries, &self.watermarks);
         leave_out(&mut self.entries, durable);
         self.handed -= durable;
     }

@@ -27,16 +27,16 @@ pub(crate) fn first_sequence(entries: &VecDeque<CommittedEntry>, sequence: u64) 
 }
 
 /// How many entries stand before the first that some zone still needs.
-pub(crate) fn count_durable(entries: &VecDeque<CommittedEntry>, marks: &[Point]) -> usize
+pub(crate) fn count_durable(entries: &VecDeque<CommittedEntry>, watermarks: &[Point]) -> usize
     ensures inside { result ≤ deque_len entries.now }
-    ensures durable { All (λ entry. IsDurable marks.now entry.point)
+    ensures durable { All (λ entry. IsDurable watermarks.now entry.point)
         (take result entries.now.items) }
-    ensures next { All (λ entry. IsNeeded marks.now entry.point)
+    ensures next { All (λ entry. IsNeeded watermarks.now entry.point)
         (take 1 (drop result entries.now.items)) }
 {
     match entries
         .iter()
-        .position(|entry| is_needed(marks, entry.point))
+        .position(|entry| is_needed(watermarks, entry.point))
     {
         Some(first) => first,
         None => entries.len(),
@@ -44,10 +44,10 @@ pub(crate) fn count_durable(entries: &VecDeque<CommittedEntry>, marks: &[Point])
 }
 
 // Whether some zone still needs the entry at this point.
-fn is_needed(marks: &[Point], point: Point) -> bool
-    ensures { result ≡ list_any (λ mark. nat_le mark.0 point.0) marks.now }
+fn is_needed(watermarks: &[Point], point: Point) -> bool
+    ensures { result ≡ list_any (λ watermark. nat_le watermark.0 point.0) watermarks.now }
 {
-    marks.iter().any(|mark| mark.0 <= point.0)
+    watermarks.iter().any(|watermark| watermark.0 <= point.0)
 }
 
 /// Leaves out so many entries at the front.

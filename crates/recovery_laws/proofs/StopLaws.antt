@@ -24,7 +24,7 @@ use Rattle.image_model.specs.Maps.{Image, head_of, page_at, says}
 use Rattle.image_model.specs.Sound.{IsSound}
 use Rattle.page_codec.proofs.SpellingLaws.{length-head}
 use Rattle.page_codec.specs.Grammar.{HasHead, HoldsMapping, IsSlot, slot_bytes}
-use Rattle.page_codec.specs.Spelling.{head_bytes}
+use Rattle.page_codec.specs.PageBytes.{head_bytes}
 use Rattle.recovery_laws.specs.Written.{AreFull, AreUnderway, IsCountersBlock, IsFullPage, IsFullSector, IsOldSector, IsPageBlock, IsPartPage}
 use Rattle.recovery_laws.proofs.BlockLaws.{part_of_mix}
 use Rattle.recovery_laws.proofs.CountsKept.{sectors_inside}

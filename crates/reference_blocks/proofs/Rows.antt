@@ -4,7 +4,7 @@ use Rattle.std.proofs.Common.{ap, arith, refl}
 use Rattle.std.proofs.lemmas.List.Elements.{All-nil}
 use Rattle.blk_base.specs.declared.geometry.Geometry.{Geometry}
 use Rattle.blk_base.specs.declared.point.Point.{Point}
-use Rattle.dirty_pages.specs.Marks.{clean, marks_at, IsDue}
+use Rattle.dirty_pages.specs.DirtyPoints.{clean, dirty_points_at, IsDue}
 use Rattle.slab_codec.specs.Reference.{reference_bytes}
 use Rattle.slab_codec.specs.declared.forms.ReferenceSector.{ReferenceSector}
 use Rattle.slab_codec.specs.declared.forms.SlabEntry.{SlabEntry}
@@ -125,7 +125,7 @@ abbrev point_or_none : Option Point → ℕ
 point_or_none None = 0
 point_or_none (Some point) = point.0
 
-its_point : (n : ℕ) (first : Point) → IsDue (marks_at dirtied.blocks n) first → 1024 ≤ first.0
+its_point : (n : ℕ) (first : Point) → IsDue (dirty_points_at dirtied.blocks n) first → 1024 ≤ first.0
 its_point zero first due = let same : 1024 ≡ first.0 = ap (λ (o : Option Point). point_or_none o) due.dirty in omega (arith, same)
 its_point (suc n) first due = let no : ◌≡◌ {A = Option Point} None (Some first) = due.dirty in cc
 

@@ -10,7 +10,7 @@ use Rattle.blk_base.specs.declared.point.Point.{Point}
 use Rattle.slab_codec.specs.Reference.{reference_bytes}
 use Rattle.slab_codec.specs.declared.forms.SlabEntry.{SlabEntry}
 use Rattle.reference_blocks.specs.References.{References, HandsOutBlock, opening, updated, point_at, sectors_of}
-use Rattle.reference_blocks.specs.Updates.{Call, Updated, HandedOut, Written, LeadTo, AreRising, updates_of, counters_after, newest_of, up_to}
+use Rattle.reference_blocks.specs.Updates.{Operation, Updated, HandedOut, Written, LeadTo, AreRising, updates_of, counters_after, newest_of, up_to}
 
 abbrev zero_point : Point
 zero_point = record { 0 = 0 }
@@ -46,7 +46,7 @@ follows_more g points entries old entry inside follows =
       ];
     }
 
-follows : (g : Geometry) (points : List Point) (calls : List Call) (new : References) → length points ≡ sectors_per_slab g → LeadTo (opening g points) calls new → Follows g points (updates_of calls) new
+follows : (g : Geometry) (points : List Point) (calls : List Operation) (new : References) → length points ≡ sectors_per_slab g → LeadTo (opening g points) calls new → Follows g points (updates_of calls) new
 follows g points [] new size is = follows_on g points [] (opening g points) new (ap (λ (r : References). r.geometry) is) (ap (λ (r : References). r.applied) is) (record { geometry = refl; size = size; newest = λ n. refl })
 follows g points (Updated entry ∷ calls) new size (before, lead, did) =
     let old = follows g points calls before size lead in
@@ -57,7 +57,7 @@ follows g points (HandedOut counters bytes block ∷ calls) new size (before, le
 follows g points (Written block ∷ calls) new size (before, lead, did) =
     follows_on g points (updates_of calls) before new (ap (λ (r : References). r.geometry) did.1) (ap (λ (r : References). r.applied) did.1) (follows g points calls before size lead)
 
-pub newest_is : (g : Geometry) (points : List Point) (calls : List Call) (new : References) (sector : ℕ) → length points ≡ sectors_per_slab g → LeadTo (opening g points) calls new
+pub newest_is : (g : Geometry) (points : List Point) (calls : List Operation) (new : References) (sector : ℕ) → length points ≡ sectors_per_slab g → LeadTo (opening g points) calls new
     → point_at new.applied sector ≡ newest_of g sector (updates_of calls) (point_at points sector)
 newest_is g points calls new sector size lead = (follows g points calls new size lead).newest sector
 
@@ -84,7 +84,7 @@ kept_whole test [] all = refl
 kept_whole test (x ∷ xs) all =
     ap (λ (b : Bool). cond b (x ∷ filter test xs) (filter test xs)) (all 0 x (omega arith)) ∙ ap (λ (ys : List SlabEntry). x ∷ ys) (kept_whole test xs (λ i d below. all (suc i) d (omega (arith, below))))
 
-all_counted : (g : Geometry) (points : List Point) (calls : List Call) (old : References) → length points ≡ sectors_per_slab g → LeadTo (opening g points) calls old → AreRising g points (updates_of calls)
+all_counted : (g : Geometry) (points : List Point) (calls : List Operation) (old : References) → length points ≡ sectors_per_slab g → LeadTo (opening g points) calls old → AreRising g points (updates_of calls)
     → up_to g old.applied (updates_of calls) ≡ updates_of calls
 all_counted g points calls old size lead rising =
     let es = updates_of calls in
@@ -94,7 +94,7 @@ all_counted g points calls old size lead rising =
     let is = newest_is g points calls old (sector_of_offset g x.offset) size lead in
     le-leb _ _ (subst (λ (p : Point). x.point.0 ≤ p.0) (sym is) below))
 
-pub says_exactly : (g : Geometry) (points : List Point) (first : List ℕ) (calls : List Call) (old new : References) (bytes : List ℕ) (block : ℕ) → length points ≡ sectors_per_slab g
+pub says_exactly : (g : Geometry) (points : List Point) (first : List ℕ) (calls : List Operation) (old new : References) (bytes : List ℕ) (block : ℕ) → length points ≡ sectors_per_slab g
     → LeadTo (opening g points) calls old → AreRising g points (updates_of calls) → HandsOutBlock old new (counters_after first (updates_of calls)) bytes block
     → bytes ≡ reference_bytes (sectors_of g old.applied (counters_after first (up_to g old.applied (updates_of calls))) block)
 says_exactly g points first calls old new bytes block size lead rising did =

@@ -4,8 +4,8 @@ use Rattle.blk_base.specs.Counters.{sectors_per_slab, sector_of_offset}
 use Rattle.blk_base.specs.Regions.{references_of}
 use Rattle.blk_base.specs.declared.geometry.Geometry.{Geometry}
 use Rattle.blk_base.specs.declared.point.Point.{Point}
-use Rattle.dirty_pages.specs.Marks.{clean, changed_at, settled, marks_at, with_marks, HandsOut, IsDue}
-use Rattle.dirty_pages.specs.declared.marks.Marks.{Marks}
+use Rattle.dirty_pages.specs.DirtyPoints.{clean, changed_at, settled, dirty_points_at, with_dirty_points, HandsOut, IsDue}
+use Rattle.dirty_pages.specs.declared.dirty_points.DirtyPoints.{DirtyPoints}
 use Rattle.slab_codec.specs.Reference.{reference_bytes, counters_in}
 use Rattle.slab_codec.specs.declared.forms.ReferenceSector.{ReferenceSector}
 
@@ -16,7 +16,7 @@ pub record References : Type 0 where
   pub geometry : Geometry
   pub applied : List Point
   pub handed : List Point
-  pub blocks : List Marks
+  pub blocks : List DirtyPoints
 
 -- the point of a sector; past the last sector nothing is said
 abbrev pub point_at : List Point → ℕ → Point
@@ -35,7 +35,7 @@ abbrev pub updated : References → ℕ → Point → References
 updated r offset point =
     record r {
       applied = slice_set r.applied (sector_of_offset r.geometry offset) point;
-      blocks = with_marks r.blocks (sector_of_offset r.geometry offset / 8) (changed_at point);
+      blocks = with_dirty_points r.blocks (sector_of_offset r.geometry offset / 8) (changed_at point);
     }
 
 -- what the n-th sector of the slab says, with these counters of its data blocks
@@ -70,11 +70,11 @@ pub record HandsOutBlock (old new : References) (counters bytes : List ℕ) (blo
 
 -- no block is dirty that isn't being written
 abbrev pub NoneDirty : References → Type 0
-NoneDirty r = (block : ℕ) (first : Point) → first.0 < 2 ^ 64 → ¬ IsDue (marks_at r.blocks block) first
+NoneDirty r = (block : ℕ) (first : Point) → first.0 < 2 ^ 64 → ¬ IsDue (dirty_points_at r.blocks block) first
 
 -- the block's write is durable
 abbrev pub written : References → ℕ → References
-written r block = record r { blocks = with_marks r.blocks block settled }
+written r block = record r { blocks = with_dirty_points r.blocks block settled }
 
 -- what is true at every moment
 pub record IsKept (r : References) : Type 0 where

@@ -8,27 +8,27 @@ use Rattle.blk_base.specs.declared.point.Half.TheVariants.{Increment, Decrement}
 use Rattle.blk_base.specs.declared.point.Point.{Point}
 use Rattle.plain_laws.specs.Leads.{LeadsBy}
 use Rattle.slab_codec.specs.declared.forms.SlabEntry.{SlabEntry}
-use Rattle.dirty_pages.specs.Marks.{IsBeingWritten, marks_at}
+use Rattle.dirty_pages.specs.DirtyPoints.{IsBeingWritten, dirty_points_at}
 use Rattle.reference_blocks.specs.References.{References, HandsOutBlock, point_at, updated, written}
 
 -- a call by what it did: an update is taken, a block is handed out with counters and bytes, its write is durable
-pub data Call : Type 0 where
-  Updated : SlabEntry → Call
-  HandedOut : List ℕ → List ℕ → ℕ → Call
-  Written : ℕ → Call
+pub data Operation : Type 0 where
+  Updated : SlabEntry → Operation
+  HandedOut : List ℕ → List ℕ → ℕ → Operation
+  Written : ℕ → Operation
 
 -- what a call does, as its contract says
-abbrev pub Does : Call → References → References → Type 0
+abbrev pub Does : Operation → References → References → Type 0
 Does (Updated entry) old new = (entry.offset < old.geometry.slab_blocks) × (new ≡ updated old entry.offset entry.point)
 Does (HandedOut counters bytes block) old new = HandsOutBlock old new counters bytes block
-Does (Written block) old new = IsBeingWritten (marks_at old.blocks block) × (new ≡ written old block)
+Does (Written block) old new = IsBeingWritten (dirty_points_at old.blocks block) × (new ≡ written old block)
 
 -- these calls, the newest first, lead from the one to the other
-abbrev pub LeadTo : References → List Call → References → Type 0
+abbrev pub LeadTo : References → List Operation → References → Type 0
 LeadTo old calls new = LeadsBy Does old calls new
 
 -- the updates of these calls
-abbrev pub updates_of : List Call → List SlabEntry
+abbrev pub updates_of : List Operation → List SlabEntry
 updates_of [] = []
 updates_of (Updated entry ∷ calls) = entry ∷ updates_of calls
 updates_of (other ∷ calls) = updates_of calls

@@ -1,7 +1,7 @@
 ghost use Rattle.std.specs.Prelude.{◌≡◌, ◌*◌, ◌<◌, ◌↔◌, length, IsTrue, IfOk, IfSome, IfNone};
 ghost use Rattle.blk_base.specs.Counters.{sectors_per_slab};
 ghost use Rattle.blk_base.specs.Limits.{IsGeometry};
-ghost use Rattle.dirty_pages.specs.Marks.{IsBeingWritten, marks_at};
+ghost use Rattle.dirty_pages.specs.DirtyPoints.{IsBeingWritten, dirty_points_at};
 ghost use Rattle.reference_blocks.specs.References.{HandsOutBlock, NoneDirty, opening, point_at, points_of, updated, written};
 
 use crate::image::{keep_sectors, sectors_of};
@@ -41,7 +41,7 @@ impl Model for ReferenceBlocks {
 impl ReferenceBlocks {
     /// The reference blocks of a slab below the number of slabs, as an image of these sizes is opened: none is dirty.
     /// `opened` has a commit point for each sector of each slab. Takes the room for two points of each sector of the slab,
-    /// and for the marks of its blocks.
+    /// and for the dirty points of its blocks.
     pub fn new(
         alloc: Global,
         geometry: &Geometry,
@@ -94,7 +94,7 @@ impl ReferenceBlocks {
 
     /// The write of a block that was handed out is durable.
     pub fn written(&mut self, block: u32)
-        requires { IsBeingWritten (marks_at self.old.blocks block) }
+        requires { IsBeingWritten (dirty_points_at self.old.blocks block) }
         ensures { self.new ≡ written self.old block }
     {
         self.dirty.written(block as usize);
@@ -102,10 +102,10 @@ impl ReferenceBlocks {
 
     /// Whether the block with this number is being written: it was handed out, and that isn't reported yet.
     pub fn is_being_written(&self, block: u64) -> bool
-        ensures { IsTrue result ↔ IsBeingWritten (marks_at self.now.blocks block) }
+        ensures { IsTrue result ↔ IsBeingWritten (dirty_points_at self.now.blocks block) }
     {
         let count = self.layout.references();
-        block < u64::from(count) && self.dirty.marks(block as usize).writing.is_some()
+        block < u64::from(count) && self.dirty.dirty_points(block as usize).writing.is_some()
     }
 
     /// The commit point with which a sector of the slab was handed out last, or else that of the image.

@@ -4,13 +4,13 @@ ghost use Rattle.blk_base.specs.declared.geometry.Geometry.{Geometry};
 ghost use Rattle.blk_base.specs.declared.point.Point.{Point};
 ghost use Rattle.slab_codec.specs.Reference.{reference_bytes};
 ghost use Rattle.reference_blocks.specs.References.{References, HandsOutBlock, opening, point_at, sectors_of};
-ghost use Rattle.reference_blocks.specs.Updates.{Call, LeadTo, AreRising, updates_of, counters_after, newest_of, up_to};
+ghost use Rattle.reference_blocks.specs.Updates.{Operation, LeadTo, AreRising, updates_of, counters_after, newest_of, up_to};
 
 /// Over every list of calls from an opened image on, where the points of the updates rise, a block that is handed out with
 /// the counters as the updates made them has in each sector the opening counters with exactly the updates that aren't above
 /// its commit point.
 pub fn a_block_has_its_updates()
-    ensures { (g : Geometry) (points : List Point) (first : List ℕ) (calls : List Call)
+    ensures { (g : Geometry) (points : List Point) (first : List ℕ) (calls : List Operation)
         (old new : References) (bytes : List ℕ) (block : ℕ)
         → length points ≡ sectors_per_slab g → LeadTo (opening g points) calls old →
         AreRising g points (updates_of calls)
@@ -25,7 +25,7 @@ pub fn a_block_has_its_updates()
 /// Over every list of calls the commit point of a sector is the point of its newest update, or else the one with which it
 /// was opened.
 pub fn commit_points_are_of_updates()
-    ensures { (g : Geometry) (points : List Point) (calls : List Call) (new : References)
+    ensures { (g : Geometry) (points : List Point) (calls : List Operation) (new : References)
         (sector : ℕ) → length points ≡ sectors_per_slab g
         → LeadTo (opening g points) calls new →
         point_at new.applied sector

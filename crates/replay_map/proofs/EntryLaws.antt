@@ -14,7 +14,7 @@ use Rattle.image_model.proofs.WindowLaws.{each_replayable}
 use Rattle.image_model.specs.Windows.{AreReplayable, IsReplayable, IsThere, entries_from, in_slot, with_points}
 use Rattle.journal_codec.proofs.ReadLaws.{one_reading}
 use Rattle.journal_codec.specs.Grammar.{IsSector}
-use Rattle.journal_codec.specs.Spelling.{entries_in}
+use Rattle.journal_codec.specs.BlockBytes.{entries_in}
 use Rattle.journal_window.specs.States.{WindowState}
 use Rattle.journal_window.specs.Windows.{IsWindowOf}
 

@@ -9,7 +9,7 @@ use Rattle.image_model.specs.declared.fault.ImageFault.{ImageFault}
 use Rattle.image_model.specs.declared.fault.ImageFault.TheVariants.{Super, Window, Page, Counter, SharedPage, Counts, Device, Unclean, Memory}
 use Rattle.replay_map.proofs.ReadLaws.{shown_as}
 use Rattle.replay_map.proofs.TreeLaws.{whole_fault}
-use Rattle.replay_map.specs.Finding.{FindFails}
+use Rattle.replay_map.specs.FoundPages.{FindFails}
 use Rattle.replay_map.specs.Walks.{IsFirstFault, IsInTrees, WalkFails}
 use Rattle.replay_map.specs.declared.changes.SlotId.{SlotId}
 

@@ -19,7 +19,7 @@ use Rattle.replay_map.proofs.SumLaws.{mapped_sum, sum_has, sum_some}
 use Rattle.replay_map.proofs.TreeLaws.{all_changes, all_good, all_links, all_mapped, under_root}
 use Rattle.replay_map.proofs.UnderLaws.{some_pages, up_none}
 use Rattle.replay_map.proofs.WholeSumLaws.{count_by_leaves}
-use Rattle.replay_map.specs.Finding.{map_with}
+use Rattle.replay_map.specs.FoundPages.{map_with}
 use Rattle.replay_map.specs.Replayed.{AreAllLinks, AreAllMapped, HasMap, times}
 use Rattle.replay_map.specs.Shares.{IsLeastShared, has_page}
 use Rattle.replay_map.specs.Walks.{WalkedTrees}

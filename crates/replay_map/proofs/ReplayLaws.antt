@@ -9,7 +9,7 @@ use Rattle.image_model.specs.Maps.{Image, ArePagesGood, image_with}
 use Rattle.image_model.specs.declared.fault.ImageFault.{ImageFault}
 use Rattle.image_model.specs.declared.fault.ImageFault.TheVariants.{Super, Window, Page, Counter, SharedPage, Counts, Device, Unclean, Memory}
 use Rattle.replay_map.specs.Changes.{AreNewest}
-use Rattle.replay_map.specs.Finding.{FindFails}
+use Rattle.replay_map.specs.FoundPages.{FindFails}
 use Rattle.replay_map.specs.Reads.{IsShown}
 use Rattle.replay_map.specs.Replayed.{IsFound, MapFails}
 use Rattle.replay_map.specs.declared.changes.SlotId.{SlotId}

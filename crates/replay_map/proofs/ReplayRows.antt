@@ -31,7 +31,7 @@ use Rattle.replay_map.proofs.ReadLaws.{blocks_untouched}
 use Rattle.replay_map.proofs.SumLaws.{mapped_sum, sum_has}
 use Rattle.replay_map.proofs.WalkRows.{read_fails, read_fails_rose, shown_since}
 use Rattle.replay_map.proofs.WholeSumLaws.{count_is}
-use Rattle.replay_map.specs.Finding.{FindFails, IsMapFound, map_with}
+use Rattle.replay_map.specs.FoundPages.{FindFails, IsMapFound, map_with}
 use Rattle.replay_map.specs.Replayed.{AreAllChanges, AreAllLinks, AreAllMapped, HasMap, HasMapOf, IsFound, IsMapFault, IsMapRead, IsReplayed, MapFails, ReplayFails, times}
 use Rattle.replay_map.specs.declared.found.Found.{Found}
 use Rattle.replay_map.specs.declared.found.SlotChange.{SlotChange}

@@ -15,7 +15,7 @@ use Rattle.image_model.specs.Maps.{or_else, says, target_of}
 use Rattle.page_codec.proofs.ReadLaws.{slots}
 use Rattle.page_codec.proofs.HeldLaws.{held_unmapped}
 use Rattle.page_codec.specs.Grammar.{HasHead, IsPage}
-use Rattle.page_codec.specs.Spelling.{head_bytes, page_bytes}
+use Rattle.page_codec.specs.PageBytes.{head_bytes, page_bytes}
 use Rattle.page_codec.specs.declared.fault.PageFault.TheVariants.{Header}
 use Rattle.page_codec.specs.declared.forms.PageHead.{PageHead}
 use Rattle.replay_map.proofs.LinkLaws.{leaf_leads_nowhere, more_of_slots, none_of_slots, where_above_says}

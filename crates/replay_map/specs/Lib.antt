@@ -8,4 +8,4 @@ pub mod Walks
 pub mod Forms
 pub mod Replayed
 pub mod Shares
-pub mod Finding
+pub mod FoundPages

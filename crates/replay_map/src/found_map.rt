@@ -1,7 +1,7 @@
 ghost use Rattle.std.specs.Prelude.{◌≤◌, IfOk, IfErr};
 ghost use Rattle.blk_base.specs.Regions.{needed_blocks};
 ghost use Rattle.disk_model.specs.Since.{IsUntouched};
-ghost use Rattle.replay_map.specs.Finding.{FindFails, IsMapFound};
+ghost use Rattle.replay_map.specs.FoundPages.{FindFails, IsMapFound};
 ghost use Rattle.replay_map.specs.Forms.{HasForm};
 ghost use Rattle.replay_map.specs.Reads.{IsShown, LeadToData};
 

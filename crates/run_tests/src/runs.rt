@@ -11,7 +11,7 @@ use std::process::Abort;
 use std::sync::Wait;
 use std::test::Fail;
 use std::thread::Threads;
-use stream_text::{LineFault, ScriptRefusal};
+use stream_text::{LineFault, ScriptFault};
 use vdo_cli::{Ended, Fault, Words, put_fault, run};
 use vdo_model::RunReport;
 
@@ -744,7 +744,7 @@ fn is_put(alloc: Global, fault: &Fault, line: &str) -> Result<bool, AllocError> 
 static FAULT_LINES: [(Fault, &str); 14] = [
     (Fault::Usage, "usage\n"),
     (
-        Fault::Script(ScriptRefusal {
+        Fault::Script(ScriptFault {
             line: 65_537,
             fault: LineFault::TooMany,
         }),

@@ -7,7 +7,7 @@ use Rattle.std.proofs.lemmas.List.Elements.{All-head, All-tail, All-get_or}
 use Rattle.blk_base.specs.Sectors.{sector}
 use Rattle.byte_fields.specs.Fields.{number_at}
 use Rattle.byte_fields.proofs.FieldLaws.{length-records, record_at, records-more, number_at-append}
-use Rattle.sector_records.specs.Spelling.{sector_form, records_in, sector_numbers, eight_sectors}
+use Rattle.sector_records.specs.SectorBytes.{sector_form, records_in, sector_numbers, eight_sectors}
 
 -- sizes
 

@@ -1,6 +1,6 @@
 ghost use Rattle.std.specs.Prelude.{◌≡◌, ◌+◌, ◌*◌, ◌<◌, ◌≤◌, ◌++◌, ◌↔◌, ℕ, List, All, IsTrue, IfSome, IfNone, length, drop, flat_map};
 ghost use Rattle.blk_base.specs.Sectors.{sector};
-ghost use Rattle.sector_records.specs.Spelling.{sector_form};
+ghost use Rattle.sector_records.specs.SectorBytes.{sector_form};
 
 use crate::{Format, Records, put_sector};
 use blk_base::Block;

@@ -1,5 +1,5 @@
 ghost use Rattle.std.specs.Prelude.{◌≡◌, ◌+◌, ◌*◌, ◌<◌, ◌≤◌, length, take};
-ghost use Rattle.sector_records.specs.Spelling.{sector_form, records_in, sector_of, eight_sectors};
+ghost use Rattle.sector_records.specs.SectorBytes.{sector_form, records_in, sector_of, eight_sectors};
 
 use crate::Format;
 use blk_base::Block;

@@ -14,7 +14,7 @@ use Rattle.blk_base.specs.declared.place.Mapping.TheVariants.{Unmapped, At}
 use Rattle.blk_base.specs.declared.place.PageId.{PageId}
 use Rattle.blk_base.specs.declared.place.Pbn.{Pbn}
 use Rattle.blk_base.specs.declared.sizes.TheConstants.{PAGE_SLOTS, TREES}
-use Rattle.block_map_tree.specs.Opening.{IsOpened, IsLed, IsListed, IsPlaced, all_trees}
+use Rattle.block_map_tree.specs.OpenedTree.{IsOpened, IsLed, IsListed, IsPlaced, all_trees}
 use Rattle.block_map_tree.specs.Pages.{IsInner, IsLower, IsRoot, IsTreeOf}
 use Rattle.block_map_tree.specs.declared.forms.Forest.{Forest}
 use Rattle.page_codec.specs.Grammar.{AreHeld, HoldsMapping}

@@ -23,7 +23,7 @@ use Rattle.image_model.specs.Maps.{Image, IsTreePage}
 use Rattle.page_codec.proofs.HeldLaws.{held_unmapped}
 use Rattle.page_codec.proofs.ReadLaws.{slots}
 use Rattle.page_codec.specs.Grammar.{IsPage}
-use Rattle.page_codec.specs.Spelling.{page_bytes}
+use Rattle.page_codec.specs.PageBytes.{page_bytes}
 use Rattle.page_codec.specs.declared.forms.PageHead.{PageHead}
 use Rattle.replay_map.proofs.PageLaws.{read_as}
 use Rattle.replay_map.specs.Pages.{IsReadAs}
@@ -37,7 +37,7 @@ use Rattle.session_opening.specs.Pages.{AreAdded, AreLinked, ArePages, roots_bel
 use Rattle.session_opening.specs.Places.{AreInner, AreLeading, ArePlaces, LeadsTo, block_by}
 use Rattle.session_opening.specs.Starts.{AreCommits, AreCounters, AreInnerPages, ArePageBlocks, IsInnerPage, IsStart, AreLedTo}
 use Rattle.session_opening.proofs.ListedLaws.{in_map, of_map}
-use Rattle.block_map_tree.specs.Opening.{IsLed}
+use Rattle.block_map_tree.specs.OpenedTree.{IsLed}
 
 -- An image whose root of tree 0 has a page without mappings.
 abbrev head_of_root : PageHead

@@ -12,7 +12,7 @@ use Rattle.blk_base.specs.declared.place.Pbn.{Pbn}
 use Rattle.blk_base.specs.declared.point.Point.{Point}
 use Rattle.blk_base.specs.declared.sizes.TheConstants.{PAGE_SLOTS}
 use Rattle.blk_base.specs.declared.geometry.Geometry.{Geometry}
-use Rattle.block_map_tree.specs.Opening.{IsLed}
+use Rattle.block_map_tree.specs.OpenedTree.{IsLed}
 use Rattle.count_updates.specs.Counted.{commit_in}
 use Rattle.count_updates.specs.Numbers.{all_blocks, all_sectors, block_number}
 use Rattle.image_model.specs.Counts.{Stores, commit_at}

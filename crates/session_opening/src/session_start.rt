@@ -1,6 +1,6 @@
 ghost use Rattle.std.specs.Prelude.{◌≡◌, ◌<◌, ◌^◌, All, length, IfOk};
 ghost use Rattle.blk_base.specs.Limits.{IsGeometry};
-ghost use Rattle.block_map_tree.specs.Opening.{IsOpened, all_trees};
+ghost use Rattle.block_map_tree.specs.OpenedTree.{IsOpened, all_trees};
 ghost use Rattle.image_model.specs.Maps.{Image};
 ghost use Rattle.replay_counts.specs.Recovered.{HasCounts};
 ghost use Rattle.replay_map.specs.Forms.{HasForm};

@@ -22,15 +22,15 @@ use Rattle.image_model.specs.Empty.{IsEmpty, empty_super}
 use Rattle.image_model.specs.Maps.{Image, mapping_of}
 use Rattle.image_model.proofs.Example.{small, pbn}
 use Rattle.journal_codec.proofs.ReadLaws.{length-sector_bytes}
-use Rattle.journal_codec.specs.Spelling as journal
-use Rattle.journal_codec.specs.Spelling.{block_bytes}
+use Rattle.journal_codec.specs.BlockBytes as journal
+use Rattle.journal_codec.specs.BlockBytes.{block_bytes}
 use Rattle.journal_stops.specs.Mapped.{later_image, mapping_after}
-use Rattle.journal_stops.specs.Rings.{place_of}
+use Rattle.journal_stops.specs.Rings.{ring_slot_of}
 use Rattle.journal_stops.specs.Sealed.{entries_of}
 use Rattle.page_codec.proofs.SpellingLaws.{page_size}
 use Rattle.recovery_laws.proofs.SuperLaws.{room_of_image}
 use Rattle.sector_records.proofs.SectorLaws.{few_in}
-use Rattle.sector_records.specs.Spelling.{eight_sectors, sector_numbers, sector_of}
+use Rattle.sector_records.specs.SectorBytes.{eight_sectors, sector_numbers, sector_of}
 use Rattle.count_laws.proofs.Example.{four, opened}
 use Rattle.count_laws.proofs.WriteExample.{written}
 use Rattle.session_stops.specs.Beginnings.{IsToServe, head_in, opened_in}
@@ -60,7 +60,7 @@ module _ (blocks : Blocks) (empty : IsEmpty small blocks) (whole : (b : ℕ) →
   wide : needed_blocks small ≤ length blocks
   wide = room_of_image blocks (empty_super small) empty.accepted
 
-  journal_low : place_of (g blocks empty whole) (start blocks empty whole + 0) < 9
+  journal_low : ring_slot_of (g blocks empty whole) (start blocks empty whole + 0) < 9
   journal_low =
       let slots = ap (λ (sizes : Geometry). sizes.journal) (sizes_are blocks empty whole) in
       let below : (start blocks empty whole + 0) % (g blocks empty whole).journal < (g blocks empty whole).journal = mod-lt (start blocks empty whole + 0) (omega (arith, slots)) in
@@ -75,7 +75,7 @@ module _ (blocks : Blocks) (empty : IsEmpty small blocks) (whole : (b : ℕ) →
   made_blocks = set opened_blocks 85 empty_leaf
 
   abbrev sealed_blocks : Blocks
-  sealed_blocks = set made_blocks (place_of (g blocks empty whole) (start blocks empty whole + 0)) (block_is blocks empty whole)
+  sealed_blocks = set made_blocks (ring_slot_of (g blocks empty whole) (start blocks empty whole + 0)) (block_is blocks empty whole)
 
   abbrev full_blocks : Blocks
   full_blocks = set sealed_blocks 85 full_leaf
@@ -97,7 +97,7 @@ module _ (blocks : Blocks) (empty : IsEmpty small blocks) (whole : (b : ℕ) →
 
   one_sealed : HasOneImage blocks (log_committed blocks empty whole) sealed_blocks
   one_sealed =
-      one_image-write_flush blocks (log_leaf blocks empty whole) made_blocks (record { 0 = place_of (g blocks empty whole) (start blocks empty whole + 0) }) (block_is blocks empty whole)
+      one_image-write_flush blocks (log_leaf blocks empty whole) made_blocks (record { 0 = ring_slot_of (g blocks empty whole) (start blocks empty whole + 0) }) (block_is blocks empty whole)
       (let room = wide in let low = journal_low in omega (arith, room, low))
       (journal_size (g blocks empty whole).nonce (start blocks empty whole + 0) (start blocks empty whole) (entries blocks empty whole)) one_made
 

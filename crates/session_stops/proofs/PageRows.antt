@@ -29,7 +29,7 @@ use Rattle.image_model.proofs.Example.{small, pbn}
 use Rattle.page_codec.proofs.HeldLaws.{held-set, held_unmapped}
 use Rattle.page_codec.proofs.ReadLaws.{slots, one_mapping}
 use Rattle.page_codec.specs.Grammar.{HasHead, IsPage, IsSlot}
-use Rattle.page_codec.specs.Spelling.{head_bytes, page_bytes}
+use Rattle.page_codec.specs.PageBytes.{head_bytes, page_bytes}
 use Rattle.page_codec.specs.declared.forms.PageHead.{PageHead}
 use Rattle.plain_laws.proofs.OptionLaws.{option_cases}
 use Rattle.recovery_laws.proofs.SuperLaws.{room_of_image}

@@ -28,11 +28,11 @@ use Rattle.image_model.specs.Windows.{IsOfImage}
 use Rattle.image_model.proofs.Example.{small, pbn}
 use Rattle.image_model.specs.Looked.{looked_in}
 use Rattle.journal_codec.specs.Grammar.{HoldsEntry}
-use Rattle.journal_codec.specs.Spelling.{block_bytes}
+use Rattle.journal_codec.specs.BlockBytes.{block_bytes}
 use Rattle.page_codec.proofs.HeldLaws.{held_unmapped}
 use Rattle.recovery_laws.proofs.SuperLaws.{room_of_image}
 use Rattle.journal_stops.specs.Mapped.{page_after}
-use Rattle.journal_stops.specs.Rings.{IsAtRest, IsUnderWay, place_of}
+use Rattle.journal_stops.specs.Rings.{IsAtRest, IsUnderWay, ring_slot_of}
 use Rattle.journal_stops.specs.Sealed.{Sealed, IsSealed, entries_of, window_of}
 use Rattle.journal_stops.proofs.EntryLaws.{window_of_all}
 use Rattle.journal_stops.proofs.StepLaws.{spelled_whole, is_written}
@@ -173,11 +173,11 @@ module _ (blocks : Blocks) (empty : IsEmpty small blocks) (whole : (b : ℕ) →
   block_is = block_bytes g.nonce (start + 0) start entries
 
   abbrev pub log_block : List Call
-  log_block = Write (record { 0 = place_of g (start + 0) }) block_is true ∷ log_leaf
+  log_block = Write (record { 0 = ring_slot_of g (start + 0) }) block_is true ∷ log_leaf
 
   pub under_way : StandsUnderWay blocks log_block blocks to [] block
   under_way =
-      session_begins blocks to blocks log_leaf [] block (record { 0 = place_of g (start + 0) }) block_is true refl is_sealed (spelled_whole g (start + 0) block is_sealed.holds)
+      session_begins blocks to blocks log_leaf [] block (record { 0 = ring_slot_of g (start + 0) }) block_is true refl is_sealed (spelled_whole g (start + 0) block is_sealed.holds)
       with_leaf with_leaf.behind turns made
 
   abbrev pub log_committed : List Call
@@ -186,7 +186,7 @@ module _ (blocks : Blocks) (empty : IsEmpty small blocks) (whole : (b : ℕ) →
   pub committed : StandsAtRest blocks log_committed blocks to (block ∷ [])
   committed =
       session_ends blocks to blocks log_block [] block
-      (is_written blocks log_leaf g start [] block (record { 0 = place_of g (start + 0) }) block_is refl (spelled_whole g (start + 0) block is_sealed.holds)) (omega arith) under_way
+      (is_written blocks log_leaf g start [] block (record { 0 = ring_slot_of g (start + 0) }) block_is refl (spelled_whole g (start + 0) block is_sealed.holds)) (omega arith) under_way
 
   -- The leaf is written with what they say, and its root; each is flushed.
 

@@ -20,7 +20,7 @@ use Rattle.image_model.specs.Maps.{Image, page_at}
 use Rattle.image_model.proofs.EmptyLaws.{sizes_of_image}
 use Rattle.image_model.specs.Looked.{HasOneImageButIndex, is_looked_at}
 use Rattle.image_model.proofs.LookedLaws.{one_by_sizes}
-use Rattle.journal_stops.specs.Rings.{IsWhole, IsWritten, place_of}
+use Rattle.journal_stops.specs.Rings.{IsWhole, IsWritten, ring_slot_of}
 use Rattle.journal_stops.specs.Sealed.{Sealed, IsSealed, entries_of, next_of, window_of}
 use Rattle.journal_stops.proofs.EntryLaws.{window_of_all}
 use Rattle.journal_stops.proofs.OpenedLaws.{page_with_none}
@@ -105,7 +105,7 @@ module _ (base : Blocks) (to : IsToServe base) where
 
   -- The next block is written ..
 
-  journal_block : (opening : Blocks) (at : Pbn) (sequence : ℕ) → at.0 ≡ place_of g sequence → (1 ≤ at.0) × (at.0 ≤ g.journal)
+  journal_block : (opening : Blocks) (at : Pbn) (sequence : ℕ) → at.0 ≡ ring_slot_of g sequence → (1 ≤ at.0) × (at.0 ≤ g.journal)
   journal_block opening at sequence same =
       let sizes = sizes_of_image base to.sound.head to.sound.opens.accepted in
       let some = sizes.journal.0 in
@@ -122,7 +122,7 @@ module _ (base : Blocks) (to : IsToServe base) where
       one (NewPage page x) is = λ same. let high = data_block_high g x.0 is.2 in omega (arith, same, high, low)
 
   pub session_begins : (opening : Blocks) (log : List Call) (blocks : List Sealed) (block : Sealed) (at : Pbn) (bytes : List ℕ) (ok : Bool)
-      → at.0 ≡ place_of g (next_of start blocks) → IsSealed g start blocks block → IsWhole g (next_of start blocks) block bytes
+      → at.0 ≡ ring_slot_of g (next_of start blocks) → IsSealed g start blocks block → IsWhole g (next_of start blocks) block bytes
       → StandsAtRest opening log base to blocks → IsBehind opening log base to blocks block.head
       → AreInTurn opened (entries_of start (block ∷ blocks)) → NewPagesStand opening log opened (entries_next start blocks block)
       → StandsUnderWay opening (Write at bytes ok ∷ log) base to blocks block

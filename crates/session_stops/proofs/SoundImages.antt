@@ -19,7 +19,7 @@ use Rattle.journal_stops.specs.Shown.{Extends}
 use Rattle.count_laws.specs.Closed.{HasClosedCounts}
 use Rattle.count_laws.specs.Counters.{CountsStand}
 use Rattle.count_laws.specs.Points.{ArePointed, next_point}
-use Rattle.count_laws.specs.Running.{RunningCount}
+use Rattle.count_laws.specs.RunningCount.{RunningCount}
 use Rattle.count_laws.specs.Turns.{AreInTurn}
 use Rattle.count_laws.proofs.ImageLaws.{closed_counts, commits_timely, count_of, true_count, updates_timely}
 use Rattle.count_laws.proofs.KeepLaws.{counts_grow, counts_with_more}

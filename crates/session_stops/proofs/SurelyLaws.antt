@@ -14,7 +14,7 @@ use Rattle.disk_model.specs.Log.{Blocks, Misses}
 use Rattle.disk_model.proofs.ImageLaws.{all_weaker, kept, sector_of_mix, settled-misses}
 use Rattle.page_codec.proofs.SpellingLaws.{length-head}
 use Rattle.page_codec.specs.Grammar.{HasHead, HoldsMapping, IsSlot, slot_bytes}
-use Rattle.page_codec.specs.Spelling.{head_bytes}
+use Rattle.page_codec.specs.PageBytes.{head_bytes}
 use Rattle.page_codec.specs.declared.forms.PageHead.{PageHead}
 use Rattle.recovery_laws.specs.Kept.{PutsOnly}
 use Rattle.stop_laws.specs.Journals.{Surely}

@@ -16,12 +16,12 @@ ghost use Rattle.image_model.specs.Counts.{block_of_data, counter_of};
 ghost use Rattle.image_model.specs.Sound.{IsDataPlace};
 ghost use Rattle.image_model.specs.Looked.{HasOneImageButIndex};
 ghost use Rattle.journal_stops.specs.Mapped.{page_after};
-ghost use Rattle.journal_stops.specs.Rings.{IsWhole, IsWritten, place_of};
+ghost use Rattle.journal_stops.specs.Rings.{IsWhole, IsWritten, ring_slot_of};
 ghost use Rattle.journal_stops.specs.Sealed.{Sealed, IsSealed, entries_of, next_of, window_of};
 ghost use Rattle.journal_stops.specs.Shown.{Extends};
 ghost use Rattle.count_laws.specs.Counters.{MayWrite};
 ghost use Rattle.count_laws.specs.Points.{ArePointed, next_point};
-ghost use Rattle.count_laws.specs.Running.{RunningCount};
+ghost use Rattle.count_laws.specs.RunningCount.{RunningCount};
 ghost use Rattle.count_laws.specs.Turns.{AreInTurn};
 ghost use Rattle.session_stops.specs.Beginnings.{IsToServe, head_in, opened_in};
 ghost use Rattle.session_stops.specs.Pages.{MissesNew, NewPagesStand, SaysTheRest};
@@ -59,7 +59,7 @@ pub fn what_keeps_a_session_standing()
     // pages that they make stand empty. Then it is flushed.
     ensures begins { (base : Blocks) (to : IsToServe base) (opening : Blocks) (log : List Call)
         (blocks : List Sealed) (block : Sealed) (at : Pbn) (bytes : List ℕ) (ok : Bool)
-        → at.0 ≡ place_of to.sound.head.geometry (next_of to.sound.head.start blocks) →
+        → at.0 ≡ ring_slot_of to.sound.head.geometry (next_of to.sound.head.start blocks) →
         IsSealed to.sound.head.geometry to.sound.head.start blocks block
         → IsWhole to.sound.head.geometry (next_of to.sound.head.start blocks) block bytes →
         StandsAtRest opening log base to blocks

@@ -4,7 +4,7 @@ use Rattle.std.proofs.Common.{sym, ◌∙◌, ap, ap₂, arith, length-append, a
 use Rattle.byte_fields.specs.Fields.{le, number_at}
 use Rattle.byte_fields.proofs.FieldLaws.{length-le, number_behind}
 use Rattle.slab_codec.specs.declared.forms.SlabEntry.{SlabEntry}
-use Rattle.slab_codec.specs.Spelling.{entry_bytes, head_bytes}
+use Rattle.slab_codec.specs.BlockBytes.{entry_bytes, head_bytes}
 
 -- entries
 

@@ -6,7 +6,7 @@ use Rattle.blk_base.specs.Sectors.{sector}
 use Rattle.byte_fields.specs.Fields.{number_at}
 use Rattle.sector_records.proofs.SectorLaws.{records_fit, length-sector, sector-number, sector-records, one_list, few_in, written_sector}
 use Rattle.slab_codec.specs.declared.forms.SlabEntry.{SlabEntry}
-use Rattle.slab_codec.specs.Spelling.{entry_bytes, head_bytes, sector_bytes, entries_in, block_bytes}
+use Rattle.slab_codec.specs.BlockBytes.{entry_bytes, head_bytes, sector_bytes, entries_in, block_bytes}
 use Rattle.slab_codec.specs.Grammar.{HoldsEntry, HoldsBlock, IsSlabSector}
 use Rattle.slab_codec.specs.Lengths.{length-entry, length-head}
 use Rattle.slab_codec.proofs.FieldLaws.{entry_injective, sequence_read, count_read}

@@ -1,7 +1,7 @@
 -- When a sector of a slab's journal is valid. No other sector is looked at.
 use Rattle.std.specs.Prelude.{ℕ, ◌≡◌, ◌<◌, ◌≤◌, ◌^◌, List, length, All}
 use Rattle.slab_codec.specs.declared.forms.SlabEntry.{SlabEntry}
-use Rattle.slab_codec.specs.Spelling.{sector_bytes}
+use Rattle.slab_codec.specs.BlockBytes.{sector_bytes}
 
 -- what the form can hold: a point, and a data block of a slab of this many
 abbrev pub HoldsEntry : ℕ → SlabEntry → Type 0

@@ -3,7 +3,7 @@ use Rattle.std.specs.Prelude.{ℕ, ◌≡◌, length}
 use Rattle.std.proofs.Common.{length-append}
 use Rattle.byte_fields.proofs.FieldLaws.{length-le}
 use Rattle.slab_codec.specs.declared.forms.SlabEntry.{SlabEntry}
-use Rattle.slab_codec.specs.Spelling.{entry_bytes, head_bytes}
+use Rattle.slab_codec.specs.BlockBytes.{entry_bytes, head_bytes}
 
 pub length-entry : (e : SlabEntry) → length (entry_bytes e) ≡ 12
 unfolding entry_bytes

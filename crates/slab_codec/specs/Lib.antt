@@ -1,4 +1,4 @@
 pub mod Reference
-pub mod Spelling
+pub mod BlockBytes
 pub mod Grammar
 pub mod Lengths

@@ -1,5 +1,5 @@
 ghost use Rattle.std.specs.Prelude.{◌≡◌};
-ghost use Rattle.slab_codec.specs.Spelling.{block_bytes};
+ghost use Rattle.slab_codec.specs.BlockBytes.{block_bytes};
 
 use crate::SlabJournalBlock;
 use crate::format::SlabHead;
@@ -7,7 +7,7 @@ use blk_base::Block;
 use sector_records::put_block;
 
 /// Writes the block's bytes, as the tables of this crate say.
-#[tactic(auto, unfolding(crate::specs::Spelling::block_bytes))]
+#[tactic(auto, unfolding(crate::specs::BlockBytes::block_bytes))]
 pub fn encode_slab(block: &SlabJournalBlock, into: &mut Block)
     ensures { into.new
         ≡ block_bytes block.now.nonce block.now.sequence block.now.slab block.now.entries }

@@ -19,7 +19,7 @@ pub(crate) struct SlabHead {
 impl Format for SlabHead {
     ghost use Rattle.std.specs.Prelude.{◌<◌, ◌^◌};
     ghost use Rattle.std.proofs.Common.{lit≤, lit<};
-    ghost use Rattle.slab_codec.specs.Spelling.{entry_bytes, head_bytes};
+    ghost use Rattle.slab_codec.specs.BlockBytes.{entry_bytes, head_bytes};
     ghost use Rattle.slab_codec.specs.Lengths.{length-entry, length-head};
 
     type Record = SlabEntry;
@@ -39,7 +39,7 @@ impl Format for SlabHead {
 
     ghost is_spelled = { λ entry. (entry.point.0 < 2 ^ 64) × (entry.offset < 2 ^ 16) };
 
-    #[tactic(auto, unfolding(crate::specs::Spelling::head_bytes))]
+    #[tactic(auto, unfolding(crate::specs::BlockBytes::head_bytes))]
     fn put_head(&self, number: u16, count: u16, sector: &mut [u8]) {
         put_u64(sector, 0, self.nonce);
         put_u64(sector, 8, self.sequence);
@@ -50,7 +50,7 @@ impl Format for SlabHead {
         put_u32(sector, 28, 0);
     }
 
-    #[tactic(auto, unfolding(crate::specs::Spelling::entry_bytes))]
+    #[tactic(auto, unfolding(crate::specs::BlockBytes::entry_bytes))]
     fn put_record(item: SlabEntry, into: &mut [u8]) {
         put_u64(into, 0, item.point.0);
         put_u16(into, 8, item.offset);

@@ -5,9 +5,9 @@ ghost use Rattle.blk_base.specs.declared.geometry.Geometry.{Geometry};
 ghost use Rattle.slab_codec.specs.declared.forms.ReferenceSector.{ReferenceSector};
 ghost use Rattle.slab_codec.specs.declared.forms.SlabEntry.{SlabEntry};
 ghost use Rattle.slab_codec.specs.Reference.{reference_sector_bytes, reference_bytes, counters_in};
-ghost use Rattle.slab_codec.specs.Spelling.{entries_in, block_bytes};
+ghost use Rattle.slab_codec.specs.BlockBytes.{entries_in, block_bytes};
 ghost use Rattle.slab_codec.specs.Grammar.{HoldsBlock, IsSlabSector};
-ghost use Rattle.sector_records.specs.Spelling.{sector_numbers};
+ghost use Rattle.sector_records.specs.SectorBytes.{sector_numbers};
 
 use blk_base::SECTOR_COUNTERS;
 

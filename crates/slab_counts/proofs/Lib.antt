@@ -1,8 +1,8 @@
 pub mod FreeLaws
-pub mod CallLaws
+pub mod OperationLaws
 pub mod OpeningLaws
 pub mod AnswerLaws
 mod Rows
 mod OpeningRows
-mod CallRows
+mod OperationRows
 mod ViewRows

@@ -6,7 +6,7 @@ use Rattle.blk_base.specs.declared.place.Pbn.{Pbn}
 use Rattle.blk_base.specs.declared.point.Half.TheVariants.{Increment, Decrement}
 use Rattle.blk_base.proofs.Example.{small}
 use Rattle.slab_counts.specs.Counts.{Counts, IsOfSlab, IsFree, IsPage, IsClaimed, HasRoom, HasNoFree, ClaimsFree, Shares, IsRefused, Takes, IsStray, claimed, unclaimed, mapped, unmapped, with_page, used_of}
-use Rattle.slab_counts.specs.Calls.{Call, FreeClaimed, Shared, Extended, Dropped, Spent, PageSpent, Applied, Refused, makes, drops, spends, maps, unmaps, total}
+use Rattle.slab_counts.specs.Operations.{Operation, FreeClaimed, Shared, Extended, Dropped, Spent, PageSpent, Applied, Refused, makes, drops, spends, maps, unmaps, total}
 use Rattle.slab_counts.specs.declared.refusals.Refusal.TheVariants.{NotData, NotLive, Full}
 
 -- of its blocks 85 is mapped, 86 claimed, 87 and 88 free, 89 mapped as often as can be, 90 almost, and 91 has a page
@@ -218,7 +218,7 @@ mapped_is_not_stray : ¬ IsStray Decrement some (at 85)
 mapped_is_not_stray = λ stray. absurd (omega (arith, stray))
 
 -- what calls count: each its own block, and nothing else
-abbrev story : List Call
+abbrev story : List Operation
 story = Applied Increment (at 87) ∷ Spent (at 87) ∷ Refused ∷ Dropped (at 85) ∷ Shared (at 85) ∷ FreeClaimed (at 87) ∷ []
 
 made_one : total makes story (at 87) ≡ 1

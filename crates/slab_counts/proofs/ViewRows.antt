@@ -10,9 +10,9 @@ use Rattle.slab_counts.specs.Viewed.{IsKept, counts_of}
 use Rattle.slab_counts.specs.declared.counts.SlabCounts.TheInside.{Inside}
 
 module _ (s : Inside) (sizes : s.layout.geometry ≡ small) where
-  -- nothing is below a mark of 0
-  at_first : IsWithin (counts_of s) → s.start ≡ slab_start_of s.layout.geometry s.slab → s.mark ≡ 0 → IsKept s
-  at_first within start mark = record { within = within; start = start; mark = omega (arith, mark); below = λ k below. absurd (omega (arith, below, mark)) }
+  -- nothing is below a cursor of 0
+  at_first : IsWithin (counts_of s) → s.start ≡ slab_start_of s.layout.geometry s.slab → s.cursor ≡ 0 → IsKept s
+  at_first within start cursor = record { within = within; start = start; cursor = omega (arith, cursor); below = λ k below. absurd (omega (arith, below, cursor)) }
 
   -- within
   without_a_counter : s.counters.items ≡ [] → IsKept s → ⊥
@@ -25,15 +25,15 @@ module _ (s : Inside) (sizes : s.layout.geometry ≡ small) where
   begins_elsewhere slab start is =
       let first : s.start ≡ 85 = is.start ∙ ap (λ (g : Geometry). slab_start_of g s.slab) sizes ∙ ap (slab_start_of small) slab in omega (arith, first, start)
 
-  -- mark
-  marked_past_the_end : s.mark ≡ 65 → IsKept s → ⊥
-  marked_past_the_end mark is = let most = is.mark in let blocks = ap (λ (g : Geometry). g.slab_blocks) sizes in omega (arith, most, mark, blocks)
+  -- cursor
+  marked_past_the_end : s.cursor ≡ 65 → IsKept s → ⊥
+  marked_past_the_end cursor is = let most = is.cursor in let blocks = ap (λ (g : Geometry). g.slab_blocks) sizes in omega (arith, most, cursor, blocks)
 
   -- below
-  marked_behind_a_free_block : s.counters.items ≡ 0 ∷ [] → s.claims.items ≡ 0 ∷ [] → s.mark ≡ 1 → IsKept s → ⊥
-  marked_behind_a_free_block counters claims mark is =
+  marked_behind_a_free_block : s.counters.items ≡ 0 ∷ [] → s.claims.items ≡ 0 ∷ [] → s.cursor ≡ 1 → IsKept s → ⊥
+  marked_behind_a_free_block counters claims cursor is =
       subst (λ (counts : List ℕ). NoneFreeBelow counts (0 ∷ []) 1) counters
-      (subst (λ (ones : List ℕ). NoneFreeBelow s.counters.items ones 1) claims (subst (NoneFreeBelow s.counters.items s.claims.items) mark is.below)) 0 (omega arith) (refl, refl)
+      (subst (λ (ones : List ℕ). NoneFreeBelow s.counters.items ones 1) claims (subst (NoneFreeBelow s.counters.items s.claims.items) cursor is.below)) 0 (omega arith) (refl, refl)
 
   -- counts_of: its blocks are those of the image's slab, with their counters first
   seen_as : s.counters.items ≡ 1 ∷ [] → (counts_of s).counters ≡ 1 ∷ []

@@ -14,6 +14,6 @@ pub record IsWithin (c : Counts) : Type 0 where
   pub pages : length c.pages ≡ c.geometry.slab_blocks
   pub limit : (k : ℕ) → slice_index c.counters k + slice_index c.claims k ≤ limit_of c.geometry
 
--- no place below the mark is free
+-- no place below the cursor is free
 abbrev pub NoneFreeBelow : List ℕ → List ℕ → ℕ → Type 0
-NoneFreeBelow counters claims mark = (k : ℕ) → k < mark → ¬ IsFreeAt counters claims k
+NoneFreeBelow counters claims cursor = (k : ℕ) → k < cursor → ¬ IsFreeAt counters claims k

@@ -1,4 +1,4 @@
 pub mod Counts
 pub mod Kept
 pub mod Viewed
-pub mod Calls
+pub mod Operations

@@ -15,9 +15,9 @@ counts_of s =
       pages = s.pages.items;
     }
 
--- the mark from which a free block is looked for is behind none
+-- the cursor from which a free block is looked for is behind none
 pub record IsKept (s : Inside) : Type 0 where
   pub within : IsWithin (counts_of s)
   pub start : s.start ≡ slab_start_of s.layout.geometry s.slab
-  pub mark : s.mark ≤ s.layout.geometry.slab_blocks
-  pub below : NoneFreeBelow s.counters.items s.claims.items s.mark
+  pub cursor : s.cursor ≤ s.layout.geometry.slab_blocks
+  pub below : NoneFreeBelow s.counters.items s.claims.items s.cursor

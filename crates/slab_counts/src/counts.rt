@@ -27,7 +27,7 @@ pub struct SlabCounts {
     claims: Vec<u8>,
     pages: Vec<bool>,
     // Where a free block is looked for first: no lower place is free.
-    mark: usize,
+    cursor: usize,
 }
 
 impl Model for SlabCounts {
@@ -94,7 +94,7 @@ impl SlabCounts {
             counters,
             claims,
             pages,
-            mark: 0,
+            cursor: 0,
         })
     }
 
@@ -119,12 +119,12 @@ impl SlabCounts {
         ensures none { IfNone result (HasNoFree self.old) }
         ensures same { IfNone result (self.new ≡ self.old) }
     {
-        let Some(offset) = first_free_from(&self.counters, &self.claims, self.mark) else {
-            self.mark = self.counters.len();
+        let Some(offset) = first_free_from(&self.counters, &self.claims, self.cursor) else {
+            self.cursor = self.counters.len();
             return None;
         };
         self.claims[offset] += 1;
-        self.mark = offset + 1;
+        self.cursor = offset + 1;
         Some(Claim::on(Pbn(self.start + offset as u32)))
     }
 
@@ -134,13 +134,13 @@ impl SlabCounts {
         ensures no { (result ≡ false) → HasNoFree self.old }
         ensures same { self.new ≡ self.old }
     {
-        match first_free_from(&self.counters, &self.claims, self.mark) {
+        match first_free_from(&self.counters, &self.claims, self.cursor) {
             Some(offset) => {
-                self.mark = offset;
+                self.cursor = offset;
                 true
             }
             None => {
-                self.mark = self.counters.len();
+                self.cursor = self.counters.len();
                 false
             }
         }
@@ -185,7 +185,7 @@ impl SlabCounts {
     {
         let offset = (claim.block().0 - self.start) as usize;
         self.claims[offset] -= 1;
-        self.mark = mark_with(&self.counters, &self.claims, offset, self.mark);
+        self.cursor = cursor_with(&self.counters, &self.claims, offset, self.cursor);
     }
 
     /// The claim becomes the increment that will come: it stays counted until then. It gives the block.
@@ -319,7 +319,7 @@ impl SlabCounts {
             return false;
         }
         self.counters[offset] -= 1;
-        self.mark = mark_with(&self.counters, &self.claims, offset, self.mark);
+        self.cursor = cursor_with(&self.counters, &self.claims, offset, self.cursor);
         true
     }
 
@@ -355,29 +355,29 @@ fn note_pages(counts: &mut SlabCounts, among: &[Pbn])
     }
 }
 
-// The first place where nothing is mapped and no claim is; none is before the mark.
-fn first_free_from(counters: &[u8], claims: &[u8], mark: usize) -> Option<usize>
+// The first place where nothing is mapped and no claim is; none is before the cursor.
+fn first_free_from(counters: &[u8], claims: &[u8], cursor: usize) -> Option<usize>
     requires sizes { length counters.now ≡ length claims.now }
-    requires mark { mark ≤ length counters.now }
-    requires below { NoneFreeBelow counters.now claims.now mark }
+    requires cursor { cursor ≤ length counters.now }
+    requires below { NoneFreeBelow counters.now claims.now cursor }
     ensures some { IfSome result (IsLeastFree counters.now claims.now) }
     ensures none { IfNone result (NoneFreeBelow counters.now claims.now (length counters.now)) }
 {
-    let behind = first_free(&counters[mark..], &claims[mark..])?;
-    Some(mark + behind)
+    let behind = first_free(&counters[cursor..], &claims[cursor..])?;
+    Some(cursor + behind)
 }
 
 // Where to look first, once the block at this place may have become free.
-fn mark_with(counters: &[u8], claims: &[u8], offset: usize, mark: usize) -> usize
+fn cursor_with(counters: &[u8], claims: &[u8], offset: usize, cursor: usize) -> usize
     requires counters { offset < length counters.now }
     requires claims { offset < length claims.now }
-    ensures least { result ≤ mark }
+    ensures least { result ≤ cursor }
     ensures before { result ≤ offset
-        ⊎ ((result ≡ mark) × (¬ IsFreeAt counters.now claims.now offset)) }
+        ⊎ ((result ≡ cursor) × (¬ IsFreeAt counters.now claims.now offset)) }
 {
     if counters[offset] == 0 && claims[offset] == 0 {
-        mark.min(offset)
+        cursor.min(offset)
     } else {
-        mark
+        cursor
     }
 }

@@ -4,17 +4,17 @@ ghost use Rattle.blk_base.specs.declared.place.Pbn.{Pbn};
 ghost use Rattle.slab_counts.specs.Counts.{Counts, IsOfSlab, ClaimsFree, HasNoFree, Shares, IsRefused, Takes, IsStray, counter_of, claims_of};
 ghost use Rattle.slab_counts.specs.Kept.{IsWithin};
 ghost use Rattle.slab_counts.specs.declared.refusals.Refusal.{Refusal};
-ghost use Rattle.slab_counts.specs.Calls.{Call, LeadTo, total, makes, drops, spends, maps, unmaps};
+ghost use Rattle.slab_counts.specs.Operations.{Operation, LeadTo, total, makes, drops, spends, maps, unmaps};
 
 /// Over every list of calls the counters and claims of each block are together within the limit.
 pub fn counts_stay_within()
-    ensures { (old new : Counts) (calls : List Call) → IsWithin old → LeadTo old calls new →
+    ensures { (old new : Counts) (calls : List Operation) → IsWithin old → LeadTo old calls new →
         IsWithin new }
 {}
 
 /// Over every list of calls a counter is the one before, with the updates that were taken.
 pub fn counters_have_the_updates()
-    ensures { (old new : Counts) (calls : List Call) (at : Pbn) → IsWithin old →
+    ensures { (old new : Counts) (calls : List Operation) (at : Pbn) → IsWithin old →
         LeadTo old calls new → IsOfSlab old at
         → counter_of new at + total unmaps calls at ≡ counter_of old at + total maps calls at }
 {}
@@ -23,12 +23,12 @@ pub fn counters_have_the_updates()
 /// became a mapping. So they are those that exist, made and neither dropped nor spent, and the spent ones whose increment
 /// isn't taken yet.
 pub fn claims_are_those_that_exist()
-    ensures balance { (old new : Counts) (calls : List Call) (at : Pbn) → IsWithin old →
+    ensures balance { (old new : Counts) (calls : List Operation) (at : Pbn) → IsWithin old →
         LeadTo old calls new → IsOfSlab old at
         →
         claims_of new at + total drops calls at + total maps calls at
         ≡ claims_of old at + total makes calls at }
-    ensures exist { (old new : Counts) (calls : List Call) (at : Pbn) (exist owed : ℕ) →
+    ensures exist { (old new : Counts) (calls : List Operation) (at : Pbn) (exist owed : ℕ) →
         IsWithin old → LeadTo old calls new → IsOfSlab old at
         →
         exist + total drops calls at + total spends calls at

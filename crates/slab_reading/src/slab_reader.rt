@@ -5,7 +5,7 @@ ghost use Rattle.slab_reading.specs.Reads.{IsSlabRead, SlabFails};
 ghost use Rattle.slab_reading.specs.Slabs.{blocks_per_slab};
 
 use blk_base::{Block, Layout};
-use disk_model::{Disk, ReadError, read_blocks};
+use disk_model::{BlocksFault, Disk, read_blocks};
 use image_model::ImageFault;
 use std::alloc::Global;
 
@@ -37,7 +37,7 @@ pub(crate) fn read_slab<D: Disk>(
     let first = layout.reference_block(slab, 0);
     match read_blocks(alloc, device, first, blocks_per_slab(layout)) {
         Ok(read) => Ok(read),
-        Err(ReadError::Device) => Err(ImageFault::Device),
-        Err(ReadError::Memory) => Err(ImageFault::Memory),
+        Err(BlocksFault::Device) => Err(ImageFault::Device),
+        Err(BlocksFault::Memory) => Err(ImageFault::Memory),
     }
 }

@@ -14,7 +14,7 @@ use Rattle.slab_tickets.specs.declared.forms.Withdrawn.{Withdrawn}
 use Rattle.slab_tickets.specs.Tickets.{Desk, Gives, is_served}
 use Rattle.slab_writes.specs.Writes.{Writes}
 use Rattle.zone_counts.specs.Zone.{Zone, Changes}
-use Rattle.zone_counts.specs.Asking.{WithdrawsFrom}
+use Rattle.zone_counts.specs.ZoneAnswers.{WithdrawsFrom}
 use Rattle.slab_zone.specs.Whole.{AreOpenedWrites, nothing}
 use Rattle.slab_tests.specs.Out.{AreOut, no_ticket, nobody, out_number}
 use Rattle.slab_tests.specs.Tested.{AreUpTo, IsSecond}

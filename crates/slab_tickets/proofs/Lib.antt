@@ -3,4 +3,4 @@ pub mod NumberLaws
 pub mod OneAnswer
 mod Rows
 mod NumberRows
-mod CallRows
+mod OperationRows

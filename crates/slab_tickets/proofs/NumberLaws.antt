@@ -11,7 +11,7 @@ use Rattle.plain_laws.proofs.FirstLaws.{find-nowhere, find-none}
 use Rattle.slab_counts.specs.declared.tickets.Ticket.{Ticket}
 use Rattle.slab_tickets.specs.Tickets.{Desk, Gives, Withdraws, Issues, NoneWaits, IsOutAt, begun, empty_desk, is_served}
 use Rattle.slab_tickets.specs.Numbers.{ticket_of, AreRising, AreNumbered}
-use Rattle.slab_tickets.specs.Calls.{Call, Begins, Issued, Given, Withdrawn', Does}
+use Rattle.slab_tickets.specs.Operations.{Operation, Begins, Issued, Given, Withdrawn', Does}
 use Rattle.slab_tickets.specs.declared.forms.Waiting.{Waiting}
 use Rattle.slab_tickets.specs.declared.forms.Withdrawn.{Withdrawn}
 
@@ -224,7 +224,7 @@ issues_tickets old new writer ticket did rises =
 numbered_as : (new made : Desk) → new ≡ made → AreNumbered made → AreNumbered new
 numbered_as new made is numbered = subst (λ (d : Desk). AreNumbered d) (sym is) numbered
 
-pub call_numbers : (call : Call) (old new : Desk) → AreNumbered old → Does call old new → AreNumbered new
+pub call_numbers : (call : Operation) (old new : Desk) → AreNumbered old → Does call old new → AreNumbered new
 call_numbers (Begins true step) old new numbered did = numbered_as new (begun true step old) did.2 numbered
 call_numbers (Begins false step) old new numbered did = numbered_as new (begun false step old) did.1 numbered
 call_numbers (Issued writer ticket) old new numbered did = (issues_tickets old new writer ticket did.1 numbered).1

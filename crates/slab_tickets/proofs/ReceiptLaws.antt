@@ -25,7 +25,7 @@ use Rattle.slab_tickets.specs.declared.forms.Waiting.{Waiting}
 use Rattle.slab_tickets.specs.declared.forms.Withdrawn.TheVariants.{Nothing}
 use Rattle.slab_tickets.specs.Tickets.{Desk, empty_desk, IsBelow, NoneWaits, Withdraws, is_served, begun, worth_of}
 use Rattle.slab_tickets.specs.Numbers.{AskedBehind, IsBehind}
-use Rattle.slab_tickets.specs.Calls.{Call, Begins, Issued, Given, Withdrawn', Does, LeadTo, IsRight, last_free_of, step_of}
+use Rattle.slab_tickets.specs.Operations.{Operation, Begins, Issued, Given, Withdrawn', Does, LeadTo, IsRight, last_free_of, step_of}
 
 -- what is found at a place
 pub some_there : (o : Option ℕ) → IsTrue (is_some o) → (k : ℕ) × (o ≡ Some k)
@@ -40,7 +40,7 @@ Knows desk last step = (desk.last_free ≡ last) × (desk.step ≡ step)
 knows_as : (new made : Desk) (last step : Option ℕ) → new ≡ made → Knows made last step → Knows new last step
 knows_as new made last step is knows = subst (λ (d : Desk). Knows d last step) (sym is) knows
 
-pub calls_tell : (zone room : ℕ) (calls : List Call) (desk : Desk) → LeadTo (empty_desk zone room) calls desk → (desk.last_free ≡ last_free_of calls) × (desk.step ≡ step_of calls)
+pub calls_tell : (zone room : ℕ) (calls : List Operation) (desk : Desk) → LeadTo (empty_desk zone room) calls desk → (desk.last_free ≡ last_free_of calls) × (desk.step ≡ step_of calls)
 calls_tell zone room [] desk same = knows_as desk (empty_desk zone room) None None same (refl, refl)
 calls_tell zone room (Begins true step ∷ calls) desk (before, lead, did) =
     let older = calls_tell zone room calls before lead in
@@ -95,7 +95,7 @@ issued_behind old new writer ticket behind did = behind_as new _ did.after (reco
   waiting = All-push (AskedBehind old.last_free) old.out _ behind.waiting (λ unserved. behind.strict ticket.asked did.now);
 })
 
-pub call_keeps : (call : Call) (old new : Desk) → IsBehind old → Does call old new → IsBehind new
+pub call_keeps : (call : Operation) (old new : Desk) → IsBehind old → Does call old new → IsBehind new
 call_keeps (Begins true step) old new behind did = behind_as new (begun true step old) did.2 (begun_free old step behind did.0 did.1)
 call_keeps (Begins false step) old new behind did = behind_as new (begun false step old) did.1 (begun_full old step behind did.0)
 call_keeps (Issued writer ticket) old new behind did = issued_behind old new writer ticket behind did.1
@@ -114,7 +114,7 @@ call_keeps (Withdrawn' ticket result) old new behind did = behind_as new _ did.a
 pub opened_behind : (zone room : ℕ) → IsBehind (empty_desk zone room)
 opened_behind zone room = record { strict = λ s now. cc; never = λ is. refl; waiting = All-nil (AskedBehind None) }
 
-calls_keep : (zone room : ℕ) (calls : List Call) (desk : Desk) → LeadTo (empty_desk zone room) calls desk → IsBehind desk
+calls_keep : (zone room : ℕ) (calls : List Operation) (desk : Desk) → LeadTo (empty_desk zone room) calls desk → IsBehind desk
 calls_keep zone room calls desk lead = leads_keep Does IsBehind call_keeps (empty_desk zone room) desk calls (opened_behind zone room) lead
 
 -- a receipt is that of a ticket to which no block went
@@ -130,7 +130,7 @@ behind_receipt old new ticket receipt behind did =
     = subst (λ (w : Waiting). AskedBehind old.last_free w) did.is (behind.waiting did.place did.waiting place.0) in
     subst (λ (n : ℕ). IsBelow old.last_free n) (sym worthless.1) (asked worthless.0)
 
-pub right_receipt : (zone room : ℕ) (calls : List Call) (old new : Desk) (ticket : Ticket) (receipt : Receipt) → LeadTo (empty_desk zone room) calls old
+pub right_receipt : (zone room : ℕ) (calls : List Operation) (old new : Desk) (ticket : Ticket) (receipt : Receipt) → LeadTo (empty_desk zone room) calls old
     → Withdraws old new ticket (Nothing receipt) → IsRight calls receipt
 right_receipt zone room calls old new ticket receipt lead did =
     let told = calls_tell zone room calls old lead in

@@ -11,7 +11,7 @@ use Rattle.slab_tickets.specs.declared.forms.Waiting.{Waiting}
 use Rattle.slab_tickets.specs.declared.forms.Withdrawn.{Withdrawn}
 use Rattle.slab_tickets.specs.declared.forms.Withdrawn.TheVariants.{Block, Nothing}
 use Rattle.slab_tickets.specs.Tickets.{Desk, IsNow, IsBelow, IsNext, NoneWaits, HasRoom, Issues, Gives, Withdraws, IsOutAt, is_served, begun, worth}
-use Rattle.slab_tickets.specs.Calls.{Call, Begins, Issued, IsRight, last_free_of, step_of}
+use Rattle.slab_tickets.specs.Operations.{Operation, Begins, Issued, IsRight, last_free_of, step_of}
 
 abbrev asker : Writer
 asker = record { stream = 1; number = 7 }
@@ -152,7 +152,7 @@ still_out = λ did.
     absurd (omega (arith, long, short))
 
 -- last_free_of, step_of: the newest call comes first; step 9 began behind a step 4 with a free block
-abbrev story : List Call
+abbrev story : List Operation
 story = Issued asker ticket ∷ Begins false 9 ∷ Begins false 6 ∷ Begins true 5 ∷ Begins false 4 ∷ []
 
 free_at_four : last_free_of story ≡ Some 4

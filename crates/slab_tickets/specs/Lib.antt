@@ -1,3 +1,3 @@
 pub mod Tickets
 pub mod Numbers
-pub mod Calls
+pub mod Operations

@@ -8,15 +8,15 @@ ghost use Rattle.slab_tickets.specs.Tickets.{Desk, empty_desk, Issues, Gives, Is
 ghost use Rattle.slab_tickets.specs.Numbers.{AreNumbered, IsBehind, ticket_of};
 ghost use Rattle.blk_base.specs.declared.place.Pbn.{Pbn};
 ghost use Rattle.blk_base.specs.declared.request.Writer.{Writer};
-ghost use Rattle.slab_tickets.specs.Calls.{Call, Does, LeadTo, IsRight, last_free_of, step_of};
+ghost use Rattle.slab_tickets.specs.Operations.{Operation, Does, LeadTo, IsRight, last_free_of, step_of};
 
 /// Over every list of calls of a zone that ends no step with a free block while a ticket waits, the desk knows the last step
 /// at whose end the zone had a free block, and every receipt that a withdrawal gives is right.
 pub fn every_receipt_is_right()
-    ensures last { (zone room : ℕ) (calls : List Call) (desk : Desk) →
+    ensures last { (zone room : ℕ) (calls : List Operation) (desk : Desk) →
         LeadTo (empty_desk zone room) calls desk
         → (desk.last_free ≡ last_free_of calls) × (desk.step ≡ step_of calls) }
-    ensures right { (zone room : ℕ) (calls : List Call) (old new : Desk) (ticket : Ticket)
+    ensures right { (zone room : ℕ) (calls : List Operation) (old new : Desk) (ticket : Ticket)
         (receipt : Receipt) → LeadTo (empty_desk zone room) calls old
         → Withdraws old new ticket (Nothing receipt) → IsRight calls receipt }
 {}
@@ -25,7 +25,7 @@ pub fn every_receipt_is_right()
 /// receipt is of a ticket that asked behind that step.
 pub fn tickets_ask_behind_the_last_free_step()
     ensures opened { (zone room : ℕ) → IsBehind (empty_desk zone room) }
-    ensures kept { (call : Call) (old new : Desk) → IsBehind old → Does call old new →
+    ensures kept { (call : Operation) (old new : Desk) → IsBehind old → Does call old new →
         IsBehind new }
     ensures receipt { (old new : Desk) (ticket : Ticket) (receipt : Receipt) → IsBehind old →
         Withdraws old new ticket (Nothing receipt)
@@ -36,7 +36,7 @@ pub fn tickets_ask_behind_the_last_free_step()
 /// same number stand at the same place, and the next ticket's number is above them all.
 pub fn tickets_have_numbers_of_their_own()
     ensures opened { (zone room : ℕ) → AreNumbered (empty_desk zone room) }
-    ensures kept { (call : Call) (old new : Desk) → AreNumbered old → Does call old new →
+    ensures kept { (call : Operation) (old new : Desk) → AreNumbered old → Does call old new →
         AreNumbered new }
     ensures differ { (desk : Desk) (i j : ℕ) (one other : Waiting) → AreNumbered desk →
         slice_get desk.out i ≡ Some one → slice_get desk.out j ≡ Some other

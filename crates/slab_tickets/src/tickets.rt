@@ -87,7 +87,7 @@ impl Tickets {
         ensures yes { IsTrue result → (place : ℕ) × IsOutAt self.now ticket.now place }
         ensures no { (result ≡ false) → ¬ ((place : ℕ) × IsOutAt self.now ticket.now place) }
     {
-        place_of(&self.out, ticket.number).is_some()
+        index_of(&self.out, ticket.number).is_some()
     }
 
     /// Gives a ticket to a request that finds no free block. A step was begun.
@@ -137,7 +137,7 @@ impl Tickets {
         ensures { Withdraws self.old self.new ticket result }
     {
         let withdrawn = self.step.unwrap_or(0);
-        let place = place_of(&self.out, ticket.number).unwrap_or(0);
+        let place = index_of(&self.out, ticket.number).unwrap_or(0);
         let waiting = self.out.remove(place);
         match waiting.block {
             Some(claim) => Withdrawn::Block(claim),
@@ -158,7 +158,7 @@ fn first_unserved(out: &[Waiting]) -> Option<usize>
 }
 
 // The place of the ticket with this number.
-fn place_of(out: &[Waiting], number: u64) -> Option<usize>
+fn index_of(out: &[Waiting], number: u64) -> Option<usize>
     ensures { result ≡ position (λ waiting. waiting.number == number) out.now }
 {
     out.iter().position(|waiting| waiting.number == number)

@@ -9,7 +9,7 @@ use Rattle.reference_blocks.specs.References.{eight, point_at, sector_at, sector
 use Rattle.slab_codec.specs.Reference.{reference_bytes, reference_sector_bytes}
 use Rattle.slab_codec.specs.declared.forms.ReferenceSector.{ReferenceSector}
 use Rattle.slab_codec.proofs.CounterLaws.{sector_injective, written_counters}
-use Rattle.slab_writes.specs.Calls.{Call, ReferenceOut, ReferenceDurable}
+use Rattle.slab_writes.specs.Operations.{Operation, ReferenceOut, ReferenceDurable}
 use Rattle.slab_writes.specs.Commits.{SaysPoint, IsHandedOut, IsReported}
 
 -- what a block says of a sector's commit point is one
@@ -76,7 +76,7 @@ module _ (counters : List ℕ) where
   says_no_other other = let no' = ap (λ (q : Point). q.0) (one_point sizes first_bytes 0 (p 512) (p 514) (omega arith) (omega arith) says other) in omega (arith, no')
 
   -- IsHandedOut: the newest of the block
-  abbrev twice : List Call
+  abbrev twice : List Operation
   twice = ReferenceOut counters later_bytes 0 ∷ ReferenceOut counters first_bytes 0 ∷ []
 
   newest : IsHandedOut sizes twice 0 (p 514)

@@ -10,8 +10,8 @@ use Rattle.blk_base.specs.Limits.{IsGeometry}
 use Rattle.blk_base.specs.Regions.{references_of}
 use Rattle.blk_base.specs.declared.geometry.Geometry.{Geometry}
 use Rattle.blk_base.specs.declared.point.Point.{Point}
-use Rattle.dirty_pages.specs.declared.marks.Marks.{Marks}
-use Rattle.dirty_pages.specs.Marks.{clean}
+use Rattle.dirty_pages.specs.declared.dirty_points.DirtyPoints.{DirtyPoints}
+use Rattle.dirty_pages.specs.DirtyPoints.{clean}
 use Rattle.reference_blocks.specs.References.{References, opening as opening_blocks, points_of, point_at, updated, with_sectors, end_of}
 use Rattle.reference_blocks.specs.Updates.{AreRising}
 use Rattle.slab_codec.specs.declared.forms.SlabEntry.{SlabEntry}
@@ -20,9 +20,9 @@ use Rattle.slab_journal.specs.Slab.{Slab, next_slot, IsCovered, IsWriting}
 use Rattle.slab_journal.specs.Unsettled.{sealed_block, IsWaiting, IsUnsettled, IsLowPoint, NoneUnsettled}
 use Rattle.slab_journal.specs.Slab as journals
 use Rattle.slab_writes.specs.Writes.{Writes, opening, Raises}
-use Rattle.slab_writes.specs.Calls.{Call, Taken, JournalOut, ReferenceOut, JournalDurable, ReferenceDurable, LeadTo, IsInJournal, IsInReference, IsDurable, updates_of}
+use Rattle.slab_writes.specs.Operations.{Operation, Taken, JournalOut, ReferenceOut, JournalDurable, ReferenceDurable, LeadTo, IsInJournal, IsInReference, IsDurable, updates_of}
 use Rattle.slab_writes.proofs.SectorLaws.{due_inside, own_sector, other_sector, same_length}
-use Rattle.slab_writes.proofs.CallLaws.{more, newest, split}
+use Rattle.slab_writes.proofs.OperationLaws.{more, newest, split}
 
 abbrev zero_point : Point
 zero_point = record { 0 = 0 }
@@ -46,7 +46,7 @@ below_next g points e us p rising (inr taken) =
     let older = All-contains (λ (f : SlabEntry). f.point.0 < e.point.0) us taken.0 rising.0 taken.1 in omega (arith, taken.2, older)
 
 -- what is known of the journal after these calls
-pub record IsJournal (g : Geometry) (points : List Point) (calls : List Call) (log : Slab) : Type 0 where
+pub record IsJournal (g : Geometry) (points : List Point) (calls : List Operation) (log : Slab) : Type 0 where
   pub geometry : log.geometry ≡ g
   pub ring : length log.slots ≡ g.slab_journal
   pub within : (log.durable ≤ log.sequence) × (log.sequence ≤ log.durable + 1)
@@ -56,22 +56,22 @@ pub record IsJournal (g : Geometry) (points : List Point) (calls : List Call) (l
   pub bounded : (n : ℕ) → IsBounded points (updates_of calls) n (point_at log.commits n)
 
 -- and of the reference blocks
-pub record AreReferences (g : Geometry) (points : List Point) (calls : List Call) (r : References) : Type 0 where
+pub record AreReferences (g : Geometry) (points : List Point) (calls : List Operation) (r : References) : Type 0 where
   pub geometry : r.geometry ≡ g
   pub applied : length r.applied ≡ sectors_per_slab g
   pub handed : length r.handed ≡ sectors_per_slab g
-  pub marks : length r.blocks ≡ references_of g
+  pub dirty_points : length r.blocks ≡ references_of g
   pub given : (x : SlabEntry) → Contains (updates_of calls) x → x.point.0 ≤ (point_at r.handed (sector_of_offset g x.offset)).0 → IsInReference calls (sector_of_offset g x.offset / 8) x
   pub applied_bounded : (n : ℕ) → IsBounded points (updates_of calls) n (point_at r.applied n)
   pub handed_bounded : (n : ℕ) → IsBounded points (updates_of calls) n (point_at r.handed n)
 
-pub record IsKnown (g : Geometry) (points : List Point) (calls : List Call) (w : Writes) : Type 0 where
+pub record IsKnown (g : Geometry) (points : List Point) (calls : List Operation) (w : Writes) : Type 0 where
   pub journal : IsJournal g points calls w.journal
   pub blocks : AreReferences g points calls w.blocks
 
 module _ (g : Geometry) (points : List Point) (sizes : IsGeometry g) where
   -- an update is taken
-  journal_taken : (calls : List Call) (e : SlabEntry) (log : Slab) → AreRising g points (updates_of (Taken e ∷ calls)) → IsJournal g points calls log
+  journal_taken : (calls : List Operation) (e : SlabEntry) (log : Slab) → AreRising g points (updates_of (Taken e ∷ calls)) → IsJournal g points calls log
       → IsJournal g points (Taken e ∷ calls) (record log { filling = log.filling ++ e ∷ []; last = e.point })
   journal_taken calls e log rising old = record {
     geometry = old.geometry;
@@ -95,7 +95,7 @@ module _ (g : Geometry) (points : List Point) (sizes : IsGeometry g) where
     bounded = λ n. bounded_more points e (updates_of calls) n (point_at log.commits n) (old.bounded n);
   }
 
-  references_taken : (calls : List Call) (e : SlabEntry) (r : References) → e.offset < r.geometry.slab_blocks → AreRising g points (updates_of (Taken e ∷ calls)) → AreReferences g points calls r
+  references_taken : (calls : List Operation) (e : SlabEntry) (r : References) → e.offset < r.geometry.slab_blocks → AreRising g points (updates_of (Taken e ∷ calls)) → AreReferences g points calls r
       → AreReferences g points (Taken e ∷ calls) (updated r e.offset e.point)
   references_taken calls e r inside rising old =
       let us = updates_of calls in
@@ -105,7 +105,7 @@ module _ (g : Geometry) (points : List Point) (sizes : IsGeometry g) where
         geometry = old.geometry;
         applied = length-set r.applied k e.point ∙ old.applied;
         handed = old.handed;
-        marks = length-set r.blocks _ _ ∙ old.marks;
+        dirty_points = length-set r.blocks _ _ ∙ old.dirty_points;
         given = λ x there low. elim (split e us x there) [
           | inl same ↦
               let above = below_next g points e us (point_at r.handed (sector_of_offset g e.offset)) rising (old.handed_bounded (sector_of_offset g e.offset)) in
@@ -125,7 +125,7 @@ module _ (g : Geometry) (points : List Point) (sizes : IsGeometry g) where
       }
 
   -- a journal block is sealed
-  journal_sealed : (calls : List Call) (block : SlabJournalBlock) (log : Slab) → log.durable ≡ log.sequence → block.sequence ≡ log.sequence → block.entries ≡ log.filling → IsJournal g points calls log
+  journal_sealed : (calls : List Operation) (block : SlabJournalBlock) (log : Slab) → log.durable ≡ log.sequence → block.sequence ≡ log.sequence → block.entries ≡ log.filling → IsJournal g points calls log
       → IsJournal g points (JournalOut block ∷ calls) (record log { sequence = log.sequence + 1; filling = []; slots = set log.slots (next_slot log) log.filling })
   journal_sealed calls block log idle number says old =
       let some = sizes.slab_journal in
@@ -151,7 +151,7 @@ module _ (g : Geometry) (points : List Point) (sizes : IsGeometry g) where
       }
 
   -- its write is durable
-  journal_durable : (calls : List Call) (sequence : ℕ) (log : Slab) → IsWriting log → sequence ≡ log.durable → IsJournal g points calls log
+  journal_durable : (calls : List Operation) (sequence : ℕ) (log : Slab) → IsWriting log → sequence ≡ log.durable → IsJournal g points calls log
       → IsJournal g points (JournalDurable sequence ∷ calls) (record log { durable = sequence + 1 })
   journal_durable calls sequence log writing is old = record {
     geometry = old.geometry;
@@ -170,7 +170,7 @@ module _ (g : Geometry) (points : List Point) (sizes : IsGeometry g) where
   }
 
   -- a reference block is handed out
-  references_out : (calls : List Call) (counters bytes : List ℕ) (block : ℕ) (r new : References) → new.geometry ≡ r.geometry → new.applied ≡ r.applied → new.handed ≡ with_sectors r.applied block r.handed
+  references_out : (calls : List Operation) (counters bytes : List ℕ) (block : ℕ) (r new : References) → new.geometry ≡ r.geometry → new.applied ≡ r.applied → new.handed ≡ with_sectors r.applied block r.handed
       → length new.blocks ≡ length r.blocks → 8 * block ≤ length r.applied → AreReferences g points calls r → AreReferences g points (ReferenceOut counters bytes block ∷ calls) new
   references_out calls counters bytes block r new same still keeps many inside old =
       let us = updates_of calls in
@@ -183,7 +183,7 @@ module _ (g : Geometry) (points : List Point) (sizes : IsGeometry g) where
         geometry = same ∙ old.geometry;
         applied = ap (λ (ps : List Point). length ps) still ∙ old.applied;
         handed = ap (λ (ps : List Point). length ps) keeps ∙ same_length r.applied r.handed block 0 alike inside ∙ old.handed;
-        marks = many ∙ old.marks;
+        dirty_points = many ∙ old.dirty_points;
         given = λ x there low.
             let n = sector_of_offset g x.offset in
             elim (cases_eq (n / 8) block) [
@@ -203,14 +203,14 @@ module _ (g : Geometry) (points : List Point) (sizes : IsGeometry g) where
       }
 
   -- and its write is durable
-  references_same : (call : Call) (calls : List Call) (r new : References) → updates_of (call ∷ calls) ≡ updates_of calls
+  references_same : (call : Operation) (calls : List Operation) (r new : References) → updates_of (call ∷ calls) ≡ updates_of calls
       → ((block : ℕ) (x : SlabEntry) → IsInReference calls block x → IsInReference (call ∷ calls) block x) → new.geometry ≡ r.geometry → new.applied ≡ r.applied → new.handed ≡ r.handed → length new.blocks ≡ length r.blocks
       → AreReferences g points calls r → AreReferences g points (call ∷ calls) new
   references_same call calls r new none passes same still kept many old = record {
     geometry = same ∙ old.geometry;
     applied = ap (λ (ps : List Point). length ps) still ∙ old.applied;
     handed = ap (λ (ps : List Point). length ps) kept ∙ old.handed;
-    marks = many ∙ old.marks;
+    dirty_points = many ∙ old.dirty_points;
     given = λ x there low.
         let n = sector_of_offset g x.offset in
         passes (n / 8) x (old.given x (subst (λ (us : List SlabEntry). Contains us x) none there) (omega (arith, low, ap (λ (ps : List Point). (point_at ps n).0) kept)));
@@ -220,7 +220,7 @@ module _ (g : Geometry) (points : List Point) (sizes : IsGeometry g) where
         (subst (λ (ps : List Point). IsBounded points (updates_of calls) n (point_at ps n)) (sym kept) (old.handed_bounded n));
   }
 
-  journal_raised : (calls : List Call) (block : ℕ) (log new : Slab) (r : References) → Raises r.handed log.commits (8 * block) (8 * block + 8) new.commits → new ≡ record log { commits = new.commits }
+  journal_raised : (calls : List Operation) (block : ℕ) (log new : Slab) (r : References) → Raises r.handed log.commits (8 * block) (8 * block + 8) new.commits → new ≡ record log { commits = new.commits }
       → ((x : SlabEntry) → Contains (updates_of calls) x → 0 < x.point.0) → AreReferences g points calls r → IsJournal g points calls log → IsJournal g points (ReferenceDurable block ∷ calls) new
   journal_raised calls block log new r raises same above blocks old =
       let us = updates_of calls in
@@ -292,7 +292,7 @@ known_opening g slab points size = record {
     geometry = refl;
     applied = size;
     handed = size;
-    marks = length-replicate (references_of g) clean;
+    dirty_points = length-replicate (references_of g) clean;
     given = λ x there low. none_taken x there;
     applied_bounded = λ n. inl (omega arith);
     handed_bounded = λ n. inl (omega arith);
@@ -306,7 +306,7 @@ all_above g points (e ∷ us) x rising there = elim (split e us x there) [
   | inr before ↦ all_above g points us x rising.2 before
 ]
 
-pub known : (g : Geometry) (slab : ℕ) (commits : List Point) (calls : List Call) (w : Writes) → IsGeometry g → length (points_of g slab commits) ≡ sectors_per_slab g → LeadTo (opening g slab commits) calls w
+pub known : (g : Geometry) (slab : ℕ) (commits : List Point) (calls : List Operation) (w : Writes) → IsGeometry g → length (points_of g slab commits) ≡ sectors_per_slab g → LeadTo (opening g slab commits) calls w
     → AreRising g (points_of g slab commits) (updates_of calls) → IsKnown g (points_of g slab commits) calls w
 known g slab commits [] w sizes size is rising = subst (λ (v : Writes). IsKnown g (points_of g slab commits) [] v) (sym is) (known_opening g slab (points_of g slab commits) size)
 known g slab commits (Taken e ∷ calls) w sizes size (before, lead, did) rising =
@@ -337,8 +337,8 @@ known g slab commits (ReferenceOut counters bytes block ∷ calls) w sizes size 
       journal = subst (λ (l : Slab). IsJournal g points (ReferenceOut counters bytes block ∷ calls) l) (sym (ap (λ (v : Writes). v.journal) did.1))
           (record { geometry = j.geometry; ring = j.ring; within = j.within; sealed = j.sealed; stays = j.stays; covered = j.covered; bounded = j.bounded });
       blocks = references_out g points sizes calls counters bytes block before.blocks w.blocks (ap (λ (r : References). r.geometry) out.same) (ap (λ (r : References). r.applied) out.same) out.keeps
-          (ap (λ (ms : List Marks). length ms) out.first.after ∙ length-set before.blocks.blocks block _)
-          (omega (arith, there, old.blocks.marks, old.blocks.applied)) old.blocks;
+          (ap (λ (ms : List DirtyPoints). length ms) out.first.after ∙ length-set before.blocks.blocks block _)
+          (omega (arith, there, old.blocks.dirty_points, old.blocks.applied)) old.blocks;
     }
 known g slab commits (JournalDurable sequence ∷ calls) w sizes size (before, lead, did) rising =
     let points = points_of g slab commits in
@@ -359,7 +359,7 @@ known g slab commits (ReferenceDurable block ∷ calls) w sizes size (before, le
     }
 
 -- an update that isn't durable is unsettled
-durable_or_unsettled : (g : Geometry) (points : List Point) (calls : List Call) (log : Slab) (x : SlabEntry) → IsJournal g points calls log → Contains (updates_of calls) x
+durable_or_unsettled : (g : Geometry) (points : List Point) (calls : List Operation) (log : Slab) (x : SlabEntry) → IsJournal g points calls log → Contains (updates_of calls) x
     → (¬ IsCovered g log.commits x → IsWaiting log x → IsDurable g calls x) → IsDurable g calls x
 durable_or_unsettled g points calls log x is taken unsettled = elim (is.stays x taken) [
   | inl durable ↦ durable
@@ -370,18 +370,18 @@ durable_or_unsettled g points calls log x is taken unsettled = elim (is.stays x 
 ]
 
 -- an update that isn't unsettled is durable
-pub settled_is_durable : (g : Geometry) (slab : ℕ) (commits : List Point) (calls : List Call) (new : Writes) (x : SlabEntry) → IsGeometry g → length (points_of g slab commits) ≡ sectors_per_slab g
+pub settled_is_durable : (g : Geometry) (slab : ℕ) (commits : List Point) (calls : List Operation) (new : Writes) (x : SlabEntry) → IsGeometry g → length (points_of g slab commits) ≡ sectors_per_slab g
     → LeadTo (opening g slab commits) calls new → AreRising g (points_of g slab commits) (updates_of calls) → Contains (updates_of calls) x → ¬ IsUnsettled new.journal x → IsDurable g calls x
 settled_is_durable g slab commits calls new x sizes size lead rising taken settled =
     let log = (known g slab commits calls new sizes size lead rising).journal in
     durable_or_unsettled g (points_of g slab commits) calls new.journal x log taken (λ uncovered waits.
     absurd (settled (waits, subst (λ (h : Geometry). ¬ IsCovered h new.journal.commits x) (sym log.geometry) uncovered)))
 
-pub below_low : (g : Geometry) (slab : ℕ) (commits : List Point) (calls : List Call) (new : Writes) (x : SlabEntry) (low : Point) → IsGeometry g → length (points_of g slab commits) ≡ sectors_per_slab g
+pub below_low : (g : Geometry) (slab : ℕ) (commits : List Point) (calls : List Operation) (new : Writes) (x : SlabEntry) (low : Point) → IsGeometry g → length (points_of g slab commits) ≡ sectors_per_slab g
     → LeadTo (opening g slab commits) calls new → AreRising g (points_of g slab commits) (updates_of calls) → Contains (updates_of calls) x → IsLowPoint new.journal low → x.point.0 < low.0 → IsDurable g calls x
 below_low g slab commits calls new x low sizes size lead rising taken is below =
     settled_is_durable g slab commits calls new x sizes size lead rising taken (λ unsettled. omega (arith, below, is.least x unsettled))
 
-pub none_left : (g : Geometry) (slab : ℕ) (commits : List Point) (calls : List Call) (new : Writes) (x : SlabEntry) → IsGeometry g → length (points_of g slab commits) ≡ sectors_per_slab g
+pub none_left : (g : Geometry) (slab : ℕ) (commits : List Point) (calls : List Operation) (new : Writes) (x : SlabEntry) → IsGeometry g → length (points_of g slab commits) ≡ sectors_per_slab g
     → LeadTo (opening g slab commits) calls new → AreRising g (points_of g slab commits) (updates_of calls) → Contains (updates_of calls) x → NoneUnsettled new.journal → IsDurable g calls x
 none_left g slab commits calls new x sizes size lead rising taken none = settled_is_durable g slab commits calls new x sizes size lead rising taken (none x)

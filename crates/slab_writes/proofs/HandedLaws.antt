@@ -9,7 +9,7 @@ use Rattle.blk_base.specs.declared.point.Point.{Point}
 use Rattle.reference_blocks.specs.References.{References, HandsOutBlock, point_at, points_of, updated, end_of}
 use Rattle.reference_blocks.specs.Updates.{AreRising}
 use Rattle.slab_codec.specs.declared.forms.SlabEntry.{SlabEntry}
-use Rattle.slab_writes.specs.Calls.{Call, Taken, JournalOut, ReferenceOut, JournalDurable, ReferenceDurable, Does, LeadTo, updates_of}
+use Rattle.slab_writes.specs.Operations.{Operation, Taken, JournalOut, ReferenceOut, JournalDurable, ReferenceDurable, Does, LeadTo, updates_of}
 use Rattle.slab_writes.specs.Writes.{Writes, opening}
 use Rattle.slab_writes.proofs.DurableLaws.{IsKnown, known, below_next}
 use Rattle.slab_writes.proofs.SectorLaws.{due_inside, own_sector, other_sector}
@@ -26,7 +26,7 @@ module _ (g : Geometry) (slab : ℕ) (all : List Point) (sizes : IsGeometry g) (
   points = points_of g slab all
 
   -- an update of a sector is above all before
-  taken_above : (calls : List Call) (e : SlabEntry) (w : Writes) → IsKnown g points calls w → AreRising g points (updates_of (Taken e ∷ calls)) → e.offset < w.blocks.geometry.slab_blocks → AreBelow w.blocks
+  taken_above : (calls : List Operation) (e : SlabEntry) (w : Writes) → IsKnown g points calls w → AreRising g points (updates_of (Taken e ∷ calls)) → e.offset < w.blocks.geometry.slab_blocks → AreBelow w.blocks
       → AreBelow (updated w.blocks e.offset e.point)
   taken_above calls e w is rising inside below n =
       let r = w.blocks in
@@ -43,7 +43,7 @@ module _ (g : Geometry) (slab : ℕ) (all : List Point) (sizes : IsGeometry g) (
       ]
 
   -- a block is handed out
-  module _ (calls : List Call) (counters bytes : List ℕ) (block : ℕ) (before w : Writes) (is : IsKnown g points calls before) (out : HandsOutBlock before.blocks w.blocks counters bytes block) where
+  module _ (calls : List Operation) (counters bytes : List ℕ) (block : ℕ) (before w : Writes) (is : IsKnown g points calls before) (out : HandsOutBlock before.blocks w.blocks counters bytes block) where
     abbrev r : References
     r = before.blocks
 
@@ -51,7 +51,7 @@ module _ (g : Geometry) (slab : ℕ) (all : List Point) (sizes : IsGeometry g) (
     inside = due_inside r.blocks block out.first.first out.first.due
 
     starts : 8 * block ≤ length r.applied
-    starts = omega (arith, inside, is.blocks.marks, is.blocks.applied, sizes.slab_blocks)
+    starts = omega (arith, inside, is.blocks.dirty_points, is.blocks.applied, sizes.slab_blocks)
 
     alike : length r.applied ≡ length r.handed
     alike = is.blocks.applied ∙ sym is.blocks.handed
@@ -84,7 +84,7 @@ module _ (g : Geometry) (slab : ℕ) (all : List Point) (sizes : IsGeometry g) (
   same_below : (old new : References) → new.handed ≡ old.handed → new.applied ≡ old.applied → AreBelow old → AreBelow new
   same_below old new handed applied below n = omega (arith, ap (λ (ps : List Point). (point_at ps n).0) handed, ap (λ (ps : List Point). (point_at ps n).0) applied, below n)
 
-  are_below : (calls : List Call) (w : Writes) → LeadTo (opening g slab all) calls w → AreRising g points (updates_of calls) → AreBelow w.blocks
+  are_below : (calls : List Operation) (w : Writes) → LeadTo (opening g slab all) calls w → AreRising g points (updates_of calls) → AreBelow w.blocks
   are_below [] w is rising = λ n. omega (arith, ap (λ (v : Writes). (point_at v.blocks.handed n).0) is, ap (λ (v : Writes). (point_at v.blocks.applied n).0) is)
   are_below (Taken e ∷ calls) w (before, lead, did) rising =
       subst (λ (v : Writes). AreBelow v.blocks) (sym did.2)
@@ -101,7 +101,7 @@ module _ (g : Geometry) (slab : ℕ) (all : List Point) (sizes : IsGeometry g) (
   still_handed : (old new : References) (n : ℕ) → new.handed ≡ old.handed → (point_at old.handed n).0 ≤ (point_at new.handed n).0
   still_handed old new n same = omega (arith, ap (λ (ps : List Point). (point_at ps n).0) same)
 
-  pub no_handed_falls : (calls : List Call) (call : Call) (old new : Writes) (sector : ℕ) → LeadTo (opening g slab all) calls old → AreRising g points (updates_of calls) → Does call old new
+  pub no_handed_falls : (calls : List Operation) (call : Operation) (old new : Writes) (sector : ℕ) → LeadTo (opening g slab all) calls old → AreRising g points (updates_of calls) → Does call old new
       → (point_at old.blocks.handed sector).0 ≤ (point_at new.blocks.handed sector).0
   no_handed_falls calls (Taken e) old new n lead rising did = still_handed old.blocks new.blocks n (ap (λ (v : Writes). v.blocks.handed) did.2)
   no_handed_falls calls (JournalOut block) old new n lead rising did = still_handed old.blocks new.blocks n (ap (λ (v : Writes). v.blocks.handed) did.1)

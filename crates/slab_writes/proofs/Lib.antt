@@ -1,5 +1,5 @@
 pub mod SectorLaws
-pub mod CallLaws
+pub mod OperationLaws
 pub mod DurableLaws
 pub mod OutLaws
 pub mod OneDue
@@ -7,4 +7,4 @@ pub mod Rows
 pub mod CommitLaws
 pub mod HandedLaws
 pub mod CommitRows
-pub mod CallRows
+pub mod OperationRows

@@ -2,12 +2,12 @@
 use Rattle.std.specs.Prelude.{ℕ, ◌≡◌, List}
 use Rattle.std.proofs.Common.{sym, ◌∙◌, ap, inl, inr}
 use Rattle.blk_base.specs.Regions.{ReferenceBlock, block_of}
-use Rattle.dirty_pages.proofs.MarkLaws.{one_is_handed_out}
-use Rattle.dirty_pages.specs.declared.marks.Marks.{Marks}
+use Rattle.dirty_pages.proofs.DirtyPointLaws.{one_is_handed_out}
+use Rattle.dirty_pages.specs.declared.dirty_points.DirtyPoints.{DirtyPoints}
 use Rattle.reference_blocks.specs.References.{References, last_point, sectors_of, with_sectors}
 use Rattle.blk_base.specs.declared.point.Point.{Point}
 use Rattle.slab_codec.specs.Reference.{reference_bytes}
-use Rattle.slab_codec.specs.Spelling.{block_bytes}
+use Rattle.slab_codec.specs.BlockBytes.{block_bytes}
 use Rattle.slab_codec.specs.declared.forms.SlabJournalBlock.{SlabJournalBlock}
 use Rattle.slab_journal.proofs.SealLaws.{one_sealed}
 use Rattle.slab_journal.specs.Slab.{Slab}
@@ -54,7 +54,7 @@ module _ (old new new' : Writes) (counters bytes bytes' : List ℕ) (work work' 
       mine.keeps ∙ ap (λ (n : ℕ). with_sectors old.blocks.applied n old.blocks.handed) both.0 ∙ sym theirs.keeps in
       let blocks : new.blocks ≡ new'.blocks =
       mine.same ∙ ap (λ (points : List Point). record old.blocks { handed = points; blocks = new.blocks.blocks }) handed
-      ∙ ap (λ (marks : List Marks). record old.blocks { handed = new'.blocks.handed; blocks = marks }) both.1 ∙ sym theirs.same in (
+      ∙ ap (λ (dirty_points : List DirtyPoints). record old.blocks { handed = new'.blocks.handed; blocks = dirty_points }) both.1 ∙ sym theirs.same in (
         one.same ∙ ap (λ (r : References). record old { blocks = r }) blocks ∙ sym other.same,
         mine.says ∙ ap (λ (n : ℕ). reference_bytes (sectors_of old.blocks.geometry old.blocks.applied counters n)) both.0 ∙ sym theirs.says,
         same_work work work'

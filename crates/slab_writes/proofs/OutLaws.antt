@@ -1,8 +1,8 @@
 -- A block that is handed out is being written until that is reported.
 use Rattle.std.specs.Prelude.{ℕ, ◌≡◌, List}
 use Rattle.std.proofs.Common.{sym, ◌∙◌, ap, subst, arith, inl, inr, get_or-set_same}
-use Rattle.dirty_pages.specs.declared.marks.Marks.{Marks}
-use Rattle.dirty_pages.specs.Marks.{clean, handed_out, marks_at}
+use Rattle.dirty_pages.specs.declared.dirty_points.DirtyPoints.{DirtyPoints}
+use Rattle.dirty_pages.specs.DirtyPoints.{clean, handed_out, dirty_points_at}
 use Rattle.slab_journal.specs.Slab.{Slab}
 use Rattle.slab_writes.specs.Due.{IsDue, NoneDue}
 use Rattle.slab_writes.specs.Writes.{Writes, IsOut, IsOutAs}
@@ -24,9 +24,9 @@ due_is_out need old new counters bytes work (inr reference) =
     let did = reference.1 in
     let first = did.hands_out.first in
     let inside = due_inside old.blocks.blocks work.number first.first first.due in
-    let now : marks_at new.blocks.blocks work.number ≡ handed_out (marks_at old.blocks.blocks work.number)
-    = ap (λ (ms : List Marks). marks_at ms work.number) first.after ∙ get_or-set_same old.blocks.blocks work.number (handed_out (marks_at old.blocks.blocks work.number)) clean inside in
-    let out : IsOutAs part.References work.number new = record { first = first.first; is = ap (λ (m : Marks). m.writing) now ∙ first.due.dirty } in
+    let now : dirty_points_at new.blocks.blocks work.number ≡ handed_out (dirty_points_at old.blocks.blocks work.number)
+    = ap (λ (ms : List DirtyPoints). dirty_points_at ms work.number) first.after ∙ get_or-set_same old.blocks.blocks work.number (handed_out (dirty_points_at old.blocks.blocks work.number)) clean inside in
+    let out : IsOutAs part.References work.number new = record { first = first.first; is = ap (λ (m : DirtyPoints). m.writing) now ∙ first.due.dirty } in
     subst (λ (kind : SlabPart). IsOutAs kind work.number new) (sym did.part) out
 
 -- where a block is handed out, there is one that is wanted and isn't being written

@@ -6,16 +6,16 @@ use Rattle.std.proofs.lemmas.List.{get_or_past}
 use Rattle.std.proofs.lemmas.List.Elements.{All-nil}
 use Rattle.blk_base.specs.declared.geometry.Geometry.{Geometry}
 use Rattle.blk_base.specs.declared.point.Point.{Point}
-use Rattle.dirty_pages.specs.Marks.{clean, marks_at}
+use Rattle.dirty_pages.specs.DirtyPoints.{clean, dirty_points_at}
 use Rattle.reference_blocks.specs.References.{References, HandsOutBlock}
 use Rattle.reference_blocks.proofs.Rows.{entry}
-use Rattle.slab_codec.specs.Spelling.{block_bytes}
+use Rattle.slab_codec.specs.BlockBytes.{block_bytes}
 use Rattle.slab_codec.specs.declared.forms.SlabEntry.{SlabEntry}
 use Rattle.slab_codec.specs.declared.forms.SlabJournalBlock.{SlabJournalBlock}
 use Rattle.slab_journal.specs.Slab.{Slab, IsCovered, MayOverwrite}
 use Rattle.slab_writes.specs.Writes.{Writes, IsOutAs, Raises, SettlesAs, opening, taken}
 use Rattle.slab_writes.specs.Due.{NoneDue, Wants, WantsJournal, WantsReference, WritesJournal, WritesReference}
-use Rattle.slab_writes.specs.Calls.{Taken, JournalOut, ReferenceOut, JournalDurable, ReferenceDurable, IsInJournal, IsInReference, IsDurable, updates_of}
+use Rattle.slab_writes.specs.Operations.{Taken, JournalOut, ReferenceOut, JournalDurable, ReferenceDurable, IsInJournal, IsInReference, IsDurable, updates_of}
 use Rattle.slab_writes.specs.declared.forms.Need.TheVariants.{Full, Head, All}
 use Rattle.slab_writes.specs.declared.forms.SlabPart.TheVariants as part
 use Rattle.slab_writes.specs.declared.forms.SlabWork.{SlabWork}
@@ -129,7 +129,7 @@ settles_reference = record { raises = raised_to_handed; journal = refl; blocks =
 
 still_being_written : ¬ SettlesAs part.References 0 out (record settled { blocks = out.blocks })
 still_being_written = λ is.
-    let no : ◌≡◌ {A = Option Point} (Some (p 512)) None = ap (λ (r : References). (marks_at r.blocks 0).writing) is.blocks in cc
+    let no : ◌≡◌ {A = Option Point} (Some (p 512)) None = ap (λ (r : References). (dirty_points_at r.blocks 0).writing) is.blocks in cc
 
 not_raised : ¬ SettlesAs part.References 0 out (record settled { journal = out.journal })
 not_raised = λ is. let no : 0 ≡ 512 = is.raises.inside 0 (omega arith) (omega arith) (omega arith) in omega (arith, no)
@@ -213,7 +213,7 @@ in_the_other_slot : ¬ WritesIt one_bytes sealed (record journal_work { at = rec
 in_the_other_slot = λ is. let no : 102 ≡ 103 = is.at in omega (arith, no)
 
 cleans_a_block_too : ¬ WritesIt one_bytes (record sealed { blocks = out.blocks }) journal_work
-cleans_a_block_too = λ is. let no : ◌≡◌ {A = Option Point} (Some (p 512)) None = ap (λ (w : Writes). (marks_at w.blocks.blocks 0).writing) is.same in cc
+cleans_a_block_too = λ is. let no : ◌≡◌ {A = Option Point} (Some (p 512)) None = ap (λ (w : Writes). (dirty_points_at w.blocks.blocks 0).writing) is.same in cc
 
 -- WritesReference
 module _ (counters bytes : List ℕ) (hands_out : HandsOutBlock waits.blocks out.blocks counters bytes 0) where

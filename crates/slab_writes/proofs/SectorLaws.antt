@@ -5,15 +5,15 @@ use Rattle.std.proofs.lemmas.Bool.{cases_lt}
 use Rattle.std.proofs.lemmas.List.{get_or-take, get_or-drop, get_or_append_left, get_or-append_right, get_or_past, length-append, length-take, length-drop}
 use Rattle.std.proofs.lemmas.Option.{none-some}
 use Rattle.blk_base.specs.declared.point.Point.{Point}
-use Rattle.dirty_pages.specs.declared.marks.Marks.{Marks}
-use Rattle.dirty_pages.specs.Marks.{IsDue, clean, marks_at}
+use Rattle.dirty_pages.specs.declared.dirty_points.DirtyPoints.{DirtyPoints}
+use Rattle.dirty_pages.specs.DirtyPoints.{IsDue, clean, dirty_points_at}
 use Rattle.reference_blocks.specs.References.{point_at, with_sectors, end_of}
 
 -- only a page that is there is due
-pub due_inside : (pages : List Marks) (n : ℕ) (first : Point) → IsDue (marks_at pages n) first → n < length pages
+pub due_inside : (pages : List DirtyPoints) (n : ℕ) (first : Point) → IsDue (dirty_points_at pages n) first → n < length pages
 due_inside pages n first due = elim (cases_lt n (length pages)) [
   | inl below ↦ below
-  | inr past ↦ absurd (none-some first (ap (λ (m : Marks). m.dirty) (sym (get_or_past pages n clean past)) ∙ due.dirty))
+  | inr past ↦ absurd (none-some first (ap (λ (m : DirtyPoints). m.dirty) (sym (get_or_past pages n clean past)) ∙ due.dirty))
 ]
 
 module _ (points others : List Point) (block n : ℕ) (same : length points ≡ length others) (inside : 8 * block ≤ length points) where

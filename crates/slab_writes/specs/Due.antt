@@ -2,7 +2,7 @@
 use Rattle.std.specs.Prelude.{ℕ, ◌≡◌, ◌<◌, ◌⊎◌, List, length}
 use Rattle.blk_base.specs.Regions.{ReferenceBlock, SlabJournalSlot, block_of, slab_slot_of}
 use Rattle.reference_blocks.specs.References.{HandsOutBlock, NoneDirty}
-use Rattle.slab_codec.specs.Spelling.{block_bytes}
+use Rattle.slab_codec.specs.BlockBytes.{block_bytes}
 use Rattle.slab_codec.specs.declared.forms.SlabJournalBlock.{SlabJournalBlock}
 use Rattle.slab_journal.specs.Slab.{Slab, Seals, IsWriting, MayOverwrite}
 use Rattle.slab_writes.specs.Writes.{Writes}

@@ -1,5 +1,5 @@
 pub mod Writes
 pub mod Due
-pub mod Calls
+pub mod Operations
 pub mod Commits
 pub mod Viewed

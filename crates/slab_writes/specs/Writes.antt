@@ -6,7 +6,7 @@ use Rattle.blk_base.specs.Regions.{references_of}
 use Rattle.blk_base.specs.declared.geometry.Geometry.{Geometry}
 use Rattle.blk_base.specs.declared.journal_entry.Update.{Update}
 use Rattle.blk_base.specs.declared.point.Point.{Point}
-use Rattle.dirty_pages.specs.Marks.{IsBeingWritten, marks_at}
+use Rattle.dirty_pages.specs.DirtyPoints.{IsBeingWritten, dirty_points_at}
 use Rattle.reference_blocks.specs.References.{References, points_of, point_at, updated, written}
 use Rattle.reference_blocks.specs.References as references
 use Rattle.slab_journal.specs.Slab.{Slab, IsOfSlab, IsWriting, entry_of}
@@ -35,7 +35,7 @@ taken w update =
 -- a block was handed out to be written, and that isn't reported yet
 abbrev pub IsOutAs : SlabPart → ℕ → Writes → Type 0
 IsOutAs part.Journal number w = IsWriting w.journal × (number ≡ w.journal.durable)
-IsOutAs part.References number w = IsBeingWritten (marks_at w.blocks.blocks number)
+IsOutAs part.References number w = IsBeingWritten (dirty_points_at w.blocks.blocks number)
 
 abbrev pub IsOut : Writes → SlabWork → Type 0
 IsOut w work = IsOutAs work.part work.number w
@@ -68,4 +68,4 @@ pub record IsKept (g : Geometry) (slab : ℕ) (w : Writes) : Type 0 where
   pub commits : length w.journal.commits ≡ sectors_per_slab g
   pub blocks : w.blocks.geometry ≡ g
   pub applied : length w.blocks.applied ≡ sectors_per_slab g
-  pub marks : length w.blocks.blocks ≡ references_of g
+  pub dirty_points : length w.blocks.blocks ≡ references_of g

@@ -14,12 +14,12 @@ ghost use Rattle.slab_writes.specs.declared.forms.Need.{Need};
 ghost use Rattle.slab_writes.specs.declared.forms.SlabWork.{SlabWork};
 ghost use Rattle.slab_writes.specs.Due.{IsDue, NoneDue};
 ghost use Rattle.slab_writes.specs.Writes.{Writes, IsOut, opening};
-ghost use Rattle.slab_writes.specs.Calls.{Call, Does, LeadTo, IsDurable, updates_of};
+ghost use Rattle.slab_writes.specs.Operations.{Operation, Does, LeadTo, IsDurable, updates_of};
 ghost use Rattle.slab_writes.specs.Commits.{IsReported};
 
 /// Over every list of calls from an opened image on, a journal block that is handed out has updates of these calls alone.
 pub fn a_journal_block_has_updates_of_the_slab()
-    ensures { (g : Geometry) (slab : ℕ) (commits : List Point) (calls : List Call) (old : Writes)
+    ensures { (g : Geometry) (slab : ℕ) (commits : List Point) (calls : List Operation) (old : Writes)
         (new : Slab) (block : SlabJournalBlock) (entry : SlabEntry)
         → LeadTo (opening g slab commits) calls old → Seals old.journal new block →
         Contains block.entries entry → Contains (updates_of calls) entry }
@@ -29,7 +29,7 @@ pub fn a_journal_block_has_updates_of_the_slab()
 /// out with the counters as the updates made them has in each sector the opening counters with exactly the updates that
 /// aren't above its commit point.
 pub fn a_reference_block_has_its_updates()
-    ensures { (g : Geometry) (slab : ℕ) (commits : List Point) (first : List ℕ) (calls : List Call)
+    ensures { (g : Geometry) (slab : ℕ) (commits : List Point) (first : List ℕ) (calls : List Operation)
         (old new : Writes) (bytes : List ℕ) (block : ℕ)
         → length (points_of g slab commits) ≡ sectors_per_slab g →
         LeadTo (opening g slab commits) calls old →
@@ -45,14 +45,14 @@ pub fn a_reference_block_has_its_updates()
 /// Over every list of calls from an opened image on, where the points of the updates rise, each update below the low point
 /// of the journal is durable, and each one where there is no low point.
 pub fn every_update_below_the_low_point_is_durable()
-    ensures some { (g : Geometry) (slab : ℕ) (commits : List Point) (calls : List Call)
+    ensures some { (g : Geometry) (slab : ℕ) (commits : List Point) (calls : List Operation)
         (new : Writes) (entry : SlabEntry) (low : Point)
         → IsGeometry g → length (points_of g slab commits) ≡ sectors_per_slab g →
         LeadTo (opening g slab commits) calls new
         → AreRising g (points_of g slab commits) (updates_of calls) →
         Contains (updates_of calls) entry → IsLowPoint new.journal low → entry.point.0 < low.0
         → IsDurable g calls entry }
-    ensures none { (g : Geometry) (slab : ℕ) (commits : List Point) (calls : List Call)
+    ensures none { (g : Geometry) (slab : ℕ) (commits : List Point) (calls : List Operation)
         (new : Writes) (entry : SlabEntry)
         → IsGeometry g → length (points_of g slab commits) ≡ sectors_per_slab g →
         LeadTo (opening g slab commits) calls new
@@ -75,7 +75,7 @@ pub fn a_block_is_due_or_none_is()
 /// Over every list of calls from an opened image on, a commit point in the slab's journal is 0, or that with which the
 /// reference block of its sector was handed out before it was reported as durable.
 pub fn a_commit_point_is_of_a_reported_block()
-    ensures { (g : Geometry) (slab : ℕ) (commits : List Point) (calls : List Call) (new : Writes)
+    ensures { (g : Geometry) (slab : ℕ) (commits : List Point) (calls : List Operation) (new : Writes)
         (sector : ℕ)
         → IsGeometry g → length (points_of g slab commits) ≡ sectors_per_slab g →
         LeadTo (opening g slab commits) calls new
@@ -87,10 +87,10 @@ pub fn a_commit_point_is_of_a_reported_block()
 /// No call lowers a commit point in the slab's journal; and over calls whose updates rise none lowers the commit point with
 /// which a sector is handed out.
 pub fn commit_points_do_not_fall()
-    ensures journal { (call : Call) (old new : Writes) (sector : ℕ) → Does call old new
+    ensures journal { (call : Operation) (old new : Writes) (sector : ℕ) → Does call old new
         → (point_at old.journal.commits sector).0 ≤ (point_at new.journal.commits sector).0 }
-    ensures handed { (g : Geometry) (slab : ℕ) (commits : List Point) (calls : List Call)
-        (call : Call) (old new : Writes) (sector : ℕ)
+    ensures handed { (g : Geometry) (slab : ℕ) (commits : List Point) (calls : List Operation)
+        (call : Operation) (old new : Writes) (sector : ℕ)
         → IsGeometry g → length (points_of g slab commits) ≡ sectors_per_slab g →
         LeadTo (opening g slab commits) calls old
         → AreRising g (points_of g slab commits) (updates_of calls) → Does call old new

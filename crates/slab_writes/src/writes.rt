@@ -5,7 +5,7 @@ ghost use Rattle.slab_journal.specs.Slab.{IsOfSlab};
 ghost use Rattle.slab_journal.specs.Unsettled.{IsLowPoint, NoneUnsettled};
 ghost use Rattle.slab_writes.specs.Writes.{IsKept, IsOut, Settles, opening, taken};
 ghost use Rattle.slab_journal.specs.Slab.{IsWriting, MayOverwrite};
-ghost use Rattle.dirty_pages.specs.Marks.{IsBeingWritten, marks_at};
+ghost use Rattle.dirty_pages.specs.DirtyPoints.{IsBeingWritten, dirty_points_at};
 ghost use Rattle.reference_blocks.specs.References.{NoneDirty};
 ghost use Rattle.slab_writes.specs.Writes.{SettlesReference};
 ghost use Rattle.slab_writes.specs.declared.forms.SlabPart.TheVariants.{Journal, References};
@@ -203,7 +203,7 @@ impl SlabWrites {
 
     // The write of a reference block is durable, and with it the commit points that it was handed out with.
     fn settle_reference(&mut self, block: u64)
-        requires { IsBeingWritten (marks_at self.old.blocks.blocks block) }
+        requires { IsBeingWritten (dirty_points_at self.old.blocks.blocks block) }
         ensures { SettlesReference self.old self.new block }
     {
         let sectors = self.layout.sectors_per_slab();

@@ -13,12 +13,12 @@ use Rattle.reference_blocks.specs.Updates.{counted, counters_after}
 use Rattle.slab_codec.specs.declared.forms.SlabEntry.{SlabEntry}
 use Rattle.slab_counts.specs.Counts.{Counts, Takes, offset_of, unclaimed}
 use Rattle.slab_tickets.specs.Tickets.{Desk}
-use Rattle.slab_writes.specs.Calls as writes
-use Rattle.zone_counts.specs.Calls as counts
-use Rattle.zone_counts.specs.Zone.{Zone, ClaimsLowest, Serves, nowhere, place_of, slab_at, slab_of, slab_number}
+use Rattle.slab_writes.specs.Operations as writes
+use Rattle.zone_counts.specs.Operations as counts
+use Rattle.zone_counts.specs.Zone.{Zone, ClaimsLowest, Serves, nowhere, index_of, slab_at, slab_of, slab_number}
 use Rattle.zone_counts.specs.declared.forms.Asked.TheVariants as asked
 use Rattle.slab_zone.specs.Whole.{WholeZone, IsWhole}
-use Rattle.slab_zone.specs.Calls.{Call, Counted, Taken, Written, LeadTo, HandsOutWith, TakesNone, calls_of, entry_in, updates_in}
+use Rattle.slab_zone.specs.Operations.{Operation, Counted, Taken, Written, LeadTo, HandsOutWith, TakesNone, calls_of, entry_in, updates_in}
 use Rattle.slab_zone.proofs.SizeLaws.{HasSizes, pick, sizes_after, slabs_of, is_of, place_is, stands_inside, number_again, other_place, calls_whole}
 
 abbrev counters_at : List Counts → ℕ → List ℕ
@@ -46,17 +46,17 @@ serves_counters old desk new desk' (inl (quiet, same, same')) k = ap (λ (cs : L
 serves_counters old desk new desk' (inr serves) k = claims_counters old new serves.block serves.claims k
 
 -- a call that takes no update
-quiet_counters : (call : counts.Call) (old new : Zone) → TakesNone call → counts.Does call old new → (k : ℕ) → counters_at new.slabs k ≡ counters_at old.slabs k
+quiet_counters : (call : counts.Operation) (old new : Zone) → TakesNone call → counts.Does call old new → (k : ℕ) → counters_at new.slabs k ≡ counters_at old.slabs k
 quiet_counters (counts.Begins free step) old new none did k = ap (λ (z : Zone). counters_at z.slabs k) did.1.after
 quiet_counters (counts.Asks' writer (asked.Block at)) old new none did k = claims_counters old.slabs new.slabs at did.1.claims k
 quiet_counters (counts.Asks' writer (asked.Ticket ticket)) old new none did k = ap (λ (z : Zone). counters_at z.slabs k) did.1.same
 quiet_counters (counts.Withdraws' ticket result) old new none did k = ap (λ (z : Zone). counters_at z.slabs k) did.same
 quiet_counters (counts.Shares' at) old new none did k =
-    ap (λ (z : Zone). counters_at z.slabs k) did.after ∙ set_counters old.slabs (place_of old at) did.slab (ap (λ (x : Counts). x.counters) did.shares.now_claimed) k
-quiet_counters (counts.Extends at) old new none did k = ap (λ (z : Zone). counters_at z.slabs k) did.2 ∙ set_counters old.slabs (place_of old at) _ refl k
+    ap (λ (z : Zone). counters_at z.slabs k) did.after ∙ set_counters old.slabs (index_of old at) did.slab (ap (λ (x : Counts). x.counters) did.shares.now_claimed) k
+quiet_counters (counts.Extends at) old new none did k = ap (λ (z : Zone). counters_at z.slabs k) did.2 ∙ set_counters old.slabs (index_of old at) _ refl k
 quiet_counters (counts.Drops at) old new none did k =
-    serves_counters _ old.desk new.slabs new.desk did.1.serves k ∙ set_counters old.slabs (place_of old at) (unclaimed (slab_of old at) at) refl k
-quiet_counters (counts.SpendsPage at) old new none did k = ap (λ (z : Zone). counters_at z.slabs k) did.1 ∙ set_counters old.slabs (place_of old at) _ refl k
+    serves_counters _ old.desk new.slabs new.desk did.1.serves k ∙ set_counters old.slabs (index_of old at) (unclaimed (slab_of old at) at) refl k
+quiet_counters (counts.SpendsPage at) old new none did k = ap (λ (z : Zone). counters_at z.slabs k) did.1 ∙ set_counters old.slabs (index_of old at) _ refl k
 quiet_counters (counts.Applies half at slab) old new none did k = absurd none
 quiet_counters counts.Refused old new none did k = ap (λ (z : Zone). counters_at z.slabs k) did
 
@@ -66,7 +66,7 @@ takes_counters Increment old new at did = ap (λ (c : Counts). c.counters) did.2
 takes_counters Decrement old new at did = ap (λ (c : Counts). c.counters) did.1
 
 -- a block that is handed out is no update
-written_updates : (call : writes.Call) (calls : List writes.Call) (counters : List ℕ) → HandsOutWith counters call → writes.updates_of (call ∷ calls) ≡ writes.updates_of calls
+written_updates : (call : writes.Operation) (calls : List writes.Operation) (counters : List ℕ) → HandsOutWith counters call → writes.updates_of (call ∷ calls) ≡ writes.updates_of calls
 written_updates (writes.Taken entry) calls counters none = absurd none
 written_updates (writes.JournalOut block) calls counters none = refl
 written_updates (writes.ReferenceOut given bytes block) calls counters none = refl
@@ -77,22 +77,22 @@ module _ (g : Geometry) (zone zones : ℕ) (first : WholeZone) (has : HasSizes g
   abbrev opened : List ℕ
   opened = counters_at first.counts.slabs (n / zones)
 
-  abbrev Are : List ℕ → List writes.Call → Type 0
+  abbrev Are : List ℕ → List writes.Operation → Type 0
   Are counters calls = counters ≡ counters_after opened (writes.updates_of calls)
 
-  pub counters_are : (z : WholeZone) (calls : List Call) → LeadTo first calls z → counters_at z.counts.slabs (n / zones) ≡ counters_after (counters_at first.counts.slabs (n / zones)) (updates_in g n calls)
+  pub counters_are : (z : WholeZone) (calls : List Operation) → LeadTo first calls z → counters_at z.counts.slabs (n / zones) ≡ counters_after (counters_at first.counts.slabs (n / zones)) (updates_in g n calls)
   counters_are z [] same = ap (λ (x : WholeZone). counters_at x.counts.slabs (n / zones)) same
   counters_are z (Counted call ∷ calls) (before, lead, did) = quiet_counters call before.counts z.counts did.0 did.1 (n / zones) ∙ counters_are before calls lead
   counters_are z (Taken update slab ∷ calls) (before, lead, did) =
       let sizes = sizes_after g zone zones first before calls has lead in
       let whole = calls_whole first before calls is lead in
       let mine = is_of g zone zones before sizes whole update.at did.0 in
-      let k = place_of before.counts update.at in
+      let k = index_of before.counts update.at in
       let place : k ≡ slab_number g update.at / zones = place_is g zone zones before sizes whole update.at in
       let half = half_of update.point.0 in
       let now : counters_at z.counts.slabs (n / zones) ≡ counters_at (set before.counts.slabs k slab) (n / zones)
       = serves_counters (set before.counts.slabs k slab) before.counts.desk z.counts.slabs z.counts.desk did.2.changes.serves (n / zones) in
-      pick (λ (cs : List writes.Call). Are (counters_at z.counts.slabs (n / zones)) cs) (slab_number g update.at) n (writes.Taken (entry_in g update) ∷ calls_of g n calls) (calls_of g n calls)
+      pick (λ (cs : List writes.Operation). Are (counters_at z.counts.slabs (n / zones)) cs) (slab_number g update.at) n (writes.Taken (entry_in g update) ∷ calls_of g n calls) (calls_of g n calls)
       (λ same.
       let here : k ≡ n / zones = place ∙ ap (λ (m : ℕ). m / zones) same in
       let there = stands_inside g zone zones before.counts.slabs n (slabs_of g zone zones before sizes whole) below own in
@@ -114,6 +114,6 @@ module _ (g : Geometry) (zone zones : ℕ) (first : WholeZone) (has : HasSizes g
       let still : counters_at z.counts.slabs (n / zones) ≡ counters_at before.counts.slabs (n / zones)
       = ap (λ (x : WholeZone). counters_at x.counts.slabs (n / zones)) did.after in
       let old = still ∙ counters_are before calls lead in
-      pick (λ (cs : List writes.Call). Are (counters_at z.counts.slabs (n / zones)) cs) m n (call ∷ calls_of g n calls) (calls_of g n calls)
+      pick (λ (cs : List writes.Operation). Are (counters_at z.counts.slabs (n / zones)) cs) m n (call ∷ calls_of g n calls) (calls_of g n calls)
       (λ same. old ∙ ap (λ (es : List SlabEntry). counters_after opened es) (sym (written_updates call (calls_of g n calls) _ did.counters)))
       (λ other. old)

@@ -14,7 +14,7 @@ use Rattle.slab_writes.proofs.OutLaws.{due_or_none}
 use Rattle.slab_writes.proofs.OneDue.{one_due}
 use Rattle.zone_counts.specs.Zone.{slab_at}
 use Rattle.slab_zone.specs.Whole.{nothing, writes_at, WholeZone}
-use Rattle.slab_zone.specs.Writing.{IsDueAmong, NoneDueBefore, IsDueIn}
+use Rattle.slab_zone.specs.ZoneWrites.{IsDueAmong, NoneDueBefore, IsDueIn}
 
 -- what is to be written of a slab, as it was read
 pub read_as : (writes : List Writes) (k : ℕ) (s : Writes) → k < length writes → s ≡ get_or writes k s → s ≡ writes_at writes k

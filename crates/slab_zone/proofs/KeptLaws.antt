@@ -15,10 +15,10 @@ use Rattle.slab_writes.specs.declared.forms.Need.{Need}
 use Rattle.slab_writes.specs.declared.forms.SlabPart.{SlabPart}
 use Rattle.slab_writes.specs.declared.forms.SlabPart.TheVariants as part
 use Rattle.slab_writes.specs.declared.forms.SlabWork.{SlabWork}
-use Rattle.zone_counts.specs.Zone.{IsOfZone, place_of, slab_of}
-use Rattle.zone_counts.proofs.CallLaws.{inside, of_slab}
+use Rattle.zone_counts.specs.Zone.{IsOfZone, index_of, slab_of}
+use Rattle.zone_counts.proofs.OperationLaws.{inside, of_slab}
 use Rattle.slab_zone.specs.Whole.{WholeZone, IsWhole, AreOfSlab, AreOfZone, nothing, writes_at}
-use Rattle.slab_zone.specs.Writing.{IsDueAmong}
+use Rattle.slab_zone.specs.ZoneWrites.{IsDueAmong}
 use Rattle.slab_zone.proofs.DueLaws.{read_as}
 
 -- one slab's journal and reference blocks are still of that slab
@@ -93,19 +93,19 @@ due_keeps z new need bytes (Some work) is some none =
     (set_keeps z some.place some.slab is some.inside (still_due need (writes_at z.writes some.place) some.slab (_) bytes work some.due))
 
 -- a block of the zone is of the slab of whose writes it is
-pub block_of_slab : (z : WholeZone) (at : Pbn) (k : ℕ) (w : Writes) → IsWhole z → IsOfZone z.counts at → k ≡ place_of z.counts at → w ≡ get_or z.writes k w → IsOfSlab w.journal at
+pub block_of_slab : (z : WholeZone) (at : Pbn) (k : ℕ) (w : Writes) → IsWhole z → IsOfZone z.counts at → k ≡ index_of z.counts at → w ≡ get_or z.writes k w → IsOfSlab w.journal at
 block_of_slab z at k w is own place read =
     let c = z.counts in
     let here = of_slab c.geometry c.zone c.zones c.slabs at is.counts.slabs own in
-    let below : place_of c at < length c.slabs = inside c.geometry c.zone c.zones c.slabs at is.counts.slabs own in
-    let one = is.counts.slabs.each (place_of c at) below in
-    let same : w ≡ writes_at z.writes (place_of c at)
+    let below : index_of c at < length c.slabs = inside c.geometry c.zone c.zones c.slabs at is.counts.slabs own in
+    let one = is.counts.slabs.each (index_of c at) below in
+    let same : w ≡ writes_at z.writes (index_of c at)
     = read_as z.writes k w (omega (arith, below, place, is.writes.many)) read ∙ ap (λ (n : ℕ). writes_at z.writes n) place in
-    let are = is.writes.each (place_of c at) below in
-    let start : slab_start_of w.journal.geometry w.journal.slab ≡ slab_start_of c.geometry (place_of c at * c.zones + c.zone)
-    = ap (λ (x : Writes). slab_start_of x.journal.geometry x.journal.slab) same ∙ ap (λ (h : Geometry). slab_start_of h (writes_at z.writes (place_of c at)).journal.slab) are.journal
+    let are = is.writes.each (index_of c at) below in
+    let start : slab_start_of w.journal.geometry w.journal.slab ≡ slab_start_of c.geometry (index_of c at * c.zones + c.zone)
+    = ap (λ (x : Writes). slab_start_of x.journal.geometry x.journal.slab) same ∙ ap (λ (h : Geometry). slab_start_of h (writes_at z.writes (index_of c at)).journal.slab) are.journal
     ∙ ap (λ (n : ℕ). slab_start_of c.geometry n) are.slab in
-    let start' : slab_start_of (slab_of c at).geometry (slab_of c at).slab ≡ slab_start_of c.geometry (place_of c at * c.zones + c.zone)
+    let start' : slab_start_of (slab_of c at).geometry (slab_of c at).slab ≡ slab_start_of c.geometry (index_of c at * c.zones + c.zone)
     = ap (λ (h : Geometry). slab_start_of h (slab_of c at).slab) one.1 ∙ ap (λ (n : ℕ). slab_start_of c.geometry n) one.0 in
     let size : w.journal.geometry.slab_blocks ≡ c.geometry.slab_blocks = ap (λ (x : Writes). x.journal.geometry.slab_blocks) same ∙ ap (λ (h : Geometry). h.slab_blocks) are.journal in
     let size' : (slab_of c at).geometry.slab_blocks ≡ c.geometry.slab_blocks = ap (λ (h : Geometry). h.slab_blocks) one.1 in

@@ -11,4 +11,4 @@ pub mod WrittenLaws
 pub mod ZoneLaws
 pub mod OutLaws
 pub mod Rows
-pub mod CallRows
+pub mod OperationRows

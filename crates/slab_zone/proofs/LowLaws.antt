@@ -7,7 +7,7 @@ use Rattle.slab_codec.specs.declared.forms.SlabEntry.{SlabEntry}
 use Rattle.slab_journal.specs.Unsettled.{IsLowPoint, IsUnsettled, NoneUnsettled}
 use Rattle.slab_writes.specs.Writes.{Writes}
 use Rattle.slab_zone.specs.Whole.{writes_at}
-use Rattle.slab_zone.specs.Writing.{IsLowPointBefore, NoneUnsettledBefore}
+use Rattle.slab_zone.specs.ZoneWrites.{IsLowPointBefore, NoneUnsettledBefore}
 use Rattle.slab_zone.specs.Lesser.{IsLesser, IsLesserOf}
 
 -- it is the least point of the first so many slabs, where there is one

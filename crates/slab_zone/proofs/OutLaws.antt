@@ -5,38 +5,38 @@ use Rattle.std.proofs.lemmas.Bool.{cases_eq}
 use Rattle.std.proofs.lemmas.Option.{none-some}
 use Rattle.blk_base.specs.declared.geometry.Geometry.{Geometry}
 use Rattle.blk_base.specs.declared.point.Point.{Point}
-use Rattle.dirty_pages.specs.declared.marks.Marks.{Marks}
-use Rattle.dirty_pages.specs.Marks.{IsBeingWritten, changed_at, handed_out, marks_at, settled, with_marks}
-use Rattle.dirty_pages.proofs.MarkLaws.{out_inside, changed_here, changed_elsewhere}
+use Rattle.dirty_pages.specs.declared.dirty_points.DirtyPoints.{DirtyPoints}
+use Rattle.dirty_pages.specs.DirtyPoints.{IsBeingWritten, changed_at, handed_out, dirty_points_at, settled, with_dirty_points}
+use Rattle.dirty_pages.proofs.DirtyPointLaws.{out_inside, changed_here, changed_elsewhere}
 use Rattle.reference_blocks.specs.References.{References, updated}
 use Rattle.slab_codec.specs.declared.forms.SlabEntry.{SlabEntry}
 use Rattle.slab_journal.specs.Slab.{Slab}
-use Rattle.slab_writes.specs.Calls as writes
+use Rattle.slab_writes.specs.Operations as writes
 use Rattle.slab_writes.specs.Due.{IsDue}
 use Rattle.slab_writes.specs.Writes.{Writes, IsOut, IsOutAs, taken}
 use Rattle.slab_writes.specs.declared.forms.Need.{Need}
 use Rattle.slab_writes.specs.declared.forms.SlabPart.{SlabPart}
 use Rattle.slab_writes.specs.declared.forms.SlabPart.TheVariants as part
 use Rattle.slab_writes.specs.declared.forms.SlabWork.{SlabWork}
-use Rattle.zone_counts.specs.Zone.{place_of}
-use Rattle.zone_counts.specs.Calls as counts
+use Rattle.zone_counts.specs.Zone.{index_of}
+use Rattle.zone_counts.specs.Operations as counts
 use Rattle.blk_base.specs.Points.{half_of}
 use Rattle.slab_zone.specs.Whole.{WholeZone, IsWhole, nothing, writes_at, writes_of}
-use Rattle.slab_zone.specs.Writing.{IsDueIn, IsOutIn}
-use Rattle.slab_zone.specs.Calls.{Call, Counted, Taken, Written, Does, Reports}
+use Rattle.slab_zone.specs.ZoneWrites.{IsDueIn, IsOutIn}
+use Rattle.slab_zone.specs.Operations.{Operation, Counted, Taken, Written, Does, Reports}
 use Rattle.slab_zone.proofs.ShapeLaws.{IsShaped, call_shape}
 use Rattle.slab_zone.proofs.SizeLaws.{number_again, stands_inside}
 use Rattle.slab_zone.proofs.WrittenLaws.{is_out, place}
 
 -- a change of a page that is still being written by it
-still_writing : (pages : List Marks) (page : ℕ) (change : Marks → Marks) (other : ℕ) → ((first : Point) → (marks_at pages page).writing ≡ Some first → (change (marks_at pages page)).writing ≡ Some first)
-    → IsBeingWritten (marks_at pages other) → IsBeingWritten (marks_at (with_marks pages page change) other)
+still_writing : (pages : List DirtyPoints) (page : ℕ) (change : DirtyPoints → DirtyPoints) (other : ℕ) → ((first : Point) → (dirty_points_at pages page).writing ≡ Some first → (change (dirty_points_at pages page)).writing ≡ Some first)
+    → IsBeingWritten (dirty_points_at pages other) → IsBeingWritten (dirty_points_at (with_dirty_points pages page change) other)
 still_writing pages page change other keeps is = elim (cases_eq other page) [
   | inl same ↦
-      let here = subst (λ (n : ℕ). IsBeingWritten (marks_at pages n)) same is in
+      let here = subst (λ (n : ℕ). IsBeingWritten (dirty_points_at pages n)) same is in
       let now = changed_here pages page change (out_inside pages page here) in
-      record { first = here.first; is = ap (λ (n : ℕ). (marks_at (with_marks pages page change) n).writing) same ∙ ap (λ (m : Marks). m.writing) now ∙ keeps here.first here.is }
-  | inr differs ↦ subst (λ (m : Marks). IsBeingWritten m) (sym (changed_elsewhere pages page other change differs)) is
+      record { first = here.first; is = ap (λ (n : ℕ). (dirty_points_at (with_dirty_points pages page change) n).writing) same ∙ ap (λ (m : DirtyPoints). m.writing) now ∙ keeps here.first here.is }
+  | inr differs ↦ subst (λ (m : DirtyPoints). IsBeingWritten m) (sym (changed_elsewhere pages page other change differs)) is
 ]
 
 -- an update is taken
@@ -49,10 +49,10 @@ same_journal : (old new : Writes) (number : ℕ) → new.journal.sequence ≡ ol
 same_journal old new number sequence durable out = (omega (arith, out.0, sequence, durable), out.1 ∙ sym durable)
 
 same_blocks : (old new : Writes) (number : ℕ) → new.blocks.blocks ≡ old.blocks.blocks → IsOutAs part.References number old → IsOutAs part.References number new
-same_blocks old new number same out = subst (λ (ms : List Marks). IsBeingWritten (marks_at ms number)) (sym same) out
+same_blocks old new number same out = subst (λ (ms : List DirtyPoints). IsBeingWritten (dirty_points_at ms number)) (sym same) out
 
 -- of one slab
-out_kept : (call : writes.Call) (old new : Writes) (work : SlabWork) (kind : SlabPart) → work.part ≡ kind → IsOutAs kind work.number old → writes.Does call old new → IsOutAs kind work.number new ⊎ Reports call work
+out_kept : (call : writes.Operation) (old new : Writes) (work : SlabWork) (kind : SlabPart) → work.part ≡ kind → IsOutAs kind work.number old → writes.Does call old new → IsOutAs kind work.number new ⊎ Reports call work
 out_kept (writes.Taken entry) old new work kind is out did = inl (subst (λ (w : Writes). IsOutAs kind work.number w) (sym did.2) (out_updated kind work.number old _ entry.point entry.offset out))
 out_kept (writes.JournalOut block) old new work part.Journal is out did = absurd (omega (arith, out.0, did.0.none_writing))
 out_kept (writes.JournalOut block) old new work part.References is out did = inl (same_blocks old new work.number (ap (λ (w : Writes). w.blocks.blocks) did.1) out)
@@ -60,7 +60,7 @@ out_kept (writes.ReferenceOut counters bytes block) old new work part.Journal is
     inl (same_journal old new work.number (ap (λ (w : Writes). w.journal.sequence) did.1) (ap (λ (w : Writes). w.journal.durable) did.1) out)
 out_kept (writes.ReferenceOut counters bytes block) old new work part.References is out did =
     let first = did.0.first in
-    inl (subst (λ (ms : List Marks). IsBeingWritten (marks_at ms work.number)) (sym first.after)
+    inl (subst (λ (ms : List DirtyPoints). IsBeingWritten (dirty_points_at ms work.number)) (sym first.after)
     (still_writing old.blocks.blocks block handed_out work.number (λ point writing. absurd (none-some point (sym first.due.idle ∙ writing))) out))
 out_kept (writes.JournalDurable sequence) old new work part.Journal is out did = inr (is, out.1 ∙ sym did.1)
 out_kept (writes.JournalDurable sequence) old new work part.References is out did = inl (same_blocks old new work.number (ap (λ (w : Writes). w.blocks.blocks) did.2) out)
@@ -69,9 +69,9 @@ out_kept (writes.ReferenceDurable block) old new work part.Journal is out did =
 out_kept (writes.ReferenceDurable block) old new work part.References is out did = elim (cases_eq work.number block) [
   | inl same ↦ inr (is, same)
   | inr differs ↦
-      let marks : new.blocks.blocks ≡ with_marks old.blocks.blocks block settled = ap (λ (r : References). r.blocks) did.1.blocks in
-      inl (subst (λ (ms : List Marks). IsBeingWritten (marks_at ms work.number)) (sym marks)
-      (subst (λ (m : Marks). IsBeingWritten m) (sym (changed_elsewhere old.blocks.blocks block work.number settled differs)) out))
+      let dirty_points : new.blocks.blocks ≡ with_dirty_points old.blocks.blocks block settled = ap (λ (r : References). r.blocks) did.1.blocks in
+      inl (subst (λ (ms : List DirtyPoints). IsBeingWritten (dirty_points_at ms work.number)) (sym dirty_points)
+      (subst (λ (m : DirtyPoints). IsBeingWritten m) (sym (changed_elsewhere old.blocks.blocks block work.number settled differs)) out))
 ]
 
 -- in a zone whose slabs stand where they stood
@@ -83,16 +83,16 @@ out_shaped old new work shape inside own out = record {
   out = subst (λ (n : ℕ). IsOut (writes_at new.writes (work.slab / n)) work) (sym shape.zones) out;
 }
 
-abbrev IsReported : Call → SlabWork → Type 0
-IsReported call work = (report : writes.Call) × (call ≡ Written work.slab report) × Reports report work
+abbrev IsReported : Operation → SlabWork → Type 0
+IsReported call work = (report : writes.Operation) × (call ≡ Written work.slab report) × Reports report work
 
-pub out_kept_in : (call : Call) (old new : WholeZone) (work : SlabWork) → IsWhole old → IsOutIn old work → Does call old new
-    → IsOutIn new work ⊎ ((report : writes.Call) × (call ≡ Written work.slab report) × Reports report work)
+pub out_kept_in : (call : Operation) (old new : WholeZone) (work : SlabWork) → IsWhole old → IsOutIn old work → Does call old new
+    → IsOutIn new work ⊎ ((report : writes.Operation) × (call ≡ Written work.slab report) × Reports report work)
 out_kept_in (Counted call) old new work is out did =
     inl (out_shaped old new work (call_shape call old.counts new.counts did.1) out.inside out.own
     (subst (λ (ws : List Writes). IsOut (writes_at ws (work.slab / old.counts.zones)) work) (sym did.2) out.out))
 out_kept_in (Taken update slab) old new work is out did =
-    let k = place_of old.counts update.at in
+    let k = index_of old.counts update.at in
     let j = work.slab / old.counts.zones in
     let w = writes_of old update.at in
     let shape = call_shape (counts.Applies (half_of update.point.0) update.at slab) old.counts new.counts (did.0, did.2.takes, did.2.changes) in

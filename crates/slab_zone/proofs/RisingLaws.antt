@@ -12,14 +12,14 @@ use Rattle.reference_blocks.specs.Updates.{AreRising}
 use Rattle.slab_codec.specs.declared.forms.SlabEntry.{SlabEntry}
 use Rattle.slab_journal.specs.Slab.{Slab}
 use Rattle.slab_writes.specs.Writes.{Writes}
-use Rattle.slab_writes.specs.Calls.{Call, Taken, JournalOut, ReferenceOut, JournalDurable, ReferenceDurable, LeadTo, updates_of}
-use Rattle.slab_zone.specs.Calls.{AreAbove}
+use Rattle.slab_writes.specs.Operations.{Operation, Taken, JournalOut, ReferenceOut, JournalDurable, ReferenceDurable, LeadTo, updates_of}
+use Rattle.slab_zone.specs.Operations.{AreAbove}
 
 -- each is at most this point
 abbrev AreUpTo : ℕ → List SlabEntry → Type 0
 AreUpTo last entries = All (λ entry. entry.point.0 ≤ last) entries
 
-up_to_last : (first : Writes) (calls : List Call) (w : Writes) → LeadTo first calls w → AreUpTo w.journal.last.0 (updates_of calls)
+up_to_last : (first : Writes) (calls : List Operation) (w : Writes) → LeadTo first calls w → AreUpTo w.journal.last.0 (updates_of calls)
 up_to_last first [] w lead = All-nil (λ entry. entry.point.0 ≤ w.journal.last.0)
 up_to_last first (Taken e ∷ calls) w (before, lead, did) =
     let now = ap (λ (v : Writes). v.journal.last.0) did.2 in
@@ -35,7 +35,7 @@ up_to_last first (JournalDurable sequence ∷ calls) w (before, lead, did) =
 up_to_last first (ReferenceDurable block ∷ calls) w (before, lead, did) =
     subst (λ (n : ℕ). AreUpTo n (updates_of calls)) (sym (ap (λ (j : Slab). j.last.0) did.1.journal)) (up_to_last first calls before lead)
 
-pub are_rising : (g : Geometry) (opened : List Point) (first : Writes) (calls : List Call) (w : Writes) → LeadTo first calls w → AreAbove g opened (updates_of calls) → AreRising g opened (updates_of calls)
+pub are_rising : (g : Geometry) (opened : List Point) (first : Writes) (calls : List Operation) (w : Writes) → LeadTo first calls w → AreAbove g opened (updates_of calls) → AreRising g opened (updates_of calls)
 are_rising g opened first [] w lead above = tt
 are_rising g opened first (Taken e ∷ calls) w (before, lead, did) above =
     let older = up_to_last first calls before lead in (

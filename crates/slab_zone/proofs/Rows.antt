@@ -13,18 +13,18 @@ use Rattle.slab_codec.specs.declared.forms.SlabEntry.{SlabEntry}
 use Rattle.slab_counts.specs.Counts.{Counts}
 use Rattle.slab_journal.specs.Unsettled.{IsLowPoint, IsUnsettled}
 use Rattle.slab_tickets.specs.Tickets.{Desk}
-use Rattle.slab_writes.specs.Calls as writes
+use Rattle.slab_writes.specs.Operations as writes
 use Rattle.slab_writes.specs.Due.{IsDue, NoneDue}
 use Rattle.slab_writes.specs.Writes.{Writes, opening, taken}
 use Rattle.slab_writes.specs.declared.forms.Need.{Need}
 use Rattle.slab_writes.specs.declared.forms.SlabPart.TheVariants as part
 use Rattle.slab_writes.specs.declared.forms.SlabWork.{SlabWork}
-use Rattle.zone_counts.specs.Calls as counts
+use Rattle.zone_counts.specs.Operations as counts
 use Rattle.zone_counts.specs.Zone.{Zone, IsOfZone}
 use Rattle.slab_zone.specs.Lesser.{IsLesser}
 use Rattle.slab_zone.specs.Whole.{WholeZone, AreOfSlab, AreOfZone, AreOpenedWrites, writes_at}
-use Rattle.slab_zone.specs.Writing.{HasRoomAt, MayTake, RisesIn, TakesUpdate, IsDueAmong, IsDueIn, NoneDueBefore, IsOutIn, SettlesIn, IsLowPointBefore, NoneUnsettledBefore}
-use Rattle.slab_zone.specs.Calls.{Call, Counted, Taken, Written, TakesNone, HandsOutWith, WritesSlab, AreAbove, HandsOut, Reports, calls_of, counted_of, updates_in}
+use Rattle.slab_zone.specs.ZoneWrites.{HasRoomAt, MayTake, RisesIn, TakesUpdate, IsDueAmong, IsDueIn, NoneDueBefore, IsOutIn, SettlesIn, IsLowPointBefore, NoneUnsettledBefore}
+use Rattle.slab_zone.specs.Operations.{Operation, Counted, Taken, Written, TakesNone, HandsOutWith, WritesSlab, AreAbove, HandsOut, Reports, calls_of, counted_of, updates_in}
 
 -- four slabs of 16 data blocks each, which begin at 85, 104, 123 and 142; the second of two zones has 104 and 142
 abbrev pub sizes : Geometry
@@ -308,7 +308,7 @@ pub writes_what_is_not_out : (new : WholeZone) → ¬ WritesSlab first new 1 (wr
 writes_what_is_not_out new = λ is. omega (arith, is.does.0)
 
 -- calls_of, counted_of, updates_in: those of slab 1, and of slab 3
-abbrev calls : List Call
+abbrev calls : List Operation
 calls = Written 3 (writes.JournalDurable 7) ∷ Counted counts.Refused ∷ Taken update (slab 1 1) ∷ []
 
 of_slab_one_alone : calls_of sizes 1 calls ≡ writes.Taken (record { point = p 513; offset = 3 }) ∷ []

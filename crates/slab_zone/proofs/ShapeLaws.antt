@@ -6,11 +6,11 @@ use Rattle.std.proofs.lemmas.List.{length-set}
 use Rattle.blk_base.specs.declared.place.Pbn.{Pbn}
 use Rattle.slab_counts.specs.Counts.{Counts, HasRoom, claimed}
 use Rattle.slab_tickets.specs.Tickets.{Desk}
-use Rattle.zone_counts.specs.Zone.{Zone, IsClaimedIn, Changes, ClaimsLowest, Serves, place_of, slab_of, with_slab}
-use Rattle.zone_counts.specs.Asking.{SharesIn}
-use Rattle.zone_counts.specs.Calls.{Call, Begins, Asks', Withdraws', Shares', Extends, Drops, SpendsPage, Applies, Refused, Does}
+use Rattle.zone_counts.specs.Zone.{Zone, IsClaimedIn, Changes, ClaimsLowest, Serves, index_of, slab_of, with_slab}
+use Rattle.zone_counts.specs.ZoneAnswers.{SharesIn}
+use Rattle.zone_counts.specs.Operations.{Operation, Begins, Asks', Withdraws', Shares', Extends, Drops, SpendsPage, Applies, Refused, Does}
 use Rattle.zone_counts.specs.declared.forms.Asked.TheVariants as asked
-use Rattle.zone_counts.proofs.CallLaws.{calls_keep}
+use Rattle.zone_counts.proofs.OperationLaws.{calls_keep}
 use Rattle.slab_writes.specs.Writes.{Writes}
 use Rattle.slab_zone.specs.Whole.{WholeZone, IsWhole, AreOfZone}
 
@@ -37,17 +37,17 @@ serves_many old desk new desk' (inl (quiet, same, same')) = ap (λ (cs : List Co
 serves_many old desk new desk' (inr serves) = claimed_many old new serves.block serves.claims
 
 changes_shape : (old new : Zone) (at : Pbn) (c : Counts) → Changes old new at c → IsShaped old new
-changes_shape old new at c did = shaped old new new.slabs new.desk did.same (serves_many _ old.desk new.slabs new.desk did.serves ∙ length-set old.slabs (place_of old at) c)
+changes_shape old new at c did = shaped old new new.slabs new.desk did.same (serves_many _ old.desk new.slabs new.desk did.serves ∙ length-set old.slabs (index_of old at) c)
 
-pub call_shape : (call : Call) (old new : Zone) → Does call old new → IsShaped old new
+pub call_shape : (call : Operation) (old new : Zone) → Does call old new → IsShaped old new
 call_shape (Begins free step) old new did = shaped old new old.slabs _ did.1.after refl
 call_shape (Asks' writer (asked.Block at)) old new did = shaped old new new.slabs old.desk did.1.same (claimed_many old.slabs new.slabs at did.1.claims)
 call_shape (Asks' writer (asked.Ticket ticket)) old new did = shaped old new old.slabs new.desk did.1.same refl
 call_shape (Withdraws' ticket result) old new did = shaped old new old.slabs new.desk did.same refl
-call_shape (Shares' at) old new did = shaped old new _ old.desk did.after (length-set old.slabs (place_of old at) did.slab)
-call_shape (Extends at) old new did = shaped old new _ old.desk did.2 (length-set old.slabs (place_of old at) _)
+call_shape (Shares' at) old new did = shaped old new _ old.desk did.after (length-set old.slabs (index_of old at) did.slab)
+call_shape (Extends at) old new did = shaped old new _ old.desk did.2 (length-set old.slabs (index_of old at) _)
 call_shape (Drops at) old new did = changes_shape old new at _ did.1
-call_shape (SpendsPage at) old new did = shaped old new _ old.desk did.1 (length-set old.slabs (place_of old at) _)
+call_shape (SpendsPage at) old new did = shaped old new _ old.desk did.1 (length-set old.slabs (index_of old at) _)
 call_shape (Applies half at c) old new did = changes_shape old new at c did.2
 call_shape Refused old new did = shaped old new old.slabs old.desk did refl
 
@@ -62,7 +62,7 @@ of_shaped old new writes same are = record {
       record { journal = one.journal ∙ sym same.geometry; slab = one.slab ∙ here; blocks = one.blocks ∙ sym same.geometry };
 }
 
-pub call_keeps : (call : Call) (z : WholeZone) (new : Zone) → IsWhole z → Does call z.counts new → IsWhole (record { counts = new; writes = z.writes })
+pub call_keeps : (call : Operation) (z : WholeZone) (new : Zone) → IsWhole z → Does call z.counts new → IsWhole (record { counts = new; writes = z.writes })
 call_keeps call z new is did = record {
   counts = calls_keep z.counts new (call ∷ []) is.counts (z.counts, refl, did);
   writes = of_shaped z.counts new z.writes (call_shape call z.counts new did) is.writes;

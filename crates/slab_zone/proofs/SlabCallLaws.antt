@@ -7,12 +7,12 @@ use Rattle.blk_base.specs.declared.journal_entry.Update.{Update}
 use Rattle.reference_blocks.specs.References.{updated}
 use Rattle.slab_codec.specs.declared.forms.SlabEntry.{SlabEntry}
 use Rattle.slab_journal.specs.Slab.{entry_of}
-use Rattle.slab_writes.specs.Calls as writes
+use Rattle.slab_writes.specs.Operations as writes
 use Rattle.slab_writes.specs.Writes.{Writes, taken}
-use Rattle.zone_counts.specs.Zone.{IsOf, place_of, slab_number}
+use Rattle.zone_counts.specs.Zone.{IsOf, index_of, slab_number}
 use Rattle.zone_counts.proofs.PlaceLaws.{number_is}
 use Rattle.slab_zone.specs.Whole.{WholeZone, IsWhole, AreOfSlab, nothing, writes_at, writes_of}
-use Rattle.slab_zone.specs.Calls.{Call, Counted, Taken, Written, LeadTo, calls_of, entry_in}
+use Rattle.slab_zone.specs.Operations.{Operation, Counted, Taken, Written, LeadTo, calls_of, entry_in}
 use Rattle.slab_zone.proofs.SizeLaws.{HasSizes, pick, sizes_after, slabs_of, writes_are, is_of, place_is, stands_inside, number_again, other_place, calls_whole}
 
 -- an update is taken by the slab with this number
@@ -43,17 +43,17 @@ module _ (g : Geometry) (zone zones : ℕ) (first : WholeZone) (has : HasSizes g
   abbrev opened : Writes
   opened = writes_at first.writes (n / zones)
 
-  abbrev Leads : Writes → List writes.Call → Type 0
+  abbrev Leads : Writes → List writes.Operation → Type 0
   Leads w calls = writes.LeadTo opened calls w
 
-  pub of_this : (z : WholeZone) (calls : List Call) → LeadTo first calls z → AreOfSlab g n (writes_at z.writes (n / zones))
+  pub of_this : (z : WholeZone) (calls : List Operation) → LeadTo first calls z → AreOfSlab g n (writes_at z.writes (n / zones))
   of_this z calls lead =
       let sizes = sizes_after g zone zones first z calls has lead in
       let whole = calls_whole first z calls is lead in
       subst (λ (m : ℕ). AreOfSlab g m (writes_at z.writes (n / zones))) (number_again n zone zones own)
       ((writes_are g zone zones z sizes whole).each (n / zones) (stands_inside g zone zones z.counts.slabs n (slabs_of g zone zones z sizes whole) below own))
 
-  pub stands : (z : WholeZone) (calls : List Call) → LeadTo first calls z → n / zones < length z.writes
+  pub stands : (z : WholeZone) (calls : List Operation) → LeadTo first calls z → n / zones < length z.writes
   stands z calls lead =
       let sizes = sizes_after g zone zones first z calls has lead in
       let whole = calls_whole first z calls is lead in
@@ -66,7 +66,7 @@ module _ (g : Geometry) (zone zones : ℕ) (first : WholeZone) (has : HasSizes g
   set_there : (writes : List Writes) (k : ℕ) (w : Writes) → n / zones ≢ k → writes_at (set writes k w) (n / zones) ≡ writes_at writes (n / zones)
   set_there writes k w other = get_or-set_other writes k (n / zones) w nothing other
 
-  pub slab_lead : (z : WholeZone) (calls : List Call) → LeadTo first calls z → writes.LeadTo (writes_at first.writes (n / zones)) (calls_of g n calls) (writes_at z.writes (n / zones))
+  pub slab_lead : (z : WholeZone) (calls : List Operation) → LeadTo first calls z → writes.LeadTo (writes_at first.writes (n / zones)) (calls_of g n calls) (writes_at z.writes (n / zones))
   slab_lead z [] same = ap (λ (x : WholeZone). writes_at x.writes (n / zones)) same
   slab_lead z (Counted call ∷ calls) (before, lead, did) =
       subst (λ (ws : List Writes). Leads (writes_at ws (n / zones)) (calls_of g n calls)) (sym did.2) (slab_lead before calls lead)
@@ -74,12 +74,12 @@ module _ (g : Geometry) (zone zones : ℕ) (first : WholeZone) (has : HasSizes g
       let sizes = sizes_after g zone zones first before calls has lead in
       let whole = calls_whole first before calls is lead in
       let mine = is_of g zone zones before sizes whole update.at did.0 in
-      let k = place_of before.counts update.at in
+      let k = index_of before.counts update.at in
       let place : k ≡ slab_number g update.at / zones = place_is g zone zones before sizes whole update.at in
       let w = writes_of before update.at in
       let now : writes_at z.writes (n / zones) ≡ writes_at (set before.writes k (taken w update)) (n / zones)
       = ap (λ (ws : List Writes). writes_at ws (n / zones)) did.2.writes in
-      pick (λ (cs : List writes.Call). Leads (writes_at z.writes (n / zones)) cs) (slab_number g update.at) n (writes.Taken (entry_in g update) ∷ calls_of g n calls) (calls_of g n calls)
+      pick (λ (cs : List writes.Operation). Leads (writes_at z.writes (n / zones)) cs) (slab_number g update.at) n (writes.Taken (entry_in g update) ∷ calls_of g n calls) (calls_of g n calls)
       (λ same.
       let here : k ≡ n / zones = place ∙ ap (λ (m : ℕ). m / zones) same in
       let read : w ≡ writes_at before.writes (n / zones) = ap (λ (j : ℕ). writes_at before.writes j) here in
@@ -102,7 +102,7 @@ module _ (g : Geometry) (zone zones : ℕ) (first : WholeZone) (has : HasSizes g
       let place : k ≡ m / zones = ap (λ (p : ℕ). m / p) sizes.zones in
       let now : writes_at z.writes (n / zones) ≡ writes_at (set before.writes k did.slab) (n / zones)
       = ap (λ (x : WholeZone). writes_at x.writes (n / zones)) did.after in
-      pick (λ (cs : List writes.Call). Leads (writes_at z.writes (n / zones)) cs) m n (call ∷ calls_of g n calls) (calls_of g n calls)
+      pick (λ (cs : List writes.Operation). Leads (writes_at z.writes (n / zones)) cs) m n (call ∷ calls_of g n calls) (calls_of g n calls)
       (λ same.
       let here : k ≡ n / zones = place ∙ ap (λ (p : ℕ). p / zones) same in (
         writes_at before.writes (n / zones),

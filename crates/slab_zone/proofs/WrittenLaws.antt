@@ -4,7 +4,7 @@ use Rattle.std.proofs.Common.{sym, ◌∙◌, ap, subst, arith, inl, inr, refl, 
 use Rattle.std.proofs.lemmas.Nat.{div-mul-add, mod-mul-add}
 use Rattle.blk_base.specs.declared.geometry.Geometry.{Geometry}
 use Rattle.slab_codec.specs.declared.forms.SlabJournalBlock.{SlabJournalBlock}
-use Rattle.slab_writes.specs.Calls as writes
+use Rattle.slab_writes.specs.Operations as writes
 use Rattle.slab_writes.specs.Due.{IsDue}
 use Rattle.slab_writes.specs.Writes.{Writes, IsOut, IsOutAs, SettlesAs}
 use Rattle.slab_writes.specs.declared.forms.Need.{Need}
@@ -14,12 +14,12 @@ use Rattle.slab_writes.specs.declared.forms.SlabWork.{SlabWork}
 use Rattle.slab_writes.proofs.OutLaws.{due_is_out}
 use Rattle.zone_counts.specs.Zone.{slab_at}
 use Rattle.slab_zone.specs.Whole.{WholeZone, IsWhole, nothing, writes_at}
-use Rattle.slab_zone.specs.Writing.{IsDueIn, IsOutIn, SettlesIn}
-use Rattle.slab_zone.specs.Calls.{Does, Written, HandsOut, HandsOutWith, Reports}
+use Rattle.slab_zone.specs.ZoneWrites.{IsDueIn, IsOutIn, SettlesIn}
+use Rattle.slab_zone.specs.Operations.{Does, Written, HandsOut, HandsOutWith, Reports}
 
 -- of one slab
 record IsCall (old new : Writes) (counters bytes : List ℕ) (work : SlabWork) : Type 0 where
-  pub call : writes.Call
+  pub call : writes.Operation
   pub hands_out : HandsOut call bytes work
   pub with_counters : HandsOutWith counters call
   pub does : writes.Does call old new
@@ -70,7 +70,7 @@ module _ (need : Need) (old new : WholeZone) (bytes : List ℕ) (work : SlabWork
       let one = is.counts.slabs.each k there in
       omega (arith, number_is, one.0, one.2.slab, ap (λ (g : Geometry). g.slabs) one.1)
 
-  pub due_does : (call : writes.Call) × HandsOut call bytes work × Does (Written work.slab call) old new
+  pub due_does : (call : writes.Operation) × HandsOut call bytes work × Does (Written work.slab call) old new
   due_does =
       let one = due_call need (writes_at old.writes k) did.due.slab (slab_at old.counts.slabs k).counters bytes work did.due.due in (
         one.call,
@@ -97,7 +97,7 @@ module _ (need : Need) (old new : WholeZone) (bytes : List ℕ) (work : SlabWork
       })
 
 record IsReport (old new : Writes) (kind : SlabPart) (work : SlabWork) : Type 0 where
-  pub call : writes.Call
+  pub call : writes.Operation
   pub reports : work.part ≡ kind → Reports call work
   pub counters : (counters : List ℕ) → HandsOutWith counters call
   pub does : writes.Does call old new
@@ -116,7 +116,7 @@ settle_call part.References old new work out did = record {
   does = (out, did);
 }
 
-pub settle_does : (old new : WholeZone) (work : SlabWork) → IsOutIn old work → SettlesIn old new work → (call : writes.Call) × Reports call work × Does (Written work.slab call) old new
+pub settle_does : (old new : WholeZone) (work : SlabWork) → IsOutIn old work → SettlesIn old new work → (call : writes.Operation) × Reports call work × Does (Written work.slab call) old new
 settle_does old new work out did =
     let one = settle_call work.part (writes_at old.writes (work.slab / old.counts.zones)) did.slab work out.out did.settles in (
       one.call,

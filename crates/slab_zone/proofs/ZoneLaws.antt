@@ -9,7 +9,7 @@ use Rattle.blk_base.specs.declared.point.Point.{Point}
 use Rattle.reference_blocks.specs.References.{HandsOutBlock, point_at, points_of, sectors_of}
 use Rattle.reference_blocks.specs.Updates.{AreRising, counters_after, up_to}
 use Rattle.slab_codec.specs.Reference.{reference_bytes}
-use Rattle.slab_codec.specs.Spelling.{block_bytes}
+use Rattle.slab_codec.specs.BlockBytes.{block_bytes}
 use Rattle.slab_codec.specs.declared.forms.SlabEntry.{SlabEntry}
 use Rattle.slab_codec.specs.declared.forms.SlabJournalBlock.{SlabJournalBlock}
 use Rattle.slab_counts.specs.declared.tickets.Ticket.{Ticket}
@@ -17,30 +17,30 @@ use Rattle.slab_counts.specs.declared.tickets.Receipt.{Receipt}
 use Rattle.slab_journal.specs.Unsettled.{IsUnsettled}
 use Rattle.slab_tickets.specs.Tickets.{empty_desk}
 use Rattle.slab_tickets.specs.declared.forms.Withdrawn.TheVariants.{Nothing}
-use Rattle.slab_writes.specs.Calls as writes
+use Rattle.slab_writes.specs.Operations as writes
 use Rattle.slab_writes.specs.Commits.{IsReported}
 use Rattle.slab_writes.specs.Due.{IsDue}
 use Rattle.slab_writes.specs.Writes.{Writes, opening}
 use Rattle.slab_writes.specs.declared.forms.Need.{Need}
 use Rattle.slab_writes.specs.declared.forms.SlabPart.TheVariants as part
 use Rattle.slab_writes.specs.declared.forms.SlabWork.{SlabWork}
-use Rattle.slab_writes.proofs.CallLaws.{filling_taken, reference_says}
+use Rattle.slab_writes.proofs.OperationLaws.{filling_taken, reference_says}
 use Rattle.slab_writes.proofs.CommitLaws.{commit_reported}
 use Rattle.slab_writes.proofs.DurableLaws.{settled_is_durable}
-use Rattle.zone_counts.specs.Asking.{WithdrawsFrom}
-use Rattle.zone_counts.specs.Calls.{IsRight}
+use Rattle.zone_counts.specs.ZoneAnswers.{WithdrawsFrom}
+use Rattle.zone_counts.specs.Operations.{IsRight}
 use Rattle.zone_counts.specs.Zone.{slab_at}
-use Rattle.zone_counts.proofs.CallLaws.{zone_receipt}
+use Rattle.zone_counts.proofs.OperationLaws.{zone_receipt}
 use Rattle.slab_zone.specs.Whole.{WholeZone, IsWhole, IsOpeningWhole, writes_at}
-use Rattle.slab_zone.specs.Writing.{IsDueIn, IsLowPointIn, NoneUnsettledIn}
-use Rattle.slab_zone.specs.Calls.{Call, LeadTo, AreAbove, IsDurableIn, calls_of, counted_of, updates_in}
+use Rattle.slab_zone.specs.ZoneWrites.{IsDueIn, IsLowPointIn, NoneUnsettledIn}
+use Rattle.slab_zone.specs.Operations.{Operation, LeadTo, AreAbove, IsDurableIn, calls_of, counted_of, updates_in}
 use Rattle.slab_zone.proofs.SizeLaws.{HasSizes, counted_lead, sizes_after, number_again, calls_whole}
 use Rattle.slab_zone.proofs.SlabCallLaws.{slab_lead, stands}
 use Rattle.slab_zone.proofs.CounterLaws.{counters_are}
 use Rattle.slab_zone.proofs.RisingLaws.{are_rising, points_many}
 use Rattle.slab_zone.proofs.WrittenLaws.{place, below, own}
 
-pub whole_receipt : (first old new : WholeZone) (room : ℕ) (calls : List Call) (ticket : Ticket) (receipt : Receipt) → IsWhole first → first.counts.desk ≡ empty_desk first.counts.zone room → LeadTo first calls old
+pub whole_receipt : (first old new : WholeZone) (room : ℕ) (calls : List Operation) (ticket : Ticket) (receipt : Receipt) → IsWhole first → first.counts.desk ≡ empty_desk first.counts.zone room → LeadTo first calls old
     → WithdrawsFrom old.counts new.counts ticket (Nothing receipt) → IsRight (counted_of calls) receipt
 whole_receipt first old new room calls ticket receipt is opened lead did =
     zone_receipt first.counts old.counts new.counts room (counted_of calls) ticket receipt is.counts opened (counted_lead first old calls lead) did
@@ -94,31 +94,31 @@ module _ (o : Opened) (zone zones room : ℕ) (first : WholeZone) (opened : IsOp
         (opened.counts.slabs.each (n / zones) (omega (arith, there, opened.counts.slabs.length_is))).0.counters
         ∙ ap (λ (m : ℕ). take g.slab_blocks (drop (m * g.slab_blocks) all)) (number_again n zone zones mine)
 
-    pub leads : (z : WholeZone) (calls : List Call) → LeadTo first calls z → writes.LeadTo (opening g n commits) (calls_of g n calls) (writes_at z.writes (n / zones))
+    pub leads : (z : WholeZone) (calls : List Operation) → LeadTo first calls z → writes.LeadTo (opening g n commits) (calls_of g n calls) (writes_at z.writes (n / zones))
     leads z calls lead =
         subst (λ (w : Writes). writes.LeadTo w (calls_of g n calls) (writes_at z.writes (n / zones))) opens (slab_lead g zone zones first has is n inside mine z calls lead)
 
-    pub rising : (z : WholeZone) (calls : List Call) → LeadTo first calls z → AreAbove g (points_of g n commits) (updates_in g n calls) → AreRising g (points_of g n commits) (updates_in g n calls)
+    pub rising : (z : WholeZone) (calls : List Operation) → LeadTo first calls z → AreAbove g (points_of g n commits) (updates_in g n calls) → AreRising g (points_of g n commits) (updates_in g n calls)
     rising z calls lead above = are_rising g (points_of g n commits) (opening g n commits) (calls_of g n calls) (writes_at z.writes (n / zones)) (leads z calls lead) above
 
-    pub counters_now : (z : WholeZone) (calls : List Call) → LeadTo first calls z
+    pub counters_now : (z : WholeZone) (calls : List Operation) → LeadTo first calls z
         → (slab_at z.counts.slabs (n / zones)).counters ≡ counters_after (take g.slab_blocks (drop (n * g.slab_blocks) all)) (updates_in g n calls)
     counters_now z calls lead =
         counters_are g zone zones first has is n inside mine z calls lead ∙ ap (λ (cs : List ℕ). counters_after cs (updates_in g n calls)) counters
 
     -- an update that isn't unsettled is durable
-    pub durable : (z : WholeZone) (calls : List Call) (entry : SlabEntry) → length commits ≡ g.slabs * sectors_per_slab g → LeadTo first calls z → AreAbove g (points_of g n commits) (updates_in g n calls)
+    pub durable : (z : WholeZone) (calls : List Operation) (entry : SlabEntry) → length commits ≡ g.slabs * sectors_per_slab g → LeadTo first calls z → AreAbove g (points_of g n commits) (updates_in g n calls)
         → Contains (updates_in g n calls) entry → ¬ IsUnsettled (writes_at z.writes (n / zones)).journal entry → IsDurableIn g n calls entry
     durable z calls entry many lead above there settled =
         settled_is_durable g n commits (calls_of g n calls) (writes_at z.writes (n / zones)) entry sizes (points_many g n commits many inside) (leads z calls lead) (rising z calls lead above) there settled
 
-    pub commit_told : (z : WholeZone) (calls : List Call) (sector : ℕ) → length commits ≡ g.slabs * sectors_per_slab g → LeadTo first calls z
+    pub commit_told : (z : WholeZone) (calls : List Operation) (sector : ℕ) → length commits ≡ g.slabs * sectors_per_slab g → LeadTo first calls z
         → let point = point_at (writes_at z.writes (n / zones)).journal.commits sector in (point ≡ record { 0 = 0 }) ⊎ IsReported g (calls_of g n calls) sector point
     commit_told z calls sector many lead =
         commit_reported g sizes n commits (calls_of g n calls) (writes_at z.writes (n / zones)) sector (points_many g n commits many inside) (leads z calls lead)
 
   -- the slab of a due block is of the zone
-  module _ (need : Need) (old new : WholeZone) (calls : List Call) (bytes : List ℕ) (work : SlabWork) (lead : LeadTo first calls old) (did : IsDueIn need old new bytes work) where
+  module _ (need : Need) (old new : WholeZone) (calls : List Operation) (bytes : List ℕ) (work : SlabWork) (lead : LeadTo first calls old) (did : IsDueIn need old new bytes work) where
     whole : IsWhole old
     whole = calls_whole first old calls is lead
 
@@ -165,7 +165,7 @@ module _ (o : Opened) (zone zones room : ℕ) (first : WholeZone) (opened : IsOp
         (points_many g work.slab commits many due_below) (leads work.slab due_below due_own old calls lead) (rising work.slab due_below due_own old calls lead above) hands'
 
   -- below the low point of the zone
-  module _ (z : WholeZone) (calls : List Call) (n : ℕ) (entry : SlabEntry) (many : length commits ≡ g.slabs * sectors_per_slab g) (lead : LeadTo first calls z) (inside : n < g.slabs) (mine : n % zones ≡ zone)
+  module _ (z : WholeZone) (calls : List Operation) (n : ℕ) (entry : SlabEntry) (many : length commits ≡ g.slabs * sectors_per_slab g) (lead : LeadTo first calls z) (inside : n < g.slabs) (mine : n % zones ≡ zone)
       (above : AreAbove g (points_of g n commits) (updates_in g n calls)) (there : Contains (updates_in g n calls) entry) where
     pub low_durable : (low : Point) → IsLowPointIn z low → entry.point.0 < low.0 → IsDurableIn g n calls entry
     low_durable low lowest less =

@@ -1,5 +1,5 @@
 pub mod Lesser
 pub mod Whole
-pub mod Writing
-pub mod Calls
+pub mod ZoneWrites
+pub mod Operations
 pub mod Viewed

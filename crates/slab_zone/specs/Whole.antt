@@ -4,7 +4,7 @@ use Rattle.blk_base.specs.declared.geometry.Geometry.{Geometry}
 use Rattle.blk_base.specs.declared.opened.Opened.{Opened}
 use Rattle.blk_base.specs.declared.place.Pbn.{Pbn}
 use Rattle.slab_writes.specs.Writes.{Writes, opening}
-use Rattle.zone_counts.specs.Zone.{Zone, IsZone, IsOpeningZone, nowhere, place_of, slabs_of_zone}
+use Rattle.zone_counts.specs.Zone.{Zone, IsZone, IsOpeningZone, nowhere, index_of, slabs_of_zone}
 
 -- `counts` has the counters, claims and tickets; `writes` has for each slab of the zone, in their order, what of it is
 -- to be written.
@@ -21,7 +21,7 @@ writes_at writes k = slice_index_or writes k nothing
 
 -- what is to be written of a block's slab
 abbrev pub writes_of : WholeZone → Pbn → Writes
-writes_of z at = writes_at z.writes (place_of z.counts at)
+writes_of z at = writes_at z.writes (index_of z.counts at)
 
 -- it is what is to be written of the slab with this number
 pub record AreOfSlab (g : Geometry) (number : ℕ) (w : Writes) : Type 0 where

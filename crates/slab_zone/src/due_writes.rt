@@ -1,6 +1,6 @@
 ghost use Rattle.std.specs.Prelude.{◌≡◌, ◌≤◌, length, IfSome, IfNone};
 ghost use Rattle.slab_zone.specs.Lesser.{IsLesser};
-ghost use Rattle.slab_zone.specs.Writing.{IsDueAmong, NoneDueBefore, IsLowPointBefore, NoneUnsettledBefore};
+ghost use Rattle.slab_zone.specs.ZoneWrites.{IsDueAmong, NoneDueBefore, IsLowPointBefore, NoneUnsettledBefore};
 
 use blk_base::{Block, Point};
 use slab_writes::{Need, SlabWork, SlabWrites};

@@ -5,34 +5,34 @@ ghost use Rattle.blk_base.specs.declared.point.Point.{Point};
 ghost use Rattle.reference_blocks.specs.References.{point_at, points_of, sectors_of};
 ghost use Rattle.reference_blocks.specs.Updates.{counters_after, up_to};
 ghost use Rattle.slab_codec.specs.Reference.{reference_bytes};
-ghost use Rattle.slab_codec.specs.Spelling.{block_bytes};
+ghost use Rattle.slab_codec.specs.BlockBytes.{block_bytes};
 ghost use Rattle.slab_codec.specs.declared.forms.SlabEntry.{SlabEntry};
 ghost use Rattle.slab_counts.specs.declared.tickets.Ticket.{Ticket};
 ghost use Rattle.slab_counts.specs.declared.tickets.Receipt.{Receipt};
 ghost use Rattle.slab_tickets.specs.Tickets.{empty_desk};
 ghost use Rattle.slab_tickets.specs.declared.forms.Withdrawn.TheVariants.{Nothing};
-ghost use Rattle.slab_writes.specs.Calls as writes;
+ghost use Rattle.slab_writes.specs.Operations as writes;
 ghost use Rattle.slab_writes.specs.Commits.{IsReported};
 ghost use Rattle.slab_writes.specs.declared.forms.Need.{Need};
 ghost use Rattle.slab_writes.specs.declared.forms.SlabPart.TheVariants.{Journal, References};
 ghost use Rattle.slab_writes.specs.declared.forms.SlabWork.{SlabWork};
-ghost use Rattle.zone_counts.specs.Asking.{WithdrawsFrom};
-ghost use Rattle.zone_counts.specs.Calls.{IsRight};
+ghost use Rattle.zone_counts.specs.ZoneAnswers.{WithdrawsFrom};
+ghost use Rattle.zone_counts.specs.Operations.{IsRight};
 ghost use Rattle.slab_zone.specs.Whole.{WholeZone, IsWhole, IsOpeningWhole, writes_at};
-ghost use Rattle.slab_zone.specs.Writing.{IsDueIn, NoneDueIn, IsOutIn, SettlesIn, IsLowPointIn, NoneUnsettledIn};
-ghost use Rattle.slab_zone.specs.Calls.{Call, Written, Does, LeadTo, HandsOut, Reports, AreAbove, IsDurableIn, calls_of, counted_of, updates_in};
+ghost use Rattle.slab_zone.specs.ZoneWrites.{IsDueIn, NoneDueIn, IsOutIn, SettlesIn, IsLowPointIn, NoneUnsettledIn};
+ghost use Rattle.slab_zone.specs.Operations.{Operation, Written, Does, LeadTo, HandsOut, Reports, AreAbove, IsDurableIn, calls_of, counted_of, updates_in};
 
 /// Over every list of calls a zone stays as it must be: each slab has the numbers of its blocks, within the limit, and its own
 /// journal and reference blocks; where a ticket waits no block is free.
 pub fn zones_stay_settled()
-    ensures { (old new : WholeZone) (calls : List Call) → IsWhole old → LeadTo old calls new →
+    ensures { (old new : WholeZone) (calls : List Operation) → IsWhole old → LeadTo old calls new →
         IsWhole new }
 {}
 
 /// Over every list of calls from an opened zone on, every receipt that a withdrawal gives is right: no step from the one that
 /// asked on ended with a free block in this zone.
 pub fn every_receipt_is_right()
-    ensures { (first old : WholeZone) (new : WholeZone) (room : ℕ) (calls : List Call)
+    ensures { (first old : WholeZone) (new : WholeZone) (room : ℕ) (calls : List Operation)
         (ticket : Ticket) (receipt : Receipt) → IsWhole first
         → first.counts.desk ≡ empty_desk first.counts.zone room → LeadTo first calls old →
         WithdrawsFrom old.counts new.counts ticket (Nothing receipt)
@@ -43,10 +43,10 @@ pub fn every_receipt_is_right()
 pub fn written_blocks_are_calls()
     ensures due { (need : Need) (old new : WholeZone) (bytes : List ℕ) (work : SlabWork) →
         IsWhole old → IsDueIn need old new bytes work
-        → (call : writes.Call) × HandsOut call bytes work × Does (Written work.slab call) old new }
+        → (call : writes.Operation) × HandsOut call bytes work × Does (Written work.slab call) old new }
     ensures durable { (old new : WholeZone) (work : SlabWork) → IsOutIn old work →
         SettlesIn old new work
-        → (call : writes.Call) × Reports call work × Does (Written work.slab call) old new }
+        → (call : writes.Operation) × Reports call work × Does (Written work.slab call) old new }
 {}
 
 /// A block that is handed out wasn't being written before, and is from then on until its write is reported, whatever is called
@@ -55,18 +55,18 @@ pub fn a_block_is_out_until_it_is_reported()
     ensures handed { (need : Need) (old new : WholeZone) (bytes : List ℕ) (work : SlabWork) →
         IsWhole old → IsDueIn need old new bytes work
         → (¬ IsOutIn old work) × IsOutIn new work }
-    ensures kept { (call : Call) (old new : WholeZone) (work : SlabWork) → IsWhole old →
+    ensures kept { (call : Operation) (old new : WholeZone) (work : SlabWork) → IsWhole old →
         IsOutIn old work → Does call old new
         →
         IsOutIn new work
-        ⊎ ((report : writes.Call) × (call ≡ Written work.slab report) × Reports report work) }
+        ⊎ ((report : writes.Operation) × (call ≡ Written work.slab report) × Reports report work) }
 {}
 
 /// Over every list of calls from an opened zone on, a journal block that is due has updates alone that these calls took of its
 /// slab.
 pub fn a_journal_block_has_updates_taken_here()
     ensures { (opened : Opened) (zone zones room : ℕ) (first old new : WholeZone)
-        (calls : List Call) (need : Need) (bytes : List ℕ) (work : SlabWork) →
+        (calls : List Operation) (need : Need) (bytes : List ℕ) (work : SlabWork) →
         let g = opened.head.geometry in
         IsOpeningWhole opened zone zones room first → IsWhole first → LeadTo first calls old
         → IsDueIn need old new bytes work → work.part ≡ Journal
@@ -81,7 +81,7 @@ pub fn a_journal_block_has_updates_taken_here()
 /// above its commit point.
 pub fn a_reference_block_has_its_updates()
     ensures { (opened : Opened) (zone zones room : ℕ) (first old new : WholeZone)
-        (calls : List Call) (need : Need) (bytes : List ℕ) (work : SlabWork) →
+        (calls : List Operation) (need : Need) (bytes : List ℕ) (work : SlabWork) →
         let g = opened.head.geometry in
         let commits = opened.commits.items in
         IsOpeningWhole opened zone zones room first → IsWhole first
@@ -102,7 +102,7 @@ pub fn a_reference_block_has_its_updates()
 /// update of the slab that is below the low point of the zone is durable, and each one where there is no low point.
 pub fn every_update_below_the_low_point_is_durable()
     ensures some { (opened : Opened) (zone zones room : ℕ) (first new : WholeZone)
-        (calls : List Call) (slab : ℕ) (entry : SlabEntry) (low : Point) →
+        (calls : List Operation) (slab : ℕ) (entry : SlabEntry) (low : Point) →
         let g = opened.head.geometry in
         let commits = opened.commits.items in
         IsOpeningWhole opened zone zones room first → IsWhole first
@@ -112,7 +112,7 @@ pub fn every_update_below_the_low_point_is_durable()
         Contains (updates_in g slab calls) entry
         → IsLowPointIn new low → entry.point.0 < low.0 → IsDurableIn g slab calls entry }
     ensures none { (opened : Opened) (zone zones room : ℕ) (first new : WholeZone)
-        (calls : List Call) (slab : ℕ) (entry : SlabEntry) →
+        (calls : List Operation) (slab : ℕ) (entry : SlabEntry) →
         let g = opened.head.geometry in
         let commits = opened.commits.items in
         IsOpeningWhole opened zone zones room first → IsWhole first
@@ -140,7 +140,7 @@ pub fn due_takes_the_first_slab()
 /// block of its sector was handed out before it was reported as durable.
 pub fn a_commit_point_is_of_a_reported_block()
     ensures { (opened : Opened) (zone zones room : ℕ) (first new : WholeZone)
-        (calls : List Call) (slab sector : ℕ) →
+        (calls : List Operation) (slab sector : ℕ) →
         let g = opened.head.geometry in
         let commits = opened.commits.items in
         IsOpeningWhole opened zone zones room first → IsWhole first

@@ -6,9 +6,9 @@ ghost use Rattle.slab_counts.specs.Counts.{Counts, IsFree, HasRoom, IsStray, cou
 ghost use Rattle.slab_counts.specs.declared.refusals.Refusal.TheVariants.{Full};
 ghost use Rattle.slab_tickets.specs.Tickets.{IsNow, IsBelow, IsOutAt, HasRoom as HasTicket};
 ghost use Rattle.zone_counts.specs.Zone.{BeginsStep, IsOfZone, IsClaimedIn, Changes, slab_of, used_in, with_slab};
-ghost use Rattle.zone_counts.specs.Asking.{Asks, WithdrawsFrom, SharesIn, IsRefusedIn};
+ghost use Rattle.zone_counts.specs.ZoneAnswers.{Asks, WithdrawsFrom, SharesIn, IsRefusedIn};
 ghost use Rattle.slab_zone.specs.Whole.{IsOpeningWhole, IsWhole};
-ghost use Rattle.slab_zone.specs.Writing.{HasRoomAt, MayTake, RisesIn, TakesUpdate, IsDueIn, NoneDueIn, IsOutIn, SettlesIn, IsLowPointIn, NoneUnsettledIn};
+ghost use Rattle.slab_zone.specs.ZoneWrites.{HasRoomAt, MayTake, RisesIn, TakesUpdate, IsDueIn, NoneDueIn, IsOutIn, SettlesIn, IsLowPointIn, NoneUnsettledIn};
 
 use crate::due_writes::{first_due, least_low_point};
 use crate::opened_zone::opening_writes;

@@ -8,11 +8,11 @@ use Rattle.vdo_model.specs.Scripts.{Script}
 use Rattle.stream_text.specs.WholeScript.{lines_with_ends, text_of, after_text, is_too_long, after_line, go_on, script_from}
 use Rattle.stream_text.specs.ReadingBytes.{goes_on_from, refusal_said, IsReadingBytes, RefusesScript, StopsLine}
 use Rattle.stream_text.specs.declared.refusal.ReadScript.{ReadScript}
-use Rattle.stream_text.specs.declared.refusal.LineError.{LineError}
-use Rattle.stream_text.specs.declared.refusal.LineError.TheVariants as stop
+use Rattle.stream_text.specs.declared.refusal.AddFault.{AddFault}
+use Rattle.stream_text.specs.declared.refusal.AddFault.TheVariants as stop
 use Rattle.stream_text.specs.declared.refusal.LineFault.{LineFault}
 use Rattle.stream_text.specs.declared.refusal.LineFault.TheVariants.{TooLong}
-use Rattle.stream_text.specs.declared.refusal.ScriptRefusal.{ScriptRefusal}
+use Rattle.stream_text.specs.declared.refusal.ScriptFault.{ScriptFault}
 use Rattle.stream_text.proofs.LineLaws.{OneLine}
 
 ends-other : (byte : ℕ) (rest : List ℕ) → byte ≢ 10 → lines_with_ends (byte ∷ rest) ≡ onto_first byte (lines_with_ends rest)
@@ -179,7 +179,7 @@ sound-byte count number before script line byte is room short ne = record {
     longer (first ∷ line) one = (one.0, longer line one.1)
 
 -- a line that adds nothing ends
-pub stops-line : (number before : ℕ) (script : Script) (line rest : List ℕ) (why : LineError) (said : ReadScript) → OneLine line → length line ≤ 32768
+pub stops-line : (number before : ℕ) (script : Script) (line rest : List ℕ) (why : AddFault) (said : ReadScript) → OneLine line → length line ≤ 32768
     → before + length line < 134217728 → StopsLine why (after_text script line) → said ≡ refusal_said number why
     → RefusesScript said (goes_on_from number before script line (10 ∷ rest))
 stops-line number before script line rest (stop.Fault fault) said one short within is same =
@@ -188,7 +188,7 @@ stops-line number before script line rest (stop.Fault fault) said one short with
 stops-line number before script line rest stop.Memory said one short within is same =
     subst (λ (r : ReadScript). RefusesScript r (goes_on_from number before script line (10 ∷ rest))) (sym same) tt
 
-pub refuses-so : (number : ℕ) (fault : LineFault) (said : ReadScript) (script : Result Script ScriptRefusal) → said ≡ refusal_said number (stop.Fault fault)
+pub refuses-so : (number : ℕ) (fault : LineFault) (said : ReadScript) (script : Result Script ScriptFault) → said ≡ refusal_said number (stop.Fault fault)
     → script ≡ Err (record { line = number; fault = fault }) → RefusesScript said script
 refuses-so number fault said script same is = subst (λ (r : ReadScript). RefusesScript r script) (sym same) is
 
@@ -200,7 +200,7 @@ served-last number before script more line one some short within is =
     ∙ ap (λ (r : Result Script LineFault). go_on number r (λ (s : Script). Ok s)) is
 
 -- a last line that lacks its newline and adds nothing
-pub stops-last : (number before : ℕ) (script : Script) (line : List ℕ) (why : LineError) (said : ReadScript) → OneLine line → line ≢ [] → length line ≤ 32768
+pub stops-last : (number before : ℕ) (script : Script) (line : List ℕ) (why : AddFault) (said : ReadScript) → OneLine line → line ≢ [] → length line ≤ 32768
     → before + length line ≤ 134217728 → StopsLine why (after_text script line) → said ≡ refusal_said number why
     → RefusesScript said (goes_on_from number before script line [])
 stops-last number before script line (stop.Fault fault) said one some short within is same =

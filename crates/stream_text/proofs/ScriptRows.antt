@@ -6,10 +6,10 @@ use Rattle.stream_text.specs.LineFaults.{first_of, both}
 use Rattle.stream_text.specs.LineWords.{number_of, least_number, within, stream_number, address_number, count_number, run_number, extent_of, run_of, run_of_part, run_before, bytes_of_parts, block_of_bytes, block_of_word}
 use Rattle.stream_text.specs.Runs.{Run}
 use Rattle.stream_text.specs.LineGrammar.{write_asked, asked_of_line, stream_asked, SaysAsked}
-use Rattle.stream_text.specs.StreamRows.{discards}
+use Rattle.stream_text.specs.StreamRequests.{discards}
 use Rattle.stream_text.specs.WholeScript.{lines_with_ends, text_of, is_passed_over, is_too_long}
 use Rattle.stream_text.specs.declared.refusal.LineFault.TheVariants.{Word, Number, Stream, Range, BlockLength}
-use Rattle.stream_text.specs.declared.refusal.LineError.TheVariants.{Fault, Memory}
+use Rattle.stream_text.specs.declared.refusal.AddFault.TheVariants.{Fault, Memory}
 use Rattle.stream_text.specs.declared.asked.Asked.TheVariants.{One, Discards}
 
 pub number_zeros : number_of (codes "007") ≡ Some 7

@@ -6,7 +6,7 @@ use Rattle.std.proofs.Math.ListN.{get_or-map}
 use Rattle.std.proofs.Math.Seq.{map-set_same}
 use Rattle.blk_base.specs.declared.request.Request.{Request}
 use Rattle.vdo_model.specs.Scripts.{Script}
-use Rattle.stream_text.specs.StreamRows.{count_of, counted, discards, requests_of, with_asked, with_requests}
+use Rattle.stream_text.specs.StreamRequests.{count_of, counted, discards, requests_of, with_asked, with_requests}
 use Rattle.stream_text.specs.LineGrammar.{stream_asked}
 use Rattle.stream_text.specs.ReadingBytes.{IsAdded}
 use Rattle.stream_text.specs.declared.asked.Asked.{Asked}

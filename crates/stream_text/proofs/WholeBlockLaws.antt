@@ -8,7 +8,7 @@ use Rattle.vdo_model.specs.Scripts.{Script, IsServed}
 use Rattle.stream_text.specs.LineFaults.{both}
 use Rattle.stream_text.specs.LineWords.{stream_number, address_number, count_number, extent_of, bytes_of_parts, block_of_bytes}
 use Rattle.stream_text.specs.LineGrammar.{stream_asked, flush_asked, read_asked, write_asked, discard_asked, asked_of_words, words_of, asked_of_line}
-use Rattle.stream_text.specs.StreamRows.{count_of, discards, requests_of, with_asked, with_requests}
+use Rattle.stream_text.specs.StreamRequests.{count_of, discards, requests_of, with_asked, with_requests}
 use Rattle.stream_text.specs.WholeScript.{is_passed_over, after_text}
 use Rattle.stream_text.specs.ReadingBytes.{goes_on_from, EachRequest, IsAdded, IsReadingBytes, IsWholeScript}
 use Rattle.stream_text.specs.declared.asked.Asked.{Asked}

@@ -6,7 +6,7 @@ use Rattle.blk_base.specs.declared.request.Request.{Request}
 use Rattle.blk_base.specs.declared.request.Request.TheVariants.{Discard, Flush}
 use Rattle.vdo_model.proofs.ScriptRows.{short_write, whole_write, zeros}
 use Rattle.vdo_model.specs.Scripts.{Script, IsServed}
-use Rattle.stream_text.specs.StreamRows.{no_requests, with_requests}
+use Rattle.stream_text.specs.StreamRequests.{no_requests, with_requests}
 use Rattle.stream_text.specs.ReadingBytes.{EachRequest, IsReadingBytes, IsWholeScript}
 use Rattle.stream_text.proofs.StreamLaws.{count-more, rows-kept}
 use Rattle.stream_text.proofs.WholeBlockLaws.{rows-with}

@@ -6,7 +6,7 @@ use Rattle.std.proofs.lemmas.List.{length-replicate}
 use Rattle.blk_base.specs.declared.request.Request.TheVariants.{Read, Discard, Flush}
 use Rattle.vdo_model.specs.Scripts.{Script}
 use Rattle.stream_text.proofs.StreamLaws.{counted-few, counted-many}
-use Rattle.stream_text.specs.StreamRows.{no_requests, with_requests, count_of, counted, requests_of, with_asked}
+use Rattle.stream_text.specs.StreamRequests.{no_requests, with_requests, count_of, counted, requests_of, with_asked}
 use Rattle.stream_text.specs.WholeScript.{text_of, is_passed_over, after_text, is_too_long, after_line, go_on, script_from, whole_script}
 use Rattle.stream_text.specs.declared.asked.Asked.TheVariants.{One, Discards}
 use Rattle.stream_text.specs.declared.refusal.LineFault.TheVariants.{TooLong, Word, Stream, TooMany}

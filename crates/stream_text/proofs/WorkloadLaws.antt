@@ -2,7 +2,7 @@
 use Rattle.std.specs.Prelude.{ℕ, ◌≡◌, ◌+◌, ◌%◌, suc, [], ◌∷◌}
 use Rattle.std.proofs.Common.{sym, ◌∙◌, ap, arith}
 use Rattle.vdo_model.specs.Scripts.{Script}
-use Rattle.stream_text.specs.StreamRows.{with_requests}
+use Rattle.stream_text.specs.StreamRequests.{with_requests}
 use Rattle.stream_text.specs.Workloads.{drawn_request, state_before, workload_of}
 use Rattle.stream_text.specs.declared.random_requests.Drawn.{Drawn}
 

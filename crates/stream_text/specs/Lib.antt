@@ -6,7 +6,7 @@ pub mod LineWords
 pub mod RunParts
 pub mod PlainRuns
 pub mod LineGrammar
-pub mod StreamRows
+pub mod StreamRequests
 pub mod WholeScript
 pub mod ReadingBytes
 pub mod ReadingState

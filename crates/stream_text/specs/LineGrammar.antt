@@ -6,8 +6,8 @@ use Rattle.stream_text.specs.LineFaults.{both}
 use Rattle.stream_text.specs.LineWords.{stream_number, address_number, count_number, extent_of, block_of_word}
 use Rattle.stream_text.specs.declared.refusal.LineFault.{LineFault}
 use Rattle.stream_text.specs.declared.refusal.LineFault.TheVariants.{Word}
-use Rattle.stream_text.specs.declared.refusal.LineError.{LineError}
-use Rattle.stream_text.specs.declared.refusal.LineError.TheVariants as stop
+use Rattle.stream_text.specs.declared.refusal.AddFault.{AddFault}
+use Rattle.stream_text.specs.declared.refusal.AddFault.TheVariants as stop
 use Rattle.stream_text.specs.declared.asked.Asked.{Asked}
 use Rattle.stream_text.specs.declared.asked.Asked.TheVariants.{One, Discards}
 
@@ -46,7 +46,7 @@ abbrev pub asked_of_line : List ℕ → Result Asked LineFault
 asked_of_line line = asked_of_words (words_of line)
 
 -- what is said of a line is what it asks for, or its first fault; that memory ran out says nothing of the line
-abbrev pub SaysAsked : Result Asked LineError → Result Asked LineFault → Type 0
+abbrev pub SaysAsked : Result Asked AddFault → Result Asked LineFault → Type 0
 SaysAsked (Ok asked) asks = asks ≡ Ok asked
 SaysAsked (Err (stop.Fault fault)) asks = asks ≡ Err fault
 SaysAsked (Err stop.Memory) asks = Unit {0}

@@ -3,17 +3,17 @@ use Rattle.std.specs.Prelude.{ℕ, ◌≡◌, ◌≢◌, ◌≤◌, ◌+◌, Lis
 use Rattle.std.specs.List.{AllByRecursion}
 use Rattle.blk_base.specs.declared.request.Request.{Request}
 use Rattle.vdo_model.specs.Scripts.{IsServed, Script}
-use Rattle.stream_text.specs.StreamRows.{count_of}
+use Rattle.stream_text.specs.StreamRequests.{count_of}
 use Rattle.stream_text.specs.WholeScript.{lines_with_ends, script_from}
 use Rattle.stream_text.specs.declared.refusal.LineFault.{LineFault}
-use Rattle.stream_text.specs.declared.refusal.ScriptRefusal.{ScriptRefusal}
+use Rattle.stream_text.specs.declared.refusal.ScriptFault.{ScriptFault}
 use Rattle.stream_text.specs.declared.refusal.ReadScript.{ReadScript}
 use Rattle.stream_text.specs.declared.refusal.ReadScript.TheVariants as read
-use Rattle.stream_text.specs.declared.refusal.LineError.{LineError}
-use Rattle.stream_text.specs.declared.refusal.LineError.TheVariants as stop
+use Rattle.stream_text.specs.declared.refusal.AddFault.{AddFault}
+use Rattle.stream_text.specs.declared.refusal.AddFault.TheVariants as stop
 
 -- what the whole script is, if these bytes are the rest
-abbrev pub goes_on_from : ℕ → ℕ → Script → List ℕ → List ℕ → Result Script ScriptRefusal
+abbrev pub goes_on_from : ℕ → ℕ → Script → List ℕ → List ℕ → Result Script ScriptFault
 goes_on_from number before script line rest = script_from number before script (lines_with_ends (line ++ rest))
 
 -- every request of every stream
@@ -32,13 +32,13 @@ pub record IsReadingBytes (count number before : ℕ) (script : Script) (line : 
   pub writes : EachRequest IsServed script
 
 -- what a refusal says of the script
-abbrev pub RefusesScript : ReadScript → Result Script ScriptRefusal → Type 0
+abbrev pub RefusesScript : ReadScript → Result Script ScriptFault → Type 0
 RefusesScript (read.Script refusal) script = script ≡ Err refusal
 RefusesScript read.Read script = Unit {0}
 RefusesScript read.Memory script = Unit {0}
 
 -- why a line adds nothing
-abbrev pub StopsLine : LineError → Result Script LineFault → Type 0
+abbrev pub StopsLine : AddFault → Result Script LineFault → Type 0
 StopsLine (stop.Fault fault) script = script ≡ Err fault
 StopsLine stop.Memory script = Unit {0}
 
@@ -49,7 +49,7 @@ pub record IsAdded (after : Result Script LineFault) (new : Script) (count : ℕ
   pub few : count ≤ 65536
 
 -- what is said of a line that adds nothing
-abbrev pub refusal_said : ℕ → LineError → ReadScript
+abbrev pub refusal_said : ℕ → AddFault → ReadScript
 refusal_said number (stop.Fault fault) = read.Script (record { line = number; fault = fault })
 refusal_said number stop.Memory = read.Memory
 

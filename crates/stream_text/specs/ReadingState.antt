@@ -4,14 +4,14 @@ use Rattle.std.specs.List.{AllByRecursion}
 use Rattle.vdo_model.specs.Scripts.{Script}
 use Rattle.stream_text.specs.ReadingBytes.{IsReadingBytes, goes_on_from}
 use Rattle.stream_text.specs.declared.script_reader.ReadingBytes.{ReadingBytes as Reading}
-use Rattle.stream_text.specs.declared.refusal.ScriptRefusal.{ScriptRefusal}
+use Rattle.stream_text.specs.declared.refusal.ScriptFault.{ScriptFault}
 
 -- what is kept while a script is read
 abbrev pub IsReading : Reading → Type 0
 IsReading r = IsReadingBytes r.count r.number r.before r.streams r.line.items
 
 -- what the whole script is, if these bytes are the rest
-abbrev pub comes_to : Reading → List ℕ → Result Script ScriptRefusal
+abbrev pub comes_to : Reading → List ℕ → Result Script ScriptFault
 comes_to r rest = goes_on_from r.number r.before r.streams r.line.items rest
 
 -- how many bytes were read

@@ -3,10 +3,10 @@ use Rattle.std.specs.Prelude.{ℕ, ◌+◌, ◌==◌, ◌||◌, nat_lt, Bool, tr
 use Rattle.std.specs.List.{onto_first}
 use Rattle.vdo_model.specs.Scripts.{Script}
 use Rattle.stream_text.specs.LineGrammar.{asked_of_line}
-use Rattle.stream_text.specs.StreamRows.{no_requests, with_asked}
+use Rattle.stream_text.specs.StreamRequests.{no_requests, with_asked}
 use Rattle.stream_text.specs.declared.refusal.LineFault.{LineFault}
 use Rattle.stream_text.specs.declared.refusal.LineFault.TheVariants.{TooLong}
-use Rattle.stream_text.specs.declared.refusal.ScriptRefusal.{ScriptRefusal}
+use Rattle.stream_text.specs.declared.refusal.ScriptFault.{ScriptFault}
 
 -- the lines with their newlines, which the last may lack
 abbrev pub lines_with_ends : List ℕ → List (List ℕ)
@@ -36,16 +36,16 @@ abbrev pub after_line : ℕ → Script → List ℕ → Result Script LineFault
 after_line before script line = if is_too_long before line then Err TooLong else after_text script (text_of line)
 
 -- what the later lines make of the streams, or the refusal of this line
-abbrev pub go_on : ℕ → Result Script LineFault → (Script → Result Script ScriptRefusal) → Result Script ScriptRefusal
+abbrev pub go_on : ℕ → Result Script LineFault → (Script → Result Script ScriptFault) → Result Script ScriptFault
 go_on line (Ok script) later = later script
 go_on line (Err fault) later = Err (record { line = line; fault = fault })
 
 -- the streams with what these lines ask for; the first has this number, and stands behind so many bytes
-abbrev pub script_from : ℕ → ℕ → Script → List (List ℕ) → Result Script ScriptRefusal
+abbrev pub script_from : ℕ → ℕ → Script → List (List ℕ) → Result Script ScriptFault
 script_from number before script [] = Ok script
 script_from number before script (line ∷ lines) =
     go_on number (after_line before script line) (λ (more : Script). script_from (number + 1) (before + length line) more lines)
 
 -- the requests of the streams 0 to 15, or the first line with a fault
-abbrev pub whole_script : List ℕ → Result Script ScriptRefusal
+abbrev pub whole_script : List ℕ → Result Script ScriptFault
 whole_script bytes = script_from 1 0 no_requests (lines_with_ends bytes)

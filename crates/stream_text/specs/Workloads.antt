@@ -4,7 +4,7 @@ use Rattle.blk_base.specs.declared.request.Request.TheVariants.{Read, Write, Dis
 use Rattle.disk_model.specs.Numbers.{next_state, number_in}
 use Rattle.vdo_model.specs.Scripts.{Script}
 use Rattle.stream_text.specs.declared.random_requests.Drawn.{Drawn}
-use Rattle.stream_text.specs.StreamRows.{no_requests, with_requests}
+use Rattle.stream_text.specs.StreamRequests.{no_requests, with_requests}
 
 -- the block that a byte fills
 unfoldable pub filled_block : ℕ → List ℕ

@@ -1,11 +1,11 @@
 ghost use Rattle.std.specs.Prelude.{◌≡◌, ◌<◌, ◌≤◌, Ok, IfOk, IfErr, length};
 ghost use Rattle.stream_text.specs.LineGrammar.{stream_asked};
-ghost use Rattle.stream_text.specs.StreamRows.{count_of, requests_of, with_asked};
+ghost use Rattle.stream_text.specs.StreamRequests.{count_of, requests_of, with_asked};
 ghost use Rattle.stream_text.specs.WholeScript.{after_text};
 ghost use Rattle.stream_text.specs.ReadingBytes.{StopsLine, IsAdded};
 
 use crate::asked::{Asked, asked_of};
-use crate::refusal::{LineError, LineFault};
+use crate::refusal::{AddFault, LineFault};
 use crate::streams::Streams;
 
 /// How many requests a script may have.
@@ -23,7 +23,7 @@ fn requests_asked(asked: &Asked) -> u64
 }
 
 /// Adds what a line asks for to its stream. The count, before and in the result, is that of all requests so far.
-fn add_asked(streams: &mut Streams, count: u64, asked: Asked) -> Result<u64, LineError>
+fn add_asked(streams: &mut Streams, count: u64, asked: Asked) -> Result<u64, AddFault>
     requires rows { length streams.old ≡ 16 }
     requires counted { count ≡ count_of streams.old }
     requires few { count ≤ 65536 }
@@ -34,16 +34,16 @@ fn add_asked(streams: &mut Streams, count: u64, asked: Asked) -> Result<u64, Lin
 {
     let count = count + requests_asked(&asked);
     if count > MOST_REQUESTS {
-        return Err(LineError::Fault(LineFault::TooMany));
+        return Err(AddFault::Fault(LineFault::TooMany));
     }
     match streams.push_asked(asked) {
         Ok(()) => Ok(count),
-        Err(_) => Err(LineError::Memory),
+        Err(_) => Err(AddFault::Memory),
     }
 }
 
 /// Adds what the text of a line asks for. The count, before and in the result, is that of all requests so far.
-pub(crate) fn add_line(streams: &mut Streams, count: u64, text: &[u8]) -> Result<u64, LineError>
+pub(crate) fn add_line(streams: &mut Streams, count: u64, text: &[u8]) -> Result<u64, AddFault>
     requires rows { length streams.old ≡ 16 }
     requires counted { count ≡ count_of streams.old }
     requires few { count ≤ 65536 }

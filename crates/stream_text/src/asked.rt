@@ -6,7 +6,7 @@ ghost use Rattle.stream_text.specs.LineGrammar.{write_asked, discard_asked, aske
 use crate::blocks::block_of;
 use crate::cuts::cut;
 use crate::numbers::{both, number_within};
-use crate::refusal::{LineError, LineFault};
+use crate::refusal::{AddFault, LineFault};
 use blk_base::{BoxedBlock, Lba, Request};
 use std::alloc::Global;
 
@@ -102,25 +102,25 @@ fn discard_of(stream: &[u8], address: &[u8], count: &[u8]) -> Result<Asked, Line
 }
 
 // What is said of a line whose memory was there.
-fn said(asked: Result<Asked, LineFault>) -> Result<Asked, LineError>
+fn said(asked: Result<Asked, LineFault>) -> Result<Asked, AddFault>
     ensures asked { SaysAsked result asked }
     ensures stream { IfOk asked (λ asked. stream_asked asked < 16)
         → IfOk result (λ asked. stream_asked asked < 16) }
 {
     match asked {
         Ok(asked) => Ok(asked),
-        Err(fault) => Err(LineError::Fault(fault)),
+        Err(fault) => Err(AddFault::Fault(fault)),
     }
 }
 
-fn write_of(alloc: Global, stream: &[u8], address: &[u8], runs: &[u8]) -> Result<Asked, LineError>
+fn write_of(alloc: Global, stream: &[u8], address: &[u8], runs: &[u8]) -> Result<Asked, AddFault>
     ensures asked { SaysAsked result (write_asked (both_of
         (stream_number stream.now)
         (both_of (address_number address.now) (block_of_word runs.now)))) }
     ensures stream { IfOk result (λ asked. stream_asked asked < 16) }
 {
     let Ok(block) = block_of(alloc, runs) else {
-        return Err(LineError::Memory);
+        return Err(AddFault::Memory);
     };
     said(written(stream, address, block))
 }
@@ -131,7 +131,7 @@ fn of_four(
     command: &[u8],
     address: &[u8],
     last: &[u8],
-) -> Result<Asked, LineError>
+) -> Result<Asked, AddFault>
     ensures asked { SaysAsked result
         (asked_of_words (stream.now ∷ command.now ∷ address.now ∷ last.now ∷ [])) }
     ensures stream { IfOk result (λ asked. stream_asked asked < 16) }
@@ -142,17 +142,17 @@ fn of_four(
     if command == b"discard".as_slice() {
         return said(discard_of(stream, address, last));
     }
-    Err(LineError::Fault(LineFault::Word))
+    Err(AddFault::Fault(LineFault::Word))
 }
 
 /// What a line asks for, or its first fault. It fails with `Memory` where memory runs out.
-pub(crate) fn asked_of(alloc: Global, line: &[u8]) -> Result<Asked, LineError>
+pub(crate) fn asked_of(alloc: Global, line: &[u8]) -> Result<Asked, AddFault>
     ensures asked { SaysAsked result (asked_of_line line.now) }
     ensures stream { IfOk result (λ asked. stream_asked asked < 16) }
 {
     let (stream, rest) = cut(b' ', line);
     let Some(rest) = rest else {
-        return Err(LineError::Fault(LineFault::Word));
+        return Err(AddFault::Fault(LineFault::Word));
     };
     let (command, rest) = cut(b' ', rest);
     let Some(rest) = rest else {
@@ -164,7 +164,7 @@ pub(crate) fn asked_of(alloc: Global, line: &[u8]) -> Result<Asked, LineError>
     };
     let (last, rest) = cut(b' ', rest);
     match rest {
-        Some(_) => Err(LineError::Fault(LineFault::Word)),
+        Some(_) => Err(AddFault::Fault(LineFault::Word)),
         None => of_four(alloc, stream, command, address, last),
     }
 }

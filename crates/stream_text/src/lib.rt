@@ -21,6 +21,6 @@ mod streams;
 
 pub use answers::{AnswerRoom, put_answers};
 pub use random_requests::workload;
-pub use refusal::{LineFault, ReadScript, ScriptRefusal};
+pub use refusal::{LineFault, ReadScript, ScriptFault};
 pub use runs::put_runs;
 pub use script_reader::read_script;

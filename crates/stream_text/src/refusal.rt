@@ -29,14 +29,14 @@ pub enum LineFault {
 /// Why a script is refused: its first line with a fault, from 1, and the first fault of that line.
 #[derive(Clone, Copy, Debug, PartialEq, Eq, Error)]
 #[error("script line {line}: {fault}")]
-pub struct ScriptRefusal {
+pub struct ScriptFault {
     pub line: u64,
     pub fault: LineFault,
 }
 
 /// Why a line adds nothing to the requests.
 #[derive(Clone, Copy, Debug, PartialEq, Eq)]
-pub enum LineError {
+pub enum AddFault {
     /// The line has this fault.
     Fault(LineFault),
     /// Memory ran out.
@@ -48,7 +48,7 @@ pub enum LineError {
 pub enum ReadScript {
     /// The script is refused.
     #[error("{0}")]
-    Script(ScriptRefusal),
+    Script(ScriptFault),
     /// The source failed.
     #[error("read fault")]
     Read,

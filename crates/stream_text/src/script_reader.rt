@@ -6,7 +6,7 @@ ghost use Rattle.stream_text.specs.ReadingBytes.{refusal_said, IsWholeScript, Re
 ghost use Rattle.stream_text.specs.ReadingState.{bytes_read, comes_to, IsReading, OneLine};
 
 use crate::added_lines::add_line;
-use crate::refusal::{LineError, LineFault, ReadScript, ScriptRefusal};
+use crate::refusal::{AddFault, LineFault, ReadScript, ScriptFault};
 use crate::streams::Streams;
 use arrayvec::ArrayVec;
 use disk_model::Source;
@@ -32,13 +32,13 @@ struct ReadingBytes {
 }
 
 // What is said of a line that adds nothing.
-fn stopped(number: u64, stop: LineError) -> ReadScript
+fn stopped(number: u64, stop: AddFault) -> ReadScript
     ensures { result ≡ refusal_said number stop }
 {
     match stop {
-        LineError::Memory => ReadScript::Memory,
-        LineError::Fault(fault) => {
-            ReadScript::Script(ScriptRefusal {
+        AddFault::Memory => ReadScript::Memory,
+        AddFault::Fault(fault) => {
+            ReadScript::Script(ScriptFault {
                 line: number,
                 fault,
             })
@@ -83,13 +83,13 @@ impl ReadingBytes {
         ensures no_fault { IfErr result (λ fault. fault ≢ ReadScript.Read) }
     {
         if self.before + self.line.len() as u64 >= LONGEST_SCRIPT {
-            return Err(stopped(self.number, LineError::Fault(LineFault::TooLong)));
+            return Err(stopped(self.number, AddFault::Fault(LineFault::TooLong)));
         }
         if byte == b'\n' {
             return self.end_line();
         }
         if self.line.is_full() {
-            return Err(stopped(self.number, LineError::Fault(LineFault::TooLong)));
+            return Err(stopped(self.number, AddFault::Fault(LineFault::TooLong)));
         }
         self.line.push(byte);
         Ok(())

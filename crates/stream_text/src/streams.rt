@@ -1,6 +1,6 @@
 ghost use Rattle.std.specs.Prelude.{◌≡◌, ◌<◌, ◌+◌, ◌-◌, ◌++◌, ◌∷◌, [], IfOk, OnOk, OnErr, length, map, slice_set};
 ghost use Rattle.stream_text.specs.LineGrammar.{stream_asked};
-ghost use Rattle.stream_text.specs.StreamRows.{no_requests, with_requests, discards, requests_of};
+ghost use Rattle.stream_text.specs.StreamRequests.{no_requests, with_requests, discards, requests_of};
 
 use crate::asked::Asked;
 use blk_base::{Lba, Request};

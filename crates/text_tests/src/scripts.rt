@@ -3,7 +3,7 @@ use blk_base::Request;
 use disk_model::MemSource;
 use std::alloc::{AllocError, Global};
 use std::test::Fail;
-use stream_text::{LineFault, ReadScript, ScriptRefusal, read_script, workload};
+use stream_text::{LineFault, ReadScript, ScriptFault, read_script, workload};
 use test_images::not_shown;
 use vdo_model::Requests;
 
@@ -87,7 +87,7 @@ fn scripts_are_served(rt: HostRuntime) -> Result<(), Fail> {
 }
 
 fn refusal(line: u64, fault: LineFault) -> ReadScript {
-    ReadScript::Script(ScriptRefusal { line, fault })
+    ReadScript::Script(ScriptFault { line, fault })
 }
 
 #[test]

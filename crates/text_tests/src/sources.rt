@@ -2,7 +2,7 @@
 use disk_model::{Failed, MemSource, Source};
 use std::alloc::{AllocError, Global};
 use std::test::Fail;
-use stream_text::{LineFault, ReadScript, ScriptRefusal, read_script};
+use stream_text::{LineFault, ReadScript, ScriptFault, read_script};
 
 /// A source that gives one byte at a time.
 #[derive(Drop)]
@@ -46,7 +46,7 @@ fn trickled(alloc: Global, text: &[u8]) -> Result<Told, AllocError> {
 fn a_script_is_read_byte_by_byte(rt: HostRuntime) -> Result<(), Fail> {
     let served = trickled(rt.alloc(), b"3 flush\n9 read 5\n#\n3 discard 5 3\n9 flush")?;
     let refused = trickled(rt.alloc(), b"3 flush\n\n9 read x")?;
-    let refusal = ScriptRefusal {
+    let refusal = ScriptFault {
         line: 3,
         fault: LineFault::Number,
     };

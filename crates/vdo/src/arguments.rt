@@ -5,7 +5,7 @@ use std::{env, io};
 use vdo_cli::Words;
 
 /// Why the program can't begin.
-pub(crate) enum ArgumentsError {
+pub(crate) enum ArgumentsFault {
     /// The words name no device and no command, or one isn't UTF-8.
     Usage,
     /// The file can't be opened.
@@ -14,9 +14,9 @@ pub(crate) enum ArgumentsError {
     Memory,
 }
 
-impl From<AllocError> for ArgumentsError {
-    fn from(_error: AllocError) -> ArgumentsError {
-        ArgumentsError::Memory
+impl From<AllocError> for ArgumentsFault {
+    fn from(_error: AllocError) -> ArgumentsFault {
+        ArgumentsFault::Memory
     }
 }
 
@@ -96,18 +96,18 @@ fn default_line(alloc: Global) -> Result<CommandLine, AllocError> {
 
 // A word that isn't UTF-8 is a faulty command line.
 /// A command line is nothing, which is `- 154 run`, or `IMAGE BLOCKS` and a command.
-fn line_of(alloc: Global, texts: &[String]) -> Result<CommandLine, ArgumentsError> {
+fn line_of(alloc: Global, texts: &[String]) -> Result<CommandLine, ArgumentsFault> {
     if texts.is_empty() {
         return Ok(default_line(alloc)?);
     }
     let [image, blocks, command @ ..] = texts else {
-        return Err(ArgumentsError::Usage);
+        return Err(ArgumentsFault::Usage);
     };
     let Some(blocks) = number_of(blocks.as_str()) else {
-        return Err(ArgumentsError::Usage);
+        return Err(ArgumentsFault::Usage);
     };
     if command.is_empty() {
-        return Err(ArgumentsError::Usage);
+        return Err(ArgumentsFault::Usage);
     }
     let words = words_of(alloc, command)?;
     Ok(CommandLine {
@@ -117,18 +117,18 @@ fn line_of(alloc: Global, texts: &[String]) -> Result<CommandLine, ArgumentsErro
 }
 
 /// What the words behind the program's name ask for.
-pub(crate) fn command_line(rt: &HostRuntime) -> Result<CommandLine, ArgumentsError> {
+pub(crate) fn command_line(rt: &HostRuntime) -> Result<CommandLine, ArgumentsFault> {
     let arguments = match env::args(rt) {
         Ok(arguments) => arguments,
         Err(error) if error.kind() == io::ErrorKind::OutOfMemory => return Err(
-            ArgumentsError::Memory,
+            ArgumentsFault::Memory,
         ),
-        Err(_) => return Err(ArgumentsError::Usage),
+        Err(_) => return Err(ArgumentsFault::Usage),
     };
     let mut texts = Vec::new(rt.alloc());
     for text in arguments.skip(1) {
         let Ok(()) = texts.push(text) else {
-            return Err(ArgumentsError::Memory);
+            return Err(ArgumentsFault::Memory);
         };
     }
     line_of(rt.alloc(), &texts)

@@ -13,7 +13,7 @@
 
 mod arguments;
 
-use arguments::{ArgumentsError, CommandLine, Device, command_line};
+use arguments::{ArgumentsFault, CommandLine, Device, command_line};
 use disk_model::{Disk, OpenGate, RamDisk};
 use file_disk::open_disk;
 use std::alloc::{AllocError, Global};
@@ -30,10 +30,10 @@ struct Streams<'r> {
 }
 
 impl<'r> Streams<'r> {
-    fn open(rt: &'r HostRuntime) -> Result<Streams<'r>, ArgumentsError> {
+    fn open(rt: &'r HostRuntime) -> Result<Streams<'r>, ArgumentsFault> {
         // The one thing that can fail is the memory in which output is collected.
         let Ok(sink) = StdSink::new(rt) else {
-            return Err(ArgumentsError::Memory);
+            return Err(ArgumentsFault::Memory);
         };
         Ok(Streams {
             source: StdSource::new(rt.clone()?),
@@ -84,7 +84,7 @@ fn run_on<R: Threads + Wait + Sync>(
     rt: &HostRuntime,
     line: CommandLine,
     streams: &mut Streams<'_>,
-) -> Result<u8, ArgumentsError> {
+) -> Result<u8, ArgumentsFault> {
     let CommandLine { device, words } = line;
     match device {
         Device::Memory(blocks) => {
@@ -96,7 +96,7 @@ fn run_on<R: Threads + Wait + Sync>(
             access,
         } => match open_disk(rt, path.as_str(), blocks, access) {
             Ok(file) => Ok(streams.run(threads, &words, file).status),
-            Err(_) => Err(ArgumentsError::Device),
+            Err(_) => Err(ArgumentsFault::Device),
         },
     }
 }
@@ -109,7 +109,7 @@ fn status_at_end(status: u8, written: bool) -> u8 {
 }
 
 /// The command that the words ask for, and its status.
-fn serve<R: Threads + Wait + Sync>(threads: &R, rt: &HostRuntime) -> Result<u8, ArgumentsError> {
+fn serve<R: Threads + Wait + Sync>(threads: &R, rt: &HostRuntime) -> Result<u8, ArgumentsFault> {
     let line = command_line(rt)?;
     let mut streams = Streams::open(rt)?;
     let status = run_on(threads, rt, line, &mut streams)?;
@@ -119,9 +119,9 @@ fn serve<R: Threads + Wait + Sync>(threads: &R, rt: &HostRuntime) -> Result<u8, 
 fn main(rt: HostRuntime) -> ExitCode {
     let (text, status) = match serve(&rt, &rt) {
         Ok(status) => return ExitCode::from(status),
-        Err(ArgumentsError::Usage) => ("usage", 2),
-        Err(ArgumentsError::Device) => ("device fault", 3),
-        Err(ArgumentsError::Memory) => ("no memory", 5),
+        Err(ArgumentsFault::Usage) => ("usage", 2),
+        Err(ArgumentsFault::Device) => ("device fault", 3),
+        Err(ArgumentsFault::Memory) => ("no memory", 5),
     };
     let _printed = println!(rt; "{text}");
     ExitCode::from(status)

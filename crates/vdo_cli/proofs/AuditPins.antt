@@ -23,7 +23,7 @@ use Rattle.vdo_cli.specs.Results.{TellsResult}
 use Rattle.vdo_cli.specs.Texts.{fault_text}
 use Rattle.vdo_cli.proofs.CommandPins.{audit_words}
 use Rattle.vdo_cli.proofs.PlayPins.{device, at, bare, begins, no_image, source, sink, status_in}
-use Rattle.vdo_cli.proofs.ResultPins as rows
+use Rattle.vdo_cli.proofs.ResultPins as pins
 use Rattle.vdo_cli.proofs.ResultPins.{Parts}
 use Rattle.vdo_cli.proofs.RunPins.{Ends, some_report}
 
@@ -46,14 +46,14 @@ Audits before after result = Looks (trust true false) (IsAudited true false befo
 
 parts : {before after : Outside} {status : ℕ} {report : RunReport} {ended : Option Fault} → Ends audit_words before after status report ended
     → Parts Audits (TellsReport true) told_as before after (outcome status report ended)
-parts {before = before} {after = after} ends = rows.parts Audits (TellsReport true) told_as before after _ ends
+parts {before = before} {after = after} ends = pins.parts Audits (TellsReport true) told_as before after _ ends
 
 -- Image. There is none, nothing was done,
 refused : Audits begins.device begins.device (Err (image.Super NotAnImage))
 refused = record {
   found = tt;
   failed = inl (inl (record { none = refl; fault_is = refl; same = refl }));
-  untouched = rows.untouched;
+  untouched = pins.untouched;
 }
 
 -- and the line says so:
@@ -139,11 +139,11 @@ looks-not_written status report ended ends = let since = ends.works.untouched.re
     written (Flush ok ∷ calls) is reads = reads
 
 looks-not_taken : (held : List ℕ) (status : ℕ) (report : RunReport) (ended : Option Fault) → Ends audit_words begins (bare [] [] held 0) status report ended → ⊥
-looks-not_taken held status report ended = rows.not_taken Audits (TellsResult true (TellsReport true) told_as) held (outcome status report ended)
+looks-not_taken held status report ended = pins.not_taken Audits (TellsResult true (TellsReport true) told_as) held (outcome status report ended)
 
 looks-not_source_failed : (held : List ℕ) (status : ℕ) (report : RunReport) (ended : Option Fault)
     → Ends audit_words begins (outside (device [] [] 0 0) (source (7 ∷ []) 1) (sink held 0)) status report ended → ⊥
-looks-not_source_failed held status report ended = rows.not_source_failed Audits (TellsResult true (TellsReport true) told_as) held (outcome status report ended)
+looks-not_source_failed held status report ended = pins.not_source_failed Audits (TellsResult true (TellsReport true) told_as) held (outcome status report ended)
 
 -- TellsReport. No block differs: the text was put, with status 0;
 clean-told : (found : Report) → found.differs.items ≡ [] → TellsReport true found 0 None (sink [] 0) (sink (report_text found) 0)
@@ -215,4 +215,4 @@ module _ (before after : Seen) (found : Report) (audited : IsAudited true false 
 
 -- with no report of a session
 told-not_reported : (before after : Outside) → Ends audit_words before after 0 some_report None → ⊥
-told-not_reported = rows.not_reported Audits (TellsReport true) told_as
+told-not_reported = pins.not_reported Audits (TellsReport true) told_as

@@ -13,8 +13,8 @@ use Rattle.blk_base.specs.declared.place.PageId.{PageId}
 use Rattle.blk_base.specs.declared.place.Pbn.{Pbn}
 use Rattle.page_codec.specs.Grammar.{AreHeld}
 use Rattle.page_codec.proofs.HeldLaws.{held_unmapped}
-use Rattle.dirty_pages.specs.Marks.{HasPoint, clean}
-use Rattle.dirty_pages.specs.declared.marks.Marks.{Marks}
+use Rattle.dirty_pages.specs.DirtyPoints.{HasPoint, clean}
+use Rattle.dirty_pages.specs.declared.dirty_points.DirtyPoints.{DirtyPoints}
 use Rattle.dirty_pages.proofs.PageLists.{replicate_at}
 use Rattle.block_map_tree.proofs.PageLaws.{in_row, root_or_lower, row_lower, row_root}
 use Rattle.block_map_tree.specs.Pages.{IsForest, IsOnPath}
@@ -33,7 +33,7 @@ abbrev count : Geometry → ℕ
 count g = most_rows g.height * trees_of (forest g)
 
 unfoldable pub bare : Geometry → Tree
-bare g = record { forest = forest g; pages = replicate (count g) blank; marks = replicate (count g) clean }
+bare g = record { forest = forest g; pages = replicate (count g) blank; dirty_points = replicate (count g) clean }
 
 blank_slot : (n place slot : ℕ) → slice_index_or (slice_index_or (replicate n blank) place []) slot Unmapped ≡ Unmapped
 blank_slot n place slot = elim (leb_tells n place) [
@@ -70,8 +70,8 @@ bare_is g links sizes unlinked =
         room = λ page on level. let place = in_row (forest g) page (most_rows g.height) is_forest on.tree (few_rows g page is_forest on level) in omega (arith, place, wide);
         most = omega (arith, wide);
         held = All-replicate (AreHeld g 1) n blank (held_unmapped g 1);
-        marks = marked ∙ sym wide;
-        there = λ page point inner has. absurd (elim (subst (λ (m : Marks). HasPoint m point) (replicate_at n _ clean) has) [ inl dirty ↦ cc | inr writing ↦ cc ]);
+        dirty_points = marked ∙ sym wide;
+        there = λ page point inner has. absurd (elim (subst (λ (m : DirtyPoints). HasPoint m point) (replicate_at n _ clean) has) [ inl dirty ↦ cc | inr writing ↦ cc ]);
       };
       linked = λ page linkable. ap block_in (blank_slot n _ _) ∙ sym (unlinked page);
     }

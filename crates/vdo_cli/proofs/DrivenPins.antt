@@ -26,7 +26,7 @@ use Rattle.core_model.specs.Uses.{counted, uncounted, used_at}
 use Rattle.page_codec.specs.declared.fault.PageFault.{PageFault}
 use Rattle.rebuild.specs.declared.forms.Recovered.{Recovered}
 use Rattle.schedule.specs.Turns.{Drives}
-use Rattle.stream_text.specs.StreamRows.{no_requests}
+use Rattle.stream_text.specs.StreamRequests.{no_requests}
 use Rattle.vdo_core.specs.Cores.{CanBegin}
 use Rattle.vdo_core.specs.Done.{IsDone}
 use Rattle.vdo_core.proofs.SessionLaws.{bare}

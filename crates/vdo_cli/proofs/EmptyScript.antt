@@ -24,7 +24,7 @@ use Rattle.plain_laws.specs.Sums.{Each}
 use Rattle.rebuild.specs.declared.forms.Recovered.{Recovered}
 use Rattle.slab_tickets.specs.Tickets.{Desk, empty_desk}
 use Rattle.step_parts.specs.DeviceLog.{HasCalled}
-use Rattle.stream_text.specs.StreamRows.{no_requests}
+use Rattle.stream_text.specs.StreamRequests.{no_requests}
 use Rattle.stream_text.specs.WholeScript.{whole_script}
 use Rattle.vdo_core.specs.Cores.{CanBegin}
 use Rattle.vdo_core.specs.Done.{IsDone}

@@ -7,7 +7,7 @@ use Rattle.disk_model.specs.Log.{Blocks}
 use Rattle.disk_model.specs.Seen.{Seen, Stays}
 use Rattle.disk_model.specs.Streams.{SourceSeen}
 use Rattle.image_format.specs.Formats.{LeavesEmpty, StopsAreRight}
-use Rattle.image_layout.specs.Planning.{plan_of}
+use Rattle.image_layout.specs.PossibleSizes.{plan_of}
 use Rattle.image_layout.specs.Superblock as superblock
 use Rattle.image_layout.specs.declared.fault.LayoutFault.{LayoutFault}
 use Rattle.image_layout.specs.declared.fault.LayoutFault.TheVariants.{TooSmall, LogicalTooLarge}

@@ -9,7 +9,7 @@ use Rattle.image_layout.specs.declared.fault.LayoutFault.TheVariants.{LogicalToo
 use Rattle.image_layout.specs.declared.fault.SuperFault.TheVariants.{NotAnImage}
 use Rattle.image_model.specs.declared.fault.ImageFault.TheVariants as image
 use Rattle.command_text.specs.Formats.{grown_text}
-use Rattle.grow_image.specs.Growing.{IsGrowing}
+use Rattle.grow_image.specs.Growth.{IsGrowing}
 use Rattle.grow_image.specs.declared.fault.GrowFault.{GrowFault}
 use Rattle.grow_image.specs.declared.fault.GrowFault.TheVariants as growth
 use Rattle.grow_image.specs.declared.forms.Grown.{Grown}
@@ -22,7 +22,7 @@ use Rattle.vdo_cli.specs.Results.{TellsResult}
 use Rattle.vdo_cli.specs.Texts.{fault_text}
 use Rattle.vdo_cli.proofs.CommandPins.{grow_words}
 use Rattle.vdo_cli.proofs.PlayPins.{at, bare, begins, first_of, no_image, source, sink}
-use Rattle.vdo_cli.proofs.ResultPins as rows
+use Rattle.vdo_cli.proofs.ResultPins as pins
 use Rattle.vdo_cli.proofs.ResultPins.{failed, flushed}
 use Rattle.vdo_cli.proofs.RunPins.{Ends, some_report}
 
@@ -45,12 +45,12 @@ told_mapped = refl
 -- Image. There is none, nothing was done,
 refused : IsGrowing true false 2000 2 begins.device begins.device (Err (growth.Image (image.Super NotAnImage)))
 refused = record {
-  stays = rows.untouched.stays;
-  later = rows.untouched.later;
+  stays = pins.untouched.stays;
+  later = pins.untouched.later;
   grows = λ told. ([], refl);
   answers = tt;
   fails = inl (inl (inl (record { none = refl; fault_is = refl; same = refl })));
-  nothing = inr rows.untouched;
+  nothing = inr pins.untouched;
   says = λ blocks is. let fair = is.fair in absurd cc;
   stops = λ blocks is. let fair = is.fair in absurd cc;
   grown = tt;
@@ -58,14 +58,14 @@ refused = record {
 
 -- and the line says so
 image-refused : Ends grow_words begins (bare [] (7 ∷ []) (fault_text no_image) 0) 4 no_report (Some no_image)
-image-refused = rows.refused (IsGrowing true false 2000 2) grown_text grow_told_as begins.device (growth.Image (image.Super NotAnImage)) refused
+image-refused = pins.refused (IsGrowing true false 2000 2) grown_text grow_told_as begins.device (growth.Image (image.Super NotAnImage)) refused
 
 image-not_another_status : (after : Outside) → Ends grow_words begins after 0 no_report (Some no_image) → ⊥
-image-not_another_status = rows.refused-not_another_status (IsGrowing true false 2000 2) grown_text grow_told_as
+image-not_another_status = pins.refused-not_another_status (IsGrowing true false 2000 2) grown_text grow_told_as
 
 -- a refused image isn't written
 image-not_written : (held : List ℕ) → Ends grow_words begins (bare (Flush true ∷ []) (7 ∷ []) held 0) 4 no_report (Some no_image) → ⊥
-image-not_written = rows.refused-not_written (IsGrowing true false 2000 2) grown_text grow_told_as nothing
+image-not_written = pins.refused-not_written (IsGrowing true false 2000 2) grown_text grow_told_as nothing
   where
     nothing : (why : GrowFault) → IsGrowing true false 2000 2 begins.device flushed (Err why) → (grow_told_as why ≡ fault.Device) ⊎ IsUntouched true begins.device flushed
     nothing why is = elim is.nothing [ inl device ↦ inl (ap grow_told_as device) | inr reads ↦ inr reads ]
@@ -77,7 +77,7 @@ failed_so = record {
   later = record { faults = omega arith; unkept = omega arith };
   grows = λ told. (Read (at 0) [] false ∷ [], refl);
   answers = tt;
-  fails = inl (inl rows.read_failed);
+  fails = inl (inl pins.read_failed);
   nothing = inl refl;
   says = λ blocks is. let fair = is.fair in absurd cc;
   stops = λ blocks is. let fair = is.fair in absurd cc;
@@ -86,34 +86,34 @@ failed_so = record {
 
 -- and the line says so
 device-failed : Ends grow_words begins (outside failed (source (7 ∷ []) 0) (sink (codes "device fault\n") 0)) 3 no_report (Some fault.Device)
-device-failed = rows.refused (IsGrowing true false 2000 2) grown_text grow_told_as failed (growth.Image image.Device) failed_so
+device-failed = pins.refused (IsGrowing true false 2000 2) grown_text grow_told_as failed (growth.Image image.Device) failed_so
 
 -- The script isn't looked at
 script-not_taken : (held : List ℕ) (status : ℕ) (report : RunReport) (ended : Option Fault) → Ends grow_words begins (bare [] [] held 0) status report ended → ⊥
-script-not_taken held status report ended = rows.not_taken (IsGrowing true false 2000 2) (TellsResult true (λ found. Tells true (grown_text found)) grow_told_as) held (outcome status report ended)
+script-not_taken held status report ended = pins.not_taken (IsGrowing true false 2000 2) (TellsResult true (λ found. Tells true (grown_text found)) grow_told_as) held (outcome status report ended)
 
 script-not_failed : (held : List ℕ) (status : ℕ) (report : RunReport) (ended : Option Fault)
     → Ends grow_words begins (outside begins.device (source (7 ∷ []) 1) (sink held 0)) status report ended → ⊥
-script-not_failed held status report ended = rows.not_source_failed (IsGrowing true false 2000 2) (TellsResult true (λ found. Tells true (grown_text found)) grow_told_as) held (outcome status report ended)
+script-not_failed held status report ended = pins.not_source_failed (IsGrowing true false 2000 2) (TellsResult true (λ found. Tells true (grown_text found)) grow_told_as) held (outcome status report ended)
 
 -- Told. The image has grown, and the line was put, with status 0;
 told-put : (before after : Seen) (found : Grown) → IsGrowing true false 2000 2 before after (Ok found)
     → Ends grow_words (outside before (source [] 0) (sink [] 0)) (outside after (source [] 0) (sink (grown_text found) 0)) 0 no_report None
-told-put = rows.put (IsGrowing true false 2000 2) grown_text grow_told_as
+told-put = pins.put (IsGrowing true false 2000 2) grown_text grow_told_as
 
 -- or a part of it, with 7
 told-part : (before after : Seen) (found : Grown) → IsGrowing true false 2000 2 before after (Ok found) → (n : ℕ)
     → Ends grow_words (outside before (source [] 0) (sink [] 0)) (outside after (source [] 0) (sink (take n (grown_text found)) 1)) 7 no_report (Some fault.Sink)
-told-part = rows.put_part (IsGrowing true false 2000 2) grown_text grow_told_as
+told-part = pins.put_part (IsGrowing true false 2000 2) grown_text grow_told_as
 
 told-not_another_status : (before after : Outside) (report : RunReport) → Ends grow_words before after 4 report None → ⊥
-told-not_another_status = rows.put-not_another_status (IsGrowing true false 2000 2) grown_text grow_told_as 4 (omega arith)
+told-not_another_status = pins.put-not_another_status (IsGrowing true false 2000 2) grown_text grow_told_as 4 (omega arith)
 
 told-not_reported : (before after : Outside) → Ends grow_words before after 0 some_report None → ⊥
-told-not_reported = rows.not_reported (IsGrowing true false 2000 2) (λ found. Tells true (grown_text found)) grow_told_as
+told-not_reported = pins.not_reported (IsGrowing true false 2000 2) (λ found. Tells true (grown_text found)) grow_told_as
 
 told-not_silent : (before after : Seen) → Ends grow_words (outside before (source [] 0) (sink [] 0)) (outside after (source [] 0) (sink [] 0)) 0 no_report None → ⊥
-told-not_silent = rows.put-not_silent (IsGrowing true false 2000 2) grown_text grow_told_as some
+told-not_silent = pins.put-not_silent (IsGrowing true false 2000 2) grown_text grow_told_as some
   where
     some : (found : Grown) → [] ≡ grown_text found → ⊥
     some found put = let first : ◌≡◌ {A = ℕ} 0 103 = ap first_of put in omega (arith, first)

@@ -15,7 +15,7 @@ use Rattle.rebuild.specs.Recoveries.{IsRecovery, IsTold}
 use Rattle.rebuild.specs.declared.forms.Recovered.{Recovered}
 use Rattle.rebuild.specs.declared.forms.Recovered.TheVariants.{Clean, Entries}
 use Rattle.stream_text.specs.WholeScript.{whole_script}
-use Rattle.stream_text.specs.declared.refusal.ScriptRefusal.{ScriptRefusal}
+use Rattle.stream_text.specs.declared.refusal.ScriptFault.{ScriptFault}
 use Rattle.vdo_model.specs.Scripts.{Script}
 use Rattle.vdo_model.specs.declared.report.RunReport.{RunReport}
 use Rattle.vdo_cli.specs.declared.fault.Fault.{Fault}
@@ -90,7 +90,7 @@ image-not_script_read byte (inr fails) = no_room fails.ready.middle fails.found 
 
 -- Recovered, or with nothing to recover, and opened: this line of the script is the first with a fault, or the source failed
 module _ (before after : Seen) (found : Recovered) (start : Opened) (ready : IsReady (trust true false) before after found start) where
-  script-refused : (left : List ℕ) (refusal : ScriptRefusal) → whole_script left ≡ Err refusal → Fails before after left [] (recovered_of found) (fault.Script refusal)
+  script-refused : (left : List ℕ) (refusal : ScriptFault) → whole_script left ≡ Err refusal → Fails before after left [] (recovered_of found) (fault.Script refusal)
   script-refused left refusal says = inr (record { found = found; recovered_is = refl; start = start; ready = ready; cause = λ told. says })
 
   read-failed : (left : List ℕ) → PlayFails (input_setting true false true) (inputs before (source left 0)) (inputs after (source left 1)) (recovered_of found) fault.Read
@@ -100,7 +100,7 @@ module _ (before after : Seen) (found : Recovered) (start : Opened) (ready : IsR
   memory-free left = inr (record { found = found; recovered_is = refl; start = start; ready = ready; cause = tt })
 
 -- no image is told as a fault of the script, of its source, of the words or of the sink
-not_of_script : (cause : ImageFault) (refusal : ScriptRefusal) → fault.Script refusal ≡ told_as cause → ⊥
+not_of_script : (cause : ImageFault) (refusal : ScriptFault) → fault.Script refusal ≡ told_as cause → ⊥
 not_of_script image.Device refusal is = absurd cc
 not_of_script image.Memory refusal is = absurd cc
 not_of_script image.Unclean refusal is = absurd cc
@@ -123,12 +123,12 @@ not_of_source (image.SharedPage block) is = absurd cc
 not_of_source (image.Counts block stored mapped) is = absurd cc
 
 -- no line has a fault, or another one
-script-not_accepted : (before after : Seen) (left : List ℕ) (recovered : Option ℕ) (script : Script) (refusal : ScriptRefusal) → whole_script left ≡ Ok script
+script-not_accepted : (before after : Seen) (left : List ℕ) (recovered : Option ℕ) (script : Script) (refusal : ScriptFault) → whole_script left ≡ Ok script
     → Fails before after left [] recovered (fault.Script refusal) → ⊥
 script-not_accepted before after left recovered script refusal says (inl fails) = not_of_script fails.fails.cause refusal fails.fails.fault_is
 script-not_accepted before after left recovered script refusal says (inr fails) = let said = fails.cause refl in absurd cc
 
-script-not_another : (before after : Seen) (left : List ℕ) (recovered : Option ℕ) (refusal other : ScriptRefusal) → whole_script left ≡ Err refusal → refusal ≢ other
+script-not_another : (before after : Seen) (left : List ℕ) (recovered : Option ℕ) (refusal other : ScriptFault) → whole_script left ≡ Err refusal → refusal ≢ other
     → Fails before after left [] recovered (fault.Script other) → ⊥
 script-not_another before after left recovered refusal other says differ (inl fails) = not_of_script fails.fails.cause other fails.fails.fault_is
 script-not_another before after left recovered refusal other says differ (inr fails) = let said = fails.cause refl in let same : refusal ≡ other = cc in differ same

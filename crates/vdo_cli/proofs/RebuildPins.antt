@@ -9,7 +9,7 @@ use Rattle.image_model.specs.declared.fault.ImageFault.{ImageFault}
 use Rattle.image_model.specs.declared.fault.ImageFault.TheVariants as image
 use Rattle.command_text.specs.Rebuilt.{rebuilt_text}
 use Rattle.force_rebuild.proofs.ShownLaws.{force_last}
-use Rattle.force_rebuild.specs.Forcing.{IsForcing}
+use Rattle.force_rebuild.specs.ForcedRebuild.{IsForcing}
 use Rattle.force_rebuild.specs.declared.forms.Forced.{Forced}
 use Rattle.vdo_model.specs.declared.report.RunReport.{RunReport}
 use Rattle.vdo_cli.specs.declared.fault.Fault.{Fault}
@@ -20,19 +20,19 @@ use Rattle.vdo_cli.specs.Results.{TellsResult}
 use Rattle.vdo_cli.specs.Texts.{fault_text}
 use Rattle.vdo_cli.proofs.CommandPins.{rebuild_words}
 use Rattle.vdo_cli.proofs.PlayPins.{at, bare, begins, first_of, no_image, source, sink}
-use Rattle.vdo_cli.proofs.ResultPins as rows
+use Rattle.vdo_cli.proofs.ResultPins as pins
 use Rattle.vdo_cli.proofs.ResultPins.{failed, flushed, went_on}
 use Rattle.vdo_cli.proofs.RunPins.{Ends, some_report}
 
 -- Image. There is none, nothing was done,
 refused : IsForcing true false begins.device begins.device (Err (image.Super NotAnImage))
 refused = record {
-  stays = rows.untouched.stays;
-  later = rows.untouched.later;
+  stays = pins.untouched.stays;
+  later = pins.untouched.later;
   grows = λ told. ([], refl);
   answers = tt;
   fails = inl (inl (record { none = refl; fault_is = refl; same = refl }));
-  nothing = inr rows.untouched;
+  nothing = inr pins.untouched;
   says = λ blocks is. let fair = is.fair in absurd cc;
   stops = λ blocks is. let fair = is.fair in absurd cc;
   rebuilt = tt;
@@ -40,14 +40,14 @@ refused = record {
 
 -- and the line says so
 image-refused : Ends rebuild_words begins (bare [] (7 ∷ []) (fault_text no_image) 0) 4 no_report (Some no_image)
-image-refused = rows.refused (IsForcing true false) rebuilt_text told_as begins.device (image.Super NotAnImage) refused
+image-refused = pins.refused (IsForcing true false) rebuilt_text told_as begins.device (image.Super NotAnImage) refused
 
 image-not_another_status : (after : Outside) → Ends rebuild_words begins after 0 no_report (Some no_image) → ⊥
-image-not_another_status = rows.refused-not_another_status (IsForcing true false) rebuilt_text told_as
+image-not_another_status = pins.refused-not_another_status (IsForcing true false) rebuilt_text told_as
 
 -- a refused image isn't written
 image-not_written : (held : List ℕ) → Ends rebuild_words begins (bare (Flush true ∷ []) (7 ∷ []) held 0) 4 no_report (Some no_image) → ⊥
-image-not_written = rows.refused-not_written (IsForcing true false) rebuilt_text told_as nothing
+image-not_written = pins.refused-not_written (IsForcing true false) rebuilt_text told_as nothing
   where
     nothing : (why : ImageFault) → IsForcing true false begins.device flushed (Err why) → (told_as why ≡ fault.Device) ⊎ IsUntouched true begins.device flushed
     nothing why is = elim is.nothing [ inl device ↦ inl (ap told_as device) | inr reads ↦ inr reads ]
@@ -59,7 +59,7 @@ failed_so = record {
   later = record { faults = omega arith; unkept = omega arith };
   grows = λ told. (Read (at 0) [] false ∷ [], refl);
   answers = tt;
-  fails = inl rows.read_failed;
+  fails = inl pins.read_failed;
   nothing = inl refl;
   says = λ blocks is. let fair = is.fair in absurd cc;
   stops = λ blocks is. let fair = is.fair in absurd cc;
@@ -68,41 +68,41 @@ failed_so = record {
 
 -- and the line says so;
 device-failed : Ends rebuild_words begins (outside failed (source (7 ∷ []) 0) (sink (codes "device fault\n") 0)) 3 no_report (Some fault.Device)
-device-failed = rows.refused (IsForcing true false) rebuilt_text told_as failed image.Device failed_so
+device-failed = pins.refused (IsForcing true false) rebuilt_text told_as failed image.Device failed_so
 
 -- and none was made after it
 device-not_last : (held : List ℕ) → Ends rebuild_words begins (outside went_on (source (7 ∷ []) 0) (sink held 0)) 3 no_report (Some fault.Device) → ⊥
-device-not_last = rows.failed-not_last (IsForcing true false) rebuilt_text none
+device-not_last = pins.failed-not_last (IsForcing true false) rebuilt_text none
   where
     none : IsForcing true false begins.device went_on (Err image.Device) → ⊥
-    none is = let last = (force_last true false begins.device went_on is.fails).logged refl in rows.not_last last.0 last.1 last.2 last.3
+    none is = let last = (force_last true false begins.device went_on is.fails).logged refl in pins.not_last last.0 last.1 last.2 last.3
 
 -- The script isn't looked at
 script-not_taken : (held : List ℕ) (status : ℕ) (report : RunReport) (ended : Option Fault) → Ends rebuild_words begins (bare [] [] held 0) status report ended → ⊥
-script-not_taken held status report ended = rows.not_taken (IsForcing true false) (TellsResult true (λ found. Tells true (rebuilt_text found)) told_as) held (outcome status report ended)
+script-not_taken held status report ended = pins.not_taken (IsForcing true false) (TellsResult true (λ found. Tells true (rebuilt_text found)) told_as) held (outcome status report ended)
 
 script-not_failed : (held : List ℕ) (status : ℕ) (report : RunReport) (ended : Option Fault)
     → Ends rebuild_words begins (outside begins.device (source (7 ∷ []) 1) (sink held 0)) status report ended → ⊥
-script-not_failed held status report ended = rows.not_source_failed (IsForcing true false) (TellsResult true (λ found. Tells true (rebuilt_text found)) told_as) held (outcome status report ended)
+script-not_failed held status report ended = pins.not_source_failed (IsForcing true false) (TellsResult true (λ found. Tells true (rebuilt_text found)) told_as) held (outcome status report ended)
 
 -- Told. The image was rebuilt, and the line was put, with status 0;
 told-put : (before after : Seen) (found : Forced) → IsForcing true false before after (Ok found)
     → Ends rebuild_words (outside before (source [] 0) (sink [] 0)) (outside after (source [] 0) (sink (rebuilt_text found) 0)) 0 no_report None
-told-put = rows.put (IsForcing true false) rebuilt_text told_as
+told-put = pins.put (IsForcing true false) rebuilt_text told_as
 
 -- or a part of it, with 7
 told-part : (before after : Seen) (found : Forced) → IsForcing true false before after (Ok found) → (n : ℕ)
     → Ends rebuild_words (outside before (source [] 0) (sink [] 0)) (outside after (source [] 0) (sink (take n (rebuilt_text found)) 1)) 7 no_report (Some fault.Sink)
-told-part = rows.put_part (IsForcing true false) rebuilt_text told_as
+told-part = pins.put_part (IsForcing true false) rebuilt_text told_as
 
 told-not_another_status : (before after : Outside) (report : RunReport) → Ends rebuild_words before after 4 report None → ⊥
-told-not_another_status = rows.put-not_another_status (IsForcing true false) rebuilt_text told_as 4 (omega arith)
+told-not_another_status = pins.put-not_another_status (IsForcing true false) rebuilt_text told_as 4 (omega arith)
 
 told-not_reported : (before after : Outside) → Ends rebuild_words before after 0 some_report None → ⊥
-told-not_reported = rows.not_reported (IsForcing true false) (λ found. Tells true (rebuilt_text found)) told_as
+told-not_reported = pins.not_reported (IsForcing true false) (λ found. Tells true (rebuilt_text found)) told_as
 
 told-not_silent : (before after : Seen) → Ends rebuild_words (outside before (source [] 0) (sink [] 0)) (outside after (source [] 0) (sink [] 0)) 0 no_report None → ⊥
-told-not_silent = rows.put-not_silent (IsForcing true false) rebuilt_text told_as some
+told-not_silent = pins.put-not_silent (IsForcing true false) rebuilt_text told_as some
   where
     some : (found : Forced) → [] ≡ rebuilt_text found → ⊥
     some found put = let first : ◌≡◌ {A = ℕ} 0 114 = ap first_of put in omega (arith, first)

@@ -21,19 +21,19 @@ use Rattle.vdo_cli.specs.Results.{TellsResult}
 use Rattle.vdo_cli.specs.Texts.{fault_text}
 use Rattle.vdo_cli.proofs.CommandPins.{recover_words}
 use Rattle.vdo_cli.proofs.PlayPins.{at, bare, begins, first_of, no_image, source, sink}
-use Rattle.vdo_cli.proofs.ResultPins as rows
+use Rattle.vdo_cli.proofs.ResultPins as pins
 use Rattle.vdo_cli.proofs.ResultPins.{failed, flushed, went_on}
 use Rattle.vdo_cli.proofs.RunPins.{Ends, some_report}
 
 -- Image. There is none, nothing was done,
 pub refused : IsRecovery true false begins.device begins.device (Err (image.Super NotAnImage))
 refused = record {
-  stays = rows.untouched.stays;
-  later = rows.untouched.later;
+  stays = pins.untouched.stays;
+  later = pins.untouched.later;
   grows = λ told. ([], refl);
   answers = tt;
   fails = inl (inl (record { none = refl; fault_is = refl; same = refl }));
-  nothing = inr rows.untouched;
+  nothing = inr pins.untouched;
   says = λ blocks is. let fair = is.fair in absurd cc;
   stops = λ blocks is. let fair = is.fair in absurd cc;
   closed = tt;
@@ -41,14 +41,14 @@ refused = record {
 
 -- and the line says so
 image-refused : Ends recover_words begins (bare [] (7 ∷ []) (fault_text no_image) 0) 4 no_report (Some no_image)
-image-refused = rows.refused (IsRecovery true false) recovery_text told_as begins.device (image.Super NotAnImage) refused
+image-refused = pins.refused (IsRecovery true false) recovery_text told_as begins.device (image.Super NotAnImage) refused
 
 image-not_another_status : (after : Outside) → Ends recover_words begins after 0 no_report (Some no_image) → ⊥
-image-not_another_status = rows.refused-not_another_status (IsRecovery true false) recovery_text told_as
+image-not_another_status = pins.refused-not_another_status (IsRecovery true false) recovery_text told_as
 
 -- a refused image isn't written
 image-not_written : (held : List ℕ) → Ends recover_words begins (bare (Flush true ∷ []) (7 ∷ []) held 0) 4 no_report (Some no_image) → ⊥
-image-not_written = rows.refused-not_written (IsRecovery true false) recovery_text told_as nothing
+image-not_written = pins.refused-not_written (IsRecovery true false) recovery_text told_as nothing
   where
     nothing : (why : ImageFault) → IsRecovery true false begins.device flushed (Err why) → (told_as why ≡ fault.Device) ⊎ IsUntouched true begins.device flushed
     nothing why is = elim is.nothing [ inl device ↦ inl (ap told_as device) | inr reads ↦ inr reads ]
@@ -60,7 +60,7 @@ failed_so = record {
   later = record { faults = omega arith; unkept = omega arith };
   grows = λ told. (Read (at 0) [] false ∷ [], refl);
   answers = tt;
-  fails = inl rows.read_failed;
+  fails = inl pins.read_failed;
   nothing = inl refl;
   says = λ blocks is. let fair = is.fair in absurd cc;
   stops = λ blocks is. let fair = is.fair in absurd cc;
@@ -69,52 +69,52 @@ failed_so = record {
 
 -- and the line says so;
 device-failed : Ends recover_words begins (outside failed (source (7 ∷ []) 0) (sink (codes "device fault\n") 0)) 3 no_report (Some fault.Device)
-device-failed = rows.refused (IsRecovery true false) recovery_text told_as failed image.Device failed_so
+device-failed = pins.refused (IsRecovery true false) recovery_text told_as failed image.Device failed_so
 
 -- and none was made after it
 device-not_last : (held : List ℕ) → Ends recover_words begins (outside went_on (source (7 ∷ []) 0) (sink held 0)) 3 no_report (Some fault.Device) → ⊥
-device-not_last = rows.failed-not_last (IsRecovery true false) recovery_text none
+device-not_last = pins.failed-not_last (IsRecovery true false) recovery_text none
   where
     none : IsRecovery true false begins.device went_on (Err image.Device) → ⊥
-    none is = let last = (recover_last true false begins.device went_on is.fails).logged refl in rows.not_last last.0 last.1 last.2 last.3
+    none is = let last = (recover_last true false begins.device went_on is.fails).logged refl in pins.not_last last.0 last.1 last.2 last.3
 
 -- nor is a closed one written
 clean-not_written : Ends recover_words begins (bare (Flush true ∷ []) (7 ∷ []) (codes "clean\n") 0) 0 no_report None → ⊥
-clean-not_written ends = elim (rows.parts (IsRecovery true false) (λ found. Tells true (recovery_text found)) told_as _ _ _ ends) [
+clean-not_written ends = elim (pins.parts (IsRecovery true false) (λ found. Tells true (recovery_text found)) told_as _ _ _ ends) [
   | inl (found, recovery, told) ↦ by_what_was_found found recovery (told.told.1 refl)
   | inr (why, recovery, told) ↦ let same = told.fault_is in absurd cc
 ]
   where
     by_what_was_found : (found : Recovered) → IsRecovery true false begins.device flushed (Ok found) → codes "clean\n" ≡ recovery_text found → ⊥
-    by_what_was_found Clean recovery put = rows.not_flushed recovery.answers.3
+    by_what_was_found Clean recovery put = pins.not_flushed recovery.answers.3
     by_what_was_found (Entries count) recovery put = let first : ◌≡◌ {A = ℕ} 99 114 = ap first_of put in omega (arith, first)
 
 -- The script isn't looked at
 script-not_taken : (held : List ℕ) (status : ℕ) (report : RunReport) (ended : Option Fault) → Ends recover_words begins (bare [] [] held 0) status report ended → ⊥
-script-not_taken held status report ended = rows.not_taken (IsRecovery true false) (TellsResult true (λ found. Tells true (recovery_text found)) told_as) held (outcome status report ended)
+script-not_taken held status report ended = pins.not_taken (IsRecovery true false) (TellsResult true (λ found. Tells true (recovery_text found)) told_as) held (outcome status report ended)
 
 script-not_failed : (held : List ℕ) (status : ℕ) (report : RunReport) (ended : Option Fault)
     → Ends recover_words begins (outside begins.device (source (7 ∷ []) 1) (sink held 0)) status report ended → ⊥
-script-not_failed held status report ended = rows.not_source_failed (IsRecovery true false) (TellsResult true (λ found. Tells true (recovery_text found)) told_as) held (outcome status report ended)
+script-not_failed held status report ended = pins.not_source_failed (IsRecovery true false) (TellsResult true (λ found. Tells true (recovery_text found)) told_as) held (outcome status report ended)
 
 -- Told. The image was recovered, or had nothing to recover, and the line was put, with status 0;
 told-put : (before after : Seen) (found : Recovered) → IsRecovery true false before after (Ok found)
     → Ends recover_words (outside before (source [] 0) (sink [] 0)) (outside after (source [] 0) (sink (recovery_text found) 0)) 0 no_report None
-told-put = rows.put (IsRecovery true false) recovery_text told_as
+told-put = pins.put (IsRecovery true false) recovery_text told_as
 
 -- or a part of it, with 7
 told-part : (before after : Seen) (found : Recovered) → IsRecovery true false before after (Ok found) → (n : ℕ)
     → Ends recover_words (outside before (source [] 0) (sink [] 0)) (outside after (source [] 0) (sink (take n (recovery_text found)) 1)) 7 no_report (Some fault.Sink)
-told-part = rows.put_part (IsRecovery true false) recovery_text told_as
+told-part = pins.put_part (IsRecovery true false) recovery_text told_as
 
 told-not_another_status : (before after : Outside) (report : RunReport) → Ends recover_words before after 4 report None → ⊥
-told-not_another_status = rows.put-not_another_status (IsRecovery true false) recovery_text told_as 4 (omega arith)
+told-not_another_status = pins.put-not_another_status (IsRecovery true false) recovery_text told_as 4 (omega arith)
 
 told-not_reported : (before after : Outside) → Ends recover_words before after 0 some_report None → ⊥
-told-not_reported = rows.not_reported (IsRecovery true false) (λ found. Tells true (recovery_text found)) told_as
+told-not_reported = pins.not_reported (IsRecovery true false) (λ found. Tells true (recovery_text found)) told_as
 
 told-not_silent : (before after : Seen) → Ends recover_words (outside before (source [] 0) (sink [] 0)) (outside after (source [] 0) (sink [] 0)) 0 no_report None → ⊥
-told-not_silent = rows.put-not_silent (IsRecovery true false) recovery_text told_as some
+told-not_silent = pins.put-not_silent (IsRecovery true false) recovery_text told_as some
   where
     some : (found : Recovered) → [] ≡ recovery_text found → ⊥
     some Clean put = let first : ◌≡◌ {A = ℕ} 0 99 = ap first_of put in omega (arith, first)

@@ -4,7 +4,7 @@ use Rattle.blk_base.specs.declared.opened.Opened.{Opened}
 use Rattle.core_model.specs.SessionLimits.{requests_in}
 use Rattle.rebuild.specs.Openings.{Fits, HasItsHead}
 use Rattle.stream_text.specs.ReadingBytes.{IsWholeScript}
-use Rattle.stream_text.specs.StreamRows.{count_of}
+use Rattle.stream_text.specs.StreamRequests.{count_of}
 use Rattle.vdo_core.specs.Cores.{CanBegin}
 use Rattle.vdo_model.specs.Scripts.{Script}
 use Rattle.vdo_cli.specs.Sessions.{run_sizes}

@@ -7,7 +7,7 @@ use Rattle.disk_model.specs.Numbers.{next_state, number_in}
 use Rattle.stream_text.proofs.StreamLaws.{count-more, rows-kept}
 use Rattle.stream_text.proofs.WholeBlockLaws.{rows-with}
 use Rattle.stream_text.specs.ReadingBytes.{EachRequest, IsWholeScript}
-use Rattle.stream_text.specs.StreamRows.{count_of}
+use Rattle.stream_text.specs.StreamRequests.{count_of}
 use Rattle.stream_text.specs.Workloads.{drawn_block, drawn_kind, drawn_request, drawn_write, filled_block, state_before, workload_of}
 use Rattle.stream_text.specs.declared.random_requests.Drawn.{Drawn}
 use Rattle.vdo_model.specs.Scripts.{Script, IsServed}

@@ -7,7 +7,7 @@ use Rattle.page_codec.specs.declared.fault.PageFault.TheVariants.{Header}
 use Rattle.rebuild.specs.Recoveries.{IsRecovery}
 use Rattle.rebuild.specs.declared.forms.Recovered.{Recovered}
 use Rattle.rebuild.specs.declared.forms.Recovered.TheVariants.{Clean, Entries}
-use Rattle.stream_text.specs.StreamRows.{no_requests}
+use Rattle.stream_text.specs.StreamRequests.{no_requests}
 use Rattle.stream_text.specs.WholeScript.{whole_script}
 use Rattle.vdo_model.specs.declared.report.Damage.TheVariants.{Page}
 use Rattle.vdo_model.specs.declared.report.DeskLine.TheVariants.{Answer}

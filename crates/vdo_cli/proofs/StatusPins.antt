@@ -18,7 +18,7 @@ use Rattle.vdo_cli.specs.Results.{TellsResult}
 use Rattle.vdo_cli.specs.Texts.{fault_text}
 use Rattle.vdo_cli.proofs.CommandPins.{status_words}
 use Rattle.vdo_cli.proofs.PlayPins.{bare, begins, no_image, source, sink}
-use Rattle.vdo_cli.proofs.ResultPins as rows
+use Rattle.vdo_cli.proofs.ResultPins as pins
 use Rattle.vdo_cli.proofs.RunPins.{Ends, some_report}
 use Rattle.image_model.specs.declared.fault.ImageFault.{ImageFault}
 
@@ -28,33 +28,33 @@ Reads_so before after result = Looks (trust true false) (IsStatusRead true false
 
 -- Image. There is none, nothing was done, and the line says so
 image-refused : Ends status_words begins (bare [] (7 ∷ []) (fault_text no_image) 0) 4 no_report (Some no_image)
-image-refused = rows.refused Reads_so status_text told_as begins.device (image.Super NotAnImage) (record {
+image-refused = pins.refused Reads_so status_text told_as begins.device (image.Super NotAnImage) (record {
   found = tt;
   failed = inl (inl (record { none = refl; fault_is = refl; same = refl }));
-  untouched = rows.untouched;
+  untouched = pins.untouched;
 })
 
 image-not_another_status : (after : Outside) → Ends status_words begins after 0 no_report (Some no_image) → ⊥
-image-not_another_status = rows.refused-not_another_status Reads_so status_text told_as
+image-not_another_status = pins.refused-not_another_status Reads_so status_text told_as
 
 -- Nothing is written, and the script isn't looked at
 looks-not_written : (status : ℕ) (report : RunReport) (ended : Option Fault) → Ends status_words begins (bare (Flush true ∷ []) (7 ∷ []) [] 0) status report ended → ⊥
-looks-not_written status report ended ends = rows.not_flushed ends.works.untouched
+looks-not_written status report ended ends = pins.not_flushed ends.works.untouched
 
 looks-not_taken : (held : List ℕ) (status : ℕ) (report : RunReport) (ended : Option Fault) → Ends status_words begins (bare [] [] held 0) status report ended → ⊥
-looks-not_taken held status report ended = rows.not_taken Reads_so (TellsResult true (λ found. Tells true (status_text found)) told_as) held (outcome status report ended)
+looks-not_taken held status report ended = pins.not_taken Reads_so (TellsResult true (λ found. Tells true (status_text found)) told_as) held (outcome status report ended)
 
 -- Told. The image was looked at, and its lines were put, with status 0;
 module _ (before after : Seen) (found : ImageStatus) (read : IsStatusRead true false before after found) (untouched : IsUntouched true before after) where
   told-put : Ends status_words (outside before (source [] 0) (sink [] 0)) (outside after (source [] 0) (sink (status_text found) 0)) 0 no_report None
-  told-put = rows.put Reads_so status_text told_as before after found (record { found = read; failed = tt; untouched = untouched })
+  told-put = pins.put Reads_so status_text told_as before after found (record { found = read; failed = tt; untouched = untouched })
 
   -- or a part of them, with 7
   told-part : (n : ℕ) → Ends status_words (outside before (source [] 0) (sink [] 0)) (outside after (source [] 0) (sink (take n (status_text found)) 1)) 7 no_report (Some fault.Sink)
-  told-part = rows.put_part Reads_so status_text told_as before after found (record { found = read; failed = tt; untouched = untouched })
+  told-part = pins.put_part Reads_so status_text told_as before after found (record { found = read; failed = tt; untouched = untouched })
 
 told-not_another_status : (before after : Outside) (report : RunReport) → Ends status_words before after 6 report None → ⊥
-told-not_another_status = rows.put-not_another_status Reads_so status_text told_as 6 (omega arith)
+told-not_another_status = pins.put-not_another_status Reads_so status_text told_as 6 (omega arith)
 
 told-not_reported : (before after : Outside) → Ends status_words before after 0 some_report None → ⊥
-told-not_reported = rows.not_reported Reads_so (λ found. Tells true (status_text found)) told_as
+told-not_reported = pins.not_reported Reads_so (λ found. Tells true (status_text found)) told_as

@@ -5,6 +5,7 @@ use Rattle.blk_base.specs.declared.opened.Opened.{Opened}
 use Rattle.blk_base.specs.declared.request.Answer.TheVariants as reply
 use Rattle.blk_base.specs.declared.request.Request.TheVariants as request
 use Rattle.command_text.specs.Workloads.{summary_text}
+use Rattle.disk_model.specs.Numbers.{next_state, number_in}
 use Rattle.disk_model.specs.Seen.{Seen}
 use Rattle.disk_model.specs.Streams.{SourceSeen}
 use Rattle.image_model.specs.declared.fault.ImageFault.TheVariants as image
@@ -32,9 +33,11 @@ use Rattle.vdo_cli.proofs.RunPins.{Ends, some_report, status_by}
 
 -- requests_for: those of the seed, the streams, the logical size, and so many
 drawn_of_0 : requests_for (draws 2 2) 1000 ≡ (request.Discard (record { 0 = 424 }) ∷ []) ∷ (request.Write (record { 0 = 236 }) (filled_block 13) false ∷ []) ∷ replicate 14 []
+unfolding next_state number_in
 drawn_of_0 = refl
 
 drawn_of_another_size : requests_for (draws 1 2) 100 ≡ (request.Discard (record { 0 = 24 }) ∷ []) ∷ replicate 15 []
+unfolding next_state number_in
 drawn_of_another_size = refl
 
 -- summary_of: the number of requests is that of the options, and the answers are those of the report

@@ -1,6 +1,6 @@
 -- How the growing of an image ends.
 use Rattle.command_text.specs.Formats.{grown_text}
-use Rattle.grow_image.specs.Growing.{IsGrowing}
+use Rattle.grow_image.specs.Growth.{IsGrowing}
 use Rattle.grow_image.specs.declared.fault.GrowFault.{GrowFault}
 use Rattle.grow_image.specs.declared.fault.GrowFault.TheVariants.{Image, Smaller, Layout, Mapped}
 use Rattle.grow_image.specs.declared.forms.Grown.{Grown}

@@ -4,7 +4,7 @@ use Rattle.blk_base.specs.declared.geometry.Geometry.{Geometry}
 use Rattle.disk_model.specs.Seen.{Seen, Stays}
 use Rattle.image_format.specs.Formats.{FormatFails, LeavesEmpty, StopsAreRight}
 use Rattle.image_format.specs.declared.fault.FormatFault.TheVariants as format
-use Rattle.image_layout.specs.Planning.{plan_of}
+use Rattle.image_layout.specs.PossibleSizes.{plan_of}
 use Rattle.command_text.specs.Formats.{formatted_text}
 use Rattle.vdo_cli.specs.declared.fault.Fault.{Fault}
 use Rattle.vdo_cli.specs.declared.fault.Fault.TheVariants as fault

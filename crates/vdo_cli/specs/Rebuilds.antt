@@ -1,6 +1,6 @@
 -- How a forced rebuild of an image ends.
 use Rattle.command_text.specs.Rebuilt.{rebuilt_text}
-use Rattle.force_rebuild.specs.Forcing.{IsForcing}
+use Rattle.force_rebuild.specs.ForcedRebuild.{IsForcing}
 use Rattle.force_rebuild.specs.declared.forms.Forced.{Forced}
 use Rattle.vdo_cli.specs.Inspections.{told_as}
 use Rattle.vdo_cli.specs.Outsides.{Outcome, Outside, Setting, Tells}

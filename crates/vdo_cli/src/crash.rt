@@ -9,10 +9,10 @@ ghost use Rattle.vdo_cli.specs.Crashes.{CopyFails, CrashFails, IsServedOrNot, Is
 ghost use Rattle.vdo_cli.specs.Outsides.{input_setting, inputs, trust};
 
 use crate::Fault;
-use crate::ready::{NotReady, get_ready};
+use crate::ready::{OpeningFault, get_ready};
 use crate::session::{read_requests, serve};
 use crash_images::{CutDisk, Shown, copy_of, show_pick};
-use disk_model::{Disk, MemDisk, ReadError, Source};
+use disk_model::{BlocksFault, Disk, MemDisk, Source};
 use image_layout::LayoutFault;
 use image_model::ImageFault;
 use std::alloc::{AllocError, Global};
@@ -51,8 +51,8 @@ fn copy_whole<D: Disk>(alloc: Global, device: &mut D) -> Result<MemDisk, Fault>
     }
     match copy_of(alloc, device) {
         Ok(copy) => Ok(copy),
-        Err(ReadError::Device) => Err(Fault::Device),
-        Err(ReadError::Memory) => Err(Fault::Memory),
+        Err(BlocksFault::Device) => Err(Fault::Device),
+        Err(BlocksFault::Memory) => Err(Fault::Memory),
     }
 }
 
@@ -90,7 +90,7 @@ fn serve_on<R: Wait, D: Disk>(
     match get_ready(alloc, device) {
         Ok(ready) => serve(rt, alloc, schedule, &ready, requests, device),
         Err(
-            NotReady {
+            OpeningFault {
                 why: ImageFault::Memory,
                 ..
             },

@@ -1,7 +1,7 @@
 use grow_image::GrowFault;
 use image_layout::LayoutFault;
 use image_model::ImageFault;
-use stream_text::ScriptRefusal;
+use stream_text::ScriptFault;
 use thiserror::Error;
 
 /// Why a run ended with a status other than 0, 1 and, after requests were served, 3 and 4.
@@ -12,7 +12,7 @@ pub enum Fault {
     Usage,
     /// A line of the script has a fault. Status 2.
     #[error("{0}")]
-    Script(ScriptRefusal),
+    Script(ScriptFault),
     /// The device failed: a call before the script was read, or while an image was looked at, made, recovered, rebuilt or
     /// grown. Status 3.
     #[error("device fault")]

@@ -1,7 +1,7 @@
 ghost use Rattle.std.specs.Prelude.{◌≡◌, IfOk, IfErr, IsTrue, Ok};
 ghost use Rattle.disk_model.specs.Seen.{Stays};
 ghost use Rattle.image_format.specs.Formats.{LeavesEmpty, StopsAreRight};
-ghost use Rattle.image_layout.specs.Planning.{plan_of};
+ghost use Rattle.image_layout.specs.PossibleSizes.{plan_of};
 ghost use Rattle.vdo_cli.specs.NewImages.{MakingFails};
 
 use crate::Fault;

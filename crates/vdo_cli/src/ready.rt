@@ -18,7 +18,7 @@ pub(crate) struct Ready {
 
 /// Why an image isn't ready, and how many entries were recovered before.
 #[derive(Clone, Copy)]
-pub(crate) struct NotReady {
+pub(crate) struct OpeningFault {
     pub(crate) recovered: Option<u32>,
     pub(crate) why: ImageFault,
 }
@@ -34,7 +34,7 @@ pub(crate) fn recovered_of(found: Recovered) -> Option<u32>
 }
 
 /// Recovers the image where its last session wasn't closed, and opens it.
-pub(crate) fn get_ready<D: Disk>(alloc: Global, device: &mut D) -> Result<Ready, NotReady>
+pub(crate) fn get_ready<D: Disk>(alloc: Global, device: &mut D) -> Result<Ready, OpeningFault>
     ensures ready { IfOk result (λ ready. IsReady (trust D.tells D.honest)
         (D.seen device.old) (D.seen device.new) ready.found ready.start) }
     ensures named { IfOk result (λ ready. ready.start.head.geometry.nonce < 2 ^ 64) }
@@ -44,7 +44,7 @@ pub(crate) fn get_ready<D: Disk>(alloc: Global, device: &mut D) -> Result<Ready,
     let found = match recover(alloc, device) {
         Ok(found) => found,
         Err(why) => {
-            return Err(NotReady {
+            return Err(OpeningFault {
                 recovered: None,
                 why,
             });
@@ -52,7 +52,7 @@ pub(crate) fn get_ready<D: Disk>(alloc: Global, device: &mut D) -> Result<Ready,
     };
     match open_clean(alloc, device) {
         Ok(start) => Ok(Ready { found, start }),
-        Err(why) => Err(NotReady {
+        Err(why) => Err(OpeningFault {
             recovered: recovered_of(found),
             why,
         }),

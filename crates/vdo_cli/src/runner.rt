@@ -22,7 +22,7 @@ use crate::endings::{
 use crate::new_image::make_image;
 use crate::ready::recovered_of;
 use crate::seeded::{Worked, summary_of, work};
-use crate::session::{NotPlayed, Played, play};
+use crate::session::{Played, SessionFault, play};
 use crate::words::Served;
 use crate::{Fault, Words};
 use audit::{Report, audit};
@@ -129,7 +129,7 @@ pub(crate) fn refuse<D: Disk, K: Sink>(
 // Puts a fault's line where no session was begun, behind how many entries were recovered.
 fn refuse_after<D: Disk, K: Sink>(
     alloc: Global,
-    not: NotPlayed,
+    not: SessionFault,
     device: D,
     out: &mut K,
 ) -> Finished<D>
@@ -138,7 +138,7 @@ fn refuse_after<D: Disk, K: Sink>(
     ensures refuses { RefusesAfter K.tells not.recovered not.fault result.status result.report
         (K.seen out.old) (K.seen out.new) }
 {
-    let NotPlayed { recovered, fault } = not;
+    let SessionFault { recovered, fault } = not;
     // The status is the fault's, whatever becomes of its line.
     let _put = put_refusal(recovered, &fault, out);
     end_with(alloc, status_of(&fault), Some(fault), device)

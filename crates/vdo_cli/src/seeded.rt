@@ -10,7 +10,7 @@ ghost use Rattle.vdo_cli.specs.Workloads.{ServesWorkload, WorkloadFails, request
 use crate::Fault;
 use crate::endings::fault_of;
 use crate::ready::{Ready, get_ready, recovered_of};
-use crate::session::{NotPlayed, serve};
+use crate::session::{SessionFault, serve};
 use command_text::{Space, Summary, Tally};
 use disk_model::Disk;
 use rebuild::Recovered;
@@ -77,7 +77,7 @@ pub(crate) fn work<R: Wait, D: Disk>(
     alloc: Global,
     options: &WorkloadOptions,
     device: &mut D,
-) -> Result<Worked, NotPlayed>
+) -> Result<Worked, SessionFault>
     requires { IsWorkload options.now }
     ensures session { IfOk result (λ worked. ServesWorkload (trust D.tells D.honest)
         options.now worked.found worked.report (D.seen device.old) (D.seen device.new)) }
@@ -89,14 +89,14 @@ pub(crate) fn work<R: Wait, D: Disk>(
     let ready = match get_ready(alloc, device) {
         Ok(ready) => ready,
         Err(not) => {
-            return Err(NotPlayed {
+            return Err(SessionFault {
                 recovered: not.recovered,
                 fault: fault_of(not.why),
             });
         }
     };
     let Ok(report) = serve_drawn(rt, alloc, options, &ready, device) else {
-        return Err(NotPlayed {
+        return Err(SessionFault {
             recovered: recovered_of(ready.found),
             fault: Fault::Memory,
         });

@@ -37,7 +37,7 @@ pub(crate) struct Played {
 
 /// Why no session was begun, and how many entries were recovered before.
 #[derive(Drop)]
-pub(crate) struct NotPlayed {
+pub(crate) struct SessionFault {
     pub(crate) recovered: Option<u32>,
     pub(crate) fault: Fault,
 }
@@ -92,7 +92,7 @@ pub(crate) fn play<R: Wait, D: Disk, S: Source>(
     number: u64,
     device: &mut D,
     script: &mut S,
-) -> Result<Played, NotPlayed>
+) -> Result<Played, SessionFault>
     ensures session { IfOk result (λ played. RunsSession (input_setting D.tells D.honest S.tells)
         number played.found played.report
         (inputs (D.seen device.old) (S.seen script.old))
@@ -108,7 +108,7 @@ pub(crate) fn play<R: Wait, D: Disk, S: Source>(
     let ready = match get_ready(alloc, device) {
         Ok(ready) => ready,
         Err(not) => {
-            return Err(NotPlayed {
+            return Err(SessionFault {
                 recovered: not.recovered,
                 fault: fault_of(not.why),
             });
@@ -117,16 +117,16 @@ pub(crate) fn play<R: Wait, D: Disk, S: Source>(
     let recovered = recovered_of(ready.found);
     let requests = match read_requests(alloc, script) {
         Ok(requests) => requests,
-        Err(fault) => return Err(NotPlayed { recovered, fault }),
+        Err(fault) => return Err(SessionFault { recovered, fault }),
     };
     let Ok(room) = AnswerRoom::with_room_for(alloc, &requests) else {
-        return Err(NotPlayed {
+        return Err(SessionFault {
             recovered,
             fault: Fault::Memory,
         });
     };
     let Ok(report) = serve(rt, alloc, number, &ready, requests, device) else {
-        return Err(NotPlayed {
+        return Err(SessionFault {
             recovered,
             fault: Fault::Memory,
         });

@@ -12,7 +12,7 @@ use Rattle.blk_base.specs.declared.place.Mapping.TheVariants.{Unmapped, Zero, At
 use Rattle.blk_base.specs.declared.place.PageId.{PageId}
 use Rattle.blk_base.specs.declared.place.Pbn.{Pbn}
 use Rattle.blk_base.specs.declared.sizes.TheConstants.{TREES}
-use Rattle.block_map_tree.specs.Opening.{IsLed, IsOpened, IsPlaced, all_trees}
+use Rattle.block_map_tree.specs.OpenedTree.{IsLed, IsOpened, IsPlaced, all_trees}
 use Rattle.block_map_tree.specs.Pages.{IsTreeOf}
 use Rattle.page_codec.specs.Grammar.{AreHeld, HoldsMapping}
 use Rattle.image_model.specs.Pages.{is_page}

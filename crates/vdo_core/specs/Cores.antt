@@ -5,7 +5,7 @@ use Rattle.blk_base.specs.Counters.{limit_of}
 use Rattle.blk_base.specs.Limits.{IsGeometry}
 use Rattle.blk_base.specs.declared.geometry.Super.{Super}
 use Rattle.blk_base.specs.declared.opened.Opened.{Opened}
-use Rattle.block_map_tree.specs.Opening.{IsOpened, all_trees}
+use Rattle.block_map_tree.specs.OpenedTree.{IsOpened, all_trees}
 use Rattle.vdo_model.specs.Scripts.{Script, IsServed}
 use Rattle.data_vio.specs.declared.sizes.Sizes.{Sizes}
 use Rattle.core_model.specs.declared.zones.Zone.{Zone}

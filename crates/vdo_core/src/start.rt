@@ -1,7 +1,7 @@
 ghost use Rattle.std.specs.Prelude.{◌≡◌, ◌+◌, ◌<◌, ◌≤◌, ◌^◌, [], ◌∷◌, ◌++◌, IfOk, OnOk, length};
 ghost use Rattle.std.specs.List.{AllByRecursion};
 ghost use Rattle.blk_base.specs.Limits.{IsGeometry};
-ghost use Rattle.block_map_tree.specs.Opening.{IsOpened, all_trees};
+ghost use Rattle.block_map_tree.specs.OpenedTree.{IsOpened, all_trees};
 ghost use Rattle.data_vio.specs.Zones as numbers;
 ghost use Rattle.core_model.specs.PageLinks.{opened_page};
 ghost use Rattle.core_model.specs.Sessions.{AreCounters, Session};

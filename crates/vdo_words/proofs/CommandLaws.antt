@@ -9,7 +9,7 @@ use Rattle.clap.specs.Words.{with_rule}
 use Rattle.std.proofs.lemmas.List.{map-append}
 use Rattle.clap.specs.Walk.{Row, Rule, arg_by_id, arg_by_long, has_row, is_early_multiple, with_default}
 use Rattle.vdo_words.specs.Given.{Given}
-use Rattle.vdo_words.specs.Matching.{app, long, rule}
+use Rattle.vdo_words.specs.OptionMatches.{app, long, rule}
 use Rattle.vdo_words.specs.Options.{accepts, is_right, spelling}
 use Rattle.vdo_words.specs.declared.option_names.OptionName.{OptionName}
 use Rattle.vdo_words.proofs.RowLaws.{same_text, told}

@@ -4,7 +4,7 @@ use Rattle.clap.specs.Simple.{matches_of}
 use Rattle.clap.specs.Takes.{takes}
 use Rattle.clap.specs.Walk.{Text, finished, first_of}
 use Rattle.vdo_words.specs.Given.{find, given}
-use Rattle.vdo_words.specs.Matching.{app, long, text_in}
+use Rattle.vdo_words.specs.OptionMatches.{app, long, text_in}
 use Rattle.vdo_words.specs.Options.{are_right, spelling}
 use Rattle.vdo_words.specs.declared.option_names.OptionName.{OptionName}
 use Rattle.vdo_words.proofs.CommandLaws.{filled-all, free, is-simple, keeps-rows, no-defaults, optional, rules}

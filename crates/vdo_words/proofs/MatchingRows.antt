@@ -3,7 +3,7 @@ use Rattle.std.specs.Prelude.{◌≡◌, true, false, List, [], ◌∷◌, codes
 use Rattle.clap.proofs.OnLiterals.{clap_on_literals}
 use Rattle.clap.specs.Words.{Text, first_of, matches_of, takes}
 use Rattle.vdo_words.specs.Given.{given, find}
-use Rattle.vdo_words.specs.Matching.{app, long, text_in}
+use Rattle.vdo_words.specs.OptionMatches.{app, long, text_in}
 use Rattle.vdo_words.specs.declared.option_names.OptionName.{OptionName}
 use Rattle.vdo_words.specs.declared.option_names.OptionName.TheVariants.{Depth, SlabBlocks, Threads}
 

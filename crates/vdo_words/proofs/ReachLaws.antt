@@ -10,7 +10,7 @@ use Rattle.clap.specs.Lexer.{long_of}
 use Rattle.clap.specs.declared.builder.value_parser.Reading.TheVariants.{AsWritten}
 use Rattle.clap.specs.declared.parser.matches.ValueSource.TheVariants.{CommandLine}
 use Rattle.vdo_words.specs.Given.{Given, awaits, cut, find, given}
-use Rattle.vdo_words.specs.Matching.{long, rule, rule_by, text_in}
+use Rattle.vdo_words.specs.OptionMatches.{long, rule, rule_by, text_in}
 use Rattle.vdo_words.specs.Options.{are_right, is_right}
 use Rattle.vdo_words.specs.declared.option_names.OptionName.{OptionName}
 use Rattle.vdo_words.proofs.CommandLaws.{known, rules}

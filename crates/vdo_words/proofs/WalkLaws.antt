@@ -5,7 +5,7 @@ use Rattle.clap.specs.Lexer.{long_of}
 use Rattle.clap.specs.Simple.{Shape, filled, new_shape}
 use Rattle.clap.specs.Takes.{settle_passes, turn_passes}
 use Rattle.clap.specs.Walk.{Row, Rule, Text, Walk, arg_by_id, arg_by_long, option, settled_rows, used, walk_from, walked}
-use Rattle.vdo_words.specs.Matching.{rule_by}
+use Rattle.vdo_words.specs.OptionMatches.{rule_by}
 use Rattle.vdo_words.proofs.RowLaws.{same_text}
 
 -- a command of these options, as clap builds it

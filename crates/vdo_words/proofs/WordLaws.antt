@@ -8,7 +8,7 @@ use Rattle.std.proofs.Math.Seq.{take-length}
 use Rattle.std.proofs.lemmas.Bool.Decides.{nat_tests}
 use Rattle.clap.specs.Lexer.{has_byte, long_of, name_and_value}
 use Rattle.vdo_words.specs.Given.{Given, cut}
-use Rattle.vdo_words.specs.Matching.{is_flag, long}
+use Rattle.vdo_words.specs.OptionMatches.{is_flag, long}
 use Rattle.vdo_words.specs.Options.{accepts, number_of, spelling}
 use Rattle.vdo_words.specs.declared.option_names.OptionName.{OptionName}
 use Rattle.vdo_words.specs.declared.option_names.OptionName.TheVariants.{Logical, Slabs, Threads}

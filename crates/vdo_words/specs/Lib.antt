@@ -1,5 +1,5 @@
 pub mod Given
 pub mod Options
-pub mod Matching
+pub mod OptionMatches
 pub mod Commands
 pub mod Ranges

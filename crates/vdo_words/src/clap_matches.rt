@@ -1,7 +1,7 @@
 ghost use Rattle.std.specs.Prelude.{◌≡◌, IfErr, IfOk, false, map, string_bytes, true};
 ghost use Rattle.clap.specs.Words.{app_of, kind_of, rule_of};
 ghost use Rattle.vdo_words.specs.Given.{given};
-ghost use Rattle.vdo_words.specs.Matching.{app, long, rule, FindsValues};
+ghost use Rattle.vdo_words.specs.OptionMatches.{app, long, rule, FindsValues};
 ghost use Rattle.vdo_words.specs.Options.{are_right};
 
 use crate::option_names::OptionName;

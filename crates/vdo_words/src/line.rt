@@ -1,6 +1,6 @@
 ghost use Rattle.std.specs.Prelude.{◌≡◌, IfSome, map, option_map, string_bytes, true};
 ghost use Rattle.vdo_words.specs.Given.{find as first_of, given};
-ghost use Rattle.vdo_words.specs.Matching.{text_in, FindsValues};
+ghost use Rattle.vdo_words.specs.OptionMatches.{text_in, FindsValues};
 ghost use Rattle.vdo_words.specs.Options.{are_right, spelling};
 
 use crate::clap_matches::{long, matches};
@@ -20,7 +20,7 @@ pub(crate) struct Line<'a> {
 impl<'a> Model for Line<'a> {
     ghost use Rattle.std.specs.Prelude.{IfSome, List, map, string_bytes};
     ghost use Rattle.vdo_words.specs.Given.{Given, given};
-    ghost use Rattle.vdo_words.specs.Matching.{FindsValues};
+    ghost use Rattle.vdo_words.specs.OptionMatches.{FindsValues};
 
     ghost Value = { List Given };
 

@@ -4,7 +4,7 @@ use Rattle.std.proofs.Common.{ap, arith, refl}
 use Rattle.blk_base.specs.declared.place.Pbn.{Pbn}
 use Rattle.verify_share.specs.declared.verdict.Verdict.TheVariants.{Same, Different}
 use Rattle.verify_share.specs.declared.judged.Judged.TheVariants.{Shared, Stored}
-use Rattle.verify_share.specs.Sharing.{IsVerdict, Decides}
+use Rattle.verify_share.specs.Comparison.{IsVerdict, Decides}
 
 -- two blocks, of which the one begins as the other does, and one that differs in its last byte
 abbrev short : List ℕ

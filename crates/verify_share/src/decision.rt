@@ -1,5 +1,5 @@
 ghost use Rattle.std.specs.Prelude.{option_copied};
-ghost use Rattle.verify_share.specs.Sharing.{IsVerdict, Decides};
+ghost use Rattle.verify_share.specs.Comparison.{IsVerdict, Decides};
 
 use crate::{Judged, Verdict};
 use blk_base::Block;

@@ -2,7 +2,7 @@ ghost use Rattle.std.specs.Prelude.{◌≡◌, ◌++◌, ◌∷◌, ◌⊎◌, �
 ghost use Rattle.blk_base.specs.declared.place.Pbn.{Pbn};
 ghost use Rattle.verify_share.specs.declared.verdict.Verdict.{Verdict};
 ghost use Rattle.verify_share.specs.declared.judged.Judged.{Judged};
-ghost use Rattle.verify_share.specs.Sharing.{IsVerdict, Decides};
+ghost use Rattle.verify_share.specs.Comparison.{IsVerdict, Decides};
 
 /// Two blocks have one verdict, and what is decided from a read and two claims is one.
 pub fn what_is_decided_is_one()

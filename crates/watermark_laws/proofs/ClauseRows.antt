@@ -6,10 +6,10 @@ use Rattle.handed_parts.specs.Parts.{opening}
 use Rattle.recovery_journal.specs.Log.{Log}
 use Rattle.recovery_journal.specs.Log as journal
 use Rattle.watermark_laws.specs.Flows.{Flows}
-use Rattle.watermark_laws.specs.Keeping.{IsInside, IsKeptOf, keeping}
+use Rattle.watermark_laws.specs.KeptParts.{IsInside, IsKeptOf, keeping}
 use Rattle.watermark_laws.specs.Parts.{HasEntry, IsFormed, Logged, Part, Told}
 use Rattle.watermark_laws.specs.Trace.{Hands, Hears, Learns, Needs, Rises, Seals, Sets, Settles, Writes}
-use Rattle.watermark_laws.specs.Reaping.{IsOther, Reaps}
+use Rattle.watermark_laws.specs.ReapedEntries.{IsOther, Reaps}
 use Rattle.watermark_laws.specs.RightTraces.{HandMayFollow, MayFollow, RiseMayFollow, SealMayFollow, TellMayFollow}
 use Rattle.watermark_laws.specs.Stillness.{HasAsked, IsStill, need_for}
 use Rattle.watermark_laws.proofs.KeepLaws.{keeps_on, opening_kept}
@@ -204,12 +204,12 @@ module _ (g : Geometry) where
   another_block : Reaps setup (record log { sequence = 2 }) [] → ⊥
   another_block is = omega (arith, is.number)
 
-  no_zones : Reaps setup (record log { marks = [] }) [] → ⊥
+  no_zones : Reaps setup (record log { watermarks = [] }) [] → ⊥
   no_zones is = omega (arith, is.count)
 
-  -- marks: it has no mark above that of the trace
-  marked_too_high : Reaps setup (record log { marks = record { 0 = 514 } ∷ [] }) [] → ⊥
-  marked_too_high is = omega (arith, is.marks 0 (omega arith))
+  -- watermarks: it has no watermark above that of the trace
+  marked_too_high : Reaps setup (record log { watermarks = record { 0 = 514 } ∷ [] }) [] → ⊥
+  marked_too_high is = omega (arith, is.watermarks 0 (omega arith))
 
   -- kept: no entry goes that a zone needs
   left_out_too_soon : Reaps setup (record log { sequence = 2 }) (Seals (entry ∷ []) ∷ []) → ⊥

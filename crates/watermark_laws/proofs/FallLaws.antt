@@ -1,9 +1,9 @@
--- No mark falls, where each low point that is told is that of a change.
+-- No watermark falls, where each low point that is told is that of a change.
 use Rattle.std.proofs.Common.{◌≡◌, ℕ, zero, suc, ◌+◌, ◌*◌, ◌<◌, ◌≤◌, ◌⊎◌, inl, inr, Option, None, Some, IfSome, List, [], ◌∷◌, ◌++◌, ap, sym, arith, subst}
 use Rattle.std.proofs.lemmas.Bool.Decides.{eqb_tells}
 use Rattle.watermark_laws.specs.Parts.{Logged, Told, Has, points_for, points_of, without, least_of, lesser, last_low, IsFormed, AreRising}
 use Rattle.watermark_laws.specs.Trace.{Happening, Seals, Hands, Sets, Tells, Hears, Trace, sequence, unhanded, behind_first, IsHanded, IsSet, IsDurable, told, heard, waiting}
-use Rattle.watermark_laws.specs.Marks.{Setup, first_point, front, mark, least_mark, head_of}
+use Rattle.watermark_laws.specs.Watermarks.{Setup, first_point, front, watermark, least_watermark, head_of}
 use Rattle.watermark_laws.specs.RightTraces.{IsBelow, TellMayFollow, RightTrace}
 use Rattle.watermark_laws.proofs.ListLaws.{has_split, without_within, least_bound, least_reaches, lesser_reaches, climbs_has, rising_append}
 use Rattle.watermark_laws.proofs.HeardLaws.{set_grows, stand_durable, all_stand, handed_grows, handed_waits, unhanded_rise, first_above}
@@ -94,7 +94,7 @@ front_stays s (Seals es) t right =
 front_stays s (Hands e) t right = let next = hands_next s t e right in omega (arith, next.0, next.2)
 front_stays s other t right = omega arith
 
--- what a mark is rounded from
+-- what a watermark is rounded from
 abbrev low_part : Setup → ℕ → Trace → ℕ
 low_part s z t = least_of (waiting z t) (lesser (last_low (heard z t)) (front s t))
 
@@ -154,12 +154,12 @@ low_stays s (Hears y x) t z right = elim (eqb_tells y z) [
 ]
 low_stays s other t z right = omega arith
 
-pub mark_stays : (s : Setup) (h : Happening) (t : Trace) (z : ℕ) → RightTrace s (h ∷ t) → mark s z t ≤ mark s z (h ∷ t)
-mark_stays s h t z right = omega (arith, low_stays s h t z right)
+pub watermark_stays : (s : Setup) (h : Happening) (t : Trace) (z : ℕ) → RightTrace s (h ∷ t) → watermark s z t ≤ watermark s z (h ∷ t)
+watermark_stays s h t z right = omega (arith, low_stays s h t z right)
 
-least_stays : (s : Setup) (h : Happening) (t : Trace) (n : ℕ) → RightTrace s (h ∷ t) → least_mark s n t ≤ least_mark s n (h ∷ t)
+least_stays : (s : Setup) (h : Happening) (t : Trace) (n : ℕ) → RightTrace s (h ∷ t) → least_watermark s n t ≤ least_watermark s n (h ∷ t)
 least_stays s h t zero right = front_stays s h t right
-least_stays s h t (suc n) right = omega (arith, mark_stays s h t n right, least_stays s h t n right)
+least_stays s h t (suc n) right = omega (arith, watermark_stays s h t n right, least_stays s h t n right)
 
 pub head_stays : (s : Setup) (h : Happening) (t : Trace) → RightTrace s (h ∷ t) → head_of s t ≤ head_of s (h ∷ t)
 head_stays s h t right = omega (arith, least_stays s h t s.zones right)

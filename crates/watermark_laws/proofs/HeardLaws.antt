@@ -3,7 +3,7 @@ use Rattle.std.proofs.Common.{◌≡◌, ℕ, ◌+◌, ◌*◌, ◌≤◌, ◌�
 use Rattle.std.proofs.lemmas.Bool.Decides.{eqb_tells}
 use Rattle.watermark_laws.specs.Parts.{Logged, Told, Has, HasEntry, points_for, points_of, last_low, IsFormed, AreRising}
 use Rattle.watermark_laws.specs.Trace.{Happening, Seals, Hands, Sets, Settles, Tells, Hears, Trace, sequence, unhanded, behind_first, IsSealed, IsHanded, IsSet, IsDurable, told, heard, waiting}
-use Rattle.watermark_laws.specs.Marks.{Setup, first_point, front}
+use Rattle.watermark_laws.specs.Watermarks.{Setup, first_point, front}
 use Rattle.watermark_laws.specs.RightTraces.{IsBelow, TellMayFollow, RightTrace}
 use Rattle.watermark_laws.proofs.ListLaws.{has_front, has_back, entry_front, entry_back, without_leaves, part_back, part_split, part_first, rising_append, rising_has}
 

@@ -1,13 +1,13 @@
--- What the journal's zone keeps is what the trace says, and so are its marks.
+-- What the journal's zone keeps is what the trace says, and so are its watermarks.
 use Rattle.std.proofs.Common.{◌≡◌, ◌≢◌, ℕ, ◌<◌, ◌==◌, inl, inr, false, Option, None, Some, List, [], ◌∷◌, ◌++◌, length-set, slice_index_or, slice_set, refl, ap, ap₂, sym, ◌∙◌}
 use Rattle.std.proofs.lemmas.Bool.Decides.{eqb_tells}
 use Rattle.std.proofs.lemmas.List.{get_or-set_same, get_or-set_other, get_or-replicate, length-replicate}
 use Rattle.plain_laws.specs.Firsts.{but_first}
-use Rattle.handed_parts.specs.Parts.{Handed, is_part, mark_of, number_of, opening, without_part}
+use Rattle.handed_parts.specs.Parts.{Handed, is_part, watermark_of, number_of, opening, without_part}
 use Rattle.watermark_laws.specs.Parts.{Part, points_for, without, without_point, rounded, least_of, lesser}
 use Rattle.watermark_laws.specs.Trace.{Happening, Hands, Hears, Trace, waiting}
-use Rattle.watermark_laws.specs.Marks.{Setup, front, mark}
-use Rattle.watermark_laws.specs.Keeping.{IsKeptOf, IsInside, keeping, point_with}
+use Rattle.watermark_laws.specs.Watermarks.{Setup, front, watermark}
+use Rattle.watermark_laws.specs.KeptParts.{IsKeptOf, IsInside, keeping, point_with}
 
 pub points_append : (z : ℕ) (parts more : List Part) → points_for z (parts ++ more) ≡ points_for z parts ++ points_for z more
 points_append z [] more = refl
@@ -94,7 +94,7 @@ keeps_on zones (Hears y x) handed t inside kept = record {
         ∙ ap number_of (get_or-set_same handed.lows y (point_with x.low) None (rw kept.count inside)) ∙ number_back x.low
 keeps_on zones h handed t inside kept = record { count = kept.count; parts = kept.parts; lows = kept.lows }
 
--- so its marks are those of the trace
-pub mark_kept : (s : Setup) (handed : Handed) (t : Trace) (z : ℕ) → IsKeptOf s.zones handed t → z < s.zones → mark_of handed z (front s t) ≡ mark s z t
-mark_kept s handed t z kept inside =
+-- so its watermarks are those of the trace
+pub watermark_kept : (s : Setup) (handed : Handed) (t : Trace) (z : ℕ) → IsKeptOf s.zones handed t → z < s.zones → watermark_of handed z (front s t) ≡ watermark s z t
+watermark_kept s handed t z kept inside =
     ap₂ (λ (ps : List ℕ) (o : Option ℕ). rounded (least_of ps (lesser o (front s t)))) (kept.parts z) (kept.lows z inside)

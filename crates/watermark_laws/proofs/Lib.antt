@@ -1,6 +1,6 @@
 pub mod ListLaws
 pub mod HeardLaws
-pub mod MarkLaws
+pub mod WatermarkLaws
 pub mod FallLaws
 pub mod FlowLaws
 pub mod StillLaws

@@ -1,4 +1,4 @@
--- The head of the recovery journal, by the marks of a trace.
+-- The head of the recovery journal, by the watermarks of a trace.
 use Rattle.std.proofs.Common.{◌≡◌, ℕ, suc, ◌+◌, ◌-◌, ◌*◌, ◌/◌, ◌%◌, ◌<◌, ◌≤◌, max, ◌⊎◌, inl, inr, Option, None, List, [], ◌∷◌, ◌++◌, length, length-set, slice_index_or, All, refl, ap, sym, arith, ◌∙◌, subst}
 use Rattle.std.proofs.lemmas.Bool.Decides.{eqb_tells}
 use Rattle.std.proofs.lemmas.List.{get_or-set_same, get_or-set_other, get_or-replicate, length-replicate, get_or_default}
@@ -10,16 +10,16 @@ use Rattle.journal_codec.specs.declared.forms.JournalBlock.{JournalBlock}
 use Rattle.recovery_journal.specs.Kept.{IsKept, AreRising, rank}
 use Rattle.recovery_journal.specs.Log.{Log, Advances, IsBehind, IsDurable, IsNeeded, Seals as SealsBlock, first_sequence, head_of, opening, placed, point_at}
 use Rattle.recovery_journal.proofs.RisingLaws.{first_reached, rank_rises}
-use Rattle.watermark_laws.specs.Marks.{Setup, mark}
+use Rattle.watermark_laws.specs.Watermarks.{Setup, watermark}
 use Rattle.watermark_laws.specs.Parts.{HasEntry, Logged}
 use Rattle.watermark_laws.specs.RightTraces.{IsHandled, RightTrace, RiseMayFollow}
 use Rattle.watermark_laws.specs.Stillness.{HasAsked, IsStill}
 use Rattle.watermark_laws.specs.Trace.{Happening, Seals, Trace, IsSealed, needed, risen, sequence}
-use Rattle.watermark_laws.proofs.FallLaws.{mark_stays}
+use Rattle.watermark_laws.proofs.FallLaws.{watermark_stays}
 use Rattle.watermark_laws.proofs.HeardLaws.{sealed_formed}
-use Rattle.watermark_laws.proofs.MarkLaws.{marked_handled}
-use Rattle.watermark_laws.proofs.StillLaws.{mark_still}
-use Rattle.watermark_laws.specs.Reaping.{HasPoint, IsOther, Reaps, mark_in}
+use Rattle.watermark_laws.proofs.WatermarkLaws.{marked_handled}
+use Rattle.watermark_laws.proofs.StillLaws.{watermark_still}
+use Rattle.watermark_laws.specs.ReapedEntries.{HasPoint, IsOther, Reaps, watermark_in}
 
 point_split : (p : ℕ) (es fs : List CommittedEntry) → HasPoint p (es ++ fs) → HasPoint p es ⊎ HasPoint p fs
 point_split p [] fs has = inr has
@@ -35,14 +35,14 @@ point_back : (p : ℕ) (es fs : List CommittedEntry) → HasPoint p fs → HasPo
 point_back p [] fs has = has
 point_back p (e ∷ es) fs has = inr (point_back p es fs has)
 
--- what each mark is above
-durable_below : (marks : List Point) (es : List CommittedEntry) (p z : ℕ) → All (λ entry. IsDurable marks entry.point) es → HasPoint p es → z < length marks
-    → p < mark_in marks z
-durable_below marks [] p z all has inside = absurd has
-durable_below marks (e ∷ es) p z all (inl this) inside =
-    let below : e.point.0 < mark_in marks z = all 0 e (omega arith) z (record { 0 = 0 }) inside in
+-- what each watermark is above
+durable_below : (watermarks : List Point) (es : List CommittedEntry) (p z : ℕ) → All (λ entry. IsDurable watermarks entry.point) es → HasPoint p es → z < length watermarks
+    → p < watermark_in watermarks z
+durable_below watermarks [] p z all has inside = absurd has
+durable_below watermarks (e ∷ es) p z all (inl this) inside =
+    let below : e.point.0 < watermark_in watermarks z = all 0 e (omega arith) z (record { 0 = 0 }) inside in
     omega (arith, this, below)
-durable_below marks (e ∷ es) p z all (inr has) inside = durable_below marks es p z (λ k d within. all (suc k) d (omega (arith, within))) has inside
+durable_below watermarks (e ∷ es) p z all (inr has) inside = durable_below watermarks es p z (λ k d within. all (suc k) d (omega (arith, within))) has inside
 
 -- of entries that rise, the first has the least sequence
 above_first : (low : ℕ) (es : List CommittedEntry) (high p : ℕ) → AreRising low es high → HasPoint p es → (low ≤ rank p) × (p % 512 < 384)
@@ -80,11 +80,11 @@ pub opening_reaps : (s : Setup) (g : Geometry) → Reaps s (opening g s.start s.
 opening_reaps s g = record {
   number = refl;
   count = length-replicate s.zones (record { 0 = point_at s.start 0 });
-  marks = marks_of;
+  watermarks = marks_of;
   kept = λ e is. absurd is;
 }
   where
-    marks_of : (z : ℕ) → z < s.zones → mark_in (opening g s.start s.zones).marks z ≤ mark s z []
+    marks_of : (z : ℕ) → z < s.zones → watermark_in (opening g s.start s.zones).watermarks z ≤ watermark s z []
     marks_of z inside =
         let here = ap (λ (p : Point). p.0) (get_or-replicate s.zones z (record { 0 = point_at s.start 0 }) (record { 0 = 0 }) inside) in
         omega (arith, here)
@@ -95,10 +95,10 @@ reaps_on s log (Seals es) t other right reaps = absurd other
 reaps_on s log h t other right reaps = record {
   number = reaps.number;
   count = reaps.count;
-  marks = λ z inside. omega (arith, reaps.marks z inside, mark_stays s h t z right);
+  watermarks = λ z inside. omega (arith, reaps.watermarks z inside, watermark_stays s h t z right);
   kept = λ e is. elim (reaps.kept e is) [
     | inl there ↦ inl there
-    | inr low ↦ inr (λ z inside. omega (arith, low z inside, mark_stays s h t z right))
+    | inr low ↦ inr (λ z inside. omega (arith, low z inside, watermark_stays s h t z right))
   ];
 }
 
@@ -107,63 +107,63 @@ pub reaps_sealed : (s : Setup) (old new : Log) (block : JournalBlock) (es : List
     → ((e : Logged) → HasEntry e es → HasPoint e.at (placed old.sequence 0 old.filling)) → Reaps s old t → Reaps s new (Seals es ∷ t)
 reaps_sealed s old new block es t right seals same reaps = record {
   number = ap (λ (l : Log). l.sequence) seals.follows ∙ ap (λ (n : ℕ). n + 1) reaps.number;
-  count = ap (λ (l : Log). length l.marks) seals.follows ∙ reaps.count;
-  marks = λ z inside. omega (arith, ap (λ (l : Log). mark_in l.marks z) seals.follows, reaps.marks z inside, mark_stays s (Seals es) t z right);
+  count = ap (λ (l : Log). length l.watermarks) seals.follows ∙ reaps.count;
+  watermarks = λ z inside. omega (arith, ap (λ (l : Log). watermark_in l.watermarks z) seals.follows, reaps.watermarks z inside, watermark_stays s (Seals es) t z right);
   kept = kept_of;
 }
   where
     into : (p : ℕ) → HasPoint p (old.entries ++ placed old.sequence 0 old.filling) → HasPoint p new.entries
     into p has = subst (λ (l : Log). HasPoint p l.entries) (sym seals.follows) has
 
-    kept_of : (e : Logged) → HasEntry e es ⊎ IsSealed t e → HasPoint e.at new.entries ⊎ ((z : ℕ) → z < s.zones → e.at < mark s z (Seals es ∷ t))
+    kept_of : (e : Logged) → HasEntry e es ⊎ IsSealed t e → HasPoint e.at new.entries ⊎ ((z : ℕ) → z < s.zones → e.at < watermark s z (Seals es ∷ t))
     kept_of e (inl has) = inl (into e.at (point_back e.at old.entries (placed old.sequence 0 old.filling) (same e has)))
     kept_of e (inr is) = elim (reaps.kept e is) [
       | inl there ↦ inl (into e.at (point_front e.at old.entries (placed old.sequence 0 old.filling) there))
-      | inr low ↦ inr (λ z inside. omega (arith, low z inside, mark_stays s (Seals es) t z right))
+      | inr low ↦ inr (λ z inside. omega (arith, low z inside, watermark_stays s (Seals es) t z right))
     ]
 
--- as a mark rises
-mark_raised : (s : Setup) (marks : List Point) (z : ℕ) (point : Point) (t : Trace) (k : ℕ) → z < length marks → point.0 ≤ mark s z t
-    → mark_in marks k ≤ mark s k t → mark_in (raised marks z point) k ≤ mark s k t
-mark_raised s marks z point t k inside most before = elim (eqb_tells k z) [
+-- as a watermark rises
+watermark_raised : (s : Setup) (watermarks : List Point) (z : ℕ) (point : Point) (t : Trace) (k : ℕ) → z < length watermarks → point.0 ≤ watermark s z t
+    → watermark_in watermarks k ≤ watermark s k t → watermark_in (raised watermarks z point) k ≤ watermark s k t
+watermark_raised s watermarks z point t k inside most before = elim (eqb_tells k z) [
   | inl same ↦
-      let top : Point = record { 0 = max (slice_index_or marks z point).0 point.0 } in
-      let here : mark_in (raised marks z point) z ≡ top.0 = ap (λ (p : Point). p.0) (get_or-set_same marks z top (record { 0 = 0 }) inside) in
-      let old : (slice_index_or marks z point).0 ≡ mark_in marks z = ap (λ (p : Point). p.0) (get_or_default marks z point (record { 0 = 0 }) inside) in
-      let was : mark_in marks z ≤ mark s z t = subst (λ (n : ℕ). mark_in marks n ≤ mark s n t) same.1 before in
-      subst (λ (n : ℕ). mark_in (raised marks z point) n ≤ mark s n t) (sym same.1) (omega (arith, here, old, was, most))
+      let top : Point = record { 0 = max (slice_index_or watermarks z point).0 point.0 } in
+      let here : watermark_in (raised watermarks z point) z ≡ top.0 = ap (λ (p : Point). p.0) (get_or-set_same watermarks z top (record { 0 = 0 }) inside) in
+      let old : (slice_index_or watermarks z point).0 ≡ watermark_in watermarks z = ap (λ (p : Point). p.0) (get_or_default watermarks z point (record { 0 = 0 }) inside) in
+      let was : watermark_in watermarks z ≤ watermark s z t = subst (λ (n : ℕ). watermark_in watermarks n ≤ watermark s n t) same.1 before in
+      subst (λ (n : ℕ). watermark_in (raised watermarks z point) n ≤ watermark s n t) (sym same.1) (omega (arith, here, old, was, most))
   | inr other ↦
-      let top : Point = record { 0 = max (slice_index_or marks z point).0 point.0 } in
-      let there = ap (λ (p : Point). p.0) (get_or-set_other marks z k top (record { 0 = 0 }) other.1) in
+      let top : Point = record { 0 = max (slice_index_or watermarks z point).0 point.0 } in
+      let there = ap (λ (p : Point). p.0) (get_or-set_other watermarks z k top (record { 0 = 0 }) other.1) in
       omega (arith, there, before)
 ]
 
-pub reaps_advanced : (s : Setup) (old new : Log) (z : ℕ) (point : Point) (t : Trace) → z < s.zones → Advances old new z point → point.0 ≤ mark s z t
+pub reaps_advanced : (s : Setup) (old new : Log) (z : ℕ) (point : Point) (t : Trace) → z < s.zones → Advances old new z point → point.0 ≤ watermark s z t
     → Reaps s old t → Reaps s new t
 reaps_advanced s old new z point t inside advances most reaps = record {
   number = ap (λ (l : Log). l.sequence) advances.rest ∙ reaps.number;
   count = count_of;
-  marks = marks_of;
+  watermarks = marks_of;
   kept = kept_of;
 }
   where
-    count_of : length new.marks ≡ s.zones
-    count_of = ap (λ (ps : List Point). length ps) advances.marks ∙ length-set old.marks z (record { 0 = max (slice_index_or old.marks z point).0 point.0 }) ∙ reaps.count
+    count_of : length new.watermarks ≡ s.zones
+    count_of = ap (λ (ps : List Point). length ps) advances.watermarks ∙ length-set old.watermarks z (record { 0 = max (slice_index_or old.watermarks z point).0 point.0 }) ∙ reaps.count
 
-    marks_of : (k : ℕ) → k < s.zones → mark_in new.marks k ≤ mark s k t
+    marks_of : (k : ℕ) → k < s.zones → watermark_in new.watermarks k ≤ watermark s k t
     marks_of k within =
-        subst (λ (ps : List Point). mark_in ps k ≤ mark s k t) (sym advances.marks)
-        (mark_raised s old.marks z point t k (omega (arith, inside, reaps.count)) most (reaps.marks k within))
+        subst (λ (ps : List Point). watermark_in ps k ≤ watermark s k t) (sym advances.watermarks)
+        (watermark_raised s old.watermarks z point t k (omega (arith, inside, reaps.count)) most (reaps.watermarks k within))
 
-    low_of : (e : Logged) → HasPoint e.at advances.durable → (k : ℕ) → k < s.zones → e.at < mark s k t
+    low_of : (e : Logged) → HasPoint e.at advances.durable → (k : ℕ) → k < s.zones → e.at < watermark s k t
     low_of e gone k within =
-        omega (arith, durable_below new.marks advances.durable e.at k advances.done gone (omega (arith, within, count_of)), marks_of k within)
+        omega (arith, durable_below new.watermarks advances.durable e.at k advances.done gone (omega (arith, within, count_of)), marks_of k within)
 
-    split : (e : Logged) → HasPoint e.at advances.durable ⊎ HasPoint e.at new.entries → HasPoint e.at new.entries ⊎ ((k : ℕ) → k < s.zones → e.at < mark s k t)
+    split : (e : Logged) → HasPoint e.at advances.durable ⊎ HasPoint e.at new.entries → HasPoint e.at new.entries ⊎ ((k : ℕ) → k < s.zones → e.at < watermark s k t)
     split e (inl gone) = inr (low_of e gone)
     split e (inr there) = inl there
 
-    kept_of : (e : Logged) → IsSealed t e → HasPoint e.at new.entries ⊎ ((k : ℕ) → k < s.zones → e.at < mark s k t)
+    kept_of : (e : Logged) → IsSealed t e → HasPoint e.at new.entries ⊎ ((k : ℕ) → k < s.zones → e.at < watermark s k t)
     kept_of e is = elim (reaps.kept e is) [
       | inl there ↦ split e (point_split e.at advances.durable new.entries (subst (λ (es : List CommittedEntry). HasPoint e.at es) advances.parts there))
       | inr low ↦ inr low
@@ -177,29 +177,29 @@ behind_lower log point lower less behind = record {
 }
 
 -- once all is still
-mark_passed : (s : Setup) (t : Trace) (z h : ℕ) → RightTrace s t → IsStill s t → z < s.zones → h * 512 ≤ needed t + 1 → h ≤ sequence s.start t → h * 512 ≤ mark s z t
-mark_passed s t z h right still inside need filled =
-    let low = mark_still s t z (h * 512) right still inside need (omega (arith, filled)) in
+watermark_passed : (s : Setup) (t : Trace) (z h : ℕ) → RightTrace s t → IsStill s t → z < s.zones → h * 512 ≤ needed t + 1 → h ≤ sequence s.start t → h * 512 ≤ watermark s z t
+watermark_passed s t z h right still inside need filled =
+    let low = watermark_still s t z (h * 512) right still inside need (omega (arith, filled)) in
     omega (arith, low)
 
-first_passed : (s : Setup) (t : Trace) (h n : ℕ) (marks : List Point) (es : List CommittedEntry) → h ≤ n
-    → ((z : ℕ) → z < length marks → h * 512 ≤ mark_in marks z) → All (λ entry. IsNeeded marks entry.point) es → h ≤ first_sequence es n
-first_passed s t h n marks [] filled passed all = filled
-first_passed s t h n marks (e ∷ es) filled passed all =
-    let needs : IsNeeded marks e.point = all 0 e (omega arith) in
-    let here : mark_in marks needs.0 ≡ needs.1.0 = ap (λ (p : Point). p.0) (get_or_default marks needs.0 (record { 0 = 0 }) needs.1 needs.2 ∙ needs.3) in
+first_passed : (s : Setup) (t : Trace) (h n : ℕ) (watermarks : List Point) (es : List CommittedEntry) → h ≤ n
+    → ((z : ℕ) → z < length watermarks → h * 512 ≤ watermark_in watermarks z) → All (λ entry. IsNeeded watermarks entry.point) es → h ≤ first_sequence es n
+first_passed s t h n watermarks [] filled passed all = filled
+first_passed s t h n watermarks (e ∷ es) filled passed all =
+    let needs : IsNeeded watermarks e.point = all 0 e (omega arith) in
+    let here : watermark_in watermarks needs.0 ≡ needs.1.0 = ap (λ (p : Point). p.0) (get_or_default watermarks needs.0 (record { 0 = 0 }) needs.1 needs.2 ∙ needs.3) in
     omega (arith, passed needs.0 needs.2, here, needs.4)
 
 pub slot_when_still : (s : Setup) (log : Log) (t : Trace) → RightTrace s t → IsStill s t → IsKept log → Reaps s log t
-    → ((z : ℕ) → z < s.zones → mark s z t ≤ mark_in log.marks z) → 2 ≤ log.size → HasAsked s log.size t
+    → ((z : ℕ) → z < s.zones → watermark s z t ≤ watermark_in log.watermarks z) → 2 ≤ log.size → HasAsked s log.size t
     → log.sequence + 2 ≤ head_of log + log.size
 slot_when_still s log t right still kept reaps exact ring need =
     let h : ℕ = log.sequence + 2 - log.size in
-    let first = first_passed s t h log.sequence log.marks log.entries (omega (arith, ring)) passed kept.needed in
+    let first = first_passed s t h log.sequence log.watermarks log.entries (omega (arith, ring)) passed kept.needed in
     omega (arith, first)
   where
-    passed : (z : ℕ) → z < length log.marks → (log.sequence + 2 - log.size) * 512 ≤ mark_in log.marks z
+    passed : (z : ℕ) → z < length log.watermarks → (log.sequence + 2 - log.size) * 512 ≤ watermark_in log.watermarks z
     passed z within =
         let inside : z < s.zones = omega (arith, within, reaps.count) in
-        let low = mark_passed s t z (log.sequence + 2 - log.size) right still inside (omega (arith, need, reaps.number)) (omega (arith, ring, reaps.number)) in
+        let low = watermark_passed s t z (log.sequence + 2 - log.size) right still inside (omega (arith, need, reaps.number)) (omega (arith, ring, reaps.number)) in
         omega (arith, low, exact z inside)

@@ -3,10 +3,10 @@ use Rattle.std.proofs.Common.{◌≡◌, ℕ, ◌<◌, ◌≤◌, inl, inr, Opti
 use Rattle.std.proofs.lemmas.Bool.Decides.{eqb_tells}
 use Rattle.watermark_laws.specs.Parts.{Logged, Told, Has, points_for, points_of, last_low, Climbs, IsFormed}
 use Rattle.watermark_laws.specs.Trace.{Seals, Hands, Sets, Writes, Settles, Tells, Hears, Rises, Needs, Learns, Trace, IsSet, IsDurable, IsHanded, told, heard, needed, learned, is_writing}
-use Rattle.watermark_laws.specs.Marks.{Setup, mark, head_of}
+use Rattle.watermark_laws.specs.Watermarks.{Setup, watermark, head_of}
 use Rattle.watermark_laws.specs.RightTraces.{IsBelow, TellMayFollow, RiseMayFollow, HearMayFollow, MayFollow, RightTrace}
 use Rattle.watermark_laws.specs.Stillness.{IsStill}
-use Rattle.watermark_laws.proofs.MarkLaws.{marks_allow}
+use Rattle.watermark_laws.proofs.WatermarkLaws.{watermarks_allow}
 
 -- one zone, and one entry of which it has both halves
 abbrev pub setup : Setup
@@ -127,7 +127,7 @@ done_right = (([], refl), (fourth_tells, ((λ p has. elim has [ inl same ↦ inl
 
 -- accepted: now the head rises past the block of the entry
 pub rises : RightTrace setup (Rises 2 ∷ done)
-rises = (marks_allow setup done 2 done_right (omega arith) (omega arith), done_right)
+rises = (watermarks_allow setup done 2 done_right (omega arith) (omega arith), done_right)
 
 -- and all is still
 pub done_still : IsStill setup done
@@ -178,8 +178,8 @@ done_still = record {
       | inr older ↦ elim older [ inl same ↦ inr (inl (same.0, inl same.1)) | inr never ↦ absurd never ]
     ]
 
--- Refused: while the half that takes away isn't durable, the mark stays at the entry, and the head at its block.
-pub half_marked : (mark setup 0 half_heard ≡ 512) × (head_of setup half_heard ≡ 1)
+-- Refused: while the half that takes away isn't durable, the watermark stays at the entry, and the head at its block.
+pub half_marked : (watermark setup 0 half_heard ≡ 512) × (head_of setup half_heard ≡ 1)
 half_marked = (refl, refl)
 
 -- Yet each part is heard, and the entry is below the low point that was heard last: so a head may not rise by that alone.
@@ -282,5 +282,5 @@ even_still = record {
           | inr older ↦ elim older [ inl same ↦ inl (same.0, inl same.1) | inr never ↦ absurd never ]
         ]
 
-pub even_waits : (entry.at ≤ needed even) × (mark setup 0 even ≡ entry.at)
+pub even_waits : (entry.at ≤ needed even) × (watermark setup 0 even ≡ entry.at)
 even_waits = (omega arith, refl)

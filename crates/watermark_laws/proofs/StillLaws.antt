@@ -3,12 +3,12 @@ use Rattle.std.proofs.Common.{◌≡◌, ℕ, zero, suc, ◌+◌, ◌-◌, ◌*�
 use Rattle.std.proofs.lemmas.Bool.Decides.{eqb_tells}
 use Rattle.watermark_laws.specs.Parts.{Logged, Told, Has, points_for, points_of, without, least_of, lesser, last_low, Climbs}
 use Rattle.watermark_laws.specs.Trace.{Seals, Hands, Hears, Needs, Trace, sequence, IsSealed, IsHanded, IsSet, IsDurable, heard, waiting, needed, learned}
-use Rattle.watermark_laws.specs.Marks.{Setup, first_point, front, mark, least_mark, head_of}
+use Rattle.watermark_laws.specs.Watermarks.{Setup, first_point, front, watermark, least_watermark, head_of}
 use Rattle.watermark_laws.specs.RightTraces.{IsOfChange, MayFollow, RightTrace}
 use Rattle.watermark_laws.specs.Stillness.{HasAsked, IsStill, need_for}
 use Rattle.watermark_laws.proofs.ListLaws.{has_split, without_within, least_reaches, lesser_reaches, part_split, climbs_append, climbs_to, climbs_has, climbs_without, climbs_gone, rising_has}
 use Rattle.watermark_laws.proofs.HeardLaws.{stand_set, heard_stands}
-use Rattle.watermark_laws.proofs.MarkLaws.{front_within, least_is, mark_waiting}
+use Rattle.watermark_laws.proofs.WatermarkLaws.{front_within, least_is, watermark_waiting}
 use Rattle.watermark_laws.proofs.FallLaws.{if_some, set_handed, hands_next, front_stays}
 
 -- what waits was handed out
@@ -92,10 +92,10 @@ low_above s t z still inside =
     le_trans' : (a b c : ℕ) → a ≤ b → b ≤ c → a ≤ c
     le_trans' a b c f g = omega (arith, f, g)
 
--- each mark is past what is needed, or at the block being filled
-pub mark_still : (s : Setup) (t : Trace) (z n : ℕ) → RightTrace s t → IsStill s t → z < s.zones → n ≤ needed t + 1 → n ≤ sequence s.start t * 512
+-- each watermark is past what is needed, or at the block being filled
+pub watermark_still : (s : Setup) (t : Trace) (z n : ℕ) → RightTrace s t → IsStill s t → z < s.zones → n ≤ needed t + 1 → n ≤ sequence s.start t * 512
     → n ≤ least_of (waiting z t) (lesser (last_low (heard z t)) (front s t))
-mark_still s t z n right still inside need filled =
+watermark_still s t z n right still inside need filled =
     let at_front : front s t ≡ sequence s.start t * 512 = ap (λ (es : List Logged). first_point es (sequence s.start t)) still.all_handed in
     least_reaches n (waiting z t) (lesser (last_low (heard z t)) (front s t))
     (λ p waits. absurd (none_waits s t z p right still waits))
@@ -104,12 +104,12 @@ mark_still s t z n right still inside need filled =
     (omega (arith, at_front, filled)))
 
 least_still : (s : Setup) (t : Trace) (k h : ℕ) → RightTrace s t → IsStill s t → k ≤ s.zones → h * 512 ≤ needed t + 1 → h ≤ sequence s.start t
-    → h * 512 ≤ least_mark s k t
+    → h * 512 ≤ least_watermark s k t
 least_still s t zero h right still few need filled =
     let at_front : front s t ≡ sequence s.start t * 512 = ap (λ (es : List Logged). first_point es (sequence s.start t)) still.all_handed in
     omega (arith, at_front, filled)
 least_still s t (suc k) h right still few need filled =
-    let this = mark_still s t k (h * 512) right still (omega (arith, few)) need (omega (arith, filled)) in
+    let this = watermark_still s t k (h * 512) right still (omega (arith, few)) need (omega (arith, filled)) in
     omega (arith, this, least_still s t k h right still (omega (arith, few)) need filled)
 
 -- the head has passed the need
@@ -150,17 +150,17 @@ sealed_below s (Seals es ∷ t) e right (inl has) =
 sealed_below s (Seals es ∷ t) e right (inr is) = let r = sealed_below s t e right.1 is in (omega (arith, r.0), r.1)
 sealed_below s (h ∷ t) e right is = sealed_below s t e right.1 is
 
--- and each entry at or below the need is below each mark
+-- and each entry at or below the need is below each watermark
 pub entry_still : (s : Setup) (t : Trace) (e : Logged) (z : ℕ) → RightTrace s t → IsStill s t → IsSealed t e → z < s.zones → 0 < needed t → e.at ≤ needed t
-    → e.at < mark s z t
+    → e.at < watermark s z t
 entry_still s t e z right still is inside some most =
     let r = sealed_below s t e right is in
     let odd = needed_odd s t right some in
-    let this = mark_still s t z (e.at + 2) right still inside (omega (arith, r.1, odd, most)) r.0 in
+    let this = watermark_still s t z (e.at + 2) right still inside (omega (arith, r.1, odd, most)) r.0 in
     omega (arith, this, r.1)
 
 -- what waits is in the ring
 pub waits_in_ring : (s : Setup) (t : Trace) (z p : ℕ) → RightTrace s t → z < s.zones → Has p (waiting z t) → (head_of s t * 512 ≤ p) × (p < sequence s.start t * 512)
 waits_in_ring s t z p right inside waits =
     let below = climbs_has p 0 (waiting z t) (front s t) (waiting_climbs s t z right) waits in
-    (omega (arith, least_is s s.zones z t inside, mark_waiting s z t p waits), omega (arith, below.1, front_within s t right))
+    (omega (arith, least_is s s.zones z t inside, watermark_waiting s z t p waits), omega (arith, below.1, front_within s t right))

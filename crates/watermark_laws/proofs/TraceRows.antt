@@ -9,10 +9,10 @@ use Rattle.handed_parts.specs.Parts.{Handed, low_of, opening}
 use Rattle.recovery_journal.specs.Log.{Log}
 use Rattle.recovery_journal.specs.Log as journal
 use Rattle.watermark_laws.specs.Flows.{Flows}
-use Rattle.watermark_laws.specs.Keeping.{keeping, point_with}
-use Rattle.watermark_laws.specs.Marks.{Setup, first_point, front, head_of, least_mark, mark}
+use Rattle.watermark_laws.specs.KeptParts.{keeping, point_with}
+use Rattle.watermark_laws.specs.Watermarks.{Setup, first_point, front, head_of, least_watermark, watermark}
 use Rattle.watermark_laws.specs.Parts.{Climbs, Has, Logged, Part, Told, last_low, points_for, points_of, without, without_point}
-use Rattle.watermark_laws.specs.Reaping.{HasPoint, Reaps, mark_in}
+use Rattle.watermark_laws.specs.ReapedEntries.{HasPoint, Reaps, watermark_in}
 use Rattle.watermark_laws.specs.RightTraces.{IsBelow, IsHandled, IsOfChange, RightTrace, RiseMayFollow, SealMayFollow}
 use Rattle.watermark_laws.specs.Trace.{Hands, Hears, IsDurable, IsHanded, IsSealed, IsSet, Learns, Needs, Rises, Seals, Sets, Settles, Tells, Trace, Writes, heard, is_writing, learned, needed, risen, sequence, told, unhanded, waiting}
 use Rattle.watermark_laws.proofs.Rows.{done, entry, four, half_heard, handed, one, second, setup, three, two}
@@ -156,7 +156,7 @@ greatest_need = (refl, refl, refl)
 greatest_taken : (learned 0 (Learns 0 3 ∷ Learns 0 5 ∷ []) ≡ 5) × (learned 0 (Learns 1 5 ∷ Learns 0 3 ∷ []) ≡ 3)
 greatest_taken = (refl, refl)
 
--- The marks: by a part that wasn't heard, by the low point that was heard last, by what wasn't handed out, and by none of these
+-- The watermarks: by a part that wasn't heard, by the low point that was heard last, by what wasn't handed out, and by none of these
 
 first_points : (first_point [] 2 ≡ 1024) × (first_point (shared ∷ []) 2 ≡ 514)
 first_points = (refl, refl)
@@ -164,30 +164,30 @@ first_points = (refl, refl)
 fronts : (front setup (Seals (entry ∷ []) ∷ []) ≡ 512) × (front setup handed ≡ 1024)
 fronts = (refl, refl)
 
-mark_by_a_part : mark setup 0 handed ≡ 512
+mark_by_a_part : watermark setup 0 handed ≡ 512
 mark_by_a_part = refl
 
 -- of the half that adds, also where only the other half waits
-mark_by_the_other_half : mark setup 0 (Hands (record { at = 514; parts = part 0 515 ∷ [] }) ∷ Seals (record { at = 514; parts = part 0 515 ∷ [] } ∷ []) ∷ []) ≡ 514
+mark_by_the_other_half : watermark setup 0 (Hands (record { at = 514; parts = part 0 515 ∷ [] }) ∷ Seals (record { at = 514; parts = part 0 515 ∷ [] } ∷ []) ∷ []) ≡ 514
 mark_by_the_other_half = refl
 
-mark_by_the_low_point : mark setup 0 half_heard ≡ 512
+mark_by_the_low_point : watermark setup 0 half_heard ≡ 512
 mark_by_the_low_point = refl
 
-mark_by_what_is_not_handed_out : mark setup 0 (Seals (entry ∷ []) ∷ []) ≡ 512
+mark_by_what_is_not_handed_out : watermark setup 0 (Seals (entry ∷ []) ∷ []) ≡ 512
 mark_by_what_is_not_handed_out = refl
 
-mark_by_none : (mark setup 0 done ≡ 1024) × (head_of setup done ≡ 2)
+mark_by_none : (watermark setup 0 done ≡ 1024) × (head_of setup done ≡ 2)
 mark_by_none = (refl, refl)
 
 -- the least of both zones, of which the one has no part
 abbrev both : Setup
 both = record { start = 1; zones = 2 }
 
-least_of_both : (least_mark both 2 handed ≡ 512) × (mark both 1 handed ≡ 1024) × (head_of both handed ≡ 1)
+least_of_both : (least_watermark both 2 handed ≡ 512) × (watermark both 1 handed ≡ 1024) × (head_of both handed ≡ 1)
 least_of_both = (refl, refl, refl)
 
-least_of_none : least_mark both 0 (Seals (entry ∷ []) ∷ []) ≡ 512
+least_of_none : least_watermark both 0 (Seals (entry ∷ []) ∷ []) ≡ 512
 least_of_none = refl
 
 -- IsBelow, IsOfChange
@@ -268,7 +268,7 @@ keeps_what_it_hears = (refl, refl)
 keeps_all_else : keeping (Tells 0 one) kept ≡ kept
 keeps_all_else = refl
 
--- HasPoint, mark_in
+-- HasPoint, watermark_in
 
 abbrev committed : ℕ → CommittedEntry
 committed n = record { entry = NewPage (record { tree = 0; level = 0; index = 0 }) (record { 0 = 85 }); point = record { 0 = n } }
@@ -280,36 +280,36 @@ has_another : HasPoint 512 (committed 514 ∷ []) → ⊥
 has_another (inl same) = omega (arith, same)
 has_another (inr never) = never
 
-marks_are : (mark_in (record { 0 = 512 } ∷ record { 0 = 514 } ∷ []) 1 ≡ 514) × (mark_in [] 0 ≡ 0)
-marks_are = (refl, refl)
+watermarks_are : (watermark_in (record { 0 = 512 } ∷ record { 0 = 514 } ∷ []) 1 ≡ 514) × (watermark_in [] 0 ≡ 0)
+watermarks_are = (refl, refl)
 
--- Reaps: a mark may be that of the trace, and not one above it
+-- Reaps: a watermark may be that of the trace, and not one above it
 module _ (g : Geometry) where
   abbrev log : Log
   log = journal.opening g 1 1
 
   marked_as_it_is : Reaps setup log []
-  marked_as_it_is = record { number = refl; count = refl; marks = λ z inside. at_most z inside; kept = λ e never. absurd never }
+  marked_as_it_is = record { number = refl; count = refl; watermarks = λ z inside. at_most z inside; kept = λ e never. absurd never }
     where
-      at_most : (z : ℕ) → z < 1 → mark_in log.marks z ≤ mark setup z []
+      at_most : (z : ℕ) → z < 1 → watermark_in log.watermarks z ≤ watermark setup z []
       at_most zero inside = omega arith
       at_most (suc z) inside = absurd (omega (arith, inside))
 
-  marked_one_too_high : Reaps setup (record log { marks = record { 0 = 513 } ∷ [] }) [] → ⊥
-  marked_one_too_high is = omega (arith, is.marks 0 (omega arith))
+  marked_one_too_high : Reaps setup (record log { watermarks = record { 0 = 513 } ∷ [] }) [] → ⊥
+  marked_one_too_high is = omega (arith, is.watermarks 0 (omega arith))
 
-  -- an entry is there, or is below each mark
+  -- an entry is there, or is below each watermark
   abbrev sealed : Trace
   sealed = Seals (entry ∷ []) ∷ []
 
-  at_first : (z : ℕ) → z < 1 → mark_in log.marks z ≤ mark setup z sealed
+  at_first : (z : ℕ) → z < 1 → watermark_in log.watermarks z ≤ watermark setup z sealed
   at_first zero inside = omega arith
   at_first (suc z) inside = absurd (omega (arith, inside))
 
   keeps_an_entry : Reaps setup (record log { sequence = 2; entries = committed 512 ∷ [] }) sealed
-  keeps_an_entry = record { number = refl; count = refl; marks = at_first; kept = λ e is. kept_there e is }
+  keeps_an_entry = record { number = refl; count = refl; watermarks = at_first; kept = λ e is. kept_there e is }
     where
-      kept_there : (e : Logged) → IsSealed sealed e → HasPoint e.at (committed 512 ∷ []) ⊎ ((z : ℕ) → z < 1 → e.at < mark setup z sealed)
+      kept_there : (e : Logged) → IsSealed sealed e → HasPoint e.at (committed 512 ∷ []) ⊎ ((z : ℕ) → z < 1 → e.at < watermark setup z sealed)
       kept_there e (inl (inl same)) = inl (inl (ap (λ (x : Logged). x.at) same))
       kept_there e (inl (inr never)) = absurd never
       kept_there e (inr never) = absurd never
@@ -317,14 +317,14 @@ module _ (g : Geometry) where
   keeps_another : Reaps setup (record log { sequence = 2; entries = committed 514 ∷ [] }) sealed → ⊥
   keeps_another is = elim (is.kept entry (inl (inl refl))) [ inl has ↦ has_another has | inr low ↦ omega (arith, low 0 (omega arith)) ]
 
-  lets_go_of_an_entry : Reaps setup (record log { sequence = 2; marks = record { 0 = 1024 } ∷ [] }) done
-  lets_go_of_an_entry = record { number = refl; count = refl; marks = λ z inside. at_most z inside; kept = λ e is. inr (λ z inside. below e is z inside) }
+  lets_go_of_an_entry : Reaps setup (record log { sequence = 2; watermarks = record { 0 = 1024 } ∷ [] }) done
+  lets_go_of_an_entry = record { number = refl; count = refl; watermarks = λ z inside. at_most z inside; kept = λ e is. inr (λ z inside. below e is z inside) }
     where
-      at_most : (z : ℕ) → z < 1 → mark_in (record { 0 = 1024 } ∷ []) z ≤ mark setup z done
+      at_most : (z : ℕ) → z < 1 → watermark_in (record { 0 = 1024 } ∷ []) z ≤ watermark setup z done
       at_most zero inside = omega arith
       at_most (suc z) inside = absurd (omega (arith, inside))
 
-      below : (e : Logged) → IsSealed done e → (z : ℕ) → z < 1 → e.at < mark setup z done
+      below : (e : Logged) → IsSealed done e → (z : ℕ) → z < 1 → e.at < watermark setup z done
       below e (inl (inl same)) zero inside = let at = ap (λ (x : Logged). x.at) same in omega (arith, at)
       below e (inl (inr never)) z inside = absurd never
       below e (inr never) z inside = absurd never

@@ -1,8 +1,8 @@
 pub mod Parts
 pub mod Trace
-pub mod Marks
+pub mod Watermarks
 pub mod RightTraces
 pub mod Stillness
 pub mod Flows
-pub mod Keeping
-pub mod Reaping
+pub mod KeptParts
+pub mod ReapedEntries

@@ -2,7 +2,7 @@
 use Rattle.std.specs.Prelude.{ℕ, ◌≡◌, ◌+◌, ◌*◌, ◌%◌, ◌<◌, ◌≤◌, Option, None, Some, IfSome, List, [], ◌∷◌, ◌++◌}
 use Rattle.watermark_laws.specs.Parts.{Logged, Told, Has, AreRising, last_low, points_for, points_of}
 use Rattle.watermark_laws.specs.Trace.{Happening, Seals, Hands, Sets, Writes, Settles, Tells, Hears, Rises, Needs, Learns, Trace, sequence, unhanded, IsSealed, IsHanded, IsSet, IsDurable, told, heard, risen}
-use Rattle.watermark_laws.specs.Marks.{Setup}
+use Rattle.watermark_laws.specs.Watermarks.{Setup}
 
 -- the point is below a low point; each is below none
 abbrev pub IsBelow : ℕ → Option ℕ → Type 0

@@ -2,7 +2,7 @@
 use Rattle.std.specs.Prelude.{ℕ, ◌≡◌, ◌+◌, ◌-◌, ◌*◌, ◌<◌, ◌≤◌, false, []}
 use Rattle.watermark_laws.specs.Parts.{Has, points_of, last_low}
 use Rattle.watermark_laws.specs.Trace.{Trace, sequence, unhanded, IsHanded, IsSet, IsDurable, told, heard, is_writing, needed, learned}
-use Rattle.watermark_laws.specs.Marks.{Setup}
+use Rattle.watermark_laws.specs.Watermarks.{Setup}
 use Rattle.watermark_laws.specs.RightTraces.{IsOfChange}
 
 -- Each entry was handed out, each part set and told, all that was told is heard, and the low point told last is the one now.

@@ -1,36 +1,36 @@
 ghost use Rattle.std.specs.Prelude.{◌≡◌, ◌<◌, ◌≤◌, ◌+◌, ◌*◌, ◌∷◌, ◌++◌, [], ℕ, List};
-ghost use Rattle.handed_parts.specs.Parts.{Handed, mark_of, opening};
+ghost use Rattle.handed_parts.specs.Parts.{Handed, watermark_of, opening};
 ghost use Rattle.watermark_laws.specs.Flows.{Flows};
-ghost use Rattle.watermark_laws.specs.Keeping.{IsKeptOf, IsInside, keeping};
-ghost use Rattle.watermark_laws.specs.Marks.{Setup, front, mark, head_of};
+ghost use Rattle.watermark_laws.specs.KeptParts.{IsKeptOf, IsInside, keeping};
+ghost use Rattle.watermark_laws.specs.Watermarks.{Setup, front, watermark, head_of};
 ghost use Rattle.watermark_laws.specs.Parts.{Logged, Told, Has, points_for};
 ghost use Rattle.watermark_laws.specs.RightTraces.{HearMayFollow, MayFollow, RightTrace, RiseMayFollow};
 ghost use Rattle.watermark_laws.specs.Stillness.{HasAsked, IsStill, need_for};
 ghost use Rattle.watermark_laws.specs.Trace.{Trace, Happening, Needs, Tells, Hears, IsSealed, IsSet, IsDurable, heard, needed, risen, sequence, told, waiting};
 
-/// Each entry of a sealed block below a zone's mark has each of its parts for that zone set there and durable, and below the
+/// Each entry of a sealed block below a zone's watermark has each of its parts for that zone set there and durable, and below the
 /// head it has all of them so.
 pub fn what_is_below_the_head_is_durable()
-    ensures mark { (s : Setup) (t : Trace) (e : Logged) (z p : ℕ) → RightTrace s t → IsSealed t e →
-        e.at < mark s z t
+    ensures watermark { (s : Setup) (t : Trace) (e : Logged) (z p : ℕ) → RightTrace s t → IsSealed t e →
+        e.at < watermark s z t
         → Has p (points_for z e.parts) → IsSet t z p × IsDurable t z p }
     ensures head { (s : Setup) (t : Trace) (e : Logged) (z p : ℕ) → RightTrace s t → IsSealed t e →
         e.at < risen s.start t * 512
         → Has p (points_for z e.parts) → IsSet t z p × IsDurable t z p }
 {}
 
-/// The head that the marks leave is one to which it may rise.
-pub fn the_head_may_rise_to_the_least_mark()
+/// The head that the watermarks leave is one to which it may rise.
+pub fn the_head_may_rise_to_the_least_watermark()
     ensures { (s : Setup) (t : Trace) (head : ℕ) → RightTrace s t → risen s.start t ≤ head →
         head ≤ head_of s t → RiseMayFollow s head t }
 {}
 
-/// No mark falls, and so the head that the marks leave doesn't.
+/// No watermark falls, and so the head that the watermarks leave doesn't.
 pub fn the_head_never_falls()
     ensures risen { (s : Setup) (h : Happening) (t : Trace) → RightTrace s (h ∷ t) →
         risen s.start t ≤ risen s.start (h ∷ t) }
-    ensures mark { (s : Setup) (h : Happening) (t : Trace) (z : ℕ) → RightTrace s (h ∷ t) →
-        mark s z t ≤ mark s z (h ∷ t) }
+    ensures watermark { (s : Setup) (h : Happening) (t : Trace) (z : ℕ) → RightTrace s (h ∷ t) →
+        watermark s z t ≤ watermark s z (h ∷ t) }
     ensures head { (s : Setup) (h : Happening) (t : Trace) → RightTrace s (h ∷ t) →
         head_of s t ≤ head_of s (h ∷ t) }
 {}
@@ -49,12 +49,12 @@ pub fn the_journal_hears_in_order()
     ensures still { (z : ℕ) (t : Trace) → Flows z t [] [] → told z t ≡ heard z t }
 {}
 
-/// Once nothing is under way, each entry at or below the need is below each mark, and the head has passed the need: so the
+/// Once nothing is under way, each entry at or below the need is below each watermark, and the head has passed the need: so the
 /// block being filled has its slot in a ring of so many blocks, once the need for that was posted, and no entry waits for ever.
 pub fn no_entry_waits_for_ever()
     ensures entries { (s : Setup) (t : Trace) (e : Logged) (z : ℕ) → RightTrace s t → IsStill s t →
         IsSealed t e → z < s.zones → 0 < needed t
-        → e.at ≤ needed t → e.at < mark s z t }
+        → e.at ≤ needed t → e.at < watermark s z t }
     ensures head { (s : Setup) (t : Trace) (h : ℕ) → RightTrace s t → IsStill s t →
         h * 512 ≤ needed t + 1 → h ≤ sequence s.start t → h ≤ head_of s t }
     ensures slot { (s : Setup) (t : Trace) (size : ℕ) → RightTrace s t → IsStill s t → 2 ≤ size →
@@ -66,14 +66,14 @@ pub fn no_entry_waits_for_ever()
         × HasAsked s size (Needs (need_for (sequence s.start t) size) ∷ t) }
 {}
 
-/// What the journal's zone keeps of what it handed out is what the trace says, over each happening; and so its marks are those
+/// What the journal's zone keeps of what it handed out is what the trace says, over each happening; and so its watermarks are those
 /// of the trace.
-pub fn the_marks_kept_are_those_of_the_trace()
+pub fn the_watermarks_kept_are_those_of_the_trace()
     ensures opening { (zones room : ℕ) → IsKeptOf zones (opening zones room) [] }
     ensures keeps { (zones : ℕ) (h : Happening) (handed : Handed) (t : Trace) → IsInside zones h →
         IsKeptOf zones handed t → IsKeptOf zones (keeping h handed) (h ∷ t) }
-    ensures mark { (s : Setup) (handed : Handed) (t : Trace) (z : ℕ) → IsKeptOf s.zones handed t →
-        z < s.zones → mark_of handed z (front s t) ≡ mark s z t }
+    ensures watermark { (s : Setup) (handed : Handed) (t : Trace) (z : ℕ) → IsKeptOf s.zones handed t →
+        z < s.zones → watermark_of handed z (front s t) ≡ watermark s z t }
 {}
 
 /// What was handed out and not heard is of a block from the head on: so room for the parts of a full ring suffices.

@@ -10,8 +10,8 @@ mod laws;
 mod reaped_blocks;
 
 pub use laws::{
-    no_entry_waits_for_ever, the_head_may_rise_to_the_least_mark, the_head_never_falls,
-    the_journal_hears_in_order, the_marks_kept_are_those_of_the_trace,
+    no_entry_waits_for_ever, the_head_may_rise_to_the_least_watermark, the_head_never_falls,
+    the_journal_hears_in_order, the_watermarks_kept_are_those_of_the_trace,
     what_is_below_the_head_is_durable, what_waits_is_in_the_ring,
 };
 pub use reaped_blocks::{the_journal_goes_on_when_all_is_still, the_journal_reaps_what_is_handled};

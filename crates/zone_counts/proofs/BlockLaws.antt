@@ -15,9 +15,9 @@ use Rattle.plain_laws.specs.Sums.{total}
 use Rattle.plain_laws.proofs.ListLaws.{total-set, total-append, total_alone, total_zero}
 use Rattle.slab_counts.specs.Counts.{Counts, IsOfSlab, IsFree, Takes, counter_of, claims_of, unclaimed, with_page, claimed as more_claimed}
 use Rattle.slab_counts.specs.Kept.{IsWithin}
-use Rattle.slab_counts.specs.Calls.{Call, Does, FreeClaimed, Shared, Extended, Dropped, Applied, one_of, makes, drops, maps, unmaps}
+use Rattle.slab_counts.specs.Operations.{Operation, Does, FreeClaimed, Shared, Extended, Dropped, Applied, one_of, makes, drops, maps, unmaps}
 use Rattle.slab_counts.specs.declared.tickets.Ticket.{Ticket}
-use Rattle.slab_counts.proofs.CallLaws.{one_same, one_other}
+use Rattle.slab_counts.proofs.OperationLaws.{one_same, one_other}
 use Rattle.slab_counts.specs.declared.tickets.Receipt.{Receipt}
 use Rattle.slab_tickets.proofs.NumberLaws.{none_waits, out_read, unserved}
 use Rattle.slab_tickets.specs.declared.forms.Withdrawn.{Withdrawn}
@@ -25,12 +25,12 @@ use Rattle.slab_tickets.specs.Numbers.{ticket_of}
 use Rattle.slab_tickets.specs.Tickets.{Desk, Gives, Withdraws, Issues, begun, is_served, worth_of}
 use Rattle.slab_tickets.specs.declared.forms.Waiting.{Waiting}
 use Rattle.slab_tickets.specs.declared.forms.Withdrawn.TheVariants.{Block, Nothing}
-use Rattle.zone_counts.specs.Zone.{Zone, IsZone, IsOf, IsOfZone, AreSlabs, ClaimsLowest, Serves, ServesOldest, NoneFree, slab_at, slab_of, place_of, place_in, nowhere, Changes, IsClaimedIn, with_slab}
-use Rattle.zone_counts.specs.Calls as zone
+use Rattle.zone_counts.specs.Zone.{Zone, IsZone, IsOf, IsOfZone, AreSlabs, ClaimsLowest, Serves, ServesOldest, NoneFree, slab_at, slab_of, index_of, place_in, nowhere, Changes, IsClaimedIn, with_slab}
+use Rattle.zone_counts.specs.Operations as zone
 use Rattle.zone_counts.specs.declared.forms.Asked.TheVariants as asked
 use Rattle.zone_counts.proofs.ZoneLaws.{slabs_set}
 use Rattle.zone_counts.proofs.SlabLaws.{still}
-use Rattle.zone_counts.proofs.CallLaws.{inside, of_slab}
+use Rattle.zone_counts.proofs.OperationLaws.{inside, of_slab}
 use Rattle.zone_counts.proofs.ClaimLaws.{is_of, place_is}
 use Rattle.zone_counts.specs.ByBlock.{has_block, counter_at, claims_at, counter_in, claims_in, is_at, waits_with, out_with, served_block, served_in}
 use Rattle.zone_counts.specs.ByBlock.{makes as zone_makes, drops as zone_drops, maps as zone_maps, unmaps as zone_unmaps, withdraws as zone_withdraws}
@@ -170,7 +170,7 @@ served g zone zones slabs desk slabs' desk' are (inr serves) =
     }
 
 -- what a call moves of each block
-pub record AreMoved (call : zone.Call) (old new : Zone) (to : Option Pbn) : Type 0 where
+pub record AreMoved (call : zone.Operation) (old new : Zone) (to : Option Pbn) : Type 0 where
   pub counters : (x : Pbn) → counter_in x new.slabs + zone_unmaps call x ≡ counter_in x old.slabs + zone_maps call x
   pub claims : (x : Pbn) → claims_in x new.slabs + (zone_drops call x + zone_maps call x) ≡ claims_in x old.slabs + zone_makes call x + is_at x to
   pub tickets : (x : Pbn) → out_with x new.desk + zone_withdraws call x ≡ out_with x old.desk + is_at x to
@@ -181,15 +181,15 @@ module _ (old : Zone) (at : Pbn) (is : IsZone old) (own : IsOfZone old at) where
   here = slab_of old at
 
   pub in_it : IsWithin here
-  in_it = (is.slabs.each (place_of old at) (inside old.geometry old.zone old.zones old.slabs at is.slabs own)).2
+  in_it = (is.slabs.each (index_of old at) (inside old.geometry old.zone old.zones old.slabs at is.slabs own)).2
 
   pub of_it : IsOfSlab here at
   of_it = of_slab old.geometry old.zone old.zones old.slabs at is.slabs own
 
-  pub stands : place_of old at < length old.slabs
+  pub stands : index_of old at < length old.slabs
   stands = inside old.geometry old.zone old.zones old.slabs at is.slabs own
 
-  abbrev IsAbout : Call → Type 0
+  abbrev IsAbout : Operation → Type 0
   IsAbout call = (b : Pbn) → at.0 ≢ b.0 → makes call b + drops call b + maps call b + unmaps call b ≡ 0
 
   pub shared_about : IsAbout (Shared at)
@@ -205,18 +205,18 @@ module _ (old : Zone) (at : Pbn) (is : IsZone old) (own : IsOfZone old at) where
   applied_about Increment b other = omega (arith, one_other at b other)
   applied_about Decrement b other = omega (arith, one_other at b other)
 
-  module _ (call : Call) (c : Counts) (did : Does call here c) (about : IsAbout call) where
+  module _ (call : Operation) (c : Counts) (did : Does call here c) (about : IsAbout call) where
     abbrev pub between : List Counts
-    between = slice_set old.slabs (place_of old at) c
+    between = slice_set old.slabs (index_of old at) c
 
     pub between_are : AreSlabs old.geometry old.zone old.zones between
-    between_are = slabs_set old.slabs (place_of old at) c stands old.geometry old.zone old.zones is.slabs (still call here c in_it did)
+    between_are = slabs_set old.slabs (index_of old at) c stands old.geometry old.zone old.zones is.slabs (still call here c in_it did)
 
     pub between_counters : (x : Pbn) → counter_in x between + unmaps call x ≡ counter_in x old.slabs + maps call x
-    between_counters = counter_set call here c at in_it did of_it about old.slabs (place_of old at) stands refl
+    between_counters = counter_set call here c at in_it did of_it about old.slabs (index_of old at) stands refl
 
     pub between_claims : (x : Pbn) → claims_in x between + (drops call x + maps call x) ≡ claims_in x old.slabs + makes call x
-    between_claims = claims_set call here c at in_it did of_it about old.slabs (place_of old at) stands refl
+    between_claims = claims_set call here c at in_it did of_it about old.slabs (index_of old at) stands refl
 
     -- and then serves the oldest ticket, if the block became free
     module _ (new : Zone) (change : Changes old new at c) where
@@ -248,7 +248,7 @@ module _ (old : Zone) (at : Pbn) (is : IsZone old) (own : IsOfZone old at) where
                 elim is.settled [
                   | inl quiet ↦ let oldest = serves.gives.oldest in absurd cc
                   | inr full ↦
-                      absurd (full (place_of old b) (inside old.geometry old.zone old.zones old.slabs b is.slabs own') b (of_slab old.geometry old.zone old.zones old.slabs b is.slabs own') none)
+                      absurd (full (index_of old b) (inside old.geometry old.zone old.zones old.slabs b is.slabs own') b (of_slab old.geometry old.zone old.zones old.slabs b is.slabs own') none)
                 ]
           ]
 
@@ -268,12 +268,12 @@ module _ (old : Zone) (at : Pbn) (is : IsZone old) (own : IsOfZone old at) where
 
 -- a slab that becomes another one with the same counters and claims
 same_counters : (old : Zone) (at x : Pbn) (is : IsZone old) (own : IsOfZone old at)
-    → (counter_in x (slice_set old.slabs (place_of old at) (with_page (slab_of old at) at)) ≡ counter_in x old.slabs) × (claims_in x (slice_set old.slabs (place_of old at) (with_page (slab_of old at) at)) ≡ claims_in x old.slabs)
+    → (counter_in x (slice_set old.slabs (index_of old at) (with_page (slab_of old at) at)) ≡ counter_in x old.slabs) × (claims_in x (slice_set old.slabs (index_of old at) (with_page (slab_of old at) at)) ≡ claims_in x old.slabs)
 same_counters old at x is own =
     let there = stands old at is own in
-    let read = slice_get_read old.slabs (length old.slabs) (place_of old at) (slab_of old at) refl there (get_or_default old.slabs (place_of old at) nowhere (slab_of old at) there) in (
-      omega (arith, total-set (counter_at x) old.slabs (place_of old at) (slab_of old at) (with_page (slab_of old at) at) read),
-      omega (arith, total-set (claims_at x) old.slabs (place_of old at) (slab_of old at) (with_page (slab_of old at) at) read),
+    let read = slice_get_read old.slabs (length old.slabs) (index_of old at) (slab_of old at) refl there (get_or_default old.slabs (index_of old at) nowhere (slab_of old at) there) in (
+      omega (arith, total-set (counter_at x) old.slabs (index_of old at) (slab_of old at) (with_page (slab_of old at) at) read),
+      omega (arith, total-set (claims_at x) old.slabs (index_of old at) (slab_of old at) (with_page (slab_of old at) at) read),
     )
 
 -- what is worth the block has it
@@ -281,7 +281,7 @@ withdrawn_block : (old new : Desk) (ticket : Ticket) (result : Withdrawn) (x : P
 withdrawn_block old new ticket (Block b) x did = ap (is_at x) (worth_block old new ticket b did)
 withdrawn_block old new ticket (Nothing r) x did = ap (is_at x) (worth_none old new ticket r did)
 
-pub moved : (call : zone.Call) (old new : Zone) → IsZone old → (did : zone.Does call old new) → AreMoved call old new (served_in call old new did)
+pub moved : (call : zone.Operation) (old new : Zone) → IsZone old → (did : zone.Does call old new) → AreMoved call old new (served_in call old new did)
 moved (zone.Begins free step) old new is did =
     let slabs : new.slabs ≡ old.slabs = ap (λ (z : Zone). z.slabs) did.1.after in
     let out : (b : Bool) → new ≡ record old { desk = begun b step old.desk } → (x : Pbn) → out_with x new.desk ≡ out_with x old.desk = step_out in
@@ -367,7 +367,7 @@ dropped_is old new at block is claim change said = by_serves change.serves said
     call : Does (Dropped at) (slab_of old at) (less_one old at)
     call = (record { of_slab = of_it old at is claim.own; some = claim.some }, refl)
 
-    by_serves : (serves : Serves (slice_set old.slabs (place_of old at) (less_one old at)) old.desk new.slabs new.desk) → served_block serves ≡ Some block → (block ≡ at) × (counter_in at new.slabs ≡ 0) × (claims_in at new.slabs ≡ 1)
+    by_serves : (serves : Serves (slice_set old.slabs (index_of old at) (less_one old at)) old.desk new.slabs new.desk) → served_block serves ≡ Some block → (block ≡ at) × (counter_in at new.slabs ≡ 0) × (claims_in at new.slabs ≡ 1)
     by_serves (inl same) said = absurd cc
     by_serves (inr serves) said =
         let about = dropped_about old at is claim.own in
@@ -381,7 +381,7 @@ removed_is old new at block c is own takes change said = by_serves change.serves
     call : Does (Applied Decrement at) (slab_of old at) c
     call = (of_it old at is own, takes)
 
-    by_serves : (serves : Serves (slice_set old.slabs (place_of old at) c) old.desk new.slabs new.desk) → served_block serves ≡ Some block → (block ≡ at) × (counter_in at new.slabs ≡ 0) × (claims_in at new.slabs ≡ 1)
+    by_serves : (serves : Serves (slice_set old.slabs (index_of old at) c) old.desk new.slabs new.desk) → served_block serves ≡ Some block → (block ≡ at) × (counter_in at new.slabs ≡ 0) × (claims_in at new.slabs ≡ 1)
     by_serves (inl same) said = absurd cc
     by_serves (inr serves) said =
         let about = applied_about old at is own Decrement in
@@ -395,9 +395,9 @@ added_none old new at c is own takes change = by_serves change.serves
     call : Does (Applied Increment at) (slab_of old at) c
     call = (of_it old at is own, takes)
 
-    by_serves : (serves : Serves (slice_set old.slabs (place_of old at) c) old.desk new.slabs new.desk) → (served_block serves ≡ None) × (new ≡ with_slab old at c)
+    by_serves : (serves : Serves (slice_set old.slabs (index_of old at) c) old.desk new.slabs new.desk) → (served_block serves ≡ None) × (new ≡ with_slab old at c)
     by_serves (inl same) =
-        (refl, change.same ∙ ap (λ (xs : List Counts). record old { slabs = xs; desk = new.desk }) same.1 ∙ ap (λ (d : Desk). record old { slabs = slice_set old.slabs (place_of old at) c; desk = d }) same.2)
+        (refl, change.same ∙ ap (λ (xs : List Counts). record old { slabs = xs; desk = new.desk }) same.1 ∙ ap (λ (d : Desk). record old { slabs = slice_set old.slabs (index_of old at) c; desk = d }) same.2)
     by_serves (inr serves) =
         let about = applied_about old at is own Increment in
         let some = between_counters old at is own (Applied Increment at) c call about at in
@@ -408,7 +408,7 @@ pub none_free : (z : Zone) (k : ℕ) → IsZone z → ticket_of z.desk.out k ≡
 none_free z k is waits = elim is.settled [ inl quiet ↦ absurd (none_waits z.desk k quiet waits) | inr none ↦ none ]
 
 pub none_free_there : (z : Zone) (k : ℕ) (x : Pbn) → IsZone z → ticket_of z.desk.out k ≡ Some None → IsOfZone z x → IsFree (slab_of z x) x → ⊥
-none_free_there z k x is waits own = none_free z k is waits (place_of z x) (stands z x is own) x (of_it z x is own)
+none_free_there z k x is waits own = none_free z k is waits (index_of z x) (stands z x is own) x (of_it z x is own)
 
 -- and each of these blocks is of one of the slabs
 pub home_is : (z : Zone) (x : Pbn) → IsZone z → IsOfZone z x → (counter_in x z.slabs ≡ counter_of (slab_of z x) x) × (claims_in x z.slabs ≡ claims_of (slab_of z x) x)

@@ -7,10 +7,10 @@ use Rattle.blk_base.specs.declared.geometry.Geometry.{Geometry}
 use Rattle.blk_base.specs.declared.place.Pbn.{Pbn}
 use Rattle.slab_counts.specs.Counts.{Counts, IsOfSlab, claims_of, claimed, offset_of}
 use Rattle.slab_counts.specs.Kept.{IsWithin}
-use Rattle.zone_counts.specs.Zone.{Zone, IsZone, IsOf, IsOfZone, IsClaimedIn, AreSlabs, place_in, place_of, slab_number, slab_at, slab_of, with_slab, nowhere}
-use Rattle.zone_counts.specs.Asking.{GivesBlock, SharesIn}
+use Rattle.zone_counts.specs.Zone.{Zone, IsZone, IsOf, IsOfZone, IsClaimedIn, AreSlabs, place_in, index_of, slab_number, slab_at, slab_of, with_slab, nowhere}
+use Rattle.zone_counts.specs.ZoneAnswers.{GivesBlock, SharesIn}
 use Rattle.zone_counts.proofs.PlaceLaws.{number_is}
-use Rattle.zone_counts.proofs.CallLaws.{inside, of_slab}
+use Rattle.zone_counts.proofs.OperationLaws.{inside, of_slab}
 
 -- a block of one of the slabs is of the zone, and that is its slab
 module _ (g : Geometry) (zone zones : ℕ) (slabs : List Counts) (k : ℕ) (at : Pbn) (are : AreSlabs g zone zones slabs) (there : k < length slabs) (here : IsOfSlab (slab_at slabs k) at) where
@@ -46,14 +46,14 @@ some_claim c at within here =
     omega (arith, get_or-set_same c.claims (offset_of c at) (claims_of c at + 1) 0 (omega (arith, within.claims, here.0, here.1)))
 
 module _ (z : Zone) (is : IsZone z) (at : Pbn) (own : IsOfZone z at) where
-  at_slab : slab_at (set z.slabs (place_of z at) (claimed (slab_of z at) at)) (place_of z at) ≡ claimed (slab_of z at) at
-  at_slab = get_or-set_same z.slabs (place_of z at) (claimed (slab_of z at) at) nowhere (inside z.geometry z.zone z.zones z.slabs at is.slabs own)
+  at_slab : slab_at (set z.slabs (index_of z at) (claimed (slab_of z at) at)) (index_of z at) ≡ claimed (slab_of z at) at
+  at_slab = get_or-set_same z.slabs (index_of z at) (claimed (slab_of z at) at) nowhere (inside z.geometry z.zone z.zones z.slabs at is.slabs own)
 
   pub claimed_here : IsClaimedIn (with_slab z at (claimed (slab_of z at) at)) at
   claimed_here = record {
     own = record { data_block = own.data_block; own = own.own };
     some = subst (λ (c : Counts). 0 < claims_of c at) (sym at_slab)
-        (some_claim (slab_of z at) at (is.slabs.each (place_of z at) (inside z.geometry z.zone z.zones z.slabs at is.slabs own)).2 (of_slab z.geometry z.zone z.zones z.slabs at is.slabs own));
+        (some_claim (slab_of z at) at (is.slabs.each (index_of z at) (inside z.geometry z.zone z.zones z.slabs at is.slabs own)).2 (of_slab z.geometry z.zone z.zones z.slabs at is.slabs own));
   }
 
 pub shared_is : (old new : Zone) (at : Pbn) → IsZone old → SharesIn old new at → IsClaimedIn new at

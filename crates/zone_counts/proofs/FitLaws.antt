@@ -9,9 +9,9 @@ use Rattle.blk_base.specs.declared.place.Pbn.{Pbn}
 use Rattle.blk_base.specs.declared.point.Half.TheVariants.{Increment, Decrement}
 use Rattle.slab_counts.specs.Counts.{Counts, IsFree, IsStray, Takes, claims_of, counter_of, mapped, offset_of, unmapped}
 use Rattle.slab_tickets.specs.Tickets.{Desk, is_served}
-use Rattle.zone_counts.specs.Asking.{GivesBlock}
+use Rattle.zone_counts.specs.ZoneAnswers.{GivesBlock}
 use Rattle.zone_counts.specs.ByBlock.{counter_in, claims_in}
-use Rattle.zone_counts.specs.Zone.{Zone, Changes, IsClaimedIn, IsOfZone, IsOpeningZone, IsZone, NoneFree, Serves, place_of, slab_number, slab_of, with_slab}
+use Rattle.zone_counts.specs.Zone.{Zone, Changes, IsClaimedIn, IsOfZone, IsOpeningZone, IsZone, NoneFree, Serves, index_of, slab_number, slab_of, with_slab}
 use Rattle.zone_counts.proofs.BlockLaws.{claimed, foreign_is, home_is, in_it, of_it, stands}
 use Rattle.zone_counts.proofs.ClaimLaws.{is_of}
 use Rattle.zone_counts.proofs.FreeBlocks.{zone_free}
@@ -41,7 +41,7 @@ free_is z at is own =
 
 pub none_is_free : (z : Zone) (at : Pbn) → IsZone z → NoneFree z.slabs → IsOfZone z at → 0 < counter_in at z.slabs + claims_in at z.slabs
 none_is_free z at is none own = elim (cases_eq (counter_in at z.slabs + claims_in at z.slabs) 0) [
-  | inl free ↦ absurd (none (place_of z at) (stands z at is own) at (of_it z at is own) ((free_is z at is own).1 free))
+  | inl free ↦ absurd (none (index_of z at) (stands z at is own) at (of_it z at is own) ((free_is z at is own).1 free))
   | inr some ↦ omega (arith, some)
 ]
 
@@ -55,7 +55,7 @@ opened_claims o zone zones room z opens is at = elim (own_or_not z at) [ inl own
 
 -- the geometry of a block's slab
 slab_geometry : (z : Zone) (at : Pbn) (is : IsZone z) (own : IsOfZone z at) → (slab_of z at).geometry ≡ z.geometry
-slab_geometry z at is own = (is.slabs.each (place_of z at) (stands z at is own)).1
+slab_geometry z at is own = (is.slabs.each (index_of z at) (stands z at is own)).1
 
 home_within : (z : Zone) (at : Pbn) → IsZone z → IsOfZone z at → counter_of (slab_of z at) at + claims_of (slab_of z at) at ≤ limit_of z.geometry
 home_within z at is own = subst (λ (g : Geometry). counter_of (slab_of z at) at + claims_of (slab_of z at) at ≤ limit_of g) (slab_geometry z at is own) ((in_it z at is own).limit (offset_of (slab_of z at) at))

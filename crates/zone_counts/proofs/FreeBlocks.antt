@@ -13,8 +13,8 @@ use Rattle.slab_counts.specs.declared.tickets.Ticket.{Ticket}
 use Rattle.slab_tickets.specs.Tickets.{Desk, IsNow, IsOutAt, begun, is_served, worth}
 use Rattle.slab_tickets.specs.declared.forms.Waiting.{Waiting}
 use Rattle.slab_tickets.specs.declared.forms.Withdrawn.{Withdrawn}
-use Rattle.zone_counts.specs.Zone.{Zone, BeginsStep, Changes, ClaimsLowest, NoneBefore, NoneFree, Serves, place_of, slab_at}
-use Rattle.zone_counts.specs.Asking.{Asks, WithdrawsFrom}
+use Rattle.zone_counts.specs.Zone.{Zone, BeginsStep, Changes, ClaimsLowest, NoneBefore, NoneFree, Serves, index_of, slab_at}
+use Rattle.zone_counts.specs.ZoneAnswers.{Asks, WithdrawsFrom}
 use Rattle.zone_counts.specs.declared.forms.Asked.{Asked}
 use Rattle.zone_counts.specs.declared.forms.Asked.TheVariants as asked
 
@@ -151,5 +151,5 @@ serves_any slabs desk = by_place (position (λ (waiting : Waiting). not (is_serv
 -- the counts of a block change
 pub can_change : (old : Zone) (at : Pbn) (counts : Counts) → (new : Zone) × Changes old new at counts
 can_change old at counts =
-    let r = serves_any (slice_set old.slabs (place_of old at) counts) old.desk in
+    let r = serves_any (slice_set old.slabs (index_of old at) counts) old.desk in
     (record old { slabs = r.0; desk = r.1 }, record { serves = r.2; same = refl })

@@ -2,7 +2,7 @@ pub mod PlaceLaws
 pub mod SlabLaws
 pub mod ZoneLaws
 pub mod OpeningLaws
-pub mod CallLaws
+pub mod OperationLaws
 pub mod ClaimLaws
 pub mod PageNotes
 pub mod Rows
@@ -10,7 +10,7 @@ pub mod UsedLaws
 pub mod SlabSums
 pub mod BlockLaws
 pub mod OneAnswer
-mod CallRows
+mod OperationRows
 mod ViewRows
 pub mod FreeBlocks
 pub mod OpenedCounts

@@ -15,8 +15,8 @@ use Rattle.slab_tickets.specs.declared.forms.Withdrawn.{Withdrawn}
 use Rattle.slab_tickets.proofs.OneAnswer.{one_issued, one_given, one_waiting, one_withdrawn}
 use Rattle.slab_tickets.specs.declared.forms.Waiting.{Waiting}
 use Rattle.zone_counts.specs.ByBlock.{served_ticket}
-use Rattle.zone_counts.specs.Zone.{Zone, BeginsStep, Changes, ClaimsLowest, NoneFree, Serves, slab_at, slab_of, with_slab, place_of}
-use Rattle.zone_counts.specs.Asking.{Asks, SharesIn, IsRefusedIn, WithdrawsFrom}
+use Rattle.zone_counts.specs.Zone.{Zone, BeginsStep, Changes, ClaimsLowest, NoneFree, Serves, slab_at, slab_of, with_slab, index_of}
+use Rattle.zone_counts.specs.ZoneAnswers.{Asks, SharesIn, IsRefusedIn, WithdrawsFrom}
 use Rattle.zone_counts.specs.declared.forms.Asked.{Asked}
 use Rattle.zone_counts.specs.declared.forms.Asked.TheVariants as asked
 
@@ -92,12 +92,12 @@ one_taken Decrement old c c' at one other = one.1 ∙ sym other.1
 pub one_passed : (half : Half) (old new new' : Zone) (at : Pbn) (c c' : Counts) → Takes half (slab_of old at) c at → (one : Changes old new at c) → Takes half (slab_of old at) c' at → (other : Changes old new' at c')
     → served_ticket one.serves ≡ served_ticket other.serves
 one_passed half old new new' at c c' takes one takes' other =
-    one_ticket (set old.slabs (place_of old at) c) (set old.slabs (place_of old at) c') new.slabs new'.slabs old.desk new.desk new'.desk
-    (ap (λ (x : Counts). set old.slabs (place_of old at) x) (one_taken half (slab_of old at) c c' at takes takes')) one.serves other.serves
+    one_ticket (set old.slabs (index_of old at) c) (set old.slabs (index_of old at) c') new.slabs new'.slabs old.desk new.desk new'.desk
+    (ap (λ (x : Counts). set old.slabs (index_of old at) x) (one_taken half (slab_of old at) c c' at takes takes')) one.serves other.serves
 
 pub one_changed : (old new new' : Zone) (at : Pbn) (counts : Counts) → Changes old new at counts → Changes old new' at counts → new ≡ new'
 one_changed old new new' at counts one other =
-    let same = one_served (set old.slabs (place_of old at) counts) new.slabs new'.slabs old.desk new.desk new'.desk one.serves other.serves in
+    let same = one_served (set old.slabs (index_of old at) counts) new.slabs new'.slabs old.desk new.desk new'.desk one.serves other.serves in
     one.same ∙ ap (λ (xs : List Counts). record old { slabs = xs; desk = new.desk }) same.0 ∙ ap (λ (d : Desk). record old { slabs = new'.slabs; desk = d }) same.1 ∙ sym other.same
 
 pub one_applied : (half : Half) (old new new' : Zone) (at : Pbn) (c c' : Counts) → Takes half (slab_of old at) c at → Changes old new at c → Takes half (slab_of old at) c' at → Changes old new' at c' → new ≡ new'

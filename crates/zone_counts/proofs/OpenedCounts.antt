@@ -15,7 +15,7 @@ use Rattle.zone_counts.specs.ByBlock.{counter_in, claims_in, out_with}
 use Rattle.zone_counts.specs.Openings.{is_data_block, offset_in, opened_count}
 use Rattle.zone_counts.specs.Zone.{Zone, IsOfZone, IsOpeningZone, IsZone, slab_at, slab_number}
 use Rattle.zone_counts.proofs.BlockLaws.{home_is}
-use Rattle.zone_counts.proofs.CallLaws.{inside}
+use Rattle.zone_counts.proofs.OperationLaws.{inside}
 use Rattle.zone_counts.proofs.PlaceLaws.{number_is}
 
 -- a number is that of a data block, or it isn't

@@ -15,9 +15,9 @@ use Rattle.blk_base.specs.declared.opened.Opened.{Opened}
 use Rattle.slab_tickets.specs.declared.forms.Withdrawn.TheVariants.{Block, Nothing}
 use Rattle.zone_counts.specs.ByBlock.{has_block, counter_in, claims_in, out_with, makes, drops, maps, unmaps, withdraws, served_block, served_ticket}
 use Rattle.zone_counts.specs.Openings.{opened_count}
-use Rattle.zone_counts.specs.Calls.{Call, Asks', Withdraws', Shares', Extends, Drops, SpendsPage, Applies}
+use Rattle.zone_counts.specs.Operations.{Operation, Asks', Withdraws', Shares', Extends, Drops, SpendsPage, Applies}
 use Rattle.zone_counts.specs.declared.forms.Asked.TheVariants as asked
-use Rattle.zone_counts.specs.Asking.{GivesBlock, GivesTicket, IsRefusedIn}
+use Rattle.zone_counts.specs.ZoneAnswers.{GivesBlock, GivesTicket, IsRefusedIn}
 
 -- two slabs of one block each: 85 and, behind a reference block and four of a journal, 91
 abbrev ones : Geometry
@@ -246,10 +246,10 @@ none_has_the_other : out_with (at 85) with_block ≡ 0
 none_has_the_other = refl
 
 -- makes, drops, maps, unmaps, withdraws
-abbrev given : Call
+abbrev given : Operation
 given = Asks' asker (asked.Block (at 91))
 
-abbrev waits : Call
+abbrev waits : Operation
 waits = Asks' asker (asked.Ticket (record { zone = 0; number = 5; asked = 8 }))
 
 made_by_calls : makes given (at 91) ∷ makes (Shares' (at 91)) (at 91) ∷ makes (Extends (at 91)) (at 91) ∷ [] ≡ 1 ∷ 1 ∷ 1 ∷ []

@@ -8,8 +8,8 @@ use Rattle.blk_base.specs.declared.point.Half.{Half}
 use Rattle.blk_base.specs.declared.point.Half.TheVariants.{Increment, Decrement}
 use Rattle.slab_counts.specs.Counts.{Counts, IsOfSlab, IsFree, IsClaimed, HasNoFree, HasRoom, ClaimsFree, Shares, Takes, claimed, unclaimed, with_page}
 use Rattle.slab_counts.specs.Kept.{IsWithin}
-use Rattle.slab_counts.specs.Calls.{Call, FreeClaimed, Shared, Extended, Dropped, PageSpent, Applied, Does, one_of, drops, maps, unmaps}
-use Rattle.slab_counts.proofs.CallLaws.{call_same, call_within, call_counts, call_claims, of_slab_still, one_same, one_other}
+use Rattle.slab_counts.specs.Operations.{Operation, FreeClaimed, Shared, Extended, Dropped, PageSpent, Applied, Does, one_of, drops, maps, unmaps}
+use Rattle.slab_counts.proofs.OperationLaws.{call_same, call_within, call_counts, call_claims, of_slab_still, one_same, one_other}
 
 -- a slab after a call: the same slab, with its numbers within the limit
 pub record IsStill (old new : Counts) : Type 0 where
@@ -17,11 +17,11 @@ pub record IsStill (old new : Counts) : Type 0 where
   pub geometry : new.geometry ≡ old.geometry
   pub within : IsWithin new
 
-pub still : (call : Call) (old new : Counts) → IsWithin old → Does call old new → IsStill old new
+pub still : (call : Operation) (old new : Counts) → IsWithin old → Does call old new → IsStill old new
 still call old new within did = let same = call_same call old new did in record { slab = same.1; geometry = same.0; within = call_within call old new within did }
 
 -- a call that takes nothing off leaves no other block free
-module _ (call : Call) (old new : Counts) (within : IsWithin old) (did : Does call old new) where
+module _ (call : Operation) (old new : Counts) (within : IsWithin old) (did : Does call old new) where
   of_old : (b : Pbn) → IsOfSlab new b → IsOfSlab old b
   of_old b here = let same = call_same call old new did in of_slab_still new old b (sym same.0, sym same.1) here
 

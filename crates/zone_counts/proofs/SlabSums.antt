@@ -9,10 +9,10 @@ use Rattle.blk_base.specs.declared.place.Pbn.{Pbn}
 use Rattle.plain_laws.proofs.ListLaws.{total-set}
 use Rattle.slab_counts.specs.Counts.{Counts, IsOfSlab, counter_of, claims_of}
 use Rattle.slab_counts.specs.Kept.{IsWithin}
-use Rattle.slab_counts.specs.Calls.{Call, Does, makes, drops, maps, unmaps}
-use Rattle.slab_counts.proofs.CallLaws.{call_same, call_counts, call_claims}
+use Rattle.slab_counts.specs.Operations.{Operation, Does, makes, drops, maps, unmaps}
+use Rattle.slab_counts.proofs.OperationLaws.{call_same, call_counts, call_claims}
 use Rattle.zone_counts.specs.Zone.{slab_at, nowhere}
-use Rattle.zone_counts.proofs.CallLaws.{inside}
+use Rattle.zone_counts.proofs.OperationLaws.{inside}
 use Rattle.zone_counts.specs.ByBlock.{has_block, counter_at, claims_at, counter_in, claims_in}
 
 -- a slab has the block, or it hasn't
@@ -45,7 +45,7 @@ has_same : (x : Pbn) (old new : Counts) → new.geometry ≡ old.geometry → ne
 has_same x old new g n = rw (g, n) refl
 
 -- one call about one block
-module _ (call : Call) (old new : Counts) (at : Pbn) (within : IsWithin old) (did : Does call old new) (here : IsOfSlab old at)
+module _ (call : Operation) (old new : Counts) (at : Pbn) (within : IsWithin old) (did : Does call old new) (here : IsOfSlab old at)
     (about : (b : Pbn) → at.0 ≢ b.0 → makes call b + drops call b + maps call b + unmaps call b ≡ 0) where
   other_block : (x : Pbn) → (IsOfSlab old x → ⊥) → at.0 ≢ x.0
   other_block x out same = out (omega (arith, here.0, same), omega (arith, here.1, same))

@@ -9,13 +9,13 @@ use Rattle.blk_base.specs.declared.point.Half.TheVariants.{Decrement}
 use Rattle.blk_base.specs.declared.request.Writer.{Writer}
 use Rattle.plain_laws.specs.Sums.{bit, total}
 use Rattle.plain_laws.proofs.ListLaws.{total-append, total-set, summand}
-use Rattle.slab_counts.proofs.CallLaws.{one_same}
+use Rattle.slab_counts.proofs.OperationLaws.{one_same}
 use Rattle.slab_counts.specs.Counts.{Counts, Takes, unclaimed}
 use Rattle.slab_counts.specs.declared.tickets.Receipt.{Receipt}
 use Rattle.slab_counts.specs.declared.tickets.Ticket.{Ticket}
 use Rattle.slab_tickets.proofs.NumberLaws.{get_read, gives_oldest, gives_tickets, issues_tickets, out_read, withdraws_tickets}
 use Rattle.slab_tickets.proofs.ReceiptLaws.{behind_receipt, found_or, issued_behind as desk_issued, call_keeps as desk_keeps}
-use Rattle.slab_tickets.specs.Calls as tickets
+use Rattle.slab_tickets.specs.Operations as tickets
 use Rattle.slab_tickets.specs.Numbers.{AreNumbered, IsBehind, ticket_of}
 use Rattle.slab_tickets.specs.Tickets.{Desk, IsBelow, IsOutAt, begun, is_served}
 use Rattle.slab_tickets.specs.declared.forms.Waiting.{Waiting}
@@ -23,12 +23,12 @@ use Rattle.slab_tickets.specs.declared.forms.Withdrawn.TheVariants.{Block, Nothi
 use Rattle.slab_tickets.specs.declared.forms.Withdrawn.{Withdrawn}
 use Rattle.std.specs.List.{position}
 use Rattle.zone_counts.proofs.BlockLaws.{dropped_is, moved, none_free, removed_is, total-remove, worth_block, worth_none}
-use Rattle.zone_counts.proofs.CallLaws.{as_zone, call_keeps, quiet}
+use Rattle.zone_counts.proofs.OperationLaws.{as_zone, call_keeps, quiet}
 use Rattle.zone_counts.proofs.FitLaws.{none_is_free}
 use Rattle.zone_counts.proofs.ZoneLaws.{zone_withdrawn}
-use Rattle.zone_counts.specs.Asking.{GivesTicket, WithdrawsFrom}
+use Rattle.zone_counts.specs.ZoneAnswers.{GivesTicket, WithdrawsFrom}
 use Rattle.zone_counts.specs.ByBlock.{claims_in, counter_in, is_at, served_block, served_ticket}
-use Rattle.zone_counts.specs.Calls.{Applies, Drops}
+use Rattle.zone_counts.specs.Operations.{Applies, Drops}
 use Rattle.zone_counts.specs.Zone.{BeginsStep, Changes, IsClaimedIn, IsOfZone, IsZone, Serves, Zone, slab_of}
 
 -- a step that begins changes no ticket, no number and no slab

@@ -9,7 +9,7 @@ use Rattle.blk_base.specs.declared.geometry.Geometry.{Geometry}
 use Rattle.blk_base.specs.declared.place.Pbn.{Pbn}
 use Rattle.slab_counts.specs.Counts.{Counts, IsOfSlab, IsFree, HasNoFree, ClaimsFree}
 use Rattle.slab_counts.specs.Kept.{IsWithin}
-use Rattle.slab_counts.specs.Calls.{FreeClaimed}
+use Rattle.slab_counts.specs.Operations.{FreeClaimed}
 use Rattle.plain_laws.proofs.FirstLaws.{find-nowhere, find-none, remove-position, All-but_first}
 use Rattle.slab_counts.specs.declared.tickets.Ticket.{Ticket}
 use Rattle.slab_tickets.specs.declared.forms.Waiting.{Waiting}
@@ -47,13 +47,13 @@ module _ (slabs : List Counts) (k : ℕ) (c : Counts) (inside : k < length slabs
         ];
   }
 
-  pub before_set : (mark : ℕ) → NoneBefore slabs mark → NoneBefore (set slabs k c) (min mark k)
-  before_set mark none j below =
+  pub before_set : (cursor : ℕ) → NoneBefore slabs cursor → NoneBefore (set slabs k c) (min cursor k)
+  before_set cursor none j below =
       let differs : j ≢ k = λ same. omega (arith, below, same) in
       subst (λ (x : Counts). HasNoFree x) (sym (other j differs)) (none j (omega (arith, below)))
 
-  pub before_kept : (mark : ℕ) → (HasNoFree (slab_at slabs k) → HasNoFree c) → NoneBefore slabs mark → NoneBefore (set slabs k c) mark
-  before_kept mark keeps none j below = elim (cases_eq j k) [
+  pub before_kept : (cursor : ℕ) → (HasNoFree (slab_at slabs k) → HasNoFree c) → NoneBefore slabs cursor → NoneBefore (set slabs k c) cursor
+  before_kept cursor keeps none j below = elim (cases_eq j k) [
     | inl same ↦
         subst (λ (x : Counts). HasNoFree x) (sym (ap (λ (n : ℕ). slab_at (set slabs k c) n) same ∙ here))
         (keeps (subst (λ (n : ℕ). HasNoFree (slab_at slabs n)) same (none j below)))
@@ -114,14 +114,14 @@ desk_served slabs desk slabs' desk' (inl (quiet, same, same')) = ap (λ (d : Des
 desk_served slabs desk slabs' desk' (inr serves) = ap (λ (d : Desk). d.zone) serves.gives.after
 
 -- what is kept of a zone where one slab got busier: the old slab is as it was read
-module _ (z : Zone) (mark k : ℕ) (s c : Counts) (is : IsZone z) (below : NoneBefore z.slabs mark) (inside : k < length z.slabs) (read : s ≡ get_or z.slabs k s) where
+module _ (z : Zone) (cursor k : ℕ) (s c : Counts) (is : IsZone z) (below : NoneBefore z.slabs cursor) (inside : k < length z.slabs) (read : s ≡ get_or z.slabs k s) where
   pub read_as : s ≡ slab_at z.slabs k
   read_as = read ∙ get_or_default z.slabs k s nowhere inside
 
   pub within_read : IsWithin s
   within_read = subst (λ (x : Counts). IsWithin x) (sym read_as) (is.slabs.each k inside).2
 
-  pub busier : IsBusier s c → IsZone (record z { slabs = set z.slabs k c }) × NoneBefore (set z.slabs k c) mark
+  pub busier : IsBusier s c → IsZone (record z { slabs = set z.slabs k c }) × NoneBefore (set z.slabs k c) cursor
   busier change =
       let change' : IsBusier (slab_at z.slabs k) c = subst (λ (x : Counts). IsBusier x c) read_as change in (
         record {
@@ -129,7 +129,7 @@ module _ (z : Zone) (mark k : ℕ) (s c : Counts) (is : IsZone z) (below : NoneB
           desk = is.desk;
           settled = settled_kept z.slabs k c inside z.desk change'.keeps is.settled;
         },
-        before_kept z.slabs k c inside mark change'.keeps below,
+        before_kept z.slabs k c inside cursor change'.keeps below,
       )
 
   -- and where a block may have become free, and the oldest ticket was served

@@ -5,12 +5,12 @@ use Rattle.blk_base.specs.Regions.{slab_start_of}
 use Rattle.blk_base.specs.declared.place.Pbn.{Pbn}
 use Rattle.blk_base.specs.declared.point.Half.TheVariants.{Increment, Decrement}
 use Rattle.plain_laws.specs.Sums.{total}
-use Rattle.slab_counts.specs.Calls.{one_of}
+use Rattle.slab_counts.specs.Operations.{one_of}
 use Rattle.slab_counts.specs.Counts.{Counts, counter_of, claims_of}
 use Rattle.slab_tickets.specs.Tickets.{Desk}
 use Rattle.slab_tickets.specs.declared.forms.Waiting.{Waiting}
 use Rattle.slab_tickets.specs.declared.forms.Withdrawn.TheVariants.{Block}
-use Rattle.zone_counts.specs.Calls.{Call, Asks', Withdraws', Shares', Extends, Drops, Applies, Does}
+use Rattle.zone_counts.specs.Operations.{Operation, Asks', Withdraws', Shares', Extends, Drops, Applies, Does}
 use Rattle.zone_counts.specs.Zone.{Zone, Serves}
 use Rattle.zone_counts.specs.declared.forms.Asked.TheVariants as asked
 
@@ -45,25 +45,25 @@ out_with x desk = total (waits_with x) desk.out
 
 -- how many claims on the block a call made, and dropped; how many mappings of it were counted, and taken off; and how many
 -- tickets with it were withdrawn
-abbrev pub makes : Call → Pbn → ℕ
+abbrev pub makes : Operation → Pbn → ℕ
 makes (Asks' writer (asked.Block at)) x = one_of at x
 makes (Shares' at) x = one_of at x
 makes (Extends at) x = one_of at x
 makes other x = 0
 
-abbrev pub drops : Call → Pbn → ℕ
+abbrev pub drops : Operation → Pbn → ℕ
 drops (Drops at) x = one_of at x
 drops other x = 0
 
-abbrev pub maps : Call → Pbn → ℕ
+abbrev pub maps : Operation → Pbn → ℕ
 maps (Applies Increment at slab) x = one_of at x
 maps other x = 0
 
-abbrev pub unmaps : Call → Pbn → ℕ
+abbrev pub unmaps : Operation → Pbn → ℕ
 unmaps (Applies Decrement at slab) x = one_of at x
 unmaps other x = 0
 
-abbrev pub withdraws : Call → Pbn → ℕ
+abbrev pub withdraws : Operation → Pbn → ℕ
 withdraws (Withdraws' ticket (Block at)) x = one_of at x
 withdraws other x = 0
 
@@ -77,7 +77,7 @@ abbrev pub served_ticket : {slabs slabs' : List Counts} {desk desk' : Desk} → 
 served_ticket (inl same) = None
 served_ticket (inr serves) = Some serves.gives.waiting.number
 
-abbrev pub served_in : (call : Call) (old new : Zone) → Does call old new → Option Pbn
+abbrev pub served_in : (call : Operation) (old new : Zone) → Does call old new → Option Pbn
 served_in (Drops at) old new did = served_block did.1.serves
 served_in (Applies half at slab) old new did = served_block did.2.serves
 served_in other old new did = None

@@ -1,6 +1,6 @@
 pub mod Zone
-pub mod Asking
-pub mod Calls
+pub mod ZoneAnswers
+pub mod Operations
 pub mod ByBlock
 pub mod Openings
 pub mod Viewed

@@ -46,11 +46,11 @@ pub record IsOf (g : Geometry) (zone zones : ℕ) (at : Pbn) : Type 0 where
 abbrev pub IsOfZone : Zone → Pbn → Type 0
 IsOfZone z at = IsOf z.geometry z.zone z.zones at
 
-abbrev pub place_of : Zone → Pbn → ℕ
-place_of z at = place_in z.geometry z.zones at
+abbrev pub index_of : Zone → Pbn → ℕ
+index_of z at = place_in z.geometry z.zones at
 
 abbrev pub slab_of : Zone → Pbn → Counts
-slab_of z at = slab_at z.slabs (place_of z at)
+slab_of z at = slab_at z.slabs (index_of z at)
 
 -- there is a claim on this data block of the zone
 pub record IsClaimedIn (z : Zone) (at : Pbn) : Type 0 where
@@ -63,11 +63,11 @@ used_in slabs = sum_by used_of slabs
 
 -- the slab of the block has these counts
 abbrev pub with_slab : Zone → Pbn → Counts → Zone
-with_slab z at counts = record z { slabs = slice_set z.slabs (place_of z at) counts }
+with_slab z at counts = record z { slabs = slice_set z.slabs (index_of z at) counts }
 
 -- no slab up to this one, and none at all, has a free block
 abbrev pub NoneBefore : List Counts → ℕ → Type 0
-NoneBefore slabs mark = (k : ℕ) → k < mark → HasNoFree (slab_at slabs k)
+NoneBefore slabs cursor = (k : ℕ) → k < cursor → HasNoFree (slab_at slabs k)
 
 abbrev pub NoneFree : List Counts → Type 0
 NoneFree slabs = (k : ℕ) → k < length slabs → HasNoFree (slab_at slabs k)
@@ -93,7 +93,7 @@ Serves slabs desk slabs' desk' = ((NoneWaits desk ⊎ NoneFree slabs) × (slabs'
 
 -- the slab of the block has these counts, and if the block became free by that, the oldest ticket without one is served
 pub record Changes (old new : Zone) (at : Pbn) (counts : Counts) : Type 0 where
-  pub serves : Serves (slice_set old.slabs (place_of old at) counts) old.desk new.slabs new.desk
+  pub serves : Serves (slice_set old.slabs (index_of old at) counts) old.desk new.slabs new.desk
   pub same : new ≡ record old { slabs = new.slabs; desk = new.desk }
 
 -- these are the slabs of the zone with this number, each with the numbers of its blocks

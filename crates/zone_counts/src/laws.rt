@@ -14,7 +14,7 @@ ghost use Rattle.slab_tickets.specs.declared.forms.Withdrawn.TheVariants.{Block,
 ghost use Rattle.slab_tickets.specs.declared.forms.Waiting.{Waiting};
 ghost use Rattle.zone_counts.specs.Zone.{Zone, IsZone, IsOfZone, IsClaimedIn, IsOpeningZone, BeginsStep, Changes, NoneFree, slab_of, with_slab};
 ghost use Rattle.zone_counts.specs.Openings.{opened_count};
-ghost use Rattle.zone_counts.specs.Asking.{Asks, GivesBlock, GivesTicket, SharesIn, WithdrawsFrom, IsRefusedIn};
+ghost use Rattle.zone_counts.specs.ZoneAnswers.{Asks, GivesBlock, GivesTicket, SharesIn, WithdrawsFrom, IsRefusedIn};
 ghost use Rattle.zone_counts.specs.ByBlock.{counter_in, claims_in, out_with, is_at, makes, drops, maps, unmaps, withdraws, served_block, served_ticket, served_in};
 ghost use Rattle.zone_counts.specs.declared.forms.Asked.{Asked};
 ghost use Rattle.slab_counts.specs.Counts.{Counts, IsFree, IsStray, Takes, counter_of, claims_of, claimed, unclaimed};
@@ -22,12 +22,12 @@ ghost use Rattle.blk_base.specs.declared.place.Pbn.{Pbn};
 ghost use Rattle.blk_base.specs.declared.point.Half.{Half};
 ghost use Rattle.blk_base.specs.declared.point.Half.TheVariants.{Increment, Decrement};
 ghost use Rattle.blk_base.specs.declared.request.Writer.{Writer};
-ghost use Rattle.zone_counts.specs.Calls.{Call, Does, LeadTo, IsRight};
+ghost use Rattle.zone_counts.specs.Operations.{Operation, Does, LeadTo, IsRight};
 
 /// Over every list of calls a zone stays as it must be: each slab has the numbers of its blocks, within the limit, and where a
 /// ticket waits no block is free.
 pub fn zones_stay_settled()
-    ensures { (old new : Zone) (calls : List Call) → IsZone old → LeadTo old calls new →
+    ensures { (old new : Zone) (calls : List Operation) → IsZone old → LeadTo old calls new →
         IsZone new }
 {}
 
@@ -42,7 +42,7 @@ pub fn a_ticket_waits_where_no_block_is_free()
 /// Over every list of calls from an opened zone on, every receipt that a withdrawal gives is right: no step from the one that
 /// asked on ended with a free block in this zone.
 pub fn every_receipt_is_right()
-    ensures { (first old new : Zone) (room : ℕ) (calls : List Call) (ticket : Ticket)
+    ensures { (first old new : Zone) (room : ℕ) (calls : List Operation) (ticket : Ticket)
         (receipt : Receipt) → IsZone first
         → first.desk ≡ empty_desk first.zone room → LeadTo first calls old →
         WithdrawsFrom old new ticket (Nothing receipt) → IsRight calls receipt }
@@ -72,14 +72,14 @@ pub fn a_block_has_one_home()
 /// What each call makes of the counter of each block, of the claims on it, and of the tickets that have it: a block that goes
 /// to a ticket is claimed by that.
 pub fn calls_move_claims_and_counters()
-    ensures counters { (call : Call) (old new : Zone) (at : Pbn) → IsZone old → Does call old new
+    ensures counters { (call : Operation) (old new : Zone) (at : Pbn) → IsZone old → Does call old new
         → counter_in at new.slabs + unmaps call at ≡ counter_in at old.slabs + maps call at }
-    ensures claims { (call : Call) (old new : Zone) (at : Pbn) → IsZone old →
+    ensures claims { (call : Operation) (old new : Zone) (at : Pbn) → IsZone old →
         (does : Does call old new)
         →
         claims_in at new.slabs + (drops call at + maps call at)
         ≡ claims_in at old.slabs + makes call at + is_at at (served_in call old new does) }
-    ensures tickets { (call : Call) (old new : Zone) (at : Pbn) → IsZone old →
+    ensures tickets { (call : Operation) (old new : Zone) (at : Pbn) → IsZone old →
         (does : Does call old new)
         →
         out_with at new.desk + withdraws call at

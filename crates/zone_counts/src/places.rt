@@ -29,7 +29,7 @@ pub(crate) fn find_slab(
 }
 
 /// Where the slab of a data block of the zone stands among those of the zone.
-pub(crate) fn place_of(
+pub(crate) fn index_of(
     layout: &Layout,
     zone: u32,
     zones: u32,

@@ -4,12 +4,12 @@ ghost use Rattle.blk_base.specs.Limits.{IsGeometry};
 ghost use Rattle.slab_counts.specs.Counts.{Counts, IsFree, HasRoom, Takes, IsStray, counter_of, claimed, unclaimed, with_page};
 ghost use Rattle.slab_counts.specs.declared.refusals.Refusal.TheVariants.{Full};
 ghost use Rattle.slab_tickets.specs.Tickets.{IsNow, IsBelow, IsOutAt, HasRoom as HasTicket};
-ghost use Rattle.zone_counts.specs.Zone.{IsZone, IsOfZone, IsClaimedIn, IsOpeningZone, BeginsStep, Changes, NoneFree, place_of, slab_at, slab_of, used_in, with_slab};
-ghost use Rattle.zone_counts.specs.Asking.{Asks, GivesBlock, WithdrawsFrom, SharesIn, IsRefusedIn};
+ghost use Rattle.zone_counts.specs.Zone.{IsZone, IsOfZone, IsClaimedIn, IsOpeningZone, BeginsStep, Changes, NoneFree, index_of, slab_at, slab_of, used_in, with_slab};
+ghost use Rattle.zone_counts.specs.ZoneAnswers.{Asks, GivesBlock, WithdrawsFrom, SharesIn, IsRefusedIn};
 
 use crate::Asked;
 use crate::opened_slabs::opening_slabs;
-use crate::places::{find_slab, place_of};
+use crate::places::{find_slab, index_of};
 use crate::search::{claim_lowest, has_free, serve};
 use crate::used::used_in;
 use blk_base::{Half, Layout, Opened, Pbn, Writer};
@@ -28,7 +28,7 @@ pub struct ZoneCounts {
     // The slabs of the zone, in their order.
     slabs: Vec<SlabCounts>,
     // Where a free block is looked for first: no slab before it has one.
-    mark: usize,
+    cursor: usize,
     tickets: Tickets,
 }
 
@@ -74,7 +74,7 @@ impl ZoneCounts {
             zone,
             zones,
             slabs,
-            mark: 0,
+            cursor: 0,
             tickets,
         })
     }
@@ -84,7 +84,7 @@ impl ZoneCounts {
         requires { IsBelow self.old.desk.step step }
         ensures { BeginsStep self.old self.new step }
     {
-        let is_free = has_free(&mut self.slabs, &mut self.mark);
+        let is_free = has_free(&mut self.slabs, &mut self.cursor);
         self.tickets.begin_step(step, is_free);
     }
 
@@ -133,7 +133,7 @@ impl ZoneCounts {
         ensures none { IfNone result (NoneFree self.old.slabs) }
         ensures same { IfNone result (self.new ≡ self.old) }
     {
-        claim_lowest(&mut self.slabs, &mut self.mark)
+        claim_lowest(&mut self.slabs, &mut self.cursor)
     }
 
     /// Asks for a block: it gives the zone's lowest free block, claimed, and a ticket exactly where none is free. A step was
@@ -143,7 +143,7 @@ impl ZoneCounts {
         requires begun { (step : ℕ) × IsNow self.old.desk step }
         ensures { Asks self.old self.new writer result }
     {
-        match claim_lowest(&mut self.slabs, &mut self.mark) {
+        match claim_lowest(&mut self.slabs, &mut self.cursor) {
             Some(claim) => Asked::Block(claim),
             None => Asked::Ticket(self.tickets.issue(writer)),
         }
@@ -187,7 +187,7 @@ impl ZoneCounts {
             (refusal ≡ Full) × (¬ HasRoom (slab_of self.old claim.now) claim.now)) }
         ensures same { OnErr result (self.new ≡ self.old) }
     {
-        let place = place_of(
+        let place = index_of(
             &self.layout,
             self.zone,
             self.zones,
@@ -204,7 +204,7 @@ impl ZoneCounts {
         requires { IsClaimedIn self.old claim }
         ensures { Changes self.old self.new claim (unclaimed (slab_of self.old claim) claim) }
     {
-        let place = place_of(
+        let place = index_of(
             &self.layout,
             self.zone,
             self.zones,
@@ -213,8 +213,8 @@ impl ZoneCounts {
         );
         let slab = &mut self.slabs[place];
         slab.drop_claim(claim);
-        self.mark = self.mark.min(place);
-        serve(&mut self.slabs, &mut self.mark, &mut self.tickets);
+        self.cursor = self.cursor.min(place);
+        serve(&mut self.slabs, &mut self.cursor, &mut self.tickets);
     }
 
     /// The claim becomes the increment that will come: it stays counted until then. It gives the block.
@@ -233,7 +233,7 @@ impl ZoneCounts {
         ensures page { self.new
             ≡ with_slab self.old claim (with_page (slab_of self.old claim) claim) }
     {
-        let place = place_of(
+        let place = index_of(
             &self.layout,
             self.zone,
             self.zones,
@@ -257,11 +257,11 @@ impl ZoneCounts {
         ensures count { IfErr result (λ stray. stray.count ≡ counter_of (slab_of self.old at) at) }
         ensures same { OnErr result (self.new ≡ self.old) }
     {
-        let place = place_of(&self.layout, self.zone, self.zones, &self.slabs, at);
+        let place = index_of(&self.layout, self.zone, self.zones, &self.slabs, at);
         let slab = &mut self.slabs[place];
         slab.apply(half, at)?;
-        self.mark = self.mark.min(place);
-        serve(&mut self.slabs, &mut self.mark, &mut self.tickets);
+        self.cursor = self.cursor.min(place);
+        serve(&mut self.slabs, &mut self.cursor, &mut self.tickets);
         Ok(())
     }
 
@@ -271,7 +271,7 @@ impl ZoneCounts {
         ensures free { IsTrue result ↔ IsFree (slab_of self.now at) at }
         ensures right { IsZone self.now }
     {
-        let place = place_of(&self.layout, self.zone, self.zones, &self.slabs, at);
+        let place = index_of(&self.layout, self.zone, self.zones, &self.slabs, at);
         self.slabs[place].is_free(at)
     }
 
@@ -281,17 +281,17 @@ impl ZoneCounts {
         ensures count { result ≡ counter_of (slab_of self.now at) at }
         ensures right { IsZone self.now }
     {
-        let place = place_of(&self.layout, self.zone, self.zones, &self.slabs, at);
+        let place = index_of(&self.layout, self.zone, self.zones, &self.slabs, at);
         self.slabs[place].count(at)
     }
 
     /// Where the slab of a block of this zone stands among those of the zone.
     pub fn place(&self, at: Pbn) -> usize
         requires { IsOfZone self.now at }
-        ensures place { result ≡ place_of self.now at }
+        ensures place { result ≡ index_of self.now at }
         ensures inside { result < length self.now.slabs }
     {
-        place_of(&self.layout, self.zone, self.zones, &self.slabs, at)
+        index_of(&self.layout, self.zone, self.zones, &self.slabs, at)
     }
 
     /// Whether the slab with this number in the image is one of this zone.

@@ -29,7 +29,7 @@ use Rattle.data_vio.specs.declared.items.Asks.TheVariants as asks
 use Rattle.core_laws.proofs.journal.SealedBlocks.{block_has, block_length, blocks_length, heads_start}
 use Rattle.core_laws.proofs.lists.CoreLists.{newest_has}
 use Rattle.core_laws.proofs.kept.Spared.{SparesAddress, SparesPage, SparesRequest, mapping_same}
-use Rattle.journal_stops.specs.Rings.{IsWhole, place_of}
+use Rattle.journal_stops.specs.Rings.{IsWhole, ring_slot_of}
 use Rattle.journal_stops.specs.Sealed.{IsSealed, next_of}
 use Rattle.journal_stops.proofs.StepLaws.{begins, is_written}
 use Rattle.core_model.specs.Sessions.{IsKept, blocks_of, sealed_with}
@@ -357,7 +357,7 @@ module _ (s : Session) (session : IsSession s) where
 -- The slot of the next block is written.
 module _ (s : Session) (t : Trace) (older : List (List Logged)) (es : List Logged) (slot : Pbn) (bytes : List ℕ) (session : IsSession s) (fresh : AllByRecursion (HasBlock s) es)
     (can_seal : IsSealed s.sizes.geometry s.sizes.start (blocks_of s older) (sealed_with s es))
-    (place : slot.0 ≡ place_of s.sizes.geometry (next_of s.sizes.start (blocks_of s older)))
+    (place : slot.0 ≡ ring_slot_of s.sizes.geometry (next_of s.sizes.start (blocks_of s older)))
     (says : IsWhole s.sizes.geometry (next_of s.sizes.start (blocks_of s older)) (sealed_with s es) bytes)
     (right : RightTrace s t) (opened : IsAsOpened s) (sealed_is : sealed t ≡ es ∷ older) (rest : AtRest s t older) (keeps : NewStands s t es) where
   -- it is no data block

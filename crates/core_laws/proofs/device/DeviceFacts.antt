@@ -26,7 +26,7 @@ use Rattle.vdo_model.specs.declared.report.Damage.{Damage}
 use Rattle.core_laws.proofs.kept.Keys.{OfBlock, Clears, OfJournal}
 use Rattle.core_model.specs.RightTraces.{IsUnused}
 use Rattle.core_model.specs.Facts.{HasClaim}
-use Rattle.data_vio.specs.Phases.{row}
+use Rattle.data_vio.specs.Phases.{phase_rule}
 use Rattle.core_laws.proofs.device.DeviceCalls.{CanStand, can_data, call_clears, data_misses, quiet_call, quiet_journal, read_value, slot_misses, slot_reads, slot_shown, slot_way, spelled_sealed, store_call, store_reads, call_filled, data_not_first, first_journal, first_spares}
 use Rattle.core_laws.proofs.journal.SealedBlocks.{blocks_length, entries_in_order, every_logged, logged_length}
 use Rattle.disk_model.specs.Log.{Misses}
@@ -37,7 +37,7 @@ use Rattle.core_model.specs.Sessions.{SuperblockStands}
 use Rattle.core_model.specs.declared.zones.SuperblockStage.TheVariants.{AsOpened, Written, Durable}
 use Rattle.core_laws.proofs.kept.StandsOn.{IsCallOf, block_spared, call_sealed, failed, harmed as is_harm, journal_spared, map_kept, map_more, mapped_all, new_kept, on_each, pages_kept, pages_more, rests_kept, rests_unlogged, spares_all, succeeded, unused_spared, way_kept}
 use Rattle.blk_base.specs.Regions.{journal_slot_of, IsDataBlock}
-use Rattle.journal_codec.specs.Spelling.{block_bytes}
+use Rattle.journal_codec.specs.BlockBytes.{block_bytes}
 use Rattle.stop_laws.specs.Journals.{block_of_slot}
 use Rattle.blk_base.specs.declared.geometry.Geometry.{Geometry}
 use Rattle.blk_base.specs.declared.place.Mapping.TheVariants.{At, Unmapped, Zero}
@@ -50,7 +50,7 @@ use Rattle.data_vio.specs.declared.items.Phase.TheVariants as phase
 use Rattle.core_model.specs.declared.zones.ZoneData.TheVariants as at
 use Rattle.core_model.specs.DeviceRules as device
 use Rattle.data_vio.specs.declared.items.Stage.TheVariants as stage
-use Rattle.journal_stops.specs.Rings.{IsWhole, place_of as slot_place}
+use Rattle.journal_stops.specs.Rings.{IsWhole, ring_slot_of as slot_place}
 use Rattle.journal_stops.specs.Sealed.{next_of}
 use Rattle.journal_stops.proofs.StepLaws.{spelled_whole, ends}
 use Rattle.core_model.specs.Sessions.{blocks_of, sealed_with}
@@ -519,7 +519,7 @@ spelled : (s : Session) (t : Trace) (v : Vio) → KeptOk s t phase.Pending v →
 spelled s t v k = by v.page v.new refl (carries_at s t v phase.Pending k.2 k.1)
   where
     at_data : OnBlock (λ x. IsDataBlock s.sizes.geometry x.0) v.new
-    at_data = k.3.on_data (ap (λ (q : Phase). (row q).claims) k.2)
+    at_data = k.3.on_data (ap (λ (q : Phase). (phase_rule q).claims) k.2)
 
     by : (o : Option PageId) (m : Mapping) → v.new ≡ m → CarriesFor s t v phase.Pending o → CanStand s (logged_for v o m)
     by None m to has = record {

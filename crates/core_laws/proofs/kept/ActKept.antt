@@ -7,7 +7,7 @@ use Rattle.data_vio.specs.declared.items.Phase.TheVariants as phase
 use Rattle.core_model.specs.declared.zones.ZoneData.TheVariants as at
 use Rattle.blk_base.specs.declared.place.PageId.{PageId}
 use Rattle.blk_base.specs.Regions.{IsDataBlock}
-use Rattle.data_vio.specs.Phases.{row}
+use Rattle.data_vio.specs.Phases.{phase_rule}
 use Rattle.core_model.specs.Facts.{CarriesFor, CarriesOwn, CarriesPage, ClaimFor, ClaimOk, claim_of, TookNone}
 use Rattle.core_model.specs.Legal.{ComesAfter}
 use Rattle.core_model.specs.Sessions.{SuperblockStands}
@@ -196,7 +196,7 @@ module _ {s : Session} {t : Trace} {n : ℕ} {d : ZoneData} {v : Vio} (known : K
   claim_in q is = claim_at s v q is known.front_ok.0.3
 
   -- where it has one, it is on the data block that its entry names, and it is its own
-  module _ (q : Phase) (x : Pbn) (is : v.phase ≡ q) (claims : (row q).claims ≡ true) (to : v.new ≡ At x) where
+  module _ (q : Phase) (x : Pbn) (is : v.phase ≡ q) (claims : (phase_rule q).claims ≡ true) (to : v.new ≡ At x) where
     pub claim_is : v.claim ≡ Some x
     claim_is = (claim_in q is).claim_is ∙ ap (λ (b : Bool). claim_of b v.new) claims ∙ ap (claim_of true) to
 

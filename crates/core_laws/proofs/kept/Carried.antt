@@ -14,7 +14,7 @@ use Rattle.core_model.specs.DeskRules.{is_marked, mark_of_vio}
 use Rattle.core_model.specs.DeviceRules.{page_at}
 use Rattle.core_model.specs.Trace.{last_asked}
 use Rattle.blk_base.specs.Regions.{IsDataBlock}
-use Rattle.data_vio.specs.Phases.{row}
+use Rattle.data_vio.specs.Phases.{phase_rule}
 use Rattle.data_vio.specs.declared.logged.Logged.TheVariants.{Remaps}
 use Rattle.core_model.specs.Facts.{CarriesFor, CarriesOwn, CarriesPage, ClaimOk, IsDecrement, ReportOk, claim_of, HasLeaf, HasPageEntry, IsUnmade, MakesPage, NeedsLeaf}
 use Rattle.core_laws.proofs.kept.Keys.{Key, OfRequest, OfAddress, OfBlock, OfJournal, OfPage, token_of, Spares, own_name, holder_one, claim_one, maker_one}
@@ -272,7 +272,7 @@ module _ (s : Session) (h : Happening) (t : Trace) where
   -- who has yet to hand in its entry has the claim on the block that this names
   claim_spared : (v : Vio) → SparesItem (item.Request v) → ClaimOk s v → v.phase ≡ phase.Enter → (x : Pbn) → v.new ≡ At x → SparesBlock h x.0
   claim_spared v spares claim is x to =
-      let claims : (row v.phase).claims ≡ true = ap (λ (q : Phase). (row q).claims) is in
+      let claims : (phase_rule v.phase).claims ≡ true = ap (λ (q : Phase). (phase_rule q).claims) is in
       let has : v.claim ≡ Some x = claim.claim_is ∙ ap (λ (b : Bool). claim_of b v.new) claims ∙ ap (claim_of true) to in
       let at_data : OnBlock (λ y. IsDataBlock s.sizes.geometry y.0) v.new = claim.on_data claims in
       spares (OfBlock x) (omega (arith, claim_one v x has)) (subst (OnBlock (λ y. IsDataBlock s.sizes.geometry y.0)) to at_data)

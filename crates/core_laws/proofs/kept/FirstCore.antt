@@ -20,7 +20,7 @@ use Rattle.slab_tickets.specs.Tickets.{empty_desk}
 use Rattle.zone_counts.proofs.BlockLaws.{foreign_is, home_is}
 use Rattle.zone_counts.proofs.FitLaws.{own_or_not}
 use Rattle.zone_counts.specs.ByBlock.{claims_in, counter_in}
-use Rattle.zone_counts.specs.Zone.{IsZone, place_of, slab_at}
+use Rattle.zone_counts.specs.Zone.{IsZone, index_of, slab_at}
 use Rattle.zone_counts.specs.Zone.{Zone as Counted}
 use Rattle.core_laws.proofs.lists.Zeros.{zeros_length}
 use Rattle.core_laws.proofs.logical.BareTrees.{bare, bare_is}
@@ -108,7 +108,7 @@ small_unused : (x : Pbn) → (counter_in x small_counts.slabs ≡ 0) × (claims_
 small_unused x = elim (own_or_not small_counts x) [
   | inl own ↦
       let home = home_is small_counts x small_zone own in
-      let none = none_there (place_of small_counts x) x in
+      let none = none_there (index_of small_counts x) x in
       (home.0 ∙ none.0, home.1 ∙ none.1)
   | inr out ↦ foreign_is small_counts x small_zone out
 ]

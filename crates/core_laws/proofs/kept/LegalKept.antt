@@ -27,7 +27,7 @@ use Rattle.core_laws.proofs.kept.StepActs.{by_act, known, sides}
 use Rattle.core_laws.proofs.kept.Arrivals.{arrivals_kept, course}
 use Rattle.core_laws.proofs.kept.Streams.{flows_step}
 use Rattle.core_laws.proofs.kept.Counted.{made_once}
-use Rattle.core_laws.proofs.tokens.ActSums.{IsRow, act_row}
+use Rattle.core_laws.proofs.tokens.ActSums.{IsRule, act_rule}
 use Rattle.core_model.specs.Tokens.{making_token, page_entry_token}
 use Rattle.data_vio.specs.declared.items.Item.TheVariants as item
 use Rattle.core_laws.proofs.tokens.Known.{KeptIn, counts, kept_in, phases}
@@ -205,31 +205,31 @@ module _ (s : Session) (session : IsSession s) (old new : Core) (legal : Legal s
     settling_leased = here.settling_leased;
   }
 
-  the_row : IsRow s.sizes st.zone.keeps st.step.front st.zone'.keeps st.step.posts
-  the_row = act_row s.sizes st.zone.keeps st.step.front st.zone'.keeps st.made st.step.posts st.step.act for_tokens
+  the_rule : IsRule s.sizes st.zone.keeps st.step.front st.zone'.keeps st.step.posts
+  the_rule = act_rule s.sizes st.zone.keeps st.step.front st.zone'.keeps st.made st.step.posts st.step.act for_tokens
 
-  balanced : (t : Token) → Conserves t st.zone.keeps st.zone'.keeps the_row.before the_row.after → Balanced t old.zones → Balanced t new.zones
-  balanced t = balance_step t s.sizes old new st lanes_there the_row
+  balanced : (t : Token) → Conserves t st.zone.keeps st.zone'.keeps the_rule.before the_rule.after → Balanced t old.zones → Balanced t new.zones
+  balanced t = balance_step t s.sizes old new st lanes_there the_rule
 
   pub legal_step : Legal s new
   legal_step = record {
     count = ap length zones_is ∙ length-put old.zones st.number st.zone' ∙ legal.count;
     each = subst (λ (core : Core). Each (ZoneOk s core.trace) core.zones) (sym st.has) each_ok;
-    requests = λ w. balanced (request_token w) (requests_law s.sizes w the_row.row) (legal.requests w);
-    leases = λ a test. balanced (lease_token a test) (leases_law s.sizes a test the_row.row) (legal.leases a test);
-    holders = balanced holder_token (holders_law s.sizes the_row.row) legal.holders;
-    entries = balanced entry_token (entries_law s.sizes the_row.row) legal.entries;
-    making = λ page. balanced (making_token page) (making_law s.sizes page the_row.row) (legal.making page);
-    dropped = at_most_step page_entry_token s.sizes old new st lanes_there the_row (page_entries_law s.sizes the_row.row) legal.dropped;
-    blocks = λ x. balanced (block_token (opened_uses s) x) (blocks_law s.sizes (opened_uses s) x the_row.row) (legal.blocks x);
-    claims = λ x. at_most_step (claim_token x) s.sizes old new st lanes_there the_row (claims_law s.sizes x the_row.row) (legal.claims x);
-    tickets = λ zone test. balanced (ticket_token zone test) (tickets_law s.sizes zone test the_row.row) (legal.tickets zone test);
-    reports = λ w. balanced (report_token w) (reports_law s.sizes w the_row.row) (legal.reports w);
-    waiters = λ w. balanced (waiter_token w) (waiters_law s.sizes w the_row.row) (legal.waiters w);
-    damage = at_most_step damage_token s.sizes old new st lanes_there the_row (damage_law s.sizes the_row.row) legal.damage;
-    journal = balanced journal_token (journal_law s.sizes the_row.row) legal.journal;
-    room = balanced room_token (room_law s.sizes the_row.row) legal.room;
-    stop_notices = balanced (notice_token s.sizes) (notices_law s.sizes the_row.row) legal.stop_notices;
+    requests = λ w. balanced (request_token w) (requests_law s.sizes w the_rule.rule) (legal.requests w);
+    leases = λ a test. balanced (lease_token a test) (leases_law s.sizes a test the_rule.rule) (legal.leases a test);
+    holders = balanced holder_token (holders_law s.sizes the_rule.rule) legal.holders;
+    entries = balanced entry_token (entries_law s.sizes the_rule.rule) legal.entries;
+    making = λ page. balanced (making_token page) (making_law s.sizes page the_rule.rule) (legal.making page);
+    dropped = at_most_step page_entry_token s.sizes old new st lanes_there the_rule (page_entries_law s.sizes the_rule.rule) legal.dropped;
+    blocks = λ x. balanced (block_token (opened_uses s) x) (blocks_law s.sizes (opened_uses s) x the_rule.rule) (legal.blocks x);
+    claims = λ x. at_most_step (claim_token x) s.sizes old new st lanes_there the_rule (claims_law s.sizes x the_rule.rule) (legal.claims x);
+    tickets = λ zone test. balanced (ticket_token zone test) (tickets_law s.sizes zone test the_rule.rule) (legal.tickets zone test);
+    reports = λ w. balanced (report_token w) (reports_law s.sizes w the_rule.rule) (legal.reports w);
+    waiters = λ w. balanced (waiter_token w) (waiters_law s.sizes w the_rule.rule) (legal.waiters w);
+    damage = at_most_step damage_token s.sizes old new st lanes_there the_rule (damage_law s.sizes the_rule.rule) legal.damage;
+    journal = balanced journal_token (journal_law s.sizes the_rule.rule) legal.journal;
+    room = balanced room_token (room_law s.sizes the_rule.rule) legal.room;
+    stop_notices = balanced (notice_token s.sizes) (notices_law s.sizes the_rule.rule) legal.stop_notices;
     in_order = λ zone below. flows_step Writer (arrivals_at s zone) s.sizes (λ e. absurd (omega (arith, e))) old new st zone_ok.number_is
         (arrivals_kept s old.trace zone st.number st.zone.keeps st.step.front st.made st.step.posts zone_ok.own
         (course s old.trace legal.right st.number st.zone.keeps st.step.front st.zone'.keeps st.made st.step.posts st.step.act zone_ok.own here.front_ok kept_here))

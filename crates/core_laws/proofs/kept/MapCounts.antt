@@ -16,7 +16,7 @@ use Rattle.core_model.specs.Tokens.{is_entry, is_old, leads_to}
 use Rattle.count_laws.proofs.TurnLaws.{addresses_fit, opened_has, running_count}
 use Rattle.count_laws.proofs.UnusedLaws.{none_is_unused}
 use Rattle.count_laws.specs.Points.{adds_to, takes_from}
-use Rattle.count_laws.specs.Running.{RunningCount}
+use Rattle.count_laws.specs.RunningCount.{RunningCount}
 use Rattle.count_laws.specs.Turns.{HasMappingsAfter, IsUnusedAfter}
 use Rattle.image_model.proofs.CountLaws.{is_first_or_behind, none_in_nothing}
 use Rattle.image_model.specs.Counts.{leads_to as is_led}

@@ -28,7 +28,7 @@ use Rattle.core_laws.proofs.Common.{Adds, Drops, Remapping, Removes, Strays, sam
 use Rattle.slab_counts.specs.Counts.{Counts, IsStray, Takes as Fits, unclaimed}
 use Rattle.vdo_model.specs.declared.report.Damage.{Damage}
 use Rattle.zone_counts.proofs.OneAnswer.{one_applied, one_asked, one_begun, one_changed, one_lowest, one_passed, one_ticket, one_worth}
-use Rattle.zone_counts.specs.Asking.{GivesBlock, GivesTicket, WithdrawsFrom}
+use Rattle.zone_counts.specs.ZoneAnswers.{GivesBlock, GivesTicket, WithdrawsFrom}
 use Rattle.zone_counts.specs.Zone.{Changes, NoneFree, slab_of}
 use Rattle.zone_counts.specs.Zone.{Zone as Counting}
 use Rattle.core_model.specs.JournalRules.{JournalServes, JournalEnds, is_closed, has_block, has_room, next_block, refused, all_refused, all_again, all_dropped, entered_by, committed_by, sealed_by, hands_out}

@@ -16,12 +16,12 @@ use Rattle.core_model.specs.Facts.{AreInTurn, IsWithdrawing}
 use Rattle.core_model.specs.PhysicalRules.{BeginsNext, next_step}
 use Rattle.core_model.specs.Tokens.{out_in, ticket_token, ticket_weight}
 use Rattle.data_vio.specs.Vios.{ticket_zone}
-use Rattle.slab_counts.specs.Calls.{one_of}
+use Rattle.slab_counts.specs.Operations.{one_of}
 use Rattle.slab_counts.specs.declared.tickets.Ticket.{Ticket}
 use Rattle.slab_tickets.specs.declared.forms.Waiting.{Waiting}
 use Rattle.slab_tickets.specs.declared.forms.Withdrawn.TheVariants.{Block, Nothing}
 use Rattle.slab_tickets.specs.declared.forms.Withdrawn.{Withdrawn}
-use Rattle.zone_counts.specs.Asking.{GivesTicket, WithdrawsFrom}
+use Rattle.zone_counts.specs.ZoneAnswers.{GivesTicket, WithdrawsFrom}
 use Rattle.zone_counts.specs.Zone.{NoneFree, Zone as Counting}
 use Rattle.zone_counts.proofs.TicketLaws.{begun_counted, begun_is_zone, begun_out, begun_slabs, counted_is_out, withdrawn_is_zone, withdrawn_slabs}
 use Rattle.core_laws.proofs.physical.AskTurns.{first_inside}
@@ -31,7 +31,7 @@ use Rattle.core_laws.proofs.tokens.Owners.{held_is_out}
 use Rattle.core_model.specs.declared.zones.ZoneData.TheVariants as at
 use Rattle.core_model.specs.DeskRules.{DeskBegins, DeskServes, at_once, vio_of, is_marked, is_no_space, is_stopped, is_notified}
 use Rattle.blk_base.specs.declared.place.ZoneId.TheVariants as id
-use Rattle.data_vio.specs.Phases.{AtDevice, row, stage_row}
+use Rattle.data_vio.specs.Phases.{AtDevice, phase_rule, stage_rule}
 use Rattle.core_model.specs.DeviceRules.{Announces, DeviceServes, DeviceWorks, IsInside, call_of, journal_bytes, superblock_call}
 use Rattle.core_model.specs.declared.zones.SuperblockStage.TheVariants.{AsOpened, Written, Durable}
 use Rattle.core_model.specs.PhysicalRules.{PhysicalServes, PhysicalTakes, spent_for}
@@ -45,11 +45,11 @@ use Rattle.core_laws.proofs.trace.DeskOfTrace.{HasBlock, journaled_data}
 use Rattle.core_model.specs.Facts.{ClaimFor, ClaimOk, HasClaim, claim_of}
 use Rattle.slab_counts.specs.Counts.{Counts, Takes, unclaimed}
 use Rattle.zone_counts.proofs.BlockLaws.{moved, withdraws_out, worth_block}
-use Rattle.zone_counts.proofs.CallLaws.{calls_keep}
+use Rattle.zone_counts.proofs.OperationLaws.{calls_keep}
 use Rattle.zone_counts.proofs.FitLaws.{add_fits, claimed_is, gives_or_none, none_is_stray, remove_fits}
 use Rattle.zone_counts.proofs.FreeBlocks.{can_begin, can_change, can_withdraw}
 use Rattle.zone_counts.specs.ByBlock.{claims_in, counter_in, is_at, out_with, waits_with}
-use Rattle.zone_counts.specs.Calls.{SpendsPage}
+use Rattle.zone_counts.specs.Operations.{SpendsPage}
 use Rattle.zone_counts.specs.Zone.{IsClaimedIn, IsOfZone, IsZone, slab_of}
 use Rattle.core_model.specs.JournalRules.{JournalServes, JournalEnds, is_closed, has_block, has_room}
 use Rattle.core_model.specs.Legal.{Legal}
@@ -333,14 +333,14 @@ module _ (s : Session) (session : IsSession s) (t : Trace) (right : RightTrace s
       by_stage Written is goes = waits _ (ap (superblock_call s.sizes true) is) goes
       by_stage Durable is goes = durable goes is
 
-  announces : (d : DeviceZone) (v : Vio) → (row v.phase).zone ≡ AtDevice → (call : Call) → superblock_call s.sizes true d.superblock ≡ Some call → d.stopped ≡ false → HasAct s.sizes (at.Device d) (item.Request v ∷ [])
+  announces : (d : DeviceZone) (v : Vio) → (phase_rule v.phase).zone ≡ AtDevice → (call : Call) → superblock_call s.sizes true d.superblock ≡ Some call → d.stopped ≡ false → HasAct s.sizes (at.Device d) (item.Request v ∷ [])
   announces d v there call is goes = (_, _, _, steps.calls (DeviceServes.announces there (Announces.succeeds call is goes refl refl refl)))
 
   stores : (d : DeviceZone) (v : Vio) (x : Pbn) → v.phase ≡ phase.Store → v.new ≡ At x → IsInside s.sizes x → HasAct s.sizes (at.Device d) (item.Request v ∷ [])
   stores d v x is to inside = when_ready d
       (λ stopped. (_, _, _, steps.calls (DeviceServes.store_unmade is stopped refl refl refl)))
       (λ goes durable. (_, _, _, steps.calls (DeviceServes.stores x is to goes durable inside refl refl refl)))
-      (announces d v (ap (λ q. (row q).zone) is))
+      (announces d v (ap (λ q. (phase_rule q).zone) is))
 
   stores_by : (d : DeviceZone) (v : Vio) (m : Mapping) → v.phase ≡ phase.Store → v.new ≡ m → IsToBlock m → OnBlock (λ x. IsDataBlock s.sizes.geometry x.0) m → HasAct s.sizes (at.Device d) (item.Request v ∷ [])
   stores_by d v (At x) is to block is_data = stores d v x is to (data_block_inside s.sizes.geometry x.0 is_data)
@@ -351,7 +351,7 @@ module _ (s : Session) (session : IsSession s) (t : Trace) (right : RightTrace s
   loads_by d v (At x) is from inside = when_ready d
       (λ stopped. (_, _, _, steps.calls (DeviceServes.loads x [] is from (inl stopped) inside refl refl refl)))
       (λ goes durable. (_, _, _, steps.calls (DeviceServes.loads x [] is from (inr durable) inside refl refl refl)))
-      (announces d v (ap (λ q. (row q).zone) is))
+      (announces d v (ap (λ q. (phase_rule q).zone) is))
   loads_by d v Unmapped is from inside = absurd inside
   loads_by d v Zero is from inside = absurd inside
 
@@ -359,19 +359,19 @@ module _ (s : Session) (session : IsSession s) (t : Trace) (right : RightTrace s
   loads_leaf d v x is there inside = when_ready d
       (λ stopped. (_, _, _, steps.calls (DeviceServes.leaf_fails x [] true is there (inl stopped) inside refl refl refl)))
       (λ goes durable. (_, _, _, steps.calls (DeviceServes.leaf_fails x [] true is there (inr durable) inside refl refl refl)))
-      (announces d v (ap (λ q. (row q).zone) is))
+      (announces d v (ap (λ q. (phase_rule q).zone) is))
 
   flushes : (d : DeviceZone) (v : Vio) → v.phase ≡ phase.Flush → HasAct s.sizes (at.Device d) (item.Request v ∷ [])
   flushes d v is = when_ready d
       (λ stopped. (_, _, _, steps.calls (DeviceServes.flush_unmade is stopped refl refl refl)))
       (λ goes durable. (_, _, _, steps.calls (DeviceServes.flushes is goes durable refl refl refl)))
-      (announces d v (ap (λ q. (row q).zone) is))
+      (announces d v (ap (λ q. (phase_rule q).zone) is))
 
   module _ (d : DeviceZone) (b : SealedBlock) where
     abbrev slot : Pbn
     slot = record { 0 = block_of_slot (journal_slot_of s.sizes.geometry b.sequence) }
 
-    there : (q : Stage) (call : Call) → call_of s.sizes b slot true q ≡ Some call → (stage_row q).zone ≡ id.Device
+    there : (q : Stage) (call : Call) → call_of s.sizes b slot true q ≡ Some call → (stage_rule q).zone ≡ id.Device
     there stage.Cover call is = refl
     there stage.Write call is = refl
     there stage.Harden call is = refl

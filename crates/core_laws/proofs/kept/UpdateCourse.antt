@@ -11,7 +11,7 @@ use Rattle.core_model.specs.DeskRules as desk
 use Rattle.core_model.specs.DeskRules.{DeskBegins, DeskServes, first_zone, is_marked, vio_of, woken, mark_of_vio}
 use Rattle.core_model.specs.DeviceRules as device
 use Rattle.core_model.specs.DeviceRules.{Announces, DeviceServes, DeviceWorks, notices_after, stop_notices}
-use Rattle.data_vio.specs.Phases.{AtDevice, row}
+use Rattle.data_vio.specs.Phases.{AtDevice, phase_rule}
 use Rattle.core_model.specs.JournalRules as journal
 use Rattle.core_model.specs.PhysicalRules as physical
 use Rattle.core_model.specs.PhysicalRules.{PhysicalServes, PhysicalTakes}
@@ -323,7 +323,7 @@ module _ (s : Session) (t : Trace) where
       (every-append Still (all_dropped s.sizes old.filling) (all_refused s.sizes _ old.waiting) (dropped_still s.sizes old.filling) (refused_still s.sizes _ old.waiting)))) (rw m refl) (rw m refl)
 
   -- what waits for the superblock is none that has yet to draw its place
-  at_device : (v : Vio) (q : Phase) → (row q).zone ≡ AtDevice → counting q (logged v) ≡ []
+  at_device : (v : Vio) (q : Phase) → (phase_rule q).zone ≡ AtDevice → counting q (logged v) ≡ []
   at_device v phase.Count is = absurd cc
   at_device v other is = refl
 

@@ -13,8 +13,8 @@ use Rattle.blk_base.specs.declared.place.Mapping.TheVariants.{Unmapped}
 use Rattle.blk_base.specs.declared.place.PageId.{PageId}
 use Rattle.page_codec.specs.Grammar.{AreHeld}
 use Rattle.page_codec.proofs.HeldLaws.{held_unmapped}
-use Rattle.dirty_pages.specs.Marks.{HasPoint, clean}
-use Rattle.dirty_pages.specs.declared.marks.Marks.{Marks}
+use Rattle.dirty_pages.specs.DirtyPoints.{HasPoint, clean}
+use Rattle.dirty_pages.specs.declared.dirty_points.DirtyPoints.{DirtyPoints}
 use Rattle.dirty_pages.proofs.PageLists.{replicate_at}
 use Rattle.block_map_tree.proofs.PageLaws.{in_row}
 use Rattle.block_map_tree.specs.Pages.{IsForest}
@@ -34,7 +34,7 @@ unfoldable pub bare : Geometry → ℕ → ℕ → Tree
 bare g zone zones = record {
   forest = forest g zone zones;
   pages = replicate (trees_of (forest g zone zones)) blank;
-  marks = replicate (trees_of (forest g zone zones)) clean;
+  dirty_points = replicate (trees_of (forest g zone zones)) clean;
 }
 
 blank_slot : (count n slot : ℕ) → slice_index_or (slice_index_or (replicate count blank) n []) slot Unmapped ≡ Unmapped
@@ -66,8 +66,8 @@ bare_is g zone zones sizes below few height =
             omega (arith, place, wide);
         most = omega (arith, wide, height);
         held = All-replicate (AreHeld g 1) count blank (held_unmapped g 1);
-        marks = marked ∙ sym wide;
-        there = λ page point inner has. absurd (elim (subst (λ (m : Marks). HasPoint m point) (replicate_at count _ clean) has) [ inl dirty ↦ cc | inr writing ↦ cc ]);
+        dirty_points = marked ∙ sym wide;
+        there = λ page point inner has. absurd (elim (subst (λ (m : DirtyPoints). HasPoint m point) (replicate_at count _ clean) has) [ inl dirty ↦ cc | inr writing ↦ cc ]);
       };
       linked = λ page linkable. ap block_in (blank_slot count _ _);
     }

@@ -11,7 +11,7 @@ use Rattle.core_laws.proofs.kept.Keys.{Clears, OfRequest, OfAddress, OfPage, IfA
 use Rattle.core_laws.proofs.kept.Spared.{quiet_kept, below_kept, about, none_spent, of_same}
 use Rattle.core_laws.proofs.logical.LockLaws.{more_drawn, one_waits, one_takes}
 use Rattle.core_laws.proofs.tokens.Owners.{at_home}
-use Rattle.data_vio.specs.Phases.{row}
+use Rattle.data_vio.specs.Phases.{phase_rule}
 use Rattle.core_laws.proofs.lists.CoreLists.{newest_has, or_none}
 use Rattle.core_laws.proofs.logical.Releases.{below_more, has_below_more, goes_ok, looks_ok, stopped_ok, release_ok, retire_ok, drawn_before}
 use Rattle.core_model.specs.PageTrees.{HasPath, leaf_at, missing_at}
@@ -71,7 +71,7 @@ module _ {s : Session} {t : Trace} {n : ℕ} {l : LogicalZone} {v : Vio} (known 
   pub zone_is : zone_of s.sizes.zones v.at.0 ≡ l.zone
   zone_is =
       let number = known.own.number_is in
-      let here = at_home s.sizes n l.zone v.home (length v.tickets + v.place) v.claim v.tickets (row v.phase).zone number known.own.sound.among known.front_ok.0.2 in
+      let here = at_home s.sizes n l.zone v.home (length v.tickets + v.place) v.claim v.tickets (phase_rule v.phase).zone number known.own.sound.among known.front_ok.0.2 in
       let name = ap (zone_number s.sizes) front_ok.home in
       omega (arith, here, name, number)
 

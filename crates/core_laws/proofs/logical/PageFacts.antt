@@ -12,7 +12,7 @@ use Rattle.blk_base.specs.declared.place.Pbn.{Pbn}
 use Rattle.blk_base.specs.declared.sizes.TheConstants.{PAGE_SLOTS, TREES}
 use Rattle.blk_base.specs.Regions.{IsDataBlock}
 use Rattle.blk_base.specs.declared.place.Mapping.TheVariants.{At}
-use Rattle.dirty_pages.specs.Marks.{changed_at}
+use Rattle.dirty_pages.specs.DirtyPoints.{changed_at}
 use Rattle.block_map_tree.proofs.PageLaws.{root_or_lower}
 use Rattle.block_map_tree.proofs.TreeLaws.{links}
 use Rattle.block_map_tree.specs.Pages.{IsOnPath, IsTreeOf}

@@ -18,7 +18,7 @@ use Rattle.core_model.specs.PhysicalRules.{BeginsNext, asks_on, goes_on, served,
 use Rattle.core_model.specs.RightTraces.{HadNoFree, IsLeafy, NeedsFor, WasRefused}
 use Rattle.core_model.specs.Trace.{Asks, Withdraws, last_asked}
 use Rattle.core_model.specs.Uses.{NoneFreeIn, issued, ticket_at}
-use Rattle.slab_counts.specs.Calls.{one_of}
+use Rattle.slab_counts.specs.Operations.{one_of}
 use Rattle.slab_counts.specs.Counts.{unclaimed}
 use Rattle.slab_counts.specs.declared.tickets.Receipt.{Receipt}
 use Rattle.slab_counts.specs.declared.tickets.Ticket.{Ticket}
@@ -26,7 +26,7 @@ use Rattle.slab_tickets.specs.Numbers.{AreNumbered, ticket_of}
 use Rattle.slab_tickets.specs.declared.forms.Waiting.{Waiting}
 use Rattle.slab_tickets.specs.declared.forms.Withdrawn.TheVariants.{Block, Nothing}
 use Rattle.slab_tickets.specs.declared.forms.Withdrawn.{Withdrawn}
-use Rattle.zone_counts.specs.Asking.{GivesBlock, GivesTicket, WithdrawsFrom}
+use Rattle.zone_counts.specs.ZoneAnswers.{GivesBlock, GivesTicket, WithdrawsFrom}
 use Rattle.zone_counts.specs.ByBlock.{claims_in, counter_in, is_at, out_with, served_ticket, waits_with}
 use Rattle.zone_counts.specs.Zone.{Zone, Changes, IsClaimedIn, IsOfZone, IsZone, NoneFree, slab_of}
 use Rattle.zone_counts.proofs.BlockLaws.{issues_out, withdraws_out, worth_block}

@@ -13,7 +13,7 @@ use Rattle.slab_tickets.specs.Tickets.{Desk, is_served, worth_of}
 use Rattle.slab_tickets.specs.declared.forms.Waiting.{Waiting}
 use Rattle.slab_tickets.specs.declared.forms.Withdrawn.TheVariants.{Nothing}
 use Rattle.slab_tickets.specs.declared.forms.Withdrawn.{Withdrawn}
-use Rattle.zone_counts.specs.Asking.{GivesTicket, WithdrawsFrom}
+use Rattle.zone_counts.specs.ZoneAnswers.{GivesTicket, WithdrawsFrom}
 use Rattle.zone_counts.specs.Zone.{Changes, Zone}
 
 -- a receipt tells the step in which its ticket asked

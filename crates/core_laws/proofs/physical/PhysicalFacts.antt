@@ -39,12 +39,12 @@ use Rattle.core_model.specs.Uses.{given_at, ticket_at}
 use Rattle.slab_counts.specs.declared.tickets.Ticket.{Ticket}
 use Rattle.zone_counts.proofs.TicketLaws.{removed_is_zone, removed_none_waits}
 use Rattle.zone_counts.specs.ByBlock.{served_ticket}
-use Rattle.slab_counts.specs.Calls.{one_of}
+use Rattle.slab_counts.specs.Operations.{one_of}
 use Rattle.slab_counts.specs.Counts.{Counts, Takes as Fits, IsStray, unclaimed}
-use Rattle.zone_counts.specs.Calls.{Applies, SpendsPage}
+use Rattle.zone_counts.specs.Operations.{Applies, SpendsPage}
 use Rattle.zone_counts.specs.Zone.{Zone, Changes, IsClaimedIn, IsOfZone, IsZone, slab_of}
 use Rattle.zone_counts.proofs.BlockLaws.{home_is}
-use Rattle.zone_counts.proofs.CallLaws.{calls_keep}
+use Rattle.zone_counts.proofs.OperationLaws.{calls_keep}
 
 -- the zone of an address is one of the logical zones
 pub zone_below : (zones a : ℕ) → 1 ≤ zones → zone_of zones a < zones

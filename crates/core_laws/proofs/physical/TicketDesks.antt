@@ -8,7 +8,7 @@ use Rattle.slab_counts.specs.declared.tickets.Ticket.{Ticket}
 use Rattle.slab_tickets.specs.Numbers.{AreNumbered}
 use Rattle.slab_tickets.specs.Tickets.{Desk, begun}
 use Rattle.slab_tickets.specs.declared.forms.Withdrawn.{Withdrawn}
-use Rattle.zone_counts.specs.Asking.{GivesBlock, GivesTicket, WithdrawsFrom}
+use Rattle.zone_counts.specs.ZoneAnswers.{GivesBlock, GivesTicket, WithdrawsFrom}
 use Rattle.zone_counts.specs.Zone.{Zone, Changes, Serves}
 use Rattle.zone_counts.proofs.TicketLaws.{begun_numbered, changed_numbered, issued_numbered, withdrawn_numbered}
 

@@ -9,9 +9,9 @@ use Rattle.core_model.specs.PhysicalRules.{spent_for, with_counts}
 use Rattle.blk_base.specs.declared.place.PageId.{PageId}
 use Rattle.slab_tickets.specs.Tickets.{Desk}
 use Rattle.zone_counts.proofs.BlockLaws.{added_none}
-use Rattle.zone_counts.proofs.CallLaws.{calls_keep}
+use Rattle.zone_counts.proofs.OperationLaws.{calls_keep}
 use Rattle.zone_counts.proofs.FitLaws.{claimed_is}
-use Rattle.zone_counts.specs.Calls.{SpendsPage}
+use Rattle.zone_counts.specs.Operations.{SpendsPage}
 use Rattle.core_model.specs.Trace.{claimed as claimed_in, passed_on, strayed}
 use Rattle.core_model.specs.Uses.{counted, gained, given_at, issued, lost, ticket_at, uncounted}
 use Rattle.core_model.specs.declared.zones.ZoneData.TheVariants as at
@@ -21,7 +21,7 @@ use Rattle.core_laws.proofs.physical.TicketDesks.{IsKeptBy, changed_keeps}
 use Rattle.core_laws.proofs.tokens.Moves.{Moves, dropped_moves, dropped_passes, passes}
 use Rattle.core_model.specs.RightTraces.{LossMayFollow, PassesOn}
 use Rattle.blk_base.specs.declared.point.Half.TheVariants as half
-use Rattle.slab_counts.specs.Calls.{one_of}
+use Rattle.slab_counts.specs.Operations.{one_of}
 use Rattle.slab_counts.specs.Counts.{Counts, Takes, unclaimed}
 use Rattle.slab_tickets.specs.Numbers.{AreNumbered, ticket_of}
 use Rattle.zone_counts.specs.ByBlock.{claims_in, counter_in, is_at, out_with, served_block, served_ticket}

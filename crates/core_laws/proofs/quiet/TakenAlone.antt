@@ -15,7 +15,7 @@ use Rattle.core_model.specs.Sessions.{opened_uses}
 use Rattle.core_model.specs.Trace.{passed_on, is_for}
 use Rattle.core_model.specs.Uses.{NoneFree, gained, lost, IsUsedAt}
 use Rattle.count_laws.proofs.PointLaws.{first_is, in_first, in_second}
-use Rattle.slab_counts.specs.Calls.{one_of}
+use Rattle.slab_counts.specs.Operations.{one_of}
 use Rattle.vdo_model.specs.declared.report.DeskLine.TheVariants.{Begin, Answer}
 use Rattle.vdo_model.specs.declared.report.FlushMark.{FlushMark}
 use Rattle.core_laws.proofs.kept.ActKept.{place_has}

@@ -3,14 +3,14 @@ use Rattle.std.proofs.Common.{ℕ, ◌≡◌, ◌+◌, Bool, true, false, ◌&&�
 use Rattle.core_laws.proofs.Common.{Pbn, Vio, bit, total, total-append}
 use Rattle.core_model.specs.PhysicalRules.{BeginsNext}
 use Rattle.core_model.specs.Tokens.{out_in, ticket_weight}
-use Rattle.slab_counts.specs.Calls.{one_of}
+use Rattle.slab_counts.specs.Operations.{one_of}
 use Rattle.slab_counts.specs.Counts.{unclaimed}
 use Rattle.slab_counts.specs.declared.tickets.Receipt.{Receipt}
 use Rattle.slab_counts.specs.declared.tickets.Ticket.{Ticket}
 use Rattle.slab_tickets.specs.Tickets.{Desk}
 use Rattle.slab_tickets.specs.declared.forms.Withdrawn.TheVariants.{Block, Nothing}
 use Rattle.slab_tickets.specs.declared.forms.Withdrawn.{Withdrawn}
-use Rattle.zone_counts.specs.Asking.{GivesBlock, GivesTicket, WithdrawsFrom}
+use Rattle.zone_counts.specs.ZoneAnswers.{GivesBlock, GivesTicket, WithdrawsFrom}
 use Rattle.zone_counts.specs.ByBlock.{claims_in, counter_in, is_at, out_with}
 use Rattle.zone_counts.specs.Zone.{Zone, Changes, IsClaimedIn, IsZone, slab_of}
 use Rattle.zone_counts.proofs.BlockLaws.{issues_out, withdraws_out, worth_block, worth_none}

@@ -7,7 +7,7 @@ use Rattle.blk_base.specs.declared.place.PageId.{PageId}
 use Rattle.core_model.specs.Facts.{CarriesFor, claim_of}
 use Rattle.core_model.specs.LogicalRules.{settling_of}
 use Rattle.core_model.specs.PageLinks.{block_in}
-use Rattle.data_vio.specs.Phases.{row}
+use Rattle.data_vio.specs.Phases.{phase_rule}
 use Rattle.zone_counts.specs.Zone.{IsZone}
 use Rattle.slab_counts.specs.declared.tickets.Ticket.{Ticket}
 use Rattle.data_vio.specs.Vios.{logged_for}
@@ -85,7 +85,7 @@ counts s t v is k = by v.page v.new (λ page made. to_fresh v.page page made (su
 
 -- the claim of a request is that of its phase, on its own block, and it has tickets in those alone in which it asks for one
 abbrev pub Claims : Vio → Type 0
-Claims v = (v.claim ≡ claim_of (row v.phase).claims v.new) × ((row v.phase).asks ≡ false → v.tickets ≡ [])
+Claims v = (v.claim ≡ claim_of (phase_rule v.phase).claims v.new) × ((phase_rule v.phase).asks ≡ false → v.tickets ≡ [])
 
 abbrev pub ClaimsIn : List Item → Type 0
 ClaimsIn front = (v : Vio) → front ≡ item.Request v ∷ [] → Claims v
@@ -116,12 +116,12 @@ abbrev pub TicketIn : ZoneData → List Item → Type 0
 TicketIn old front = (p : PhysicalZone) (v : Vio) (k : Ticket) (others : List Ticket) → old ≡ at.Physical p → front ≡ item.Request v ∷ [] → v.phase ≡ phase.Withdraw → v.tickets ≡ k ∷ others → k.zone ≡ p.counts.zone
 
 -- a request in a phase has the claim that this has
-pub claim_in : (v : Vio) (q : Phase) → v.phase ≡ q → Claims v → v.claim ≡ claim_of (row q).claims v.new
-claim_in v q is claims = subst (λ (p : Phase). v.claim ≡ claim_of (row p).claims v.new) is claims.0
+pub claim_in : (v : Vio) (q : Phase) → v.phase ≡ q → Claims v → v.claim ≡ claim_of (phase_rule q).claims v.new
+claim_in v q is claims = subst (λ (p : Phase). v.claim ≡ claim_of (phase_rule p).claims v.new) is claims.0
 
 -- and no ticket, where it asks for no block
-pub tickets_in : (v : Vio) (q : Phase) → v.phase ≡ q → Claims v → (row q).asks ≡ false → v.tickets ≡ []
-tickets_in v q is claims asks = claims.1 (ap (λ (p : Phase). (row p).asks) is ∙ asks)
+pub tickets_in : (v : Vio) (q : Phase) → v.phase ≡ q → Claims v → (phase_rule q).asks ≡ false → v.tickets ≡ []
+tickets_in v q is claims asks = claims.1 (ap (λ (p : Phase). (phase_rule p).asks) is ∙ asks)
 
 -- who waits for a report has the lock of its address there
 abbrev pub SettlingLeased : ZoneData → List Item → Type 0

@@ -4,8 +4,8 @@ use Rattle.core_laws.proofs.Common.{AllByRecursion, AtMost, Balanced, Item, Post
 use Rattle.data_vio.specs.declared.items.Item.TheVariants.{Request}
 use Rattle.core_model.specs.Steps.{sent_to, sent, delivered, Core, StepOf, MoveOf}
 use Rattle.core_laws.proofs.lists.CoreLists.{total-posted, length-posted}
-use Rattle.core_laws.proofs.tokens.ActRows.{Sum}
-use Rattle.core_laws.proofs.tokens.ActSums.{IsRow, posts_sum}
+use Rattle.core_laws.proofs.tokens.ActRules.{Sum}
+use Rattle.core_laws.proofs.tokens.ActSums.{IsRule, posts_sum}
 
 -- all posts go to one of so many zones
 abbrev pub Within : Sizes → ℕ → List Post → Type 0
@@ -56,7 +56,7 @@ Shrinks t old new before after = after t.item + t.own new + t.gave old ≤ befor
 
 -- over a step of the core
 module _ (t : Token) (sizes : Sizes) (old new : Core) (s : StepOf sizes old new) (goes : Within sizes (length s.zone.ports.outboxes) s.step.posts)
-    (r : IsRow sizes s.zone.keeps s.step.front s.zone'.keeps s.step.posts) where
+    (r : IsRule sizes s.zone.keeps s.step.front s.zone'.keeps s.step.posts) where
   abbrev z : Zone
   z = record s.zone { keeps = s.zone'.keeps; ports = record s.zone.ports { inbox = s.step.rest }; steps = s.zone.steps + 1 }
 

@@ -7,15 +7,15 @@ use Rattle.core_model.specs.PhysicalRules.{spent_for}
 use Rattle.core_model.specs.Tokens.{out_in, ticket_weight}
 use Rattle.slab_counts.specs.declared.tickets.Ticket.{Ticket}
 use Rattle.zone_counts.proofs.TicketLaws.{changed_counted}
-use Rattle.slab_counts.specs.Calls.{one_of}
+use Rattle.slab_counts.specs.Operations.{one_of}
 use Rattle.slab_counts.specs.Counts.{Counts, Takes, unclaimed, with_page}
 use Rattle.slab_tickets.specs.Tickets.{Desk}
-use Rattle.zone_counts.specs.Asking.{GivesBlock}
+use Rattle.zone_counts.specs.ZoneAnswers.{GivesBlock}
 use Rattle.zone_counts.specs.ByBlock.{claims_in, counter_in, is_at, out_with, served_block}
-use Rattle.zone_counts.specs.Calls.{Applies, Drops, SpendsPage}
+use Rattle.zone_counts.specs.Operations.{Applies, Drops, SpendsPage}
 use Rattle.zone_counts.specs.Zone.{Zone, Changes, IsClaimedIn, IsOfZone, IsZone, Serves, slab_of, with_slab}
 use Rattle.zone_counts.proofs.BlockLaws.{added_none, claimed, moved}
-use Rattle.zone_counts.proofs.CallLaws.{calls_keep}
+use Rattle.zone_counts.proofs.OperationLaws.{calls_keep}
 
 -- so many uses of a block come, and go; and so many claims are spent, which are no more
 pub record Moves (old new : Zone) (more less spent : Pbn → ℕ) : Type 0 where

@@ -5,7 +5,7 @@ use Rattle.vdo_model.specs.declared.report.DeskLine.TheVariants.{Begin, Answer}
 use Rattle.core_laws.proofs.trace.DeskOfTrace.{desk_log_right}
 use Rattle.core_laws.proofs.trace.Growth.{begun_more}
 use Rattle.core_laws.proofs.kept.ZoneKinds.{total_once}
-use Rattle.data_vio.specs.Phases.{Where, AtDesk, AtHome, AtPhysical, AtTicket, AtJournal, AtDevice, InNoLane, row, number_at}
+use Rattle.data_vio.specs.Phases.{Where, AtDesk, AtHome, AtPhysical, AtTicket, AtJournal, AtDevice, InNoLane, phase_rule, number_at}
 use Rattle.core_laws.proofs.tokens.Known.{Leased}
 use Rattle.core_model.specs.Legal.{Legal}
 use Rattle.core_model.specs.Steps.{Core}
@@ -147,7 +147,7 @@ leased_front s t zones n z l v rest each balance had front keeps h =
     let ok = each n z had in
     let own = subst (λ (d : ZoneData). DataOk s t n d) keeps ok.own in
     let first = (subst (λ (items : List Item). AllByRecursion (ItemOk s t n) items) front ok.inbox).0 in
-    let home : n ≡ home_of s v.at.0 = at_home s.sizes n l.zone v.home (length v.tickets + v.place) v.claim v.tickets (row v.phase).zone own.number_is own.sound.among first.2 ∙ ap (zone_number s.sizes) first.0.home in
+    let home : n ≡ home_of s v.at.0 = at_home s.sizes n l.zone v.home (length v.tickets + v.place) v.claim v.tickets (phase_rule v.phase).zone own.number_is own.sound.among first.2 ∙ ap (zone_number s.sizes) first.0.home in
     leased_with s t zones n z l v each balance had keeps home (λ test.
     let one = front_weight test v h in
     let inbox = ap (total (of_vio (holder_weight v.at.0 test))) front in

@@ -3,7 +3,7 @@ use Rattle.std.proofs.Common.{◌+◌, length, ◌≡◌, ℕ, ◌%◌, Option, 
 use Rattle.core_laws.proofs.Common.{AllByRecursion, Balanced, DataOk, Each, Item, ItemOk, LogicalZone, Phase, Session, Sizes, Trace, Vio, Zone, ZoneData, ZoneOk, bit, every-map, given, logical_number, of_vio, total, total-get, total_alone, weight, zone_number, zone_of}
 use Rattle.blk_base.specs.declared.place.PageId.{PageId}
 use Rattle.block_map_tree.specs.Tree.{IsLinkable}
-use Rattle.data_vio.specs.Phases.{row}
+use Rattle.data_vio.specs.Phases.{phase_rule}
 use Rattle.data_vio.specs.declared.items.Item.TheVariants as item
 use Rattle.data_vio.specs.declared.items.Phase.TheVariants as phase
 use Rattle.core_model.proofs.TreeLinks.{page_itself}
@@ -53,7 +53,7 @@ module _ (s : Session) (t : Trace) (page : PageId) where
       let ok = each n z had in
       let own = subst (λ (d : ZoneData). DataOk s t n d) keeps ok.own in
       let first = (subst (λ (items : List Item). AllByRecursion (ItemOk s t n) items) front ok.inbox).0 in
-      let home : n ≡ home_of s v.at.0 = at_home s.sizes n l.zone v.home (length v.tickets + v.place) v.claim v.tickets (row v.phase).zone own.number_is own.sound.among first.2 ∙ ap (zone_number s.sizes) first.0.home in
+      let home : n ≡ home_of s v.at.0 = at_home s.sizes n l.zone v.home (length v.tickets + v.place) v.claim v.tickets (phase_rule v.phase).zone own.number_is own.sound.among first.2 ∙ ap (zone_number s.sizes) first.0.home in
       let carries : CarriesPage s t v page v.phase = subst (λ (o : Option PageId). CarriesFor s t v v.phase o) is_page first.1 in
       let there : n ≡ page_home s.sizes page = home ∙ ap logical_number (sym (maker_home s t v page (is_making s t v page v.phase carries))) in
       let gave : total (given (making_token page)) zones ≡ making_at page (at.Logical l) =

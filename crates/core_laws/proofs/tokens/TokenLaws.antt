@@ -7,12 +7,12 @@ use Rattle.core_model.specs.Tokens.{is_same, making_token, out_in, page_entry_to
 use Rattle.core_laws.proofs.tokens.Moves.{Passes}
 use Rattle.zone_counts.specs.Zone.{Zone}
 use Rattle.core_model.specs.PageLinks.{block_in}
-use Rattle.slab_counts.specs.Calls.{one_of}
+use Rattle.slab_counts.specs.Operations.{one_of}
 use Rattle.zone_counts.specs.ByBlock.{is_at}
 use Rattle.data_vio.specs.Vios.{logged_for}
 use Rattle.data_vio.specs.declared.items.Phase.TheVariants as phase
-use Rattle.core_laws.proofs.tokens.ActRows as row
-use Rattle.core_laws.proofs.tokens.ActRows.{Row, Sum, further, onward, to_count, to_slot, of_block, of_none, of_page}
+use Rattle.core_laws.proofs.tokens.ActRules as rule
+use Rattle.core_laws.proofs.tokens.ActRules.{Rule, Sum, further, onward, to_count, to_slot, of_block, of_none, of_page}
 use Rattle.core_laws.proofs.tokens.LeaseTokens.{freed, one_freed}
 use Rattle.core_laws.proofs.tokens.Lift.{Conserves, Shrinks}
 use Rattle.core_laws.proofs.tokens.PageTokens.{taken_out}
@@ -125,254 +125,254 @@ out_kept zone test p z passes = same_out zone test p z passes.zone (out_in test 
 
 module _ (sizes : Sizes) where
   -- the requests are begun and answered at the desk
-  pub requests_law : (w : Writer) → {old new : ZoneData} {before after : Sum} → Row sizes old new before after → Conserves (request_token w) old new before after
-  requests_law w (row.says d v a) = omega arith
-  requests_law w (row.both first same second) = omega (arith, requests_law w first, same (request_token w).item, requests_law w second)
-  requests_law w (row.fails j b) = omega (arith, in_block (λ v. bit (same_writer v.request w)) phase.Pending b.vios)
-  requests_law w (row.commits j b v vs q more (to_count) (of_block none)) = omega arith
-  requests_law w (row.commits j b v vs q more (to_count) (of_page page_is is no_old no_report)) = omega arith
-  requests_law w (row.commits j b v vs q more (to_count) (of_none none unmapped)) = omega arith
-  requests_law w (row.commits j b v vs q more (to_slot claimless) (of_block none)) = omega arith
-  requests_law w (row.commits j b v vs q more (to_slot claimless) (of_page page_is is no_old no_report)) = omega arith
-  requests_law w (row.commits j b v vs q more (to_slot claimless) (of_none none unmapped)) = omega arith
+  pub requests_law : (w : Writer) → {old new : ZoneData} {before after : Sum} → Rule sizes old new before after → Conserves (request_token w) old new before after
+  requests_law w (rule.says d v a) = omega arith
+  requests_law w (rule.both first same second) = omega (arith, requests_law w first, same (request_token w).item, requests_law w second)
+  requests_law w (rule.fails j b) = omega (arith, in_block (λ v. bit (same_writer v.request w)) phase.Pending b.vios)
+  requests_law w (rule.commits j b v vs q more (to_count) (of_block none)) = omega arith
+  requests_law w (rule.commits j b v vs q more (to_count) (of_page page_is is no_old no_report)) = omega arith
+  requests_law w (rule.commits j b v vs q more (to_count) (of_none none unmapped)) = omega arith
+  requests_law w (rule.commits j b v vs q more (to_slot claimless) (of_block none)) = omega arith
+  requests_law w (rule.commits j b v vs q more (to_slot claimless) (of_page page_is is no_old no_report)) = omega arith
+  requests_law w (rule.commits j b v vs q more (to_slot claimless) (of_none none unmapped)) = omega arith
   requests_law w other = omega arith
 
-  pub room_law : {old new : ZoneData} {before after : Sum} → Row sizes old new before after → Conserves room_token old new before after
-  room_law (row.says d v a) = omega arith
-  room_law (row.both first same second) = omega (arith, room_law first, same room_token.item, room_law second)
-  room_law (row.fails j b) = omega (arith, in_block (λ v. 1) phase.Pending b.vios)
-  room_law (row.commits j b v vs q more (to_count) (of_block none)) = omega arith
-  room_law (row.commits j b v vs q more (to_count) (of_page page_is is no_old no_report)) = omega arith
-  room_law (row.commits j b v vs q more (to_count) (of_none none unmapped)) = omega arith
-  room_law (row.commits j b v vs q more (to_slot claimless) (of_block none)) = omega arith
-  room_law (row.commits j b v vs q more (to_slot claimless) (of_page page_is is no_old no_report)) = omega arith
-  room_law (row.commits j b v vs q more (to_slot claimless) (of_none none unmapped)) = omega arith
+  pub room_law : {old new : ZoneData} {before after : Sum} → Rule sizes old new before after → Conserves room_token old new before after
+  room_law (rule.says d v a) = omega arith
+  room_law (rule.both first same second) = omega (arith, room_law first, same room_token.item, room_law second)
+  room_law (rule.fails j b) = omega (arith, in_block (λ v. 1) phase.Pending b.vios)
+  room_law (rule.commits j b v vs q more (to_count) (of_block none)) = omega arith
+  room_law (rule.commits j b v vs q more (to_count) (of_page page_is is no_old no_report)) = omega arith
+  room_law (rule.commits j b v vs q more (to_count) (of_none none unmapped)) = omega arith
+  room_law (rule.commits j b v vs q more (to_slot claimless) (of_block none)) = omega arith
+  room_law (rule.commits j b v vs q more (to_slot claimless) (of_page page_is is no_old no_report)) = omega arith
+  room_law (rule.commits j b v vs q more (to_slot claimless) (of_none none unmapped)) = omega arith
   room_law other = omega arith
 
   -- the stop notices are given out at the device, and heard at the desk
-  pub notices_law : {old new : ZoneData} {before after : Sum} → Row sizes old new before after → Conserves (notice_token sizes) old new before after
-  notices_law (row.both first same second) = omega (arith, notices_law first, same (notice_token sizes).item, notices_law second)
-  notices_law (row.hears d) = omega arith
-  notices_law (row.commits j b v vs q more (to_count) (of_block none)) = omega arith
-  notices_law (row.commits j b v vs q more (to_count) (of_page page_is is no_old no_report)) = omega arith
-  notices_law (row.commits j b v vs q more (to_count) (of_none none unmapped)) = omega arith
-  notices_law (row.commits j b v vs q more (to_slot claimless) (of_block none)) = omega arith
-  notices_law (row.commits j b v vs q more (to_slot claimless) (of_page page_is is no_old no_report)) = omega arith
-  notices_law (row.commits j b v vs q more (to_slot claimless) (of_none none unmapped)) = omega arith
+  pub notices_law : {old new : ZoneData} {before after : Sum} → Rule sizes old new before after → Conserves (notice_token sizes) old new before after
+  notices_law (rule.both first same second) = omega (arith, notices_law first, same (notice_token sizes).item, notices_law second)
+  notices_law (rule.hears d) = omega arith
+  notices_law (rule.commits j b v vs q more (to_count) (of_block none)) = omega arith
+  notices_law (rule.commits j b v vs q more (to_count) (of_page page_is is no_old no_report)) = omega arith
+  notices_law (rule.commits j b v vs q more (to_count) (of_none none unmapped)) = omega arith
+  notices_law (rule.commits j b v vs q more (to_slot claimless) (of_block none)) = omega arith
+  notices_law (rule.commits j b v vs q more (to_slot claimless) (of_page page_is is no_old no_report)) = omega arith
+  notices_law (rule.commits j b v vs q more (to_slot claimless) (of_none none unmapped)) = omega arith
   notices_law other = omega (arith, nothing)
 
   -- a block is under way while the journal is busy
-  pub journal_law : {old new : ZoneData} {before after : Sum} → Row sizes old new before after → Conserves journal_token old new before after
-  journal_law (row.both first same second) = omega (arith, journal_law first, same journal_token.item, journal_law second)
-  journal_law (row.enters_first j v counted claimed) = omega (arith, nothing)
-  journal_law (row.commits j b v vs q more (to_count) (of_block none)) = omega arith
-  journal_law (row.commits j b v vs q more (to_count) (of_page page_is is no_old no_report)) = omega arith
-  journal_law (row.commits j b v vs q more (to_count) (of_none none unmapped)) = omega arith
-  journal_law (row.commits j b v vs q more (to_slot claimless) (of_block none)) = omega arith
-  journal_law (row.commits j b v vs q more (to_slot claimless) (of_page page_is is no_old no_report)) = omega arith
-  journal_law (row.commits j b v vs q more (to_slot claimless) (of_none none unmapped)) = omega arith
+  pub journal_law : {old new : ZoneData} {before after : Sum} → Rule sizes old new before after → Conserves journal_token old new before after
+  journal_law (rule.both first same second) = omega (arith, journal_law first, same journal_token.item, journal_law second)
+  journal_law (rule.enters_first j v counted claimed) = omega (arith, nothing)
+  journal_law (rule.commits j b v vs q more (to_count) (of_block none)) = omega arith
+  journal_law (rule.commits j b v vs q more (to_count) (of_page page_is is no_old no_report)) = omega arith
+  journal_law (rule.commits j b v vs q more (to_count) (of_none none unmapped)) = omega arith
+  journal_law (rule.commits j b v vs q more (to_slot claimless) (of_block none)) = omega arith
+  journal_law (rule.commits j b v vs q more (to_slot claimless) (of_page page_is is no_old no_report)) = omega arith
+  journal_law (rule.commits j b v vs q more (to_slot claimless) (of_none none unmapped)) = omega arith
   journal_law other = omega (arith, nothing)
 
   -- A claim is made on a free block, goes from a request to its entry when that is handed in, and becomes a mapping when that is
   -- counted; a mapping goes by its decrement.
-  pub blocks_law : (opened : Pbn → ℕ) (x : Pbn) → {old new : ZoneData} {before after : Sum} → Row sizes old new before after → Conserves (block_token opened x) old new before after
-  blocks_law opened x (row.both first same second) = omega (arith, blocks_law opened x first, same (block_token opened x).item, blocks_law opened x second)
-  blocks_law opened x (row.begins d v pageless claimless ticketless) = omega (arith, claim_none x v claimless)
-  blocks_law opened x (row.begins_flush d v pageless claimless ticketless) = omega (arith, claim_none x v claimless)
-  blocks_law opened x (row.answers d v answer marks receipts pageless claimless ticketless) = omega (arith, claim_none x v claimless)
-  blocks_law opened x (row.looks l v on) = omega (arith, unowed_is x (owes on.phase) v on.unowed)
-  blocks_law opened x (row.leafed l v on) = omega (arith, unowed_is x (owes on.phase) v on.unowed)
-  blocks_law opened x (row.leaves l slots reported v q answer locks is_set leased) = omega (arith, unowed_is x (owes q) v is_set.unowed)
-  blocks_law opened x (row.hands_on l slots reported v q answer w others locks is_set leased) = omega (arith, unowed_is x (owes q) v is_set.unowed)
-  blocks_law opened x (row.forgets l unlinkable v q page locks is_dropped is_page made) = omega (arith, unowed_is x (owes q) v is_dropped.unowed)
-  blocks_law opened x (row.asks_on p z v q on early asks) = omega (arith, unowed_is x (owes q) v early.unowed, unowed_is x (owes on.phase) (further on v) on.early.unowed, asks.uses x, asks.held x)
-  blocks_law opened x (row.counts_block p z v y some moves passes) = omega (arith, moves.uses x, passes.out x)
-  blocks_law opened x (row.drops_claim p z v y given some moves passes) = omega (arith, claim_some x y v some, moves.uses x, passes.out x)
-  blocks_law opened x (row.removes p z e y given from moves passes) = omega (arith, ap (leads_to x) from, moves.uses x, passes.out x)
-  blocks_law opened x (row.enters j v counted claimed) = omega (arith, entry_leads x v, claim_is_entry x v claimed)
-  blocks_law opened x (row.enters_first j v counted claimed) = omega (arith, nothing, entry_leads x v, claim_is_entry x v claimed)
-  blocks_law opened x (row.commits j b v vs q more (to_count) (of_block none)) = omega (arith, old_more (is_old x) (logged v) j.committed, own_old (is_old x) v none)
-  blocks_law opened x (row.commits j b v vs q more (to_slot claimless) (of_block none)) = omega (arith, old_more (is_old x) (logged v) j.committed, own_old (is_old x) v none, claim_none x v claimless)
-  blocks_law opened x (row.commits j b v vs q more (to_count) (of_page page is no_old no_report)) = omega (arith, old_more (is_old x) (logged v) j.committed, no_old x)
-  blocks_law opened x (row.commits j b v vs q more (to_slot claimless) (of_page page is no_old no_report)) = omega (arith, old_more (is_old x) (logged v) j.committed, no_old x, claim_none x v claimless)
-  blocks_law opened x (row.commits j b v vs q more (to_count) (of_none none unmapped)) = omega (arith, old_more (is_old x) (logged v) j.committed, own_old (is_old x) v none, leads_none x v.old unmapped)
-  blocks_law opened x (row.commits j b v vs q more (to_slot claimless) (of_none none unmapped)) = omega (arith, old_more (is_old x) (logged v) j.committed, own_old (is_old x) v none, leads_none x v.old unmapped, claim_none x v claimless)
-  blocks_law opened x (row.fails j b) = omega (arith, nothing, in_block (unowed_weight x) phase.Pending b.vios)
+  pub blocks_law : (opened : Pbn → ℕ) (x : Pbn) → {old new : ZoneData} {before after : Sum} → Rule sizes old new before after → Conserves (block_token opened x) old new before after
+  blocks_law opened x (rule.both first same second) = omega (arith, blocks_law opened x first, same (block_token opened x).item, blocks_law opened x second)
+  blocks_law opened x (rule.begins d v pageless claimless ticketless) = omega (arith, claim_none x v claimless)
+  blocks_law opened x (rule.begins_flush d v pageless claimless ticketless) = omega (arith, claim_none x v claimless)
+  blocks_law opened x (rule.answers d v answer marks receipts pageless claimless ticketless) = omega (arith, claim_none x v claimless)
+  blocks_law opened x (rule.looks l v on) = omega (arith, unowed_is x (owes on.phase) v on.unowed)
+  blocks_law opened x (rule.leafed l v on) = omega (arith, unowed_is x (owes on.phase) v on.unowed)
+  blocks_law opened x (rule.leaves l slots reported v q answer locks is_set leased) = omega (arith, unowed_is x (owes q) v is_set.unowed)
+  blocks_law opened x (rule.hands_on l slots reported v q answer w others locks is_set leased) = omega (arith, unowed_is x (owes q) v is_set.unowed)
+  blocks_law opened x (rule.forgets l unlinkable v q page locks is_dropped is_page made) = omega (arith, unowed_is x (owes q) v is_dropped.unowed)
+  blocks_law opened x (rule.asks_on p z v q on early asks) = omega (arith, unowed_is x (owes q) v early.unowed, unowed_is x (owes on.phase) (further on v) on.early.unowed, asks.uses x, asks.held x)
+  blocks_law opened x (rule.counts_block p z v y some moves passes) = omega (arith, moves.uses x, passes.out x)
+  blocks_law opened x (rule.drops_claim p z v y given some moves passes) = omega (arith, claim_some x y v some, moves.uses x, passes.out x)
+  blocks_law opened x (rule.removes p z e y given from moves passes) = omega (arith, ap (leads_to x) from, moves.uses x, passes.out x)
+  blocks_law opened x (rule.enters j v counted claimed) = omega (arith, entry_leads x v, claim_is_entry x v claimed)
+  blocks_law opened x (rule.enters_first j v counted claimed) = omega (arith, nothing, entry_leads x v, claim_is_entry x v claimed)
+  blocks_law opened x (rule.commits j b v vs q more (to_count) (of_block none)) = omega (arith, old_more (is_old x) (logged v) j.committed, own_old (is_old x) v none)
+  blocks_law opened x (rule.commits j b v vs q more (to_slot claimless) (of_block none)) = omega (arith, old_more (is_old x) (logged v) j.committed, own_old (is_old x) v none, claim_none x v claimless)
+  blocks_law opened x (rule.commits j b v vs q more (to_count) (of_page page is no_old no_report)) = omega (arith, old_more (is_old x) (logged v) j.committed, no_old x)
+  blocks_law opened x (rule.commits j b v vs q more (to_slot claimless) (of_page page is no_old no_report)) = omega (arith, old_more (is_old x) (logged v) j.committed, no_old x, claim_none x v claimless)
+  blocks_law opened x (rule.commits j b v vs q more (to_count) (of_none none unmapped)) = omega (arith, old_more (is_old x) (logged v) j.committed, own_old (is_old x) v none, leads_none x v.old unmapped)
+  blocks_law opened x (rule.commits j b v vs q more (to_slot claimless) (of_none none unmapped)) = omega (arith, old_more (is_old x) (logged v) j.committed, own_old (is_old x) v none, leads_none x v.old unmapped, claim_none x v claimless)
+  blocks_law opened x (rule.fails j b) = omega (arith, nothing, in_block (unowed_weight x) phase.Pending b.vios)
   blocks_law opened x other = omega (arith, nothing)
 
   -- each claim of a request is counted, until it is spent or dropped
-  pub claims_law : (x : Pbn) → {old new : ZoneData} {before after : Sum} → Row sizes old new before after → Shrinks (claim_token x) old new before after
-  claims_law x (row.both first same second) = omega (arith, claims_law x first, same (claim_token x).item, claims_law x second)
-  claims_law x (row.begins d v pageless claimless ticketless) = omega (arith, claim_none x v claimless)
-  claims_law x (row.begins_flush d v pageless claimless ticketless) = omega (arith, claim_none x v claimless)
-  claims_law x (row.asks_on p z v q on early asks) = omega (arith, asks.claims x)
-  claims_law x (row.counts_block p z v y some moves passes) = omega (arith, claim_some x y v some, moves.claims x, passes.out x)
-  claims_law x (row.drops_claim p z v y given some moves passes) = omega (arith, claim_some x y v some, moves.claims x, passes.out x)
-  claims_law x (row.removes p z e y given from moves passes) = omega (arith, moves.claims x, passes.out x)
-  claims_law x (row.commits j b v vs q more (to_count) (of_block none)) = omega arith
-  claims_law x (row.commits j b v vs q more (to_slot claimless) (of_block none)) = omega arith
-  claims_law x (row.commits j b v vs q more (to_count) (of_page page is no_old no_report)) = omega arith
-  claims_law x (row.commits j b v vs q more (to_slot claimless) (of_page page is no_old no_report)) = omega arith
-  claims_law x (row.commits j b v vs q more (to_count) (of_none none unmapped)) = omega arith
-  claims_law x (row.commits j b v vs q more (to_slot claimless) (of_none none unmapped)) = omega arith
-  claims_law x (row.fails j b) = omega (arith, nothing, in_block (claim_weight x) phase.Pending b.vios)
+  pub claims_law : (x : Pbn) → {old new : ZoneData} {before after : Sum} → Rule sizes old new before after → Shrinks (claim_token x) old new before after
+  claims_law x (rule.both first same second) = omega (arith, claims_law x first, same (claim_token x).item, claims_law x second)
+  claims_law x (rule.begins d v pageless claimless ticketless) = omega (arith, claim_none x v claimless)
+  claims_law x (rule.begins_flush d v pageless claimless ticketless) = omega (arith, claim_none x v claimless)
+  claims_law x (rule.asks_on p z v q on early asks) = omega (arith, asks.claims x)
+  claims_law x (rule.counts_block p z v y some moves passes) = omega (arith, claim_some x y v some, moves.claims x, passes.out x)
+  claims_law x (rule.drops_claim p z v y given some moves passes) = omega (arith, claim_some x y v some, moves.claims x, passes.out x)
+  claims_law x (rule.removes p z e y given from moves passes) = omega (arith, moves.claims x, passes.out x)
+  claims_law x (rule.commits j b v vs q more (to_count) (of_block none)) = omega arith
+  claims_law x (rule.commits j b v vs q more (to_slot claimless) (of_block none)) = omega arith
+  claims_law x (rule.commits j b v vs q more (to_count) (of_page page is no_old no_report)) = omega arith
+  claims_law x (rule.commits j b v vs q more (to_slot claimless) (of_page page is no_old no_report)) = omega arith
+  claims_law x (rule.commits j b v vs q more (to_count) (of_none none unmapped)) = omega arith
+  claims_law x (rule.commits j b v vs q more (to_slot claimless) (of_none none unmapped)) = omega arith
+  claims_law x (rule.fails j b) = omega (arith, nothing, in_block (claim_weight x) phase.Pending b.vios)
   claims_law x other = omega (arith, nothing)
 
   -- each ticket that is out goes to the request that asked, and comes back with it
-  pub tickets_law : (zone : ℕ) (test : ℕ → Bool) → {old new : ZoneData} {before after : Sum} → Row sizes old new before after → Conserves (ticket_token zone test) old new before after
-  tickets_law zone test (row.both first same second) = omega (arith, tickets_law zone test first, same (ticket_token zone test).item, tickets_law zone test second)
-  tickets_law zone test (row.begins d v pageless claimless ticketless) = omega (arith, ap (total (ticket_weight zone test)) ticketless)
-  tickets_law zone test (row.begins_flush d v pageless claimless ticketless) = omega (arith, ap (total (ticket_weight zone test)) ticketless)
-  tickets_law zone test (row.answers d v answer marks receipts pageless claimless ticketless) = omega (arith, ap (total (ticket_weight zone test)) ticketless)
-  tickets_law zone test (row.asks_on p z v q on early asks) = omega (arith, asks.numbers zone test, same_out zone test p.counts z asks.zone (out_in test z))
-  tickets_law zone test (row.counts_block p z v y some moves passes) = omega (arith, out_kept zone test p.counts z passes)
-  tickets_law zone test (row.drops_claim p z v y given some moves passes) = omega (arith, out_kept zone test p.counts z passes)
-  tickets_law zone test (row.removes p z e y given from moves passes) = omega (arith, out_kept zone test p.counts z passes)
-  tickets_law zone test (row.commits j b v vs q more (to_count) (of_block none)) = omega arith
-  tickets_law zone test (row.commits j b v vs q more (to_slot claimless) (of_block none)) = omega arith
-  tickets_law zone test (row.commits j b v vs q more (to_count) (of_page page is no_old no_report)) = omega arith
-  tickets_law zone test (row.commits j b v vs q more (to_slot claimless) (of_page page is no_old no_report)) = omega arith
-  tickets_law zone test (row.commits j b v vs q more (to_count) (of_none none unmapped)) = omega arith
-  tickets_law zone test (row.commits j b v vs q more (to_slot claimless) (of_none none unmapped)) = omega arith
-  tickets_law zone test (row.fails j b) = omega (arith, nothing, in_block (λ v. total (ticket_weight zone test) v.tickets) phase.Pending b.vios)
+  pub tickets_law : (zone : ℕ) (test : ℕ → Bool) → {old new : ZoneData} {before after : Sum} → Rule sizes old new before after → Conserves (ticket_token zone test) old new before after
+  tickets_law zone test (rule.both first same second) = omega (arith, tickets_law zone test first, same (ticket_token zone test).item, tickets_law zone test second)
+  tickets_law zone test (rule.begins d v pageless claimless ticketless) = omega (arith, ap (total (ticket_weight zone test)) ticketless)
+  tickets_law zone test (rule.begins_flush d v pageless claimless ticketless) = omega (arith, ap (total (ticket_weight zone test)) ticketless)
+  tickets_law zone test (rule.answers d v answer marks receipts pageless claimless ticketless) = omega (arith, ap (total (ticket_weight zone test)) ticketless)
+  tickets_law zone test (rule.asks_on p z v q on early asks) = omega (arith, asks.numbers zone test, same_out zone test p.counts z asks.zone (out_in test z))
+  tickets_law zone test (rule.counts_block p z v y some moves passes) = omega (arith, out_kept zone test p.counts z passes)
+  tickets_law zone test (rule.drops_claim p z v y given some moves passes) = omega (arith, out_kept zone test p.counts z passes)
+  tickets_law zone test (rule.removes p z e y given from moves passes) = omega (arith, out_kept zone test p.counts z passes)
+  tickets_law zone test (rule.commits j b v vs q more (to_count) (of_block none)) = omega arith
+  tickets_law zone test (rule.commits j b v vs q more (to_slot claimless) (of_block none)) = omega arith
+  tickets_law zone test (rule.commits j b v vs q more (to_count) (of_page page is no_old no_report)) = omega arith
+  tickets_law zone test (rule.commits j b v vs q more (to_slot claimless) (of_page page is no_old no_report)) = omega arith
+  tickets_law zone test (rule.commits j b v vs q more (to_count) (of_none none unmapped)) = omega arith
+  tickets_law zone test (rule.commits j b v vs q more (to_slot claimless) (of_none none unmapped)) = omega arith
+  tickets_law zone test (rule.fails j b) = omega (arith, nothing, in_block (λ v. total (ticket_weight zone test) v.tickets) phase.Pending b.vios)
   tickets_law zone test other = omega (arith, nothing)
 
   -- the decrement of an entry goes with its commit to the physical zone, its report from there to its request
-  pub reports_law : (w : Writer) → {old new : ZoneData} {before after : Sum} → Row sizes old new before after → Conserves (report_token w) old new before after
-  reports_law w (row.both first same second) = omega (arith, reports_law w first, same (report_token w).item, reports_law w second)
-  reports_law w (row.leaves l slots reported v q answer locks is_set leased) = omega (arith, is_set.told w)
-  reports_law w (row.hands_on l slots reported v q answer u others locks is_set leased) = omega (arith, is_set.told w)
-  reports_law w (row.keeps_report l e settling others) = omega (arith, total-append (has_old w) l.reported (e ∷ []))
-  reports_law w (row.commits j b v vs q more (to_count) (of_block none)) = omega (arith, old_more (has_old w) (logged v) j.committed, own_old (has_old w) v none)
-  reports_law w (row.commits j b v vs q more (to_slot claimless) (of_block none)) = omega (arith, old_more (has_old w) (logged v) j.committed, own_old (has_old w) v none)
-  reports_law w (row.commits j b v vs q more (to_count) (of_page page is no_old no_report)) = omega (arith, old_more (has_old w) (logged v) j.committed, no_report w)
-  reports_law w (row.commits j b v vs q more (to_slot claimless) (of_page page is no_old no_report)) = omega (arith, old_more (has_old w) (logged v) j.committed, no_report w)
-  reports_law w (row.commits j b v vs q more (to_count) (of_none none unmapped)) = omega (arith, old_more (has_old w) (logged v) j.committed, own_old (has_old w) v none, old_none w (remapping v) unmapped)
-  reports_law w (row.commits j b v vs q more (to_slot claimless) (of_none none unmapped)) = omega (arith, old_more (has_old w) (logged v) j.committed, own_old (has_old w) v none, old_none w (remapping v) unmapped)
+  pub reports_law : (w : Writer) → {old new : ZoneData} {before after : Sum} → Rule sizes old new before after → Conserves (report_token w) old new before after
+  reports_law w (rule.both first same second) = omega (arith, reports_law w first, same (report_token w).item, reports_law w second)
+  reports_law w (rule.leaves l slots reported v q answer locks is_set leased) = omega (arith, is_set.told w)
+  reports_law w (rule.hands_on l slots reported v q answer u others locks is_set leased) = omega (arith, is_set.told w)
+  reports_law w (rule.keeps_report l e settling others) = omega (arith, total-append (has_old w) l.reported (e ∷ []))
+  reports_law w (rule.commits j b v vs q more (to_count) (of_block none)) = omega (arith, old_more (has_old w) (logged v) j.committed, own_old (has_old w) v none)
+  reports_law w (rule.commits j b v vs q more (to_slot claimless) (of_block none)) = omega (arith, old_more (has_old w) (logged v) j.committed, own_old (has_old w) v none)
+  reports_law w (rule.commits j b v vs q more (to_count) (of_page page is no_old no_report)) = omega (arith, old_more (has_old w) (logged v) j.committed, no_report w)
+  reports_law w (rule.commits j b v vs q more (to_slot claimless) (of_page page is no_old no_report)) = omega (arith, old_more (has_old w) (logged v) j.committed, no_report w)
+  reports_law w (rule.commits j b v vs q more (to_count) (of_none none unmapped)) = omega (arith, old_more (has_old w) (logged v) j.committed, own_old (has_old w) v none, old_none w (remapping v) unmapped)
+  reports_law w (rule.commits j b v vs q more (to_slot claimless) (of_none none unmapped)) = omega (arith, old_more (has_old w) (logged v) j.committed, own_old (has_old w) v none, old_none w (remapping v) unmapped)
   reports_law w other = omega (arith, nothing)
 
   -- and so does the request itself, from its commit to its slot
-  pub waiters_law : (w : Writer) → {old new : ZoneData} {before after : Sum} → Row sizes old new before after → Conserves (waiter_token w) old new before after
-  waiters_law w (row.both first same second) = omega (arith, waiters_law w first, same (waiter_token w).item, waiters_law w second)
-  waiters_law w (row.looks l v on) = omega (arith, unwaited w (is_committed on.phase) (onward on v) on.uncommitted)
-  waiters_law w (row.leafed l v on) = omega (arith, unwaited w (is_committed on.phase) (onward on v) on.uncommitted)
-  waiters_law w (row.asks_on p z v q on early asks) = omega (arith, unwaited w (is_committed q) v early.uncommitted, unwaited w (is_committed on.phase) (further on v) on.early.uncommitted)
-  waiters_law w (row.leaves l slots reported v q answer locks is_set leased) = omega (arith, is_set.waited w)
-  waiters_law w (row.hands_on l slots reported v q answer u others locks is_set leased) = omega (arith, is_set.waited w)
-  waiters_law w (row.links l tree v page is_page made) = omega (arith, page_waits w v page is_page)
-  waiters_law w (row.forgets l unlinkable v q page locks is_dropped is_page made) = omega (arith, unwaited w (is_committed q) v is_dropped.uncommitted)
-  waiters_law w (row.commits j b v vs q more (to_count) (of_block none)) = omega (arith, old_more (has_old w) (logged v) j.committed, own_old (has_old w) v none, own_waits w v none)
-  waiters_law w (row.commits j b v vs q more (to_slot claimless) (of_block none)) = omega (arith, old_more (has_old w) (logged v) j.committed, own_old (has_old w) v none, own_waits w v none)
-  waiters_law w (row.commits j b v vs q more (to_count) (of_page page is no_old no_report)) = omega (arith, old_more (has_old w) (logged v) j.committed, no_report w, page_waits w v page is)
-  waiters_law w (row.commits j b v vs q more (to_slot claimless) (of_page page is no_old no_report)) = omega (arith, old_more (has_old w) (logged v) j.committed, no_report w, page_waits w v page is)
-  waiters_law w (row.commits j b v vs q more (to_count) (of_none none unmapped)) = omega (arith, old_more (has_old w) (logged v) j.committed, own_old (has_old w) v none, own_waits w v none)
-  waiters_law w (row.commits j b v vs q more (to_slot claimless) (of_none none unmapped)) = omega (arith, old_more (has_old w) (logged v) j.committed, own_old (has_old w) v none, own_waits w v none)
-  waiters_law w (row.fails j b) = omega (arith, nothing, in_block (waiter_weight w) phase.Pending b.vios)
+  pub waiters_law : (w : Writer) → {old new : ZoneData} {before after : Sum} → Rule sizes old new before after → Conserves (waiter_token w) old new before after
+  waiters_law w (rule.both first same second) = omega (arith, waiters_law w first, same (waiter_token w).item, waiters_law w second)
+  waiters_law w (rule.looks l v on) = omega (arith, unwaited w (is_committed on.phase) (onward on v) on.uncommitted)
+  waiters_law w (rule.leafed l v on) = omega (arith, unwaited w (is_committed on.phase) (onward on v) on.uncommitted)
+  waiters_law w (rule.asks_on p z v q on early asks) = omega (arith, unwaited w (is_committed q) v early.uncommitted, unwaited w (is_committed on.phase) (further on v) on.early.uncommitted)
+  waiters_law w (rule.leaves l slots reported v q answer locks is_set leased) = omega (arith, is_set.waited w)
+  waiters_law w (rule.hands_on l slots reported v q answer u others locks is_set leased) = omega (arith, is_set.waited w)
+  waiters_law w (rule.links l tree v page is_page made) = omega (arith, page_waits w v page is_page)
+  waiters_law w (rule.forgets l unlinkable v q page locks is_dropped is_page made) = omega (arith, unwaited w (is_committed q) v is_dropped.uncommitted)
+  waiters_law w (rule.commits j b v vs q more (to_count) (of_block none)) = omega (arith, old_more (has_old w) (logged v) j.committed, own_old (has_old w) v none, own_waits w v none)
+  waiters_law w (rule.commits j b v vs q more (to_slot claimless) (of_block none)) = omega (arith, old_more (has_old w) (logged v) j.committed, own_old (has_old w) v none, own_waits w v none)
+  waiters_law w (rule.commits j b v vs q more (to_count) (of_page page is no_old no_report)) = omega (arith, old_more (has_old w) (logged v) j.committed, no_report w, page_waits w v page is)
+  waiters_law w (rule.commits j b v vs q more (to_slot claimless) (of_page page is no_old no_report)) = omega (arith, old_more (has_old w) (logged v) j.committed, no_report w, page_waits w v page is)
+  waiters_law w (rule.commits j b v vs q more (to_count) (of_none none unmapped)) = omega (arith, old_more (has_old w) (logged v) j.committed, own_old (has_old w) v none, own_waits w v none)
+  waiters_law w (rule.commits j b v vs q more (to_slot claimless) (of_none none unmapped)) = omega (arith, old_more (has_old w) (logged v) j.committed, own_old (has_old w) v none, own_waits w v none)
+  waiters_law w (rule.fails j b) = omega (arith, nothing, in_block (waiter_weight w) phase.Pending b.vios)
   waiters_law w other = omega (arith, nothing)
 
   -- damage is told once
-  pub damage_law : {old new : ZoneData} {before after : Sum} → Row sizes old new before after → Shrinks damage_token old new before after
-  damage_law (row.both first same second) = omega (arith, damage_law first, same damage_token.item, damage_law second)
-  damage_law (row.commits j b v vs q more (to_count) (of_block none)) = omega arith
-  damage_law (row.commits j b v vs q more (to_slot claimless) (of_block none)) = omega arith
-  damage_law (row.commits j b v vs q more (to_count) (of_page page is no_old no_report)) = omega arith
-  damage_law (row.commits j b v vs q more (to_slot claimless) (of_page page is no_old no_report)) = omega arith
-  damage_law (row.commits j b v vs q more (to_count) (of_none none unmapped)) = omega arith
-  damage_law (row.commits j b v vs q more (to_slot claimless) (of_none none unmapped)) = omega arith
+  pub damage_law : {old new : ZoneData} {before after : Sum} → Rule sizes old new before after → Shrinks damage_token old new before after
+  damage_law (rule.both first same second) = omega (arith, damage_law first, same damage_token.item, damage_law second)
+  damage_law (rule.commits j b v vs q more (to_count) (of_block none)) = omega arith
+  damage_law (rule.commits j b v vs q more (to_slot claimless) (of_block none)) = omega arith
+  damage_law (rule.commits j b v vs q more (to_count) (of_page page is no_old no_report)) = omega arith
+  damage_law (rule.commits j b v vs q more (to_slot claimless) (of_page page is no_old no_report)) = omega arith
+  damage_law (rule.commits j b v vs q more (to_count) (of_none none unmapped)) = omega arith
+  damage_law (rule.commits j b v vs q more (to_slot claimless) (of_none none unmapped)) = omega arith
   damage_law other = omega (arith, nothing)
 
   -- a lock goes to who arrives first, or from who leaves it to the first that waits
-  pub leases_law : (a : ℕ) (test : ℕ → Bool) {old new : ZoneData} {before after : Sum} → Row sizes old new before after → Conserves (lease_token a test) old new before after
-  leases_law a test (row.both first same second) = omega (arith, leases_law a test first, same (lease_token a test).item, leases_law a test second)
-  leases_law a test (row.looks l v on) = omega (arith, ap (λ b. bit (b && (v.at.0 == a && test v.place))) on.locks)
-  leases_law a test (row.leafed l v on) = omega (arith, ap (λ b. bit (b && (v.at.0 == a && test v.place))) on.locks)
-  leases_law a test (row.asks_on p z v q on early asks) = omega (arith, ap (λ b. bit (b && (v.at.0 == a && test v.place))) early.locks, ap (λ b. bit (b && (v.at.0 == a && test v.place))) on.early.locks)
-  leases_law a test (row.leaves l slots reported v q answer locks is_set leased) = omega (arith, ap (λ b. bit (b && (v.at.0 == a && test v.place))) locks, freed a test l v leased)
-  leases_law a test (row.hands_on l slots reported v q answer w others locks is_set leased) = omega (arith, ap (λ b. bit (b && (v.at.0 == a && test v.place))) locks, freed a test l v leased)
-  leases_law a test (row.retires l v pageless leased) = omega (arith, freed a test l v leased)
-  leases_law a test (row.forgets l unlinkable v q page locks is_dropped is_page made) = omega (arith, ap (λ b. bit (b && (v.at.0 == a && test v.place))) locks)
-  leases_law a test (row.fails j b) = omega (arith, in_block (holder_weight a test) phase.Pending b.vios)
-  leases_law a test (row.commits j b v vs q more (to_count) (of_block none)) = omega arith
-  leases_law a test (row.commits j b v vs q more (to_count) (of_page page_is is no_old no_report)) = omega arith
-  leases_law a test (row.commits j b v vs q more (to_count) (of_none none unmapped)) = omega arith
-  leases_law a test (row.commits j b v vs q more (to_slot claimless) (of_block none)) = omega arith
-  leases_law a test (row.commits j b v vs q more (to_slot claimless) (of_page page_is is no_old no_report)) = omega arith
-  leases_law a test (row.commits j b v vs q more (to_slot claimless) (of_none none unmapped)) = omega arith
+  pub leases_law : (a : ℕ) (test : ℕ → Bool) {old new : ZoneData} {before after : Sum} → Rule sizes old new before after → Conserves (lease_token a test) old new before after
+  leases_law a test (rule.both first same second) = omega (arith, leases_law a test first, same (lease_token a test).item, leases_law a test second)
+  leases_law a test (rule.looks l v on) = omega (arith, ap (λ b. bit (b && (v.at.0 == a && test v.place))) on.locks)
+  leases_law a test (rule.leafed l v on) = omega (arith, ap (λ b. bit (b && (v.at.0 == a && test v.place))) on.locks)
+  leases_law a test (rule.asks_on p z v q on early asks) = omega (arith, ap (λ b. bit (b && (v.at.0 == a && test v.place))) early.locks, ap (λ b. bit (b && (v.at.0 == a && test v.place))) on.early.locks)
+  leases_law a test (rule.leaves l slots reported v q answer locks is_set leased) = omega (arith, ap (λ b. bit (b && (v.at.0 == a && test v.place))) locks, freed a test l v leased)
+  leases_law a test (rule.hands_on l slots reported v q answer w others locks is_set leased) = omega (arith, ap (λ b. bit (b && (v.at.0 == a && test v.place))) locks, freed a test l v leased)
+  leases_law a test (rule.retires l v pageless leased) = omega (arith, freed a test l v leased)
+  leases_law a test (rule.forgets l unlinkable v q page locks is_dropped is_page made) = omega (arith, ap (λ b. bit (b && (v.at.0 == a && test v.place))) locks)
+  leases_law a test (rule.fails j b) = omega (arith, in_block (holder_weight a test) phase.Pending b.vios)
+  leases_law a test (rule.commits j b v vs q more (to_count) (of_block none)) = omega arith
+  leases_law a test (rule.commits j b v vs q more (to_count) (of_page page_is is no_old no_report)) = omega arith
+  leases_law a test (rule.commits j b v vs q more (to_count) (of_none none unmapped)) = omega arith
+  leases_law a test (rule.commits j b v vs q more (to_slot claimless) (of_block none)) = omega arith
+  leases_law a test (rule.commits j b v vs q more (to_slot claimless) (of_page page_is is no_old no_report)) = omega arith
+  leases_law a test (rule.commits j b v vs q more (to_slot claimless) (of_none none unmapped)) = omega arith
   leases_law a test other = omega arith
 
   -- and the zone has so many more or less
-  pub holders_law : {old new : ZoneData} {before after : Sum} → Row sizes old new before after → Conserves holder_token old new before after
-  holders_law (row.both first same second) = omega (arith, holders_law first, same holder_token.item, holders_law second)
-  holders_law (row.looks l v on) = omega (arith, ap bit on.locks)
-  holders_law (row.leafed l v on) = omega (arith, ap bit on.locks)
-  holders_law (row.asks_on p z v q on early asks) = omega (arith, ap bit early.locks, ap bit on.early.locks)
-  holders_law (row.leaves l slots reported v q answer locks is_set leased) = omega (arith, ap bit locks, one_freed l v leased)
-  holders_law (row.hands_on l slots reported v q answer w others locks is_set leased) = omega (arith, ap bit locks, one_freed l v leased)
-  holders_law (row.retires l v pageless leased) = omega (arith, one_freed l v leased)
-  holders_law (row.forgets l unlinkable v q page locks is_dropped is_page made) = omega (arith, ap bit locks)
-  holders_law (row.fails j b) = omega (arith, in_block (λ v. bit (holds v.phase)) phase.Pending b.vios)
-  holders_law (row.commits j b v vs q more (to_count) (of_block none)) = omega arith
-  holders_law (row.commits j b v vs q more (to_count) (of_page page_is is no_old no_report)) = omega arith
-  holders_law (row.commits j b v vs q more (to_count) (of_none none unmapped)) = omega arith
-  holders_law (row.commits j b v vs q more (to_slot claimless) (of_block none)) = omega arith
-  holders_law (row.commits j b v vs q more (to_slot claimless) (of_page page_is is no_old no_report)) = omega arith
-  holders_law (row.commits j b v vs q more (to_slot claimless) (of_none none unmapped)) = omega arith
+  pub holders_law : {old new : ZoneData} {before after : Sum} → Rule sizes old new before after → Conserves holder_token old new before after
+  holders_law (rule.both first same second) = omega (arith, holders_law first, same holder_token.item, holders_law second)
+  holders_law (rule.looks l v on) = omega (arith, ap bit on.locks)
+  holders_law (rule.leafed l v on) = omega (arith, ap bit on.locks)
+  holders_law (rule.asks_on p z v q on early asks) = omega (arith, ap bit early.locks, ap bit on.early.locks)
+  holders_law (rule.leaves l slots reported v q answer locks is_set leased) = omega (arith, ap bit locks, one_freed l v leased)
+  holders_law (rule.hands_on l slots reported v q answer w others locks is_set leased) = omega (arith, ap bit locks, one_freed l v leased)
+  holders_law (rule.retires l v pageless leased) = omega (arith, one_freed l v leased)
+  holders_law (rule.forgets l unlinkable v q page locks is_dropped is_page made) = omega (arith, ap bit locks)
+  holders_law (rule.fails j b) = omega (arith, in_block (λ v. bit (holds v.phase)) phase.Pending b.vios)
+  holders_law (rule.commits j b v vs q more (to_count) (of_block none)) = omega arith
+  holders_law (rule.commits j b v vs q more (to_count) (of_page page_is is no_old no_report)) = omega arith
+  holders_law (rule.commits j b v vs q more (to_count) (of_none none unmapped)) = omega arith
+  holders_law (rule.commits j b v vs q more (to_slot claimless) (of_block none)) = omega arith
+  holders_law (rule.commits j b v vs q more (to_slot claimless) (of_page page_is is no_old no_report)) = omega arith
+  holders_law (rule.commits j b v vs q more (to_slot claimless) (of_none none unmapped)) = omega arith
   holders_law other = omega arith
 
   -- an entry goes from its block to its slot, or its address is retired
-  pub entries_law : {old new : ZoneData} {before after : Sum} → Row sizes old new before after → Conserves entry_token old new before after
-  entries_law (row.both first same second) = omega (arith, entries_law first, same entry_token.item, entries_law second)
-  entries_law (row.looks l v on) = omega (arith, ap (λ b. bit (b && not (is_some v.page))) on.unentered)
-  entries_law (row.leafed l v on) = omega (arith, ap (λ b. bit (b && not (is_some v.page))) on.unentered)
-  entries_law (row.asks_on p z v q on early asks) = omega (arith, ap (λ b. bit (b && not (is_some v.page))) early.unentered, ap (λ b. bit (b && not (is_some v.page))) on.early.unentered)
-  entries_law (row.leaves l slots reported v q answer locks is_set leased) = omega (arith, is_set.count)
-  entries_law (row.hands_on l slots reported v q answer w others locks is_set leased) = omega (arith, is_set.count)
-  entries_law (row.retires l v pageless leased) = omega (arith, nothing, own_entry v pageless)
-  entries_law (row.links l tree v page is_page made) = omega (arith, unless_page true v page is_page)
-  entries_law (row.forgets l unlinkable v q page locks is_dropped is_page made) = omega (arith, unless_page (has_entry q) v page is_page)
-  entries_law (row.enters j v counted claimed) = omega (arith, one_entry (logged v) j.entered, counted)
-  entries_law (row.enters_first j v counted claimed) = omega (arith, nothing, one_entry (logged v) j.entered, counted)
-  entries_law (row.fails j b) = omega (arith, nothing, in_block (λ v. bit (has_entry v.phase && not (is_some v.page))) phase.Pending b.vios)
-  entries_law (row.commits j b v vs q more (to_count) (of_block none)) = omega arith
-  entries_law (row.commits j b v vs q more (to_count) (of_page page_is is no_old no_report)) = omega arith
-  entries_law (row.commits j b v vs q more (to_count) (of_none none unmapped)) = omega arith
-  entries_law (row.commits j b v vs q more (to_slot claimless) (of_block none)) = omega arith
-  entries_law (row.commits j b v vs q more (to_slot claimless) (of_page page_is is no_old no_report)) = omega arith
-  entries_law (row.commits j b v vs q more (to_slot claimless) (of_none none unmapped)) = omega arith
+  pub entries_law : {old new : ZoneData} {before after : Sum} → Rule sizes old new before after → Conserves entry_token old new before after
+  entries_law (rule.both first same second) = omega (arith, entries_law first, same entry_token.item, entries_law second)
+  entries_law (rule.looks l v on) = omega (arith, ap (λ b. bit (b && not (is_some v.page))) on.unentered)
+  entries_law (rule.leafed l v on) = omega (arith, ap (λ b. bit (b && not (is_some v.page))) on.unentered)
+  entries_law (rule.asks_on p z v q on early asks) = omega (arith, ap (λ b. bit (b && not (is_some v.page))) early.unentered, ap (λ b. bit (b && not (is_some v.page))) on.early.unentered)
+  entries_law (rule.leaves l slots reported v q answer locks is_set leased) = omega (arith, is_set.count)
+  entries_law (rule.hands_on l slots reported v q answer w others locks is_set leased) = omega (arith, is_set.count)
+  entries_law (rule.retires l v pageless leased) = omega (arith, nothing, own_entry v pageless)
+  entries_law (rule.links l tree v page is_page made) = omega (arith, unless_page true v page is_page)
+  entries_law (rule.forgets l unlinkable v q page locks is_dropped is_page made) = omega (arith, unless_page (has_entry q) v page is_page)
+  entries_law (rule.enters j v counted claimed) = omega (arith, one_entry (logged v) j.entered, counted)
+  entries_law (rule.enters_first j v counted claimed) = omega (arith, nothing, one_entry (logged v) j.entered, counted)
+  entries_law (rule.fails j b) = omega (arith, nothing, in_block (λ v. bit (has_entry v.phase && not (is_some v.page))) phase.Pending b.vios)
+  entries_law (rule.commits j b v vs q more (to_count) (of_block none)) = omega arith
+  entries_law (rule.commits j b v vs q more (to_count) (of_page page_is is no_old no_report)) = omega arith
+  entries_law (rule.commits j b v vs q more (to_count) (of_none none unmapped)) = omega arith
+  entries_law (rule.commits j b v vs q more (to_slot claimless) (of_block none)) = omega arith
+  entries_law (rule.commits j b v vs q more (to_slot claimless) (of_page page_is is no_old no_report)) = omega arith
+  entries_law (rule.commits j b v vs q more (to_slot claimless) (of_none none unmapped)) = omega arith
   entries_law other = omega (arith, nothing)
 
   -- so does an entry of a page, until that is linked or never will be
-  pub page_entries_law : {old new : ZoneData} {before after : Sum} → Row sizes old new before after → Shrinks page_entry_token old new before after
-  page_entries_law (row.both first same second) = omega (arith, page_entries_law first, same page_entry_token.item, page_entries_law second)
-  page_entries_law (row.looks l v on) = omega (arith, ap (λ b. bit (b && is_some v.page)) on.unentered)
-  page_entries_law (row.leafed l v on) = omega (arith, ap (λ b. bit (b && is_some v.page)) on.unentered)
-  page_entries_law (row.asks_on p z v q on early asks) = omega (arith, ap (λ b. bit (b && is_some v.page)) early.unentered, ap (λ b. bit (b && is_some v.page)) on.early.unentered)
-  page_entries_law (row.forgets l unlinkable v q page locks is_dropped is_page made) = omega (arith, is_dropped.count, with_page (has_entry q) v page is_page)
-  page_entries_law (row.enters j v counted claimed) = omega (arith, page_entry (logged v) j.entered, one_kind (logged v), either_bit (is_some v.page), counted)
-  page_entries_law (row.enters_first j v counted claimed) = omega (arith, nothing, page_entry (logged v) j.entered, one_kind (logged v), either_bit (is_some v.page), counted)
-  page_entries_law (row.fails j b) = omega (arith, nothing, in_block (λ v. bit (has_entry v.phase && is_some v.page)) phase.Pending b.vios)
-  page_entries_law (row.commits j b v vs q more (to_count) (of_block none)) = omega arith
-  page_entries_law (row.commits j b v vs q more (to_count) (of_page page_is is no_old no_report)) = omega arith
-  page_entries_law (row.commits j b v vs q more (to_count) (of_none none unmapped)) = omega arith
-  page_entries_law (row.commits j b v vs q more (to_slot claimless) (of_block none)) = omega arith
-  page_entries_law (row.commits j b v vs q more (to_slot claimless) (of_page page_is is no_old no_report)) = omega arith
-  page_entries_law (row.commits j b v vs q more (to_slot claimless) (of_none none unmapped)) = omega arith
+  pub page_entries_law : {old new : ZoneData} {before after : Sum} → Rule sizes old new before after → Shrinks page_entry_token old new before after
+  page_entries_law (rule.both first same second) = omega (arith, page_entries_law first, same page_entry_token.item, page_entries_law second)
+  page_entries_law (rule.looks l v on) = omega (arith, ap (λ b. bit (b && is_some v.page)) on.unentered)
+  page_entries_law (rule.leafed l v on) = omega (arith, ap (λ b. bit (b && is_some v.page)) on.unentered)
+  page_entries_law (rule.asks_on p z v q on early asks) = omega (arith, ap (λ b. bit (b && is_some v.page)) early.unentered, ap (λ b. bit (b && is_some v.page)) on.early.unentered)
+  page_entries_law (rule.forgets l unlinkable v q page locks is_dropped is_page made) = omega (arith, is_dropped.count, with_page (has_entry q) v page is_page)
+  page_entries_law (rule.enters j v counted claimed) = omega (arith, page_entry (logged v) j.entered, one_kind (logged v), either_bit (is_some v.page), counted)
+  page_entries_law (rule.enters_first j v counted claimed) = omega (arith, nothing, page_entry (logged v) j.entered, one_kind (logged v), either_bit (is_some v.page), counted)
+  page_entries_law (rule.fails j b) = omega (arith, nothing, in_block (λ v. bit (has_entry v.phase && is_some v.page)) phase.Pending b.vios)
+  page_entries_law (rule.commits j b v vs q more (to_count) (of_block none)) = omega arith
+  page_entries_law (rule.commits j b v vs q more (to_count) (of_page page_is is no_old no_report)) = omega arith
+  page_entries_law (rule.commits j b v vs q more (to_count) (of_none none unmapped)) = omega arith
+  page_entries_law (rule.commits j b v vs q more (to_slot claimless) (of_block none)) = omega arith
+  page_entries_law (rule.commits j b v vs q more (to_slot claimless) (of_page page_is is no_old no_report)) = omega arith
+  page_entries_law (rule.commits j b v vs q more (to_slot claimless) (of_none none unmapped)) = omega arith
   page_entries_law other = omega (arith, nothing)
 
   -- a page goes to its maker, and from it when it is linked, or isn't made any more
-  pub making_law : (page : PageId) → {old new : ZoneData} {before after : Sum} → Row sizes old new before after → Conserves (making_token page) old new before after
-  making_law page (row.both first same second) = omega (arith, making_law page first, same (making_token page).item, making_law page second)
-  making_law page (row.begins d v pageless claimless ticketless) = omega (arith, is_page_of page v None pageless)
-  making_law page (row.begins_flush d v pageless claimless ticketless) = omega (arith, is_page_of page v None pageless)
-  making_law page (row.answers d v answer marks receipts pageless claimless ticketless) = omega (arith, is_page_of page v None pageless)
-  making_law page (row.makes l v p pageless) = omega (arith, is_page_of page v None pageless, times_more page p l.making)
-  making_law page (row.links l tree v p is_page made) = omega (arith, is_page_of page v (Some p) is_page, taken_out p page l.making made)
-  making_law page (row.forgets l unlinkable v q p locks is_dropped is_page made) = omega (arith, is_page_of page v (Some p) is_page, taken_out p page l.making made)
-  making_law page (row.fails j b) = omega (arith, in_block (λ v. bit (is_same page v.page)) phase.Pending b.vios)
-  making_law page (row.commits j b v vs q more (to_count) (of_block none)) = omega arith
-  making_law page (row.commits j b v vs q more (to_count) (of_page page_is is no_old no_report)) = omega arith
-  making_law page (row.commits j b v vs q more (to_count) (of_none none unmapped)) = omega arith
-  making_law page (row.commits j b v vs q more (to_slot claimless) (of_block none)) = omega arith
-  making_law page (row.commits j b v vs q more (to_slot claimless) (of_page page_is is no_old no_report)) = omega arith
-  making_law page (row.commits j b v vs q more (to_slot claimless) (of_none none unmapped)) = omega arith
+  pub making_law : (page : PageId) → {old new : ZoneData} {before after : Sum} → Rule sizes old new before after → Conserves (making_token page) old new before after
+  making_law page (rule.both first same second) = omega (arith, making_law page first, same (making_token page).item, making_law page second)
+  making_law page (rule.begins d v pageless claimless ticketless) = omega (arith, is_page_of page v None pageless)
+  making_law page (rule.begins_flush d v pageless claimless ticketless) = omega (arith, is_page_of page v None pageless)
+  making_law page (rule.answers d v answer marks receipts pageless claimless ticketless) = omega (arith, is_page_of page v None pageless)
+  making_law page (rule.makes l v p pageless) = omega (arith, is_page_of page v None pageless, times_more page p l.making)
+  making_law page (rule.links l tree v p is_page made) = omega (arith, is_page_of page v (Some p) is_page, taken_out p page l.making made)
+  making_law page (rule.forgets l unlinkable v q p locks is_dropped is_page made) = omega (arith, is_page_of page v (Some p) is_page, taken_out p page l.making made)
+  making_law page (rule.fails j b) = omega (arith, in_block (λ v. bit (is_same page v.page)) phase.Pending b.vios)
+  making_law page (rule.commits j b v vs q more (to_count) (of_block none)) = omega arith
+  making_law page (rule.commits j b v vs q more (to_count) (of_page page_is is no_old no_report)) = omega arith
+  making_law page (rule.commits j b v vs q more (to_count) (of_none none unmapped)) = omega arith
+  making_law page (rule.commits j b v vs q more (to_slot claimless) (of_block none)) = omega arith
+  making_law page (rule.commits j b v vs q more (to_slot claimless) (of_page page_is is no_old no_report)) = omega arith
+  making_law page (rule.commits j b v vs q more (to_slot claimless) (of_none none unmapped)) = omega arith
   making_law page other = omega (arith, nothing)

@@ -7,7 +7,7 @@ use Rattle.blk_base.specs.Regions.{IsDataBlock}
 use Rattle.blk_base.proofs.RegionLaws.{data_block_inside}
 use Rattle.byte_fields.specs.Mappings.{mapping_bytes}
 use Rattle.byte_fields.proofs.MappingLaws.{length-mapping}
-use Rattle.page_codec.specs.Spelling.{head_bytes, page_bytes}
+use Rattle.page_codec.specs.PageBytes.{head_bytes, page_bytes}
 use Rattle.page_codec.specs.declared.forms.PageHead.{PageHead}
 use Rattle.page_codec.proofs.SpellingLaws.{length-head}
 use Rattle.disk_model.specs.Images.{IsImage}

@@ -8,7 +8,7 @@ use Rattle.core_model.specs.RightTraces.{AskMayFollow, LossMayFollow, MayFollow,
 use Rattle.core_model.specs.Trace.{Asks, Drops, Withdraws, claimed, passed_on}
 use Rattle.core_model.specs.Uses.{NoneFree, NoneFreeIn, Waits, gained, given_at, issued, lost, ticket_at}
 use Rattle.data_vio.specs.Zones.{physical_zone_of}
-use Rattle.slab_counts.specs.Calls.{one_of}
+use Rattle.slab_counts.specs.Operations.{one_of}
 use Rattle.slab_counts.specs.declared.tickets.Ticket.{Ticket}
 use Rattle.core_laws.proofs.kept.Spared.{contains_cut}
 use Rattle.core_laws.proofs.lists.CountedIn.{zone_inside}

@@ -49,7 +49,7 @@ use Rattle.blk_base.specs.declared.point.Half.TheVariants as half
 use Rattle.slab_counts.specs.Counts.{Counts, ClaimsFree, HasNoFree, Takes as Fits}
 use Rattle.slab_tickets.specs.Tickets.{empty_desk}
 use Rattle.slab_tickets.specs.declared.forms.Waiting.{Waiting}
-use Rattle.zone_counts.specs.Asking.{GivesBlock}
+use Rattle.zone_counts.specs.ZoneAnswers.{GivesBlock}
 use Rattle.zone_counts.specs.Zone.{Zone, IsClaimedIn, NoneFree, slab_at}
 use Rattle.core_model.specs.JournalRules.{JournalServes, JournalEnds, hands_out}
 use Rattle.core_model.specs.LogicalRules.{LogicalServes, LogicalHears, awaits_report, goes_on, known_by}
@@ -62,7 +62,7 @@ use Rattle.page_codec.proofs.HeldLaws.{held_unmapped}
 use Rattle.page_codec.proofs.ReadLaws.{no_page_fault}
 use Rattle.page_codec.proofs.SpellingLaws.{length-head}
 use Rattle.page_codec.specs.Grammar.{IsPage, IsPageFault}
-use Rattle.page_codec.specs.Spelling.{head_bytes, page_bytes}
+use Rattle.page_codec.specs.PageBytes.{head_bytes, page_bytes}
 use Rattle.page_codec.specs.declared.fault.PageFault.{PageFault}
 use Rattle.page_codec.specs.declared.fault.PageFault.TheVariants.{Compressed, Header}
 use Rattle.vdo_model.specs.declared.report.Damage.{Damage}
@@ -119,7 +119,7 @@ logical_over tree next places held waiting retired slots =
 
 -- its trees: the root of the first leads to the leaf of address 0; or to no leaf
 abbrev pub tree_with : List Mapping → Tree
-tree_with slots = record { forest = record { geometry = sizes.geometry; zone = 0; zones = sizes.zones }; pages = slots ∷ []; marks = [] }
+tree_with slots = record { forest = record { geometry = sizes.geometry; zone = 0; zones = sizes.zones }; pages = slots ∷ []; dirty_points = [] }
 
 abbrev pub leafy : Tree
 leafy = tree_with (At (block 87) ∷ [])
@@ -178,7 +178,7 @@ log_with sequence filling entries handed durable =
       entries = entries;
       handed = handed;
       committed = durable;
-      marks = record { 0 = point_at 1 0 } ∷ [];
+      watermarks = record { 0 = point_at 1 0 } ∷ [];
     }
 
 -- one that was just begun

@@ -23,7 +23,7 @@ use Rattle.slab_counts.specs.declared.tickets.Ticket.{Ticket}
 use Rattle.slab_tickets.specs.declared.forms.Waiting.{Waiting}
 use Rattle.slab_tickets.specs.declared.forms.Withdrawn.{Withdrawn}
 use Rattle.slab_tickets.specs.declared.forms.Withdrawn.TheVariants.{Block, Nothing}
-use Rattle.zone_counts.specs.Asking.{GivesTicket, WithdrawsFrom}
+use Rattle.zone_counts.specs.ZoneAnswers.{GivesTicket, WithdrawsFrom}
 use Rattle.zone_counts.proofs.OneAnswer.{one_asked, one_begun, one_changed, one_worth}
 use Rattle.zone_counts.specs.ByBlock.{out_with, served_ticket}
 use Rattle.zone_counts.specs.declared.forms.Asked.TheVariants as answer

@@ -34,7 +34,7 @@ abbrev leaf : PageId
 leaf = record { tree = 0; level = 0; index = 0 }
 
 abbrev no_tree : Tree
-no_tree = record { forest = record { geometry = sizes.geometry; zone = 0; zones = 1 }; pages = []; marks = [] }
+no_tree = record { forest = record { geometry = sizes.geometry; zone = 0; zones = 1 }; pages = []; dirty_points = [] }
 
 -- a logical zone with so many of each
 abbrev logical : (next places held waiting retired slots : ℕ) → LogicalZone

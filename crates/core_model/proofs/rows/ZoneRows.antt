@@ -13,7 +13,7 @@ use Rattle.core_model.specs.declared.zones.Zone.{Zone}
 use Rattle.core_model.specs.declared.zones.ZoneData.{ZoneData}
 use Rattle.core_model.specs.declared.zones.ZoneData.TheVariants as at
 use Rattle.core_model.specs.Facts.{zone_at, zone_of_stage, arriving}
-use Rattle.data_vio.specs.Phases.{AtDesk, AtDevice, AtHome, AtJournal, AtPhysical, AtTicket, InNoLane, Where, number_at, row, stage_row}
+use Rattle.data_vio.specs.Phases.{AtDesk, AtDevice, AtHome, AtJournal, AtPhysical, AtTicket, InNoLane, Where, number_at, phase_rule, stage_rule}
 use Rattle.core_model.specs.Steps.{ZoneStep, IsIdle, takes_notice}
 use Rattle.core_model.specs.Tokens.{holds, owes, has_entry, kept_items}
 use Rattle.blk_base.specs.Regions.{first_slab_of, slab_stride_of}
@@ -96,7 +96,7 @@ of_zone_1 = record (writes phase.Look) { home = id.Logical 1; tickets = ticket 0
 -- arrive, and has an entry.
 abbrev IsRow : Phase → ℕ → Bool → Bool → Bool → Bool → List Writer → Bool → Type 0
 IsRow now number locks claims asking owing arrives entered =
-    (zone_at sizes of_zone_1 now ≡ number) × (holds now ≡ locks) × ((row now).claims ≡ claims) × ((row now).asks ≡ asking) × (owes now ≡ owing) × (arriving now first ≡ arrives) × (has_entry now ≡ entered)
+    (zone_at sizes of_zone_1 now ≡ number) × (holds now ≡ locks) × ((phase_rule now).claims ≡ claims) × ((phase_rule now).asks ≡ asking) × (owes now ≡ owing) × (arriving now first ≡ arrives) × (has_entry now ≡ entered)
 
 row_arrive : IsRow phase.Arrive 2 false false false false (first ∷ []) false
 row_arrive = (refl, refl, refl, refl, refl, refl, refl)
@@ -160,7 +160,7 @@ row_reply = (refl, refl, refl, refl, refl, refl, refl)
 
 -- a line of the table of stages: the number of the zone where it is done, and the stage behind it
 abbrev IsStageRow : Stage → ℕ → Stage → Type 0
-IsStageRow now number next = (zone_of_stage sizes now ≡ number) × ((stage_row now).next ≡ next)
+IsStageRow now number next = (zone_of_stage sizes now ≡ number) × ((stage_rule now).next ≡ next)
 
 row_of_stages : IsStageRow stage.Cover 5 stage.Write × IsStageRow stage.Write 5 stage.Harden × IsStageRow stage.Harden 5 stage.Commit × IsStageRow stage.Commit 4 stage.Commit × IsStageRow stage.Fail 4 stage.Fail
 row_of_stages = ((refl, refl), (refl, refl), (refl, refl), (refl, refl), (refl, refl))

@@ -1,4 +1,4 @@
-use Rattle.block_map_tree.specs.Opening.{IsTakenOver}
+use Rattle.block_map_tree.specs.OpenedTree.{IsTakenOver}
 use Rattle.block_map_tree.proofs.opened_pages.take_over.Given as goal
 
 abbrev pub invariant-loop-page : goal.invariant-loop-page

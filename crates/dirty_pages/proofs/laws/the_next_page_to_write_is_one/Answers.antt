@@ -1,4 +1,4 @@
-use Rattle.dirty_pages.proofs.MarkLaws.{low_or_clean, one_first_due, one_is_handed_out, one_low_point, out_or_none}
+use Rattle.dirty_pages.proofs.DirtyPointLaws.{low_or_clean, one_first_due, one_is_handed_out, one_low_point, out_or_none}
 use Rattle.dirty_pages.proofs.laws.the_next_page_to_write_is_one.Goals as goal
 
 pub returns-clause-out : goal.returns-clause-out

@@ -3,7 +3,7 @@ use Rattle.std.proofs.lemmas.List.{take_all}
 use Rattle.blk_base.specs.declared.opened.OpenedPage.{OpenedPage}
 use Rattle.replay_map.specs.declared.links.Link.{Link}
 use Rattle.grow_image.proofs.LeafLaws.{no_pages, pages_more}
-use Rattle.grow_image.specs.Searching.{AreNewLeaves}
+use Rattle.grow_image.specs.NewAddresses.{AreNewLeaves}
 use Rattle.grow_image.proofs.leaves.leaves_with.Goals as goal
 
 pub loop-page-init : goal.loop-page-init

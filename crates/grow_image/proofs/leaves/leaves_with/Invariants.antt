@@ -1,5 +1,5 @@
 use Rattle.std.proofs.Common.{take}
-use Rattle.grow_image.specs.Searching.{AreNewLeaves}
+use Rattle.grow_image.specs.NewAddresses.{AreNewLeaves}
 use Rattle.grow_image.proofs.leaves.leaves_with.Given as goal
 
 abbrev pub invariant-loop-page : goal.invariant-loop-page

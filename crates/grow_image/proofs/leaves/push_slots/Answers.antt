@@ -1,7 +1,7 @@
 use Rattle.std.proofs.Common.{ℕ, ◌≡◌, subst, arith}
 use Rattle.blk_base.specs.declared.sizes.TheConstants.{PAGE_SLOTS}
 use Rattle.grow_image.proofs.LeafLaws.{no_slots, slot_more}
-use Rattle.grow_image.specs.Searching.{AreAdded}
+use Rattle.grow_image.specs.NewAddresses.{AreAdded}
 use Rattle.grow_image.proofs.leaves.push_slots.Goals as goal
 
 pub loop-slot-init : goal.loop-slot-init

@@ -1,4 +1,4 @@
-use Rattle.grow_image.specs.Searching.{AreAdded}
+use Rattle.grow_image.specs.NewAddresses.{AreAdded}
 use Rattle.grow_image.proofs.leaves.push_slots.Given as goal
 
 abbrev pub invariant-loop-slot : goal.invariant-loop-slot

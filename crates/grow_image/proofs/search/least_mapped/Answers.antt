@@ -6,7 +6,7 @@ use Rattle.disk_model.specs.Log.{Blocks}
 use Rattle.replay_map.specs.declared.links.Link.{Link}
 use Rattle.grow_image.proofs.SearchLaws.{leaf_more, no_leaves, search_fails, shown_on, shown_yet}
 use Rattle.grow_image.specs.Searches.{SearchFails}
-use Rattle.grow_image.specs.Searching.{IsLeastMapped, IsShownBy}
+use Rattle.grow_image.specs.NewAddresses.{IsLeastMapped, IsShownBy}
 use Rattle.journal_window.proofs.AnswerLaws.{passed_on}
 use Rattle.grow_image.proofs.search.least_mapped.Goals as goal
 

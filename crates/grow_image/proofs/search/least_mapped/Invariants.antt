@@ -1,6 +1,6 @@
 use Rattle.std.proofs.Common.{take}
 use Rattle.disk_model.specs.Since.{IsUntouched}
-use Rattle.grow_image.specs.Searching.{IsLeastMapped, IsShownBy}
+use Rattle.grow_image.specs.NewAddresses.{IsLeastMapped, IsShownBy}
 use Rattle.grow_image.proofs.search.least_mapped.Given as goal
 
 abbrev pub invariant-loop-leaf : goal.invariant-loop-leaf

@@ -1,5 +1,5 @@
 use Rattle.grow_image.proofs.SearchLaws.{unreadable_at}
-use Rattle.grow_image.specs.Searching.{IsUnreadable}
+use Rattle.grow_image.specs.NewAddresses.{IsUnreadable}
 use Rattle.journal_window.proofs.AnswerLaws.{passed_on}
 use Rattle.grow_image.proofs.search.mapped_at.Goals as goal
 

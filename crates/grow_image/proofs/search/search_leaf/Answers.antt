@@ -2,7 +2,7 @@ use Rattle.std.proofs.Common.{List, ℕ, [], ◌∷◌, refl, sym, subst, inl, a
 use Rattle.replay_map.proofs.ReadLaws.{failed_at_once}
 use Rattle.replay_map.proofs.SlotLaws.{page_inside}
 use Rattle.grow_image.proofs.SearchLaws.{one_leaf, shown_by_one}
-use Rattle.grow_image.specs.Searching.{HasUnreadable, IsFirstMapped, IsLeastMapped, IsUnreadable, leaf_head}
+use Rattle.grow_image.specs.NewAddresses.{HasUnreadable, IsFirstMapped, IsLeastMapped, IsUnreadable, leaf_head}
 use Rattle.grow_image.proofs.search.search_leaf.Goals as goal
 
 pub returns-in_default-clause-fault : goal.returns-in_default-clause-fault

@@ -1,4 +1,4 @@
-use Rattle.hash_locks.proofs.CallLaws.{calls_keep}
+use Rattle.hash_locks.proofs.OperationLaws.{calls_keep}
 use Rattle.hash_locks.proofs.laws.locks_stay_in_order.Goals as goal
 
 pub returns-clause-calls : goal.returns-clause-calls

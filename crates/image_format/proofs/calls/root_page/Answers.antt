@@ -2,7 +2,7 @@ use Rattle.std.proofs.Common.{ℕ, replicate, ◌∙◌, ap}
 use Rattle.blk_base.specs.Pages.{root_page}
 use Rattle.blk_base.specs.declared.place.Mapping.TheVariants.{Unmapped}
 use Rattle.blk_base.specs.declared.place.PageId.{PageId}
-use Rattle.page_codec.specs.Spelling.{page_bytes}
+use Rattle.page_codec.specs.PageBytes.{page_bytes}
 use Rattle.image_format.proofs.calls.root_page.Goals as goal
 
 pub returns : goal.returns

@@ -1,5 +1,5 @@
 use Rattle.std.proofs.Common.{ℕ, ◌≡◌, ◌∙◌, ◌∷◌, [], nat_le, Ok, ap, sym}
-use Rattle.image_layout.specs.Planning.{first_failing, fits_trees}
+use Rattle.image_layout.specs.PossibleSizes.{first_failing, fits_trees}
 use Rattle.image_layout.specs.declared.fault.LayoutFault.TheVariants.{LogicalTooLarge}
 use Rattle.image_layout.proofs.PlanLaws.{planned_right}
 use Rattle.image_layout.proofs.planner.plan.Goals as goal

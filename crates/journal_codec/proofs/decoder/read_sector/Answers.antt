@@ -1,7 +1,7 @@
 use Rattle.std.proofs.Common.{ℕ, ◌∙◌, List, ap, ap₂, sym, subst, arith}
 use Rattle.std.specs.Prelude.{All}
 use Rattle.blk_base.specs.declared.journal_entry.Entry.{Entry}
-use Rattle.journal_codec.specs.Spelling.{sector_bytes}
+use Rattle.journal_codec.specs.BlockBytes.{sector_bytes}
 use Rattle.journal_codec.specs.Grammar.{HoldsEntry}
 use Rattle.journal_codec.proofs.ReadLaws.{fields_of}
 use Rattle.journal_codec.proofs.decoder.read_sector.Goals as goal

@@ -1,4 +1,4 @@
-use Rattle.map_zone.proofs.CallLaws.{owed_from_low, owed_not_clean}
+use Rattle.map_zone.proofs.OperationLaws.{owed_from_low, owed_not_clean}
 use Rattle.map_zone.proofs.laws.nothing_unwritten_is_below_the_low_point.Goals as goal
 
 pub returns-clause-low : goal.returns-clause-low

@@ -11,7 +11,7 @@ use Rattle.page_codec.specs.Grammar.{AreHeld}
 use Rattle.page_codec.proofs.HeldLaws.{held_unmapped}
 use Rattle.block_map_tree.specs.declared.forms.Forest.{Forest}
 use Rattle.block_map_tree.specs.Pages.{IsInner, IsRoot, IsTreeOf}
-use Rattle.block_map_tree.specs.Opening.{IsLed, IsOpened, IsPlaced}
+use Rattle.block_map_tree.specs.OpenedTree.{IsLed, IsOpened, IsPlaced}
 use Rattle.map_zone.specs.declared.tests.TheConstants.{GEOMETRY, ROOT}
 use Rattle.map_zone.proofs.tests.root_alone.Goals as goal
 

@@ -1,7 +1,7 @@
 use Rattle.std.proofs.Common.{◌∙◌, ◌++◌, flat_map, ap, ap₂, sym, arith}
 use Rattle.std.proofs.lemmas.List.{take_all}
 use Rattle.byte_fields.specs.Mappings.{mapping_bytes}
-use Rattle.page_codec.specs.Spelling.{page_bytes}
+use Rattle.page_codec.specs.PageBytes.{page_bytes}
 use Rattle.page_codec.proofs.encoder.encode.Goals as goal
 
 pub returns : goal.returns

@@ -1,6 +1,6 @@
 use Rattle.std.proofs.Common.{◌∙◌, ◌++◌, ap₂, sym, arith}
 use Rattle.std.proofs.lemmas.List.{drop-replicate, take_all}
-use Rattle.page_codec.specs.Spelling.{page_bytes}
+use Rattle.page_codec.specs.PageBytes.{page_bytes}
 use Rattle.page_codec.proofs.WriteLaws.{unmapped_zeros}
 use Rattle.page_codec.proofs.encoder.encode_unmapped.Goals as goal
 

@@ -1,4 +1,4 @@
-use Rattle.page_codec.specs.Spelling.{head_bytes}
+use Rattle.page_codec.specs.PageBytes.{head_bytes}
 use Rattle.std.proofs.Common.{rules}
 use Rattle.page_codec.proofs.encoder.put_head.Goals as goal
 

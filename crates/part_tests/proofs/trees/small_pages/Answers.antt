@@ -15,7 +15,7 @@ use Rattle.page_codec.specs.Grammar.{AreHeld}
 use Rattle.page_codec.proofs.HeldLaws.{held_unmapped, held-set}
 use Rattle.block_map_tree.specs.declared.forms.Forest.{Forest}
 use Rattle.block_map_tree.specs.Pages.{IsTreeOf, IsInner, IsRoot, IsLower}
-use Rattle.block_map_tree.specs.Opening.{IsOpened, IsListed, IsLed, IsPlaced}
+use Rattle.block_map_tree.specs.OpenedTree.{IsOpened, IsListed, IsLed, IsPlaced}
 use Rattle.part_tests.specs.declared.trees.TheConstants.{FOREST, GEOMETRY}
 use Rattle.part_tests.proofs.trees.small_pages.Goals as goal
 

@@ -9,11 +9,11 @@ use Rattle.recovery_journal.proofs.watermarks.count_durable.Goals as goal
 
 pub returns-in-Some-clause-next : goal.returns-in-Some-clause-next
 returns-in-Some-clause-next c =
-    needed_next c.args.marks.now c.args.entries.now.items c.in-Some.first
-    (sym (position_from_yields_List (needs c.args.marks.now) _ _ (Some c.in-Some.first) c.in-Some.ensures.ran (YieldsList-from_deque c.args.entries.now.items c.iter.ensures.rest) (λ x b q k. search (rules, tests))))
+    needed_next c.args.watermarks.now c.args.entries.now.items c.in-Some.first
+    (sym (position_from_yields_List (needs c.args.watermarks.now) _ _ (Some c.in-Some.first) c.in-Some.ensures.ran (YieldsList-from_deque c.args.entries.now.items c.iter.ensures.rest) (λ x b q k. search (rules, tests))))
 
 pub returns-in-None-clause-durable : goal.returns-in-None-clause-durable
 returns-in-None-clause-durable c =
-    All-take (λ (entry : CommittedEntry). IsDurable c.args.marks.now entry.point) c.len.result c.args.entries.now.items
-    (all_durable c.args.marks.now c.args.entries.now.items
-    (sym (position_from_yields_List (needs c.args.marks.now) _ _ None c.in-None.ensures.ran (YieldsList-from_deque c.args.entries.now.items c.iter.ensures.rest) (λ x b q k. search (rules, tests)))))
+    All-take (λ (entry : CommittedEntry). IsDurable c.args.watermarks.now entry.point) c.len.result c.args.entries.now.items
+    (all_durable c.args.watermarks.now c.args.entries.now.items
+    (sym (position_from_yields_List (needs c.args.watermarks.now) _ _ None c.in-None.ensures.ran (YieldsList-from_deque c.args.entries.now.items c.iter.ensures.rest) (λ x b q k. search (rules, tests)))))

@@ -4,7 +4,7 @@ use Rattle.blk_base.specs.declared.place.Pbn.{Pbn}
 use Rattle.replay_map.proofs.FindLaws.{walk_fails}
 use Rattle.replay_map.proofs.FormLaws.{whole_form}
 use Rattle.replay_map.proofs.FoundLaws.{map_found, share_found}
-use Rattle.replay_map.specs.Finding.{FindFails}
+use Rattle.replay_map.specs.FoundPages.{FindFails}
 use Rattle.replay_map.specs.Shares.{IsLeastShared}
 use Rattle.replay_map.specs.declared.links.Link.{Link}
 use Rattle.journal_window.proofs.AnswerLaws.{passed_on}

@@ -5,7 +5,7 @@ use Rattle.blk_base.specs.declared.journal_entry.CommittedEntry.{CommittedEntry}
 use Rattle.replay_map.proofs.DataLaws.{window_leads}
 use Rattle.replay_map.proofs.EntryLaws.{few_entries}
 use Rattle.replay_map.proofs.ReplayLaws.{fails_by, found_by}
-use Rattle.replay_map.specs.Finding.{FindFails, IsMapFound, map_with}
+use Rattle.replay_map.specs.FoundPages.{FindFails, IsMapFound, map_with}
 use Rattle.replay_map.specs.Reads.{IsShown, LeadToData}
 use Rattle.replay_map.specs.Replayed.{HasMap, MapFails}
 use Rattle.journal_window.proofs.AnswerLaws.{passed_on}

@@ -2,7 +2,7 @@ use Rattle.std.proofs.Common.{ℕ, ◌≡◌, ◌∙◌, ◌++◌, ◌+◌, ◌-
 use Rattle.std.proofs.lemmas.List.{take_all}
 use Rattle.std.proofs.lemmas.Slice.{take-put_mid}
 use Rattle.byte_fields.proofs.FieldLaws.{records-more, length-records}
-use Rattle.sector_records.specs.Spelling.{sector_form}
+use Rattle.sector_records.specs.SectorBytes.{sector_form}
 use Rattle.sector_records.proofs.SectorLaws.{one_fits, records_fit}
 use Rattle.sector_records.proofs.writer.put_records.Goals as goal
 

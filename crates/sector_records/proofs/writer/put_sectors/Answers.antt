@@ -1,7 +1,7 @@
 use Rattle.std.proofs.Common.{◌≡◌, ◌∙◌, ◌++◌, ◌+◌, ◌-◌, ◌*◌, length, take, flat_map, ap, sym, arith}
 use Rattle.std.proofs.lemmas.List.{take_all}
 use Rattle.std.proofs.lemmas.Slice.{take-put_mid}
-use Rattle.sector_records.specs.Spelling.{sector_form, sector_of, sector_numbers, eight_sectors}
+use Rattle.sector_records.specs.SectorBytes.{sector_form, sector_of, sector_numbers, eight_sectors}
 use Rattle.sector_records.proofs.SectorLaws.{length-sector, records_fit, few_in, sectors-more, count_of_sectors}
 use Rattle.sector_records.proofs.writer.put_sectors.Goals as goal
 

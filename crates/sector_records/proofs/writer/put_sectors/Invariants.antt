@@ -1,5 +1,5 @@
 use Rattle.std.proofs.Common.{◌≡◌, ◌*◌, take, flat_map}
-use Rattle.sector_records.specs.Spelling.{sector_of, sector_numbers}
+use Rattle.sector_records.specs.SectorBytes.{sector_of, sector_numbers}
 use Rattle.sector_records.proofs.writer.put_sectors.Given as goal
 
 abbrev pub invariant-loop-number : goal.invariant-loop-number

@@ -1,7 +1,7 @@
 use Rattle.std.proofs.Common.{ℕ, ◌≡◌, ◌∙◌, List, ap, sym, subst, arith}
 use Rattle.std.specs.Prelude.{All}
 use Rattle.slab_codec.specs.declared.forms.SlabEntry.{SlabEntry}
-use Rattle.slab_codec.specs.Spelling.{sector_bytes}
+use Rattle.slab_codec.specs.BlockBytes.{sector_bytes}
 use Rattle.slab_codec.specs.Grammar.{HoldsEntry}
 use Rattle.slab_codec.proofs.ReadLaws.{sequence_of, count_of, entries_of, all_fit}
 use Rattle.slab_codec.proofs.decoder.read_sector.Goals as goal

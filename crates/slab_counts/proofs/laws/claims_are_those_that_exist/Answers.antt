@@ -1,4 +1,4 @@
-use Rattle.slab_counts.proofs.CallLaws.{calls_claim, claims_exist}
+use Rattle.slab_counts.proofs.OperationLaws.{calls_claim, claims_exist}
 use Rattle.slab_counts.proofs.laws.claims_are_those_that_exist.Goals as goal
 
 pub returns-clause-balance : goal.returns-clause-balance

@@ -3,7 +3,7 @@ use Rattle.std.proofs.lemmas.List.{length-set}
 use Rattle.std.specs.Option.{IfSome}
 use Rattle.slab_writes.specs.Writes.{Writes}
 use Rattle.slab_writes.specs.declared.forms.SlabWork.{SlabWork}
-use Rattle.slab_zone.specs.Writing.{IsDueAmong, NoneDueBefore}
+use Rattle.slab_zone.specs.ZoneWrites.{IsDueAmong, NoneDueBefore}
 use Rattle.slab_zone.proofs.DueLaws.{due_here, still_here, none_here}
 use Rattle.slab_zone.proofs.due_writes.first_due.Goals as goal
 

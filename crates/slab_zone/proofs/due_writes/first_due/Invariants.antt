@@ -1,5 +1,5 @@
 use Rattle.std.proofs.Common.{◌≡◌, ◌≤◌, ◌-◌, length}
-use Rattle.slab_zone.specs.Writing.{NoneDueBefore}
+use Rattle.slab_zone.specs.ZoneWrites.{NoneDueBefore}
 use Rattle.slab_zone.proofs.due_writes.first_due.Given as goal
 
 abbrev pub invariant-loop-place : goal.invariant-loop-place

@@ -1,5 +1,5 @@
 use Rattle.std.proofs.Common.{arith}
-use Rattle.stream_text.specs.StreamRows.{requests_of}
+use Rattle.stream_text.specs.StreamRequests.{requests_of}
 use Rattle.stream_text.specs.LineGrammar.{stream_asked}
 use Rattle.stream_text.proofs.StreamLaws.{counted-many, added}
 use Rattle.stream_text.proofs.added_lines.add_asked.Goals as goal

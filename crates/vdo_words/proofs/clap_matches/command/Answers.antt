@@ -1,7 +1,7 @@
 use Rattle.std.proofs.Common.{◌∙◌, ap, ap₂, arith, get_or, sym, take}
 use Rattle.std.proofs.lemmas.List.{take_more}
 use Rattle.clap.specs.Words.{with_rule}
-use Rattle.vdo_words.specs.Matching.{app}
+use Rattle.vdo_words.specs.OptionMatches.{app}
 use Rattle.vdo_words.specs.declared.option_names.OptionName.TheVariants.{Logical}
 use Rattle.vdo_words.proofs.CommandLaws.{app-more}
 use Rattle.vdo_words.proofs.clap_matches.command.Goals as goal

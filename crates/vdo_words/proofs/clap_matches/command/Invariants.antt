@@ -1,6 +1,6 @@
 use Rattle.std.proofs.Common.{◌≡◌, take}
 use Rattle.clap.specs.Words.{app_of}
-use Rattle.vdo_words.specs.Matching.{app}
+use Rattle.vdo_words.specs.OptionMatches.{app}
 use Rattle.vdo_words.proofs.clap_matches.command.Given as goal
 
 abbrev pub invariant-loop-name : goal.invariant-loop-name

@@ -2,7 +2,7 @@ use Rattle.std.proofs.Common.{◌∙◌, ap, map, string_bytes}
 use Rattle.std.proofs.lemmas.Result.{IfErr-weaker, IfOk-weaker}
 use Rattle.clap.proofs.WalkLemmas.{first_value-rows}
 use Rattle.clap.specs.Words.{first_of, found_of, is_simple, matches_of, takes}
-use Rattle.vdo_words.specs.Matching.{long}
+use Rattle.vdo_words.specs.OptionMatches.{long}
 use Rattle.vdo_words.proofs.CommandLaws.{is-simple}
 use Rattle.vdo_words.proofs.FindingLaws.{finds-all, takes-all}
 use Rattle.vdo_words.proofs.clap_matches.matches.Goals as goal

@@ -1,12 +1,12 @@
-use Rattle.watermark_laws.proofs.MarkLaws.{risen_stays}
-use Rattle.watermark_laws.proofs.FallLaws.{mark_stays, head_stays}
+use Rattle.watermark_laws.proofs.WatermarkLaws.{risen_stays}
+use Rattle.watermark_laws.proofs.FallLaws.{watermark_stays, head_stays}
 use Rattle.watermark_laws.proofs.laws.the_head_never_falls.Goals as goal
 
 pub returns-clause-risen : goal.returns-clause-risen
 returns-clause-risen c = λ s h t right. risen_stays s h t right.0
 
-pub returns-clause-mark : goal.returns-clause-mark
-returns-clause-mark c = mark_stays
+pub returns-clause-watermark : goal.returns-clause-watermark
+returns-clause-watermark c = watermark_stays
 
 pub returns-clause-head : goal.returns-clause-head
 returns-clause-head c = head_stays

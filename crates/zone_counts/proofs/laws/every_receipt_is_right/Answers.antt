@@ -1,4 +1,4 @@
-use Rattle.zone_counts.proofs.CallLaws.{zone_receipt}
+use Rattle.zone_counts.proofs.OperationLaws.{zone_receipt}
 use Rattle.zone_counts.proofs.laws.every_receipt_is_right.Goals as goal
 
 pub returns : goal.returns

@@ -1,4 +1,4 @@
-use Rattle.zone_counts.proofs.CallLaws.{calls_keep}
+use Rattle.zone_counts.proofs.OperationLaws.{calls_keep}
 use Rattle.zone_counts.proofs.laws.zones_stay_settled.Goals as goal
 
 pub returns : goal.returns

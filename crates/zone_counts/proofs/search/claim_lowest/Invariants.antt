@@ -2,11 +2,11 @@ use Rattle.std.proofs.Common.{◌≡◌, ◌-◌, length}
 use Rattle.zone_counts.specs.Zone.{NoneBefore}
 use Rattle.zone_counts.proofs.search.claim_lowest.Given as goal
 
-abbrev pub invariant-loop-mark : goal.invariant-loop-mark
-invariant-loop-mark l = record {
+abbrev pub invariant-loop-cursor : goal.invariant-loop-cursor
+invariant-loop-cursor l = record {
   same : l.slabs.items ≡ l.initial.slabs.items;
-  below : NoneBefore l.slabs.items l.mark;
+  below : NoneBefore l.slabs.items l.cursor;
 }
 
-abbrev pub decreases-loop-mark : goal.decreases-loop-mark
-decreases-loop-mark l = length l.slabs.items - l.mark
+abbrev pub decreases-loop-cursor : goal.decreases-loop-cursor
+decreases-loop-cursor l = length l.slabs.items - l.cursor

@@ -17,7 +17,7 @@ pub change-requires : goal.change-requires
 change-requires c =
     let place = parent_place _ _ c.args.page c.self.view_is c.self.invariant c.requires.page in
     let number = c.number-number.ensures ∙ ap (λ (p : PageId). number_of c.self.inside.forest p) c.parent.ensures in
-    omega (arith, place.marks_inside, number)
+    omega (arith, place.dirty_points_inside, number)
 
 pub returns : goal.returns
 returns c =

@@ -2,7 +2,7 @@ use Rattle.std.proofs.Common.{◌≡◌, ◌*◌, ◌-◌, ◌∙◌, ap, sym, s
 use Rattle.std.proofs.lemmas.List.{drop-replicate, length-replicate}
 use Rattle.dirty_pages.specs.declared.numbered.Numbered.{Numbered}
 use Rattle.dirty_pages.specs.Minima.{AreNamed, IsTree, number_in}
-use Rattle.dirty_pages.proofs.MarkLaws.{map-replicate}
+use Rattle.dirty_pages.proofs.DirtyPointLaws.{map-replicate}
 use Rattle.dirty_pages.proofs.MinimaLaws.{names_of_none, tree_of_none}
 use Rattle.dirty_pages.proofs.minima.Minima.new.Goals as goal
 

@@ -1,5 +1,5 @@
 use Rattle.std.proofs.Common.{refl, subst, sym, arith}
-use Rattle.hash_locks.specs.Sharing.{Sharing, HasRoom}
+use Rattle.hash_locks.specs.LockedNames.{Sharing, HasRoom}
 use Rattle.hash_locks.specs.declared.role.Role.TheVariants.{Agent, Waits}
 use Rattle.hash_locks.proofs.SharingLaws.{arrives_in_order}
 use Rattle.hash_locks.proofs.CodeLaws.{takes, waits, goes_alone}

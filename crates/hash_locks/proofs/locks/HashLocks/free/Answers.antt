@@ -1,5 +1,5 @@
 use Rattle.std.proofs.Common.{refl, ap, ◌∙◌, arith}
-use Rattle.hash_locks.specs.Sharing.{Sharing, first_for}
+use Rattle.hash_locks.specs.LockedNames.{Sharing, first_for}
 use Rattle.hash_locks.proofs.SharingLaws.{frees_in_order}
 use Rattle.hash_locks.proofs.CodeLaws.{frees, frees_none}
 use Rattle.hash_locks.proofs.locks.HashLocks.free.Goals as goal

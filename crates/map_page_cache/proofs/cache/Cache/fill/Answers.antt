@@ -1,6 +1,6 @@
 use Rattle.std.proofs.Common.{ℕ, ◌≡◌, ◌<◌, ◌+◌, ◌∷◌, [], ◌∙◌, length, length-append, List, ap, sym, subst, arith, refl, true}
 use Rattle.page_codec.specs.declared.forms.MapPage.{MapPage}
-use Rattle.dirty_pages.specs.Marks.{clean_of}
+use Rattle.dirty_pages.specs.DirtyPoints.{clean_of}
 use Rattle.map_page_cache.specs.contracts.cache.Cache.{the_view}
 use Rattle.map_page_cache.specs.CachedPages.{CachedPages, IsAbsent, Fills}
 use Rattle.map_page_cache.specs.Frames.{Follows}
@@ -37,7 +37,7 @@ invariant_of-self c =
       index = subst (λ (ps : List MapPage). Follows c.insert.new.self cache.frames ps) (sym {A = List MapPage} c.push_reserved.ensures.items)
           (follows-push c.self.inside.index c.insert.new.self cache.frames c.len-frame.result cache.pages c.copy_of.result c.args.page c.self.invariant.index c.insert.ensures place
           (ap (λ (m : MapPage). m.head.page) c.copy_of.ensures ∙ c.requires.named));
-      clean = flags-set (flags_of c.self.inside.clean) (flags_of c.set.new.self) cache.frames (length cache.pages) _ c.len-frame.result true cache.marks cache.marks c.self.invariant.clean (omega arith) (omega arith)
+      clean = flags-set (flags_of c.self.inside.clean) (flags_of c.set.new.self) cache.frames (length cache.pages) _ c.len-frame.result true cache.dirty_points cache.dirty_points c.self.invariant.clean (omega arith) (omega arith)
           (omega arith) (λ other apart near. omega arith) (ap clean_of (sym (c.self.invariant.form.empty c.len-frame.result (omega arith)))) (λ other apart. refl)
           (flags_turned c.self.inside.clean c.set.new.self c.len-frame.result true c.set.ensures);
     }

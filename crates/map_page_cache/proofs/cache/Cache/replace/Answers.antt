@@ -1,7 +1,7 @@
 use Rattle.std.proofs.Common.{true, ◌≡◌, ◌<◌, length, ap, ◌∙◌, sym, subst}
 use Rattle.std.proofs.lemmas.List.{length-set, set-get_or}
 use Rattle.page_codec.specs.declared.forms.MapPage.{MapPage}
-use Rattle.dirty_pages.specs.Marks.{clean_of, marks_at, clean}
+use Rattle.dirty_pages.specs.DirtyPoints.{clean_of, dirty_points_at, clean}
 use Rattle.map_page_cache.specs.contracts.cache.Cache.{the_view}
 use Rattle.map_page_cache.specs.CachedPages.{CachedPages, IsAbsent}
 use Rattle.map_page_cache.proofs.FrameLaws.{at_by, absent_at, follows-replace}
@@ -33,13 +33,13 @@ invariant_of-self c =
     let place = c.args.frame in
     let gone = c.index_mut-content.result.now in
     let inside = subst (λ (known : CachedPages). place < length known.pages) (sym c.self.view_is) c.requires.inside in
-    let clean_is : marks_at cache.marks place ≡ clean = subst (λ (known : CachedPages). marks_at known.marks place ≡ clean) (sym c.self.view_is) c.requires.clean in
+    let clean_is : dirty_points_at cache.dirty_points place ≡ clean = subst (λ (known : CachedPages). dirty_points_at known.dirty_points place ≡ clean) (sym c.self.view_is) c.requires.clean in
     let at = at_by cache.pages gone.head.page place gone inside (ap (λ (m : MapPage). m.head.page) (sym c.index_mut-content.ensures.value)) in
     record {
       form = (returns c).form;
       room = c.self.invariant.room;
       index = follows-replace c.self.inside.index c.remove.new.self c.insert.new.self cache.frames place cache.pages c.copy_page.new.into gone.head.page c.args.page
           c.self.invariant.index c.self.invariant.form.apart at c.remove.ensures c.insert.ensures (ap (λ (m : MapPage). m.head.page) c.copy_page.ensures ∙ c.requires.named);
-      clean = flags-changed cache _ place (λ own. own) _ _ _ _ c.self.invariant.form c.self.invariant.clean inside (sym (set-get_or cache.marks place clean)) (sym (ap clean_of clean_is))
+      clean = flags-changed cache _ place (λ own. own) _ _ _ _ c.self.invariant.form c.self.invariant.clean inside (sym (set-get_or cache.dirty_points place clean)) (sym (ap clean_of clean_is))
           (flags_turned c.self.inside.clean c.set.new.self place true c.set.ensures) (length-set cache.pages place c.copy_page.new.into);
     }

@@ -2,7 +2,7 @@ use Rattle.std.proofs.Common.{false, ◌≡◌, ap, ◌∙◌, sym, subst, refl}
 use Rattle.std.proofs.lemmas.List.{length-set}
 use Rattle.blk_base.specs.declared.place.PageId.{PageId}
 use Rattle.page_codec.specs.declared.forms.MapPage.{MapPage}
-use Rattle.dirty_pages.specs.Marks.{changed_at}
+use Rattle.dirty_pages.specs.DirtyPoints.{changed_at}
 use Rattle.map_page_cache.specs.contracts.cache.Cache.{the_view}
 use Rattle.map_page_cache.specs.CachedPages.{CachedPages, with_mapping}
 use Rattle.map_page_cache.specs.Frames.{IsAt}

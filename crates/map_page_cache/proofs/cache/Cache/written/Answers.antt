@@ -1,7 +1,7 @@
 use Rattle.std.proofs.Common.{◌≡◌, Bool, List, ap, ◌∙◌, sym, subst, refl}
-use Rattle.dirty_pages.specs.declared.marks.Marks.{Marks}
-use Rattle.dirty_pages.specs.Marks.{clean_of, settled, marks_at}
-use Rattle.dirty_pages.proofs.MarkLaws.{changed_here, out_inside}
+use Rattle.dirty_pages.specs.declared.dirty_points.DirtyPoints.{DirtyPoints}
+use Rattle.dirty_pages.specs.DirtyPoints.{clean_of, settled, dirty_points_at}
+use Rattle.dirty_pages.proofs.DirtyPointLaws.{changed_here, out_inside}
 use Rattle.map_page_cache.specs.contracts.cache.Cache.{the_view}
 use Rattle.map_page_cache.specs.CachedPages.{CachedPages, IsWriting}
 use Rattle.map_page_cache.specs.Frames.{IsAt}
@@ -21,8 +21,8 @@ returns c =
     let place = c.frame_of-frame.result in
     let at = subst (λ (known : CachedPages). IsAt known.pages c.args.page place) (sym c.self.view_is) c.frame_of-frame.ensures in
     let out = writing_in cache c.args.page place c.self.invariant.form at (subst (λ (known : CachedPages). IsWriting known c.args.page) (sym c.self.view_is) c.requires) in
-    let flag : c.is_clean.result ≡ clean_of (settled (marks_at cache.marks place))
-    = c.is_clean.ensures ∙ ap clean_of (c.marks-marks.ensures ∙ ap (λ (ms : List Marks). marks_at ms place) c.written.ensures ∙ changed_here cache.marks place settled (out_inside cache.marks place out)) in
+    let flag : c.is_clean.result ≡ clean_of (settled (dirty_points_at cache.dirty_points place))
+    = c.is_clean.ensures ∙ ap clean_of (c.dirty_points-dirty_points.ensures ∙ ap (λ (ms : List DirtyPoints). dirty_points_at ms place) c.written.ensures ∙ changed_here cache.dirty_points place settled (out_inside cache.dirty_points place out)) in
     writes c.args.self.now cache c.args.page place c.written.new.self c.set.new.self c.self.view_is c.self.invariant.form c.frame_of-frame.ensures c.written.ensures
     (c.set.ensures ∙ ap (λ (clean : Bool). with_turn place clean c.self.inside.clean) flag)
 
@@ -37,7 +37,7 @@ invariant_of-self c =
       room = c.self.invariant.room;
       index = c.self.invariant.index;
       clean = flags-changed cache _ place settled c.is_clean.result _ _ _ c.self.invariant.form c.self.invariant.clean at.inside c.written.ensures
-          (c.is_clean.ensures ∙ ap clean_of (c.marks-marks.ensures ∙ ap (λ (ms : List Marks). marks_at ms place) c.written.ensures
-          ∙ changed_here cache.marks place settled (out_inside cache.marks place out)))
+          (c.is_clean.ensures ∙ ap clean_of (c.dirty_points-dirty_points.ensures ∙ ap (λ (ms : List DirtyPoints). dirty_points_at ms place) c.written.ensures
+          ∙ changed_here cache.dirty_points place settled (out_inside cache.dirty_points place out)))
           (flags_turned c.self.inside.clean c.set.new.self place c.is_clean.result c.set.ensures) refl;
     }

@@ -1,6 +1,6 @@
 use Rattle.std.proofs.Common.{sym, subst, ◌∙◌}
 use Rattle.block_map_tree.specs.History as history
-use Rattle.map_zone.specs.Serving.{MayAddPage}
+use Rattle.map_zone.specs.Lookups.{MayAddPage}
 use Rattle.map_zone.specs.ZoneMap.{ZoneMap}
 use Rattle.map_zone.specs.contracts.zone.MapZone.{the_view}
 use Rattle.map_zone.proofs.KeepLaws.{forest_stays, tree_keeps}

@@ -1,5 +1,5 @@
 use Rattle.std.proofs.Common.{refl, subst, sym, ◌∙◌}
-use Rattle.dirty_pages.specs.Marks.{NoneIsDue}
+use Rattle.dirty_pages.specs.DirtyPoints.{NoneIsDue}
 use Rattle.block_map_tree.specs.History as history
 use Rattle.map_zone.specs.ZoneMap.{ZoneMap}
 use Rattle.map_zone.specs.contracts.zone.MapZone.{the_view}
@@ -10,7 +10,7 @@ use Rattle.map_zone.proofs.zone.MapZone.take_node.Goals as goal
 pub returns-in_err-page-clause-none : goal.returns-in_err-page-clause-none
 returns-in_err-page-clause-none c =
     rw c.from_residual.ensures
-    (no_node_due c.args.self.now c.args.point c.requires (subst (λ (m : ZoneMap). NoneIsDue m.tree.marks c.args.point) c.self.view_is c.in_err-page.ensures.none))
+    (no_node_due c.args.self.now c.args.point c.requires (subst (λ (m : ZoneMap). NoneIsDue m.tree.dirty_points c.args.point) c.self.view_is c.in_err-page.ensures.none))
 
 pub invariant_of-self-2 : goal.invariant_of-self-2
 invariant_of-self-2 c =

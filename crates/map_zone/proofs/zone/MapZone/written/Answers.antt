@@ -1,7 +1,7 @@
 use Rattle.std.proofs.Common.{inr, refl, subst, sym, ◌∙◌}
 use Rattle.block_map_tree.specs.History as history
 use Rattle.map_page_cache.specs.Runs as runs
-use Rattle.map_zone.specs.Writing.{SettlesNode}
+use Rattle.map_zone.specs.PageWrites.{SettlesNode}
 use Rattle.map_zone.specs.ZoneMap.{ZoneMap}
 use Rattle.map_zone.specs.contracts.zone.MapZone.{the_view}
 use Rattle.map_zone.proofs.KeepLaws.{cache_keeps, forest_stays, tree_keeps}

@@ -9,11 +9,11 @@ use Rattle.recovery_journal.specs.Kept.{IsKept}
 use Rattle.recovery_journal.proofs.JournalLaws.{Found, found_as, only_handed, kept_advanced, head_rises, advances, advanced, advanced_as}
 use Rattle.recovery_journal.proofs.journal.Journal.watermark.Goals as goal
 
--- the marks after the report
-risen : (c : goal.After-leave_out) → (with_items c.self.inside.marks c.raise.new.points).items ≡ raised c.self.inside.marks.items c.args.zone c.args.point
+-- the watermarks after the report
+risen : (c : goal.After-leave_out) → (with_items c.self.inside.watermarks c.raise.new.points).items ≡ raised c.self.inside.watermarks.items c.args.zone c.args.point
 risen c =
-    with_items_is c.self.inside.marks c.raise.new.points (omega (arith, c.raise.auto.points, c.deref_mut.ensures.len)) ∙ c.raise.ensures
-    ∙ ap (λ (marks : List Point). raised marks c.args.zone c.args.point) c.deref_mut.ensures.value
+    with_items_is c.self.inside.watermarks c.raise.new.points (omega (arith, c.raise.auto.points, c.deref_mut.ensures.len)) ∙ c.raise.ensures
+    ∙ ap (λ (watermarks : List Point). raised watermarks c.args.zone c.args.point) c.deref_mut.ensures.value
 
 found : (c : goal.After-leave_out) → Found (the_view c.self.inside) c.args.zone c.args.point c.count_durable-durable.result
 found c =
@@ -26,7 +26,7 @@ pub overflow_sub-self : goal.overflow_sub-self
 overflow_sub-self c = only_handed (the_view c.self.inside) c.args.zone c.args.point c.count_durable-durable.result c.self.invariant.kept (found c)
 
 after : (c : goal.After-leave_out)
-    → record (the_view c.self.inside) { entries = c.leave_out.new.entries.items; handed = c.self.inside.handed - c.count_durable-durable.result; marks = (with_items c.self.inside.marks c.raise.new.points).items }
+    → record (the_view c.self.inside) { entries = c.leave_out.new.entries.items; handed = c.self.inside.handed - c.count_durable-durable.result; watermarks = (with_items c.self.inside.watermarks c.raise.new.points).items }
     ≡ advanced (the_view c.self.inside) c.args.zone c.args.point c.count_durable-durable.result
 after c = advanced_as (the_view c.self.inside) c.args.zone c.args.point c.count_durable-durable.result _ c.leave_out.new.entries.items (risen c) c.leave_out.ensures.items
 

@@ -1,5 +1,5 @@
 use Rattle.std.proofs.Common.{subst, sym, arith}
-use Rattle.zone_counts.specs.Calls.{Applies}
+use Rattle.zone_counts.specs.Operations.{Applies}
 use Rattle.zone_counts.specs.Zone.{IsOfZone}
 use Rattle.slab_zone.specs.Viewed.{whole_of}
 use Rattle.slab_zone.specs.Whole.{WholeZone}

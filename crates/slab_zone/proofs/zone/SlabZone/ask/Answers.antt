@@ -1,4 +1,4 @@
-use Rattle.zone_counts.specs.Calls.{Asks'}
+use Rattle.zone_counts.specs.Operations.{Asks'}
 use Rattle.slab_tickets.specs.Tickets.{HasRoom}
 use Rattle.std.proofs.Common.{subst, sym}
 use Rattle.slab_zone.specs.Viewed.{whole_of}

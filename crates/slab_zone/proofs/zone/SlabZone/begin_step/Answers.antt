@@ -1,6 +1,6 @@
 use Rattle.std.proofs.Common.{subst, sym}
 use Rattle.slab_tickets.specs.Tickets.{IsBelow}
-use Rattle.zone_counts.specs.Calls.{Begins}
+use Rattle.zone_counts.specs.Operations.{Begins}
 use Rattle.slab_zone.specs.Viewed.{whole_of}
 use Rattle.slab_zone.specs.Whole.{WholeZone}
 use Rattle.slab_zone.proofs.ShapeLaws.{call_keeps}

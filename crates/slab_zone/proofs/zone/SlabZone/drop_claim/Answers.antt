@@ -1,5 +1,5 @@
 use Rattle.std.proofs.Common.{subst, sym}
-use Rattle.zone_counts.specs.Calls.{Drops}
+use Rattle.zone_counts.specs.Operations.{Drops}
 use Rattle.zone_counts.specs.Zone.{IsClaimedIn}
 use Rattle.slab_zone.specs.Viewed.{whole_of}
 use Rattle.slab_zone.specs.Whole.{WholeZone}

@@ -1,5 +1,5 @@
 use Rattle.std.proofs.Common.{subst, sym}
-use Rattle.zone_counts.specs.Calls.{SpendsPage}
+use Rattle.zone_counts.specs.Operations.{SpendsPage}
 use Rattle.zone_counts.specs.Zone.{IsClaimedIn}
 use Rattle.slab_zone.specs.Viewed.{whole_of}
 use Rattle.slab_zone.specs.Whole.{WholeZone}

@@ -1,4 +1,4 @@
-use Rattle.zone_counts.specs.Calls.{Withdraws'}
+use Rattle.zone_counts.specs.Operations.{Withdraws'}
 use Rattle.slab_zone.specs.Viewed.{whole_of}
 use Rattle.slab_zone.proofs.ShapeLaws.{call_keeps}
 use Rattle.slab_zone.proofs.zone.SlabZone.withdraw.Goals as goal

@@ -1,5 +1,5 @@
 use Rattle.std.proofs.Common.{ℕ, ◌∷◌, [], ◌∙◌, ap, arith}
-use Rattle.stream_text.specs.StreamRows.{with_requests}
+use Rattle.stream_text.specs.StreamRequests.{with_requests}
 use Rattle.stream_text.proofs.StreamLaws.{on_err, pushed, unchanged}
 use Rattle.stream_text.proofs.streams.Streams.push.Goals as goal
 

@@ -1,5 +1,5 @@
 use Rattle.std.proofs.Common.{◌≡◌}
-use Rattle.stream_text.specs.StreamRows.{with_requests, discards}
+use Rattle.stream_text.specs.StreamRequests.{with_requests, discards}
 use Rattle.stream_text.proofs.streams.Streams.push_discards.Given as goal
 
 abbrev pub invariant-loop-number : goal.invariant-loop-number

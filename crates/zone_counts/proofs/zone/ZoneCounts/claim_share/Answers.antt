@@ -14,7 +14,7 @@ invariant_of-self c =
     let inside = subst (λ (xs : List Counts). k < length xs) c.deref.ensures.value c.in-Some.ensures.inside in
     let is = c.self.invariant.is in
     let read = c.index_mut-slab.ensures.value in
-    let within = within_read z c.self.inside.mark k s now is c.self.invariant.below inside read in
-    let kept = busier z c.self.inside.mark k s now is c.self.invariant.below inside read
+    let within = within_read z c.self.inside.cursor k s now is c.self.invariant.below inside read in
+    let kept = busier z c.self.inside.cursor k s now is c.self.invariant.below inside read
     (busier_shared c.claim_share.result s now c.args.at within c.claim_share.ensures.shared c.claim_share.ensures.same) in
     record { is = kept.0; below = kept.1 }
