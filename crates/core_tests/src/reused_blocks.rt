@@ -10,7 +10,6 @@ use blk_base::Lba;
 use disk_model::MemDisk;
 use schedule::{Schedule, drive};
 use std::alloc::{AllocError, Global};
-use std::ops::Range;
 use std::process::Abort;
 use std::sync::Wait;
 use std::test::Fail;
@@ -22,6 +21,8 @@ const STREAMS: u32 = 3;
 const ASKS: u32 = 25;
 
 static ADDRESSES: [u32; 5] = [0, 7, 31, 62, 99];
+
+const SCHEDULES: u64 = 4;
 
 /// A run makes more calls than so many.
 const CALLS: u64 = 140;
@@ -92,16 +93,11 @@ fn used_besides(report: &RunReport) -> u32 {
     used
 }
 
-// Blocks are written, let go and written again by these schedules, more than fifty times by each: each read is right, and no
+// Blocks are written, let go and written again by each schedule, more than fifty times by each: each read is right, and no
 // write is without a block.
-fn uses_blocks_again<R: Wait + Abort>(
-    rt: &R,
-    alloc: Global,
-    zones: Zones,
-    schedules: Range<u64>,
-) -> Result<(), Fail> {
+fn uses_blocks_again<R: Wait + Abort>(rt: &R, alloc: Global, zones: Zones) -> Result<(), Fail> {
     let geometry = zones.geometry();
-    for number in schedules {
+    for number in 0..SCHEDULES {
         let mut device = troubled_of(alloc, &geometry, Trouble::Nothing)?;
         let report = report_of(rt, alloc, zones, number, &mut device)?;
         let Met { reads, .. } = judge(&report);
@@ -130,43 +126,23 @@ fn uses_blocks_again<R: Wait + Abort>(
 }
 
 #[test]
-fn one_zone_in_schedules_0_to_9(rt: HostRuntime) -> Result<(), Fail> {
-    uses_blocks_again(&rt, rt.alloc(), Zones::One, 0..10)
+fn one_zone_by_four_schedules(rt: HostRuntime) -> Result<(), Fail> {
+    uses_blocks_again(&rt, rt.alloc(), Zones::One)
 }
 
 #[test]
-fn one_zone_in_schedules_10_to_19(rt: HostRuntime) -> Result<(), Fail> {
-    uses_blocks_again(&rt, rt.alloc(), Zones::One, 10..20)
+fn two_zones_by_four_schedules(rt: HostRuntime) -> Result<(), Fail> {
+    uses_blocks_again(&rt, rt.alloc(), Zones::Two)
 }
 
 #[test]
-fn two_zones_in_schedules_0_to_9(rt: HostRuntime) -> Result<(), Fail> {
-    uses_blocks_again(&rt, rt.alloc(), Zones::Two, 0..10)
+fn three_zones_by_four_schedules(rt: HostRuntime) -> Result<(), Fail> {
+    uses_blocks_again(&rt, rt.alloc(), Zones::Three)
 }
 
 #[test]
-fn two_zones_in_schedules_10_to_19(rt: HostRuntime) -> Result<(), Fail> {
-    uses_blocks_again(&rt, rt.alloc(), Zones::Two, 10..20)
-}
-
-#[test]
-fn three_zones_in_schedules_0_to_9(rt: HostRuntime) -> Result<(), Fail> {
-    uses_blocks_again(&rt, rt.alloc(), Zones::Three, 0..10)
-}
-
-#[test]
-fn three_zones_in_schedules_10_to_19(rt: HostRuntime) -> Result<(), Fail> {
-    uses_blocks_again(&rt, rt.alloc(), Zones::Three, 10..20)
-}
-
-#[test]
-fn four_zones_in_schedules_0_to_9(rt: HostRuntime) -> Result<(), Fail> {
-    uses_blocks_again(&rt, rt.alloc(), Zones::Four, 0..10)
-}
-
-#[test]
-fn four_zones_in_schedules_10_to_19(rt: HostRuntime) -> Result<(), Fail> {
-    uses_blocks_again(&rt, rt.alloc(), Zones::Four, 10..20)
+fn four_zones_by_four_schedules(rt: HostRuntime) -> Result<(), Fail> {
+    uses_blocks_again(&rt, rt.alloc(), Zones::Four)
 }
 
 // How much is wrong after a stop behind so many calls of a run, in an image that a number picks.
@@ -185,15 +161,10 @@ fn wrong_after<R: Wait>(
 }
 
 // Each image that a stop leaves is sound where blocks are used again, and shows nothing older than what was flushed: two stops
-// of each of these schedules.
-fn stops_soundly<R: Wait + Abort>(
-    rt: &R,
-    alloc: Global,
-    zones: Zones,
-    schedules: Range<u64>,
-) -> Result<(), Fail> {
+// of each schedule.
+fn stops_soundly<R: Wait + Abort>(rt: &R, alloc: Global, zones: Zones) -> Result<(), Fail> {
     let opening = opening_calls(alloc, zones)?;
-    for number in schedules {
+    for number in 0..SCHEDULES {
         let first = number.wrapping_mul(37);
         for stop in [first.wrapping_add(7), first.wrapping_add(61)] {
             let call = opening.wrapping_add(stop % CALLS);
@@ -205,81 +176,21 @@ fn stops_soundly<R: Wait + Abort>(
 }
 
 #[test]
-fn one_zone_stopped_in_schedules_0_to_4(rt: HostRuntime) -> Result<(), Fail> {
-    stops_soundly(&rt, rt.alloc(), Zones::One, 0..5)
+fn one_zone_stopped(rt: HostRuntime) -> Result<(), Fail> {
+    stops_soundly(&rt, rt.alloc(), Zones::One)
 }
 
 #[test]
-fn one_zone_stopped_in_schedules_5_to_9(rt: HostRuntime) -> Result<(), Fail> {
-    stops_soundly(&rt, rt.alloc(), Zones::One, 5..10)
+fn two_zones_stopped(rt: HostRuntime) -> Result<(), Fail> {
+    stops_soundly(&rt, rt.alloc(), Zones::Two)
 }
 
 #[test]
-fn one_zone_stopped_in_schedules_10_to_14(rt: HostRuntime) -> Result<(), Fail> {
-    stops_soundly(&rt, rt.alloc(), Zones::One, 10..15)
+fn three_zones_stopped(rt: HostRuntime) -> Result<(), Fail> {
+    stops_soundly(&rt, rt.alloc(), Zones::Three)
 }
 
 #[test]
-fn one_zone_stopped_in_schedules_15_to_19(rt: HostRuntime) -> Result<(), Fail> {
-    stops_soundly(&rt, rt.alloc(), Zones::One, 15..20)
-}
-
-#[test]
-fn two_zones_stopped_in_schedules_0_to_4(rt: HostRuntime) -> Result<(), Fail> {
-    stops_soundly(&rt, rt.alloc(), Zones::Two, 0..5)
-}
-
-#[test]
-fn two_zones_stopped_in_schedules_5_to_9(rt: HostRuntime) -> Result<(), Fail> {
-    stops_soundly(&rt, rt.alloc(), Zones::Two, 5..10)
-}
-
-#[test]
-fn two_zones_stopped_in_schedules_10_to_14(rt: HostRuntime) -> Result<(), Fail> {
-    stops_soundly(&rt, rt.alloc(), Zones::Two, 10..15)
-}
-
-#[test]
-fn two_zones_stopped_in_schedules_15_to_19(rt: HostRuntime) -> Result<(), Fail> {
-    stops_soundly(&rt, rt.alloc(), Zones::Two, 15..20)
-}
-
-#[test]
-fn three_zones_stopped_in_schedules_0_to_4(rt: HostRuntime) -> Result<(), Fail> {
-    stops_soundly(&rt, rt.alloc(), Zones::Three, 0..5)
-}
-
-#[test]
-fn three_zones_stopped_in_schedules_5_to_9(rt: HostRuntime) -> Result<(), Fail> {
-    stops_soundly(&rt, rt.alloc(), Zones::Three, 5..10)
-}
-
-#[test]
-fn three_zones_stopped_in_schedules_10_to_14(rt: HostRuntime) -> Result<(), Fail> {
-    stops_soundly(&rt, rt.alloc(), Zones::Three, 10..15)
-}
-
-#[test]
-fn three_zones_stopped_in_schedules_15_to_19(rt: HostRuntime) -> Result<(), Fail> {
-    stops_soundly(&rt, rt.alloc(), Zones::Three, 15..20)
-}
-
-#[test]
-fn four_zones_stopped_in_schedules_0_to_4(rt: HostRuntime) -> Result<(), Fail> {
-    stops_soundly(&rt, rt.alloc(), Zones::Four, 0..5)
-}
-
-#[test]
-fn four_zones_stopped_in_schedules_5_to_9(rt: HostRuntime) -> Result<(), Fail> {
-    stops_soundly(&rt, rt.alloc(), Zones::Four, 5..10)
-}
-
-#[test]
-fn four_zones_stopped_in_schedules_10_to_14(rt: HostRuntime) -> Result<(), Fail> {
-    stops_soundly(&rt, rt.alloc(), Zones::Four, 10..15)
-}
-
-#[test]
-fn four_zones_stopped_in_schedules_15_to_19(rt: HostRuntime) -> Result<(), Fail> {
-    stops_soundly(&rt, rt.alloc(), Zones::Four, 15..20)
+fn four_zones_stopped(rt: HostRuntime) -> Result<(), Fail> {
+    stops_soundly(&rt, rt.alloc(), Zones::Four)
 }

@@ -130,10 +130,7 @@ static PLANS: [Plan; 5] = [
     },
 ];
 
-const SCHEDULES: u64 = 10;
-
-/// The calls of a run are shared out among so many schedules.
-const SHARE: u64 = 10;
+const SCHEDULES: u64 = 4;
 
 // What a run met.
 fn met_by<R: Wait>(
@@ -220,9 +217,9 @@ fn faults_of<R: Wait>(
     Ok(faults)
 }
 
-// Whether a call of a run is that of a schedule.
+// Whether a call of a run is that of a schedule: they are shared out among all schedules.
 fn is_of(call: u64, number: u64) -> bool {
-    call % SHARE == number % SHARE
+    call % SCHEDULES == number % SCHEDULES
 }
 
 // What runs met in each of which another call fails.

@@ -154,14 +154,14 @@ fn a_schedule_takes_what_its_numbers_choose(rt: HostRuntime) -> Result<(), Fail>
     assert_eq!(rt; next(&mut state), 167_951_807);
     let (first, _) = both(&rt, rt.alloc(), 0)?;
     let mut others = 0_u32;
-    for number in 0..20 {
+    for number in 0..4 {
         let (driven, by_hand) = both(&rt, rt.alloc(), number)?;
         assert_eq!(rt; (number, driven), (number, by_hand));
         if driven != first {
             others = others.wrapping_add(1);
         }
     }
-    assert_eq!(rt; others > 10, true);
+    assert_eq!(rt; others > 1, true);
     Ok(())
 }
 
@@ -258,7 +258,7 @@ fn places_in_order(report: &RunReport) -> (bool, u32) {
 
 #[test]
 fn places_zone_by_zone(rt: HostRuntime) -> Result<(), Fail> {
-    for number in 0..10 {
+    for number in 0..4 {
         let mut device = troubled(rt.alloc(), Trouble::Nothing)?;
         let report = driven(&rt, rt.alloc(), &FOUR_ZONES, number, &mut device)?;
         assert_eq!(rt; (number, places_in_order(&report)), (number, (true, 6)));

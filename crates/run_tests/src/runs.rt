@@ -583,7 +583,7 @@ static BY_EVERY_SCHEDULE: [Case; 2] = [
 #[test]
 fn schedules(rt: HostRuntime) -> Result<(), Fail> {
     for &case in &BY_EVERY_SCHEDULE {
-        for number in 0..8 {
+        for number in 0..4 {
             let end = end_by_schedule(&rt, rt.alloc(), number, case)?;
             assert_eq!(rt; (number, end), (number, all_right(0)));
         }
