@@ -23,7 +23,8 @@ impl Point {
         ensures number { result.0 ≡ point_of sequence entry half }
 
         // Points are ordered as their triples.
-        ensures rises { (s e : ℕ) (h : Half) → e < JOURNAL_ENTRIES → IsBefore sequence entry half s e h →
+        ensures rises { (s e : ℕ) (h : Half) → e < JOURNAL_ENTRIES
+            → IsBefore sequence entry half s e h →
             result.0 < point_of s e h }
         ensures falls { (s e : ℕ) (h : Half) → e < JOURNAL_ENTRIES → result.0 < point_of s e h →
             IsBefore sequence entry half s e h }

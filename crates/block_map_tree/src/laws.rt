@@ -57,7 +57,8 @@ pub fn a_missing_page_may_be_linked()
         ((l : ℕ) → l < tree.forest.geometry.height →
         page_on path tree.forest.geometry.height l ≡ page_above l address) →
         IsFound tree path (Missing level)
-        → IsLinkable tree (page_above level address) × IsThere tree (above (page_above level address)) }
+        → IsLinkable tree (page_above level address)
+        × IsThere tree (above (page_above level address)) }
 {}
 
 /// A page that was handed out is being written until it is reported: over all calls from any tree on, and so it isn't
@@ -78,7 +79,8 @@ pub fn a_page_is_out_until_it_is_written()
 pub fn no_link_is_lost()
     ensures low { (old new : Tree) (calls : List Operation) (page : PageId) (point low : Point) →
         IsTree old → LeadTo old calls new
-        → IsUnwritten (events_of calls) page point → IsLowPoint new.dirty_points low → low.0 ≤ point.0 }
+        → IsUnwritten (events_of calls) page point → IsLowPoint new.dirty_points low
+        → low.0 ≤ point.0 }
     ensures some { (old new : Tree) (calls : List Operation) (page : PageId) (point : Point) →
         IsTree old → LeadTo old calls new
         → IsUnwritten (events_of calls) page point → AreClean new.dirty_points → ⊥ }

@@ -140,11 +140,13 @@ pub fn an_entry_says_what_it_replaces()
 /// entries, to a block that nobody maps, where the session is fair; or it links a page that no older one puts anywhere, below one
 /// that is linked by these or is a root, at such a block.
 pub fn entries_come_in_turn()
-    ensures leaf { (s : Session) (core : Core) (newer older : Trace) (e : Remapping) → Legal s core →
+    ensures leaf { (s : Session) (core : Core) (newer older : Trace) (e : Remapping)
+        → Legal s core →
         core.trace ≡ newer ++ Enters (Remaps e) ∷ older
         →
         IsThere s.sizes.geometry.height s.links (journaled older) (leaf_of e.at.0) }
-    ensures block { (s : Session) (core : Core) (newer older : Trace) (e : Remapping) → Legal s core →
+    ensures block { (s : Session) (core : Core) (newer older : Trace) (e : Remapping)
+        → Legal s core →
         core.trace ≡ newer ++ Enters (Remaps e) ∷ older
         → IsFair s older → OnBlock (IsUnused s older) e.new }
     ensures once { (s : Session) (core : Core) (newer older : Trace) (p : NewPage) → Legal s core →

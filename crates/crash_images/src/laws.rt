@@ -42,7 +42,8 @@ pub fn an_audited_image_has_its_values()
         → AreAddresses script sound.head.geometry.logical (map address_of values)
         × (values ≡ map (value_in (image_in blocks sound)) (map address_of values)) }
     ensures closed { (tells honest : Bool) (script : Script) (before : Seen) (blocks : Blocks)
-        (shown : Shown) → IsTold tells honest before blocks → IsShown tells honest script before shown
+        (shown : Shown) → IsTold tells honest before blocks
+        → IsShown tells honest script before shown
         → shown.recovery ≡ Clean → (head : Super) × HasValues blocks head shown.values.items
         × AreAddresses script head.geometry.logical (map address_of shown.values.items) }
     ensures refused { (tells honest : Bool) (before behind now : Seen) (blocks : Blocks)

@@ -22,7 +22,8 @@ use step_parts::Posts;
 
 /// Whether an item in front waits until the superblock is durable.
 pub(crate) fn waits(zone: &DeviceZone) -> bool
-    ensures yes { IsTrue result → (zone.now.stopped ≡ false) × (is_awaited zone.now.superblock ≡ true) }
+    ensures yes { IsTrue result → (zone.now.stopped ≡ false)
+        × (is_awaited zone.now.superblock ≡ true) }
     ensures no { (result ≡ false) → IsReady zone.now }
 {
     !zone.stopped && zone.superblock != SuperblockStage::Durable

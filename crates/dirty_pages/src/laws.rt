@@ -42,5 +42,6 @@ pub fn the_next_page_to_write_is_one()
         NoneIsEverDue pages → ⊥ }
     ensures low { (pages : List DirtyPoints) (low other : Point) → IsLowPoint pages low →
         IsLowPoint pages other → low ≡ other }
-    ensures clean { (pages : List DirtyPoints) (low : Point) → IsLowPoint pages low → AreClean pages → ⊥ }
+    ensures clean { (pages : List DirtyPoints) (low : Point) → IsLowPoint pages low → AreClean pages
+        → ⊥ }
 {}

@@ -24,7 +24,8 @@ pub fn no_page_is_dirty_when_none_is_due()
 /// Where no block of a slab is due for the head of the recovery journal and none is being written, each update is durable:
 /// over every list of calls from an opened image on, where the points of the updates rise.
 pub fn no_update_is_dirty_when_none_is_due()
-    ensures { (g : Geometry) (slab : ℕ) (commits : List Point) (calls : List Operation) (w : Writes) →
+    ensures { (g : Geometry) (slab : ℕ) (commits : List Point) (calls : List Operation)
+        (w : Writes) →
         IsGeometry g
         → length (points_of g slab commits) ≡ sectors_per_slab g →
         LeadTo (opening g slab commits) calls w
@@ -36,7 +37,8 @@ pub fn no_update_is_dirty_when_none_is_due()
 /// So no update waits for room for ever: where no block of a slab is due because the journal block being filled is full, and none
 /// is being written, that block isn't full.
 pub fn no_block_is_full_when_none_is_due()
-    ensures { (g : Geometry) (slab : ℕ) (commits : List Point) (calls : List Operation) (w : Writes) →
+    ensures { (g : Geometry) (slab : ℕ) (commits : List Point) (calls : List Operation)
+        (w : Writes) →
         IsGeometry g
         → length (points_of g slab commits) ≡ sectors_per_slab g →
         LeadTo (opening g slab commits) calls w

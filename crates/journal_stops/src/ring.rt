@@ -103,7 +103,8 @@ pub fn the_blocks_from_the_head_on_stand()
         IsUnderWay opening (call ∷ log) g start blocks block }
     ensures written { (opening : Blocks) (log : List Call) (g : Geometry) (start : ℕ)
         (blocks : List Sealed) (block : Sealed) (at : Pbn) (bytes : List ℕ)
-        → at.0 ≡ ring_slot_of g (next_of start blocks) → IsWhole g (next_of start blocks) block bytes →
+        → at.0 ≡ ring_slot_of g (next_of start blocks)
+        → IsWhole g (next_of start blocks) block bytes →
         IsWritten opening (Write at bytes true ∷ log) g start blocks block }
     ensures stays_written { (opening : Blocks) (log : List Call) (g : Geometry) (start : ℕ)
         (blocks : List Sealed) (block : Sealed) (call : Call) → 0 < g.journal → MissesJournal g call

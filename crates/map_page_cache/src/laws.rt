@@ -23,14 +23,18 @@ pub fn a_page_is_as_it_was_set()
 /// An entry is kept until it is on the device: over all calls from any cache on, a page with one that was set since and isn't
 /// written since the page was handed out is there, and the entry isn't below the low point.
 pub fn nothing_unwritten_is_lost()
-    ensures there { (old new : CachedPages) (calls : List Operation) (page : PageId) (point : Point) →
+    ensures there { (old new : CachedPages) (calls : List Operation) (page : PageId)
+        (point : Point) →
         IsCache old → LeadTo old calls new
         → IsUnwritten (events_of calls) page point →
         (content : MapPage) × IsThere new page content }
-    ensures low { (old new : CachedPages) (calls : List Operation) (page : PageId) (point low : Point) →
+    ensures low { (old new : CachedPages) (calls : List Operation) (page : PageId)
+        (point low : Point) →
         IsCache old → LeadTo old calls new
-        → IsUnwritten (events_of calls) page point → IsLowPoint new.dirty_points low → low.0 ≤ point.0 }
-    ensures some { (old new : CachedPages) (calls : List Operation) (page : PageId) (point : Point) →
+        → IsUnwritten (events_of calls) page point → IsLowPoint new.dirty_points low
+        → low.0 ≤ point.0 }
+    ensures some { (old new : CachedPages) (calls : List Operation) (page : PageId)
+        (point : Point) →
         IsCache old → LeadTo old calls new
         → IsUnwritten (events_of calls) page point → AreClean new.dirty_points → ⊥ }
 {}
@@ -49,7 +53,8 @@ pub fn a_page_is_out_until_it_is_written()
 
 /// Each call has one result, also which page it gives up or hands out; and it has one of its answers alone.
 pub fn a_call_has_one_result()
-    ensures after { (old new other : CachedPages) (call : Operation) → IsCache old → Leads old call new →
+    ensures after { (old new other : CachedPages) (call : Operation) → IsCache old
+        → Leads old call new →
         Leads old call other → new ≡ other }
     ensures out { (old new other : CachedPages) (point : Point) (page out : PageId)
         (copy into : MapPage) → Expires old new point page copy → Expires old other point out into

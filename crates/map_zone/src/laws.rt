@@ -51,7 +51,8 @@ pub fn what_was_applied_is_shown()
 
 /// Each call has one result and one answer, also which page it gives up or hands out.
 pub fn a_call_has_one_result()
-    ensures after { (old new other : ZoneMap) (call : Operation) → IsZoneMap old → Leads old call new →
+    ensures after { (old new other : ZoneMap) (call : Operation) → IsZoneMap old
+        → Leads old call new →
         Leads old call other → new ≡ other }
     ensures looked { (m : ZoneMap) (address : ℕ) (one two : Looked) → IsZoneMap m →
         IsLooked m address one → IsLooked m address two → one ≡ two }

@@ -19,7 +19,8 @@ ghost use Rattle.slab_writes.specs.Commits.{IsReported};
 
 /// Over every list of calls from an opened image on, a journal block that is handed out has updates of these calls alone.
 pub fn a_journal_block_has_updates_of_the_slab()
-    ensures { (g : Geometry) (slab : ℕ) (commits : List Point) (calls : List Operation) (old : Writes)
+    ensures { (g : Geometry) (slab : ℕ) (commits : List Point) (calls : List Operation)
+        (old : Writes)
         (new : Slab) (block : SlabJournalBlock) (entry : SlabEntry)
         → LeadTo (opening g slab commits) calls old → Seals old.journal new block →
         Contains block.entries entry → Contains (updates_of calls) entry }
@@ -29,7 +30,8 @@ pub fn a_journal_block_has_updates_of_the_slab()
 /// out with the counters as the updates made them has in each sector the opening counters with exactly the updates that
 /// aren't above its commit point.
 pub fn a_reference_block_has_its_updates()
-    ensures { (g : Geometry) (slab : ℕ) (commits : List Point) (first : List ℕ) (calls : List Operation)
+    ensures { (g : Geometry) (slab : ℕ) (commits : List Point) (first : List ℕ)
+        (calls : List Operation)
         (old new : Writes) (bytes : List ℕ) (block : ℕ)
         → length (points_of g slab commits) ≡ sectors_per_slab g →
         LeadTo (opening g slab commits) calls old →
@@ -75,7 +77,8 @@ pub fn a_block_is_due_or_none_is()
 /// Over every list of calls from an opened image on, a commit point in the slab's journal is 0, or that with which the
 /// reference block of its sector was handed out before it was reported as durable.
 pub fn a_commit_point_is_of_a_reported_block()
-    ensures { (g : Geometry) (slab : ℕ) (commits : List Point) (calls : List Operation) (new : Writes)
+    ensures { (g : Geometry) (slab : ℕ) (commits : List Point) (calls : List Operation)
+        (new : Writes)
         (sector : ℕ)
         → IsGeometry g → length (points_of g slab commits) ≡ sectors_per_slab g →
         LeadTo (opening g slab commits) calls new

@@ -43,7 +43,8 @@ pub fn every_receipt_is_right()
 pub fn written_blocks_are_calls()
     ensures due { (need : Need) (old new : WholeZone) (bytes : List ℕ) (work : SlabWork) →
         IsWhole old → IsDueIn need old new bytes work
-        → (call : writes.Operation) × HandsOut call bytes work × Does (Written work.slab call) old new }
+        → (call : writes.Operation) × HandsOut call bytes work
+        × Does (Written work.slab call) old new }
     ensures durable { (old new : WholeZone) (work : SlabWork) → IsOutIn old work →
         SettlesIn old new work
         → (call : writes.Operation) × Reports call work × Does (Written work.slab call) old new }

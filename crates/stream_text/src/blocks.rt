@@ -227,7 +227,8 @@ fn fill_all(
 // The block, if it is filled as a whole.
 fn whole(block: Box<Block>, filled: Result<usize, LineFault>) -> Result<BoxedBlock, LineFault>
     requires { length block.value ≡ 4096 }
-    ensures { (bytes : Result (List ℕ) Fault) → HoldsBytes bytes filled block.value → result ≡ block_of_bytes bytes }
+    ensures { (bytes : Result (List ℕ) Fault) → HoldsBytes bytes filled block.value
+        → result ≡ block_of_bytes bytes }
 {
     if filled? != 4096 {
         return Err(LineFault::BlockLength);

@@ -29,13 +29,15 @@ pub fn runs_go_on()
 /// On each image that a stop may leave at any moment of a run, of a script or of a workload, the next run may begin: as a device of its own it has that one
 /// image, which is sound, and with 2^18 sequences less left than before. It does nothing.
 pub fn what_a_run_leaves_can_be_run()
-    ensures script { (setting : Setting) (schedule left : ℕ) (before after : Outside) (outcome : Outcome)
+    ensures script { (setting : Setting) (schedule left : ℕ) (before after : Outside)
+        (outcome : Outcome)
         (image : Blocks)
         → IsTold setting.device.tells setting.device.honest before.device image →
         CanBegin (2 ^ 18 + left) image → 2 ^ 20 ≤ 2 ^ 18 + left
         → RunsScript setting schedule before after outcome →
         LeavesRunnable setting.device left before.device after.device }
-    ensures workload { (setting : Setting) (options : WorkloadOptions) (left : ℕ) (before after : Outside) (outcome : Outcome)
+    ensures workload { (setting : Setting) (options : WorkloadOptions) (left : ℕ)
+        (before after : Outside) (outcome : Outcome)
         (image : Blocks)
         → IsTold setting.device.tells setting.device.honest before.device image →
         CanBegin (2 ^ 18 + left) image → 2 ^ 20 ≤ 2 ^ 18 + left

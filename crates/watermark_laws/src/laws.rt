@@ -11,7 +11,8 @@ ghost use Rattle.watermark_laws.specs.Trace.{Trace, Happening, Needs, Tells, Hea
 /// Each entry of a sealed block below a zone's watermark has each of its parts for that zone set there and durable, and below the
 /// head it has all of them so.
 pub fn what_is_below_the_head_is_durable()
-    ensures watermark { (s : Setup) (t : Trace) (e : Logged) (z p : ℕ) → RightTrace s t → IsSealed t e →
+    ensures watermark { (s : Setup) (t : Trace) (e : Logged) (z p : ℕ) → RightTrace s t
+        → IsSealed t e →
         e.at < watermark s z t
         → Has p (points_for z e.parts) → IsSet t z p × IsDurable t z p }
     ensures head { (s : Setup) (t : Trace) (e : Logged) (z p : ℕ) → RightTrace s t → IsSealed t e →
@@ -72,7 +73,8 @@ pub fn the_watermarks_kept_are_those_of_the_trace()
     ensures opening { (zones room : ℕ) → IsKeptOf zones (opening zones room) [] }
     ensures keeps { (zones : ℕ) (h : Happening) (handed : Handed) (t : Trace) → IsInside zones h →
         IsKeptOf zones handed t → IsKeptOf zones (keeping h handed) (h ∷ t) }
-    ensures watermark { (s : Setup) (handed : Handed) (t : Trace) (z : ℕ) → IsKeptOf s.zones handed t →
+    ensures watermark { (s : Setup) (handed : Handed) (t : Trace) (z : ℕ)
+        → IsKeptOf s.zones handed t →
         z < s.zones → watermark_of handed z (front s t) ≡ watermark s z t }
 {}
 

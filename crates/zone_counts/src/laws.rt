@@ -72,7 +72,8 @@ pub fn a_block_has_one_home()
 /// What each call makes of the counter of each block, of the claims on it, and of the tickets that have it: a block that goes
 /// to a ticket is claimed by that.
 pub fn calls_move_claims_and_counters()
-    ensures counters { (call : Operation) (old new : Zone) (at : Pbn) → IsZone old → Does call old new
+    ensures counters { (call : Operation) (old new : Zone) (at : Pbn) → IsZone old
+        → Does call old new
         → counter_in at new.slabs + unmaps call at ≡ counter_in at old.slabs + maps call at }
     ensures claims { (call : Operation) (old new : Zone) (at : Pbn) → IsZone old →
         (does : Does call old new)
