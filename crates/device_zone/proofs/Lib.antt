@@ -2,3 +2,4 @@ mod ActLaws
 mod BlockEntries
 mod Calls
 mod NoticeLaws
+mod ZeroSlotLaws

@@ -1,4 +1,4 @@
-ghost use Rattle.std.specs.Prelude.{◌≡◌, ◌<◌, List, IfOk, IfErr, Some, slice_index_or};
+ghost use Rattle.std.specs.Prelude.{◌≡◌, ◌<◌, ◌↔◌, List, length, drop, replicate, IsTrue, IfOk, IfErr, Some, slice_index_or};
 ghost use Rattle.blk_base.specs.Pages.{slot_of_address};
 ghost use Rattle.blk_base.specs.Limits.{IsGeometry};
 ghost use Rattle.blk_base.specs.declared.place.Mapping.{Mapping as Mapped};
@@ -15,15 +15,20 @@ ghost use Rattle.device_zone.specs.Served.{CanServe, MayServe};
 
 use crate::device_calls::read_block;
 use crate::harms::harm;
-use blk_base::{Answer, Block, Lba, Mapping, Mappings, Pbn};
+use blk_base::{Answer, Block, Lba, Mapping, Mappings, PAGE_SLOTS, Pbn};
 use core_model::DeviceZone;
 use data_vio::{BoxedVio, Item, Phase, Sizes};
 use disk_model::Disk;
-use page_codec::{MapPage, PageFault, PageHead, decode};
+use lane_kernels::all_zeros;
+use page_codec::{PageFault, PageHead, decode_mappings, slot};
 use step_parts::Posts;
 use vdo_model::Damage;
 
-// What the leaf of an address, which stands at this block, maps it to. It is read whole: one that doesn't decode says nothing.
+// How many bytes of a page stand before its first slot.
+const HEAD: usize = 36;
+
+// What the leaf of an address, which stands at this block, maps it to. It is read whole: one that doesn't decode says
+// nothing.
 fn mapping_in(sizes: &Sizes, at: Lba, leaf: Pbn, bytes: &Block) -> Result<Mapping, PageFault>
     requires { IsGeometry sizes.now.geometry }
     ensures ok { IfOk result (λ mapping.
@@ -37,12 +42,34 @@ fn mapping_in(sizes: &Sizes, at: Lba, leaf: Pbn, bytes: &Block) -> Result<Mappin
         page: at.leaf(),
         at: leaf,
     };
-    let mut page = MapPage {
-        head: want,
-        mappings: Mappings::new(),
-    };
-    decode(bytes, &want, &mut page)?;
-    Ok(page.mappings.get(at.slot()))
+    // Most leaves have no mapping. Where all bytes behind the head are zeros, each slot says what the first one does.
+    if has_zero_slots(&bytes.bytes) {
+        return slot(bytes, &want, 0);
+    }
+    decoded_mapping(bytes, &want, at.slot())
+}
+
+// Whether all bytes behind the head of a page are zeros.
+fn has_zero_slots(bytes: &[u8]) -> bool
+    requires { length bytes.now ≡ 4096 }
+    ensures { IsTrue result ↔ (drop 36 bytes.now ≡ replicate 4060 0) }
+{
+    all_zeros(&bytes[HEAD..])
+}
+
+// What a slot of a page says, all of which is decoded.
+// Not inlined, so that a leaf without mappings needs no room for 812 of them.
+#[inline(never)]
+fn decoded_mapping(bytes: &Block, want: &PageHead, slot: u16) -> Result<Mapping, PageFault>
+    requires geometry { IsGeometry want.now.geometry }
+    requires slot { slot < PAGE_SLOTS }
+    ensures ok { IfOk result (λ mapping. (mappings : List Mapped) × IsPage want.now bytes.now mappings
+        × (mapping ≡ slice_index_or mappings slot Unmapped)) }
+    ensures fault { IfErr result (λ fault. IsPageFault want.now bytes.now fault) }
+{
+    let mut mappings = Mappings::new();
+    decode_mappings(bytes, want, &mut mappings)?;
+    Ok(mappings.get(slot))
 }
 
 // The leaf of an address, at this block.
