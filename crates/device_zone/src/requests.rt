@@ -15,27 +15,24 @@ use crate::device_calls::{flush, read_block, write_block};
 use crate::leaves::serve_load_leaf;
 use crate::stop_notices::halt;
 use crate::superblock::{announce, waits};
-use blk_base::{Answer, Block, Mapping, Mappings, PageId, Pbn, ZoneId};
+use blk_base::{Answer, Block, Mapping, PageId, Pbn, ZoneId};
 use core_model::DeviceZone;
 use data_vio::{BoxedVio, Item, Phase, Sizes, Vio};
 use disk_model::{Disk, Failed};
-use page_codec::{MapPage, PageHead, encode};
+use page_codec::{PageHead, encode_unmapped};
 use step_parts::{Posts, counts_of};
 
 // An empty page of the block map, at this block.
 fn empty_page(sizes: &Sizes, page: PageId, at: Pbn) -> Block
     ensures { result ≡ rules.page_at sizes.now page at }
 {
-    let page = MapPage {
-        head: PageHead {
-            geometry: sizes.geometry,
-            page,
-            at,
-        },
-        mappings: Mappings::new(),
+    let head = PageHead {
+        geometry: sizes.geometry,
+        page,
+        at,
     };
     let mut bytes = Block::zero();
-    encode(&page, &mut bytes);
+    encode_unmapped(&head, &mut bytes);
     bytes
 }
 
