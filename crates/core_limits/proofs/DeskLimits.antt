@@ -1,10 +1,12 @@
 -- How long a desk log gets: each request of the script is begun once at most, and answered once at most.
-use Rattle.std.proofs.Common.{◌≡◌, ℕ, true, ◌+◌, ◌*◌, ◌<◌, ◌≤◌, IsNone, Some, List, [], ◌∷◌, length, refl, ap, inl, inr, arith}
-use Rattle.core_laws.proofs.Common.{AllByRecursion, DeskLine, Fails, Flushes, IsDeskLog, IsNextLine, Says, Script, Trace, Writer, answer_of, begun, eqb_tells, is_answer, is_begin, lines, marks, same_tells, total}
+use Rattle.std.proofs.Common.{◌≡◌, ℕ, zero, suc, true, ◌+◌, ◌*◌, ◌-◌, ◌<◌, ◌≤◌, IsNone, Some, List, [], ◌∷◌, length, get_or, refl, ap, inl, inr, arith}
+use Rattle.core_laws.proofs.Common.{AllByRecursion, DeskLine, Fails, Flushes, IsDeskLog, IsNextLine, Says, Script, Trace, Writer, answer_of, answered, begun, eqb_tells, is_answer, is_begin, lines, marks, same_tells, total}
 use Rattle.vdo_model.specs.declared.report.DeskLine.TheVariants.{Begin, Answer}
 use Rattle.core_model.specs.Limits.{requests_in}
-use Rattle.core_limits.proofs.StreamSums.{Apart, Inside, named, names_few, over, over_le, over_more, over_none, over_script, stream_there}
-use Rattle.core_limits.proofs.Rooms.{all_begun, under_way}
+use Rattle.core_model.specs.SessionLimits.{most_depth, most_of_stream, most_under_way_in}
+use Rattle.core_limits.proofs.StreamSums.{Apart, Inside, named, names_few, over, over_le, over_more, over_none, over_script, over_streams, stream_there}
+use Rattle.core_limits.proofs.Rooms.{all_answered, all_begun, stream_bound, under_way}
+use Rattle.std.proofs.Math.Nat.{le-min}
 pub use Rattle.core_limits.proofs.StreamSums.{asked_inside, requests_of}
 use Rattle.core_laws.proofs.trace.Growth.{begun_more}
 use Rattle.core_model.specs.Trace.{receipts}
@@ -106,6 +108,30 @@ log_before depth script log w right next =
 pub under_way_before : (depth : ℕ) (script : Script) (log : List DeskLine) (w : Writer) → IsDeskLog depth script log → IsNextLine depth script (Begin w) log
     → total is_begin log < length script * depth + total is_answer log
 under_way_before depth script log w right next = let more = under_way depth script (Begin w ∷ log) (next, right) in omega (arith, more)
+
+-- of each stream no more are under way than it has, and than may be
+stream_few : (depth : ℕ) (script : Script) (log : List DeskLine) (stream : ℕ) → IsDeskLog depth script log → depth ≤ most_depth
+    → begun stream log ≤ answered stream log + most_of_stream (get_or script stream [])
+stream_few depth script log stream right shallow =
+    let all = begun_few depth script log stream right in
+    let deep = stream_bound depth script log stream right in
+    let few : begun stream log - answered stream log ≤ most_of_stream (get_or script stream []) = le-min (omega (arith, all)) (omega (arith, deep, shallow)) in
+    omega (arith, few)
+
+streams_few : (depth : ℕ) (script : Script) (log : List DeskLine) (k : ℕ) → IsDeskLog depth script log → depth ≤ most_depth
+    → over k (λ i. begun i log) ≤ over k (λ i. answered i log) + over k (λ i. most_of_stream (get_or script i []))
+streams_few depth script log zero right shallow = omega arith
+streams_few depth script log (suc k) right shallow = omega (arith, streams_few depth script log k right shallow, stream_few depth script log k right shallow)
+
+-- so fewer than all that may be of the streams of the script are under way where a request may be begun
+pub under_way_few : (depth : ℕ) (script : Script) (log : List DeskLine) (w : Writer) → depth ≤ most_depth → IsDeskLog depth script log → IsNextLine depth script (Begin w) log
+    → total is_begin log < most_under_way_in script + total is_answer log
+under_way_few depth script log w shallow right next =
+    let more : IsDeskLog depth script (Begin w ∷ log) = (next, right) in
+    let a = all_begun depth script (Begin w ∷ log) more in
+    let b = streams_few depth script (Begin w ∷ log) (length script) more shallow in
+    let c = all_answered (length script) (Begin w ∷ log) in
+    omega (arith, a, b, c, over_streams script)
 
 -- each mark is that of an answer
 pub marks_few : (t : Trace) → length (marks t) ≤ total is_answer (lines t)

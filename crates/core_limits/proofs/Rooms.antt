@@ -18,7 +18,7 @@ use Rattle.core_laws.proofs.trace.DeskOfTrace.{desk_log_right}
 use Rattle.core_laws.proofs.kept.ZoneKinds.{desk_sits, device_sits, journal_once, no_words}
 
 -- Each stream has at most so many requests under way.
-stream_bound : (depth : ℕ) (script : Script) (desk : List DeskLine) (stream : ℕ) → IsDeskLog depth script desk → begun stream desk ≤ answered stream desk + depth
+pub stream_bound : (depth : ℕ) (script : Script) (desk : List DeskLine) (stream : ℕ) → IsDeskLog depth script desk → begun stream desk ≤ answered stream desk + depth
 stream_bound depth script [] stream right = omega arith
 stream_bound depth script (Begin w ∷ older) stream right = elim (eqb_tells w.stream stream) [
   | inl same ↦ let few = right.0.2 in let a = ap (λ k. begun k older) same.1 in let b = ap (λ k. answered k older) same.1 in rw same.0 (omega (arith, few, a, b))
@@ -42,7 +42,7 @@ all_begun depth script (Begin w ∷ older) right =
     ]
 all_begun depth script (Answer w a ∷ older) right = let rest = all_begun depth script older right.1 in omega (arith, rest)
 
-all_answered : (k : ℕ) (desk : List DeskLine) → over k (λ i. answered i desk) ≤ total is_answer desk
+pub all_answered : (k : ℕ) (desk : List DeskLine) → over k (λ i. answered i desk) ≤ total is_answer desk
 all_answered k [] = over_none k (λ i. 0) (λ i. omega arith)
 all_answered k (Begin w ∷ older) = let rest = all_answered k older in omega (arith, rest)
 all_answered k (Answer w a ∷ older) =

@@ -1,6 +1,7 @@
 -- Sums over the streams, and over the numbers of a stream; and how many names of requests there are, where none is there twice.
 use Rattle.std.proofs.Common.{◌≡◌, ℕ, zero, suc, ◌+◌, ◌<◌, ◌≤◌, ◌==◌, ◌⊎◌, if◌then◌else◌, IsSome, List, [], ◌∷◌, length, get_or, refl, subst, inl, inr, arith}
 use Rattle.std.proofs.lemmas.Option.{slice_get_within}
+use Rattle.core_model.specs.SessionLimits.{most_of_stream}
 use Rattle.core_laws.proofs.Common.{AllByRecursion, Script, Writer, bit, request_at, some_of, eqb_tells, same_self, same_tells, same_writer, total}
 
 -- the sum over the streams below a number
@@ -50,6 +51,10 @@ over_first (suc k) f = omega (arith, over_first k f)
 pub over_script : (script : Script) → over (length script) (λ i. length (get_or script i [])) ≡ total length script
 over_script [] = refl
 over_script (requests ∷ script) = omega (arith, over_first (length script) (λ i. length (get_or (requests ∷ script) i [])), over_script script)
+
+pub over_streams : (script : Script) → over (length script) (λ i. most_of_stream (get_or script i [])) ≡ total most_of_stream script
+over_streams [] = refl
+over_streams (requests ∷ script) = omega (arith, over_first (length script) (λ i. most_of_stream (get_or (requests ∷ script) i [])), over_streams script)
 
 -- how many of these are of this request
 abbrev pub named : {X : Type 0} → (X → Writer) → Writer → List X → ℕ

@@ -16,7 +16,7 @@ ghost use Rattle.core_model.specs.LogicalData.{LogicalZone};
 ghost use Rattle.core_model.specs.declared.zones.Zone.{Zone};
 ghost use Rattle.data_vio.specs.declared.items.Item.{Item};
 ghost use Rattle.core_model.specs.Legal.{Legal, share};
-ghost use Rattle.core_model.specs.Limits.{IsDeskWithin, IsShort, IsWithin, most_entries, most_requests, requests_in};
+ghost use Rattle.core_model.specs.Limits.{IsDeskWithin, IsShort, IsWithin, most_depth, most_entries, most_requests, most_under_way_in, requests_in};
 ghost use Rattle.core_model.specs.Tokens.{is_answer, is_begin, kept_by, queued};
 ghost use Rattle.core_model.specs.Sessions.{Session, IsSession};
 ghost use Rattle.core_model.specs.Steps.{Core, IsStill};
@@ -35,7 +35,8 @@ pub fn a_legal_core_has_room()
 {}
 
 /// In a desk log that is well formed each request of the script is begun once at most, and answered once at most; and as many
-/// requests are under way as its streams may have at most. Where another may be begun, there is room for it in both counts.
+/// requests are under way as its streams may have at most. Where another may be begun, there is room for it in both counts,
+/// also where no more of a stream are counted than it has.
 pub fn a_desk_log_is_bounded()
     ensures under_way { (depth : ℕ) (script : Script) (log : List DeskLine) →
         IsDeskLog depth script log
@@ -43,6 +44,9 @@ pub fn a_desk_log_is_bounded()
     ensures fewer { (depth : ℕ) (script : Script) (log : List DeskLine) (w : Writer) →
         IsDeskLog depth script log → IsNextLine depth script (line.Begin w) log
         → total is_begin log < length script * depth + total is_answer log }
+    ensures fewer_of_each { (depth : ℕ) (script : Script) (log : List DeskLine) (w : Writer) →
+        depth ≤ most_depth → IsDeskLog depth script log → IsNextLine depth script (line.Begin w) log
+        → total is_begin log < most_under_way_in script + total is_answer log }
     ensures answered { (depth : ℕ) (script : Script) (log : List DeskLine) →
         IsDeskLog depth script log → total is_answer log ≤ total is_begin log }
     ensures lines { (depth : ℕ) (script : Script) (log : List DeskLine) →

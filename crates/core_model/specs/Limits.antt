@@ -3,7 +3,7 @@ use Rattle.std.specs.Prelude.{ℕ, ◌+◌, ◌*◌, ◌^◌, ◌<◌, ◌≤◌
 use Rattle.std.specs.List.{AllByRecursion}
 use Rattle.blk_base.specs.declared.sizes.TheConstants.{JOURNAL_ENTRIES}
 use Rattle.core_model.specs.DeskData.{Desk}
-pub use Rattle.core_model.specs.SessionLimits.{IsLimited, most_depth, most_entries, most_items, most_notices, most_physical, most_requests, most_streams, most_under_way, most_zones, reads_in, requests_in}
+pub use Rattle.core_model.specs.SessionLimits.{IsLimited, most_depth, most_entries, most_items, most_notices, most_physical, most_requests, most_streams, most_under_way, most_under_way_in, most_zones, reads_in, requests_in}
 use Rattle.core_model.specs.DeskLines.{AreBegunFirst, is_answer, is_begin, is_bytes}
 use Rattle.core_model.specs.declared.zones.ZoneData.{ZoneData}
 use Rattle.core_model.specs.declared.zones.ZoneData.TheVariants as at
@@ -29,11 +29,11 @@ pub record IsDeskWithin (desk : Desk) : Type 0 where
   pub parked : IsShort desk.parked
   pub notices : desk.notices ≤ most_notices
 
--- There is room for the lines of one more request, and fewer are under way than may be.
+-- There is room for the lines of one more request, and fewer are under way than may be of the streams of the script.
 pub record HasRoomToBegin (desk : Desk) : Type 0 where
   pub lines : length desk.log + 2 ≤ 2 * requests_in desk.requests
   pub answered : AreBegunFirst desk.log
-  pub fewer : total is_begin desk.log < most_under_way + total is_answer desk.log
+  pub fewer : total is_begin desk.log < most_under_way_in desk.requests + total is_answer desk.log
 
 -- Those of a logical zone that made so many steps: each draws one place at most.
 pub record IsLogicalWithin (steps : ℕ) (l : LogicalZone) : Type 0 where

@@ -1,5 +1,5 @@
 -- How large a session may be.
-use Rattle.std.specs.Prelude.{ℕ, ◌+◌, ◌*◌, ◌≤◌, length}
+use Rattle.std.specs.Prelude.{ℕ, ◌+◌, ◌*◌, ◌≤◌, List, length, min}
 use Rattle.blk_base.specs.declared.request.Request.{Request}
 use Rattle.blk_base.specs.declared.request.Request.TheVariants.{Read}
 use Rattle.vdo_model.specs.Scripts.{Script}
@@ -42,6 +42,13 @@ most_items = 2 * most_under_way + most_notices + 1 + most_physical
 -- how many requests a script has
 abbrev pub requests_in : Script → ℕ
 requests_in script = total length script
+
+-- how many of them may be under way: of each stream no more than it has
+abbrev pub most_of_stream : List Request → ℕ
+most_of_stream requests = min (length requests) most_depth
+
+abbrev pub most_under_way_in : Script → ℕ
+most_under_way_in script = total most_of_stream script
 
 -- how many of them are reads
 abbrev pub asks_read : Request → ℕ

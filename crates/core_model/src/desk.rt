@@ -8,16 +8,14 @@ ghost use Rattle.data_vio.specs.Beginnings.{under_way};
 ghost use Rattle.core_model.specs.DeskCounts.{AreBegunFrom};
 ghost use Rattle.core_model.specs.DeskRules.{mark_of_vio, receipt_of_vio, receipt_step};
 ghost use Rattle.core_model.specs.Limits.{HasRoomToBegin};
-ghost use Rattle.core_model.specs.SessionLimits.{most_requests, most_streams, most_under_way, reads_in, requests_in};
+ghost use Rattle.core_model.specs.SessionLimits.{most_requests, most_streams, reads_in, requests_in};
 ghost use Rattle.core_model.specs.DeskLines.{is_bytes};
 ghost use Rattle.plain_laws.specs.Sums.{total};
 
 use crate::counts::StreamCounts;
-use crate::scripts::{count_reads, count_requests};
+use crate::scripts::{count_reads, count_requests, count_under_way};
 use blk_base::{Answer, Block, Lba, Mapping, Writer, ZoneId};
-use data_vio::{
-    AnswerBoxes, Asks, Begun, BoxedVio, Fifo, HeldTickets, LANE_ROOM, MOST_UNDER_WAY, Phase, Vio,
-};
+use data_vio::{AnswerBoxes, Asks, Begun, BoxedVio, Fifo, HeldTickets, LANE_ROOM, Phase, Vio};
 use slab_counts::Receipt;
 use std::alloc::{AllocError, Global};
 use std::marker::Model;
@@ -41,13 +39,15 @@ pub struct Desk {
     receipts: Vec<NoSpaceReceipt>,
     notices: u32,
     parked: Fifo<BoxedVio, LANE_ROOM>,
+    // How many requests may be under way, and the boxes of those that aren't.
+    most: usize,
     spare: Vec<BoxedVio>,
 }
 
 impl Model for Desk {
     ghost use Rattle.std.specs.Prelude.{◌≡◌, ◌+◌, ◌*◌, ◌≤◌, length, reverse, vec_capacity, vec_len};
     ghost use Rattle.core_model.specs.DeskData.{Desk as DeskData};
-    ghost use Rattle.core_model.specs.SessionLimits.{most_requests, most_streams, most_under_way, reads_in, requests_in};
+    ghost use Rattle.core_model.specs.SessionLimits.{most_requests, most_streams, most_under_way_in, reads_in, requests_in};
     ghost use Rattle.core_model.specs.DeskCounts.{AreBegunFrom, CountAnswered, CountBegun};
     ghost use Rattle.core_model.specs.DeskLines.{AreBegunFirst, is_answer, is_begin, is_bytes};
     ghost use Rattle.plain_laws.specs.Sums.{total};
@@ -75,10 +75,10 @@ impl Model for Desk {
       left : AreBegunFrom d.streams_left d.requests (reverse d.lines.items);
       marks_room : requests_in d.requests + 1 ≤ vec_capacity d.marks;
       receipts_room : requests_in d.requests + 1 ≤ vec_capacity d.receipts;
-      few_spare : vec_len d.spare ≤ most_under_way;
-      spare_room : most_under_way ≤ vec_capacity d.spare;
+      most : d.most ≡ most_under_way_in d.requests;
+      spare_room : d.most ≤ vec_capacity d.spare;
       spare : AreBegunFirst (reverse d.lines.items)
-          → most_under_way + total is_answer (reverse d.lines.items) ≤ vec_len d.spare + total is_begin (reverse d.lines.items);
+          → d.most + total is_answer (reverse d.lines.items) ≤ vec_len d.spare + total is_begin (reverse d.lines.items);
     } };
 }
 
@@ -117,13 +117,13 @@ fn blank() -> Vio {
     }
 }
 
-// Boxes for as many requests as may be under way.
-fn spare_boxes(alloc: Global) -> Result<Vec<BoxedVio>, AllocError>
-    ensures count { IfOk result (λ boxes. vec_len boxes ≡ most_under_way) }
-    ensures room { IfOk result (λ boxes. most_under_way ≤ vec_capacity boxes) }
+// Boxes for so many requests.
+fn spare_boxes(alloc: Global, count: usize) -> Result<Vec<BoxedVio>, AllocError>
+    ensures count { IfOk result (λ boxes. vec_len boxes ≡ count) }
+    ensures room { IfOk result (λ boxes. count ≤ vec_capacity boxes) }
 {
-    let mut boxes = Vec::with_capacity(alloc, MOST_UNDER_WAY)?;
-    for made in 0..MOST_UNDER_WAY {
+    let mut boxes = Vec::with_capacity(alloc, count)?;
+    for made in 0..count {
         boxes.push_reserved(BoxedVio::new(alloc, blank())?);
     }
     Ok(boxes)
@@ -181,7 +181,8 @@ impl Desk {
         let marks = Vec::with_capacity(alloc, count + 1)?;
         let receipts = Vec::with_capacity(alloc, count + 1)?;
         let parked = Fifo::new(alloc)?;
-        let spare = spare_boxes(alloc)?;
+        let most = count_under_way(&requests);
+        let spare = spare_boxes(alloc, most)?;
         Ok(Desk {
             requests,
             count,
@@ -194,6 +195,7 @@ impl Desk {
             receipts,
             notices: 0,
             parked,
+            most,
             spare,
         })
     }
@@ -299,7 +301,7 @@ impl Desk {
         self.answered.raise(request.stream);
         self.lines
             .push_reserved(DeskLine::Answer { request, answer });
-        if self.spare.len() < MOST_UNDER_WAY {
+        if self.spare.len() < self.most {
             self.spare.push_reserved(vio);
         }
     }

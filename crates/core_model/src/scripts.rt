@@ -1,9 +1,9 @@
 ghost use Rattle.std.specs.Prelude.{◌≡◌, ◌≤◌, ◌↔◌, IsTrue, length};
-ghost use Rattle.core_model.specs.SessionLimits.{asks_read, most_requests, most_streams, reads_in, requests_in};
+ghost use Rattle.core_model.specs.SessionLimits.{asks_read, most_requests, most_streams, most_under_way_in, reads_in, requests_in};
 ghost use Rattle.plain_laws.specs.Sums.{total};
 
 use blk_base::Request;
-use data_vio::{MOST_REQUESTS, MOST_STREAMS};
+use data_vio::{MOST_DEPTH, MOST_REQUESTS, MOST_STREAMS};
 use vdo_model::Requests;
 
 /// How many requests there are.
@@ -15,6 +15,18 @@ pub(crate) fn count_requests(requests: &Requests) -> usize
     let mut count = 0;
     for stream in 0..requests.count() {
         count += requests.stream(stream as u8).len();
+    }
+    count
+}
+
+/// How many requests may be under way: at most 16 of each stream, and no more than it has.
+pub(crate) fn count_under_way(requests: &Requests) -> usize
+    requires { length requests.now ≤ most_streams }
+    ensures { result ≡ most_under_way_in requests.now }
+{
+    let mut count = 0;
+    for stream in 0..requests.count() {
+        count += requests.stream(stream as u8).len().min(MOST_DEPTH);
     }
     count
 }

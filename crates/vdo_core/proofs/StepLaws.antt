@@ -1,6 +1,5 @@
 -- Each zone of a legal core can step, and so can each view of it.
-use Rattle.std.proofs.Common.{◌≡◌, ◌<◌, ◌≤◌, ◌+◌, ◌*◌, ◌++◌, ℕ, Some, List, [], ◌∷◌, length, length-append, take, drop, slice_get, refl, sym, subst, arith, inl, inr}
-use Rattle.std.proofs.lemmas.Nat.{mul-le}
+use Rattle.std.proofs.Common.{◌≡◌, ◌<◌, ◌++◌, ℕ, Some, List, [], ◌∷◌, length, length-append, take, drop, slice_get, refl, sym, subst, arith, inl, inr}
 use Rattle.std.specs.List.{AllByRecursion}
 use Rattle.vdo_model.specs.Scripts.{Script, IsServed}
 use Rattle.vdo_model.specs.DeskLog.{IsDeskLog}
@@ -25,7 +24,7 @@ use Rattle.data_vio.specs.Zones.{zone_number}
 use Rattle.core_laws.proofs.kept.Rules.{has_lanes, has_rule}
 use Rattle.core_laws.proofs.kept.Views.{batches_of, view_get}
 use Rattle.core_laws.proofs.trace.DeskOfTrace.{desk_log_right}
-use Rattle.core_limits.proofs.DeskLimits.{answers_few, log_before, under_way_before}
+use Rattle.core_limits.proofs.DeskLimits.{answers_few, log_before, under_way_few}
 use Rattle.core_limits.proofs.WholeZones.{zone_within}
 use Rattle.desk_zone.specs.Begins.{CanBegin}
 use Rattle.vdo_core.specs.Conditions.{CanBeginAt, CanStep, HasLane}
@@ -54,16 +53,11 @@ module _ (s : Session) (t : Trace) (n : ℕ) (desk : Desk) (session : IsSession 
   has_room (w, next) =
       let same = own.sound.requests in
       let log : IsDeskLog s.sizes.depth desk.requests desk.log = rw (same, own.lists.log_is) right in
-      let streams : length desk.requests ≤ 16 = rw same session.limits.streams in
-      let under = under_way_before s.sizes.depth desk.requests desk.log w log next in
       record {
         lines = log_before s.sizes.depth desk.requests desk.log w log next;
         answered = begun_first s.sizes.depth desk.requests desk.log log;
-        fewer = few (length desk.requests) s.sizes.depth _ _ streams session.limits.depth under;
+        fewer = under_way_few s.sizes.depth desk.requests desk.log w session.limits.depth log next;
       }
-    where
-      few : (streams depth begun answered : ℕ) → streams ≤ 16 → depth ≤ 16 → begun < streams * depth + answered → begun < 16 * 16 + answered
-      few streams depth begun answered s d under = (let most = mul-le streams depth 16 16 s d in omega (arith, under, most))
 
   can_begin : IsDeskWithin desk → CanBegin s.sizes desk
   can_begin within = record {

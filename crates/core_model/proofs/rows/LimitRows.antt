@@ -14,7 +14,7 @@ use Rattle.data_vio.specs.declared.items.Vio.{Vio}
 use Rattle.data_vio.specs.declared.sizes.Sizes.{Sizes}
 use Rattle.core_model.specs.DeskData.{Desk}
 use Rattle.core_model.specs.Limits.{IsDeskWithin, IsLimited, requests_in}
-use Rattle.core_model.specs.SessionLimits.{asks_read, reads_in}
+use Rattle.core_model.specs.SessionLimits.{asks_read, most_under_way_in, reads_in}
 use Rattle.core_model.specs.DeskLines.{is_bytes}
 use Rattle.core_model.proofs.rows.PhaseRows.{writes}
 use Rattle.core_model.proofs.rows.WorkedTraces.{first, flush, script, sizes}
@@ -97,6 +97,13 @@ fullest = record {
 -- one more of each
 too_many_lines : IsDeskWithin (desk 13 6 6 526 9) → ⊥
 too_many_lines is = absurd (omega (arith, is.log, length-replicate 13 line))
+
+-- most_of_stream, most_under_way_in: sixteen of a stream that has more, all of one that has fewer, none of one that has none
+seventeen : most_under_way_in (flushes 18 ∷ flushes 1 ∷ [] ∷ []) ≡ 17
+seventeen = refl
+
+all_sixteen : most_under_way_in (flushes 16 ∷ flushes 15 ∷ []) ≡ 31
+all_sixteen = refl
 
 -- asks_read, reads_in: the script has two reads; a flush is none
 two_reads : reads_in script ≡ 2

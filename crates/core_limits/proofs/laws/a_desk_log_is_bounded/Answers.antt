@@ -1,5 +1,5 @@
 use Rattle.std.proofs.Common.{arith}
-use Rattle.core_limits.proofs.DeskLimits.{answers_few, log_before, log_few, under_way_before}
+use Rattle.core_limits.proofs.DeskLimits.{answers_few, log_before, log_few, under_way_before, under_way_few}
 use Rattle.core_limits.proofs.Rooms.{under_way}
 use Rattle.core_limits.proofs.laws.a_desk_log_is_bounded.Goals as goal
 
@@ -8,6 +8,9 @@ returns-clause-under_way c = λ depth script log right. let few = under_way dept
 
 pub returns-clause-fewer : goal.returns-clause-fewer
 returns-clause-fewer c = under_way_before
+
+pub returns-clause-fewer_of_each : goal.returns-clause-fewer_of_each
+returns-clause-fewer_of_each c = under_way_few
 
 pub returns-clause-answered : goal.returns-clause-answered
 returns-clause-answered c = answers_few

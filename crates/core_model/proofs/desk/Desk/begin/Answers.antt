@@ -26,7 +26,7 @@ invariant_of-self c =
           c.self.invariant.few_left counted c.left_after-self-inside.ensures.passed (rw c.push_reserved.ensures.items stays);
       marks_room = search rules;
       receipts_room = search rules;
-      few_spare = search rules;
+      most = search rules;
       spare_room = search rules;
       spare = grind (arith, common_steps);
     }
