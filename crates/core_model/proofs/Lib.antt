@@ -1,5 +1,6 @@
 pub mod rows
 pub mod ListForms
+pub mod ZoneSetLaws
 pub mod PortLaws
 mod ReportLaws
 pub mod LockLaws

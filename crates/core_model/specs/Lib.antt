@@ -15,6 +15,7 @@ pub mod Waiters
 pub mod PhysicalRules
 pub mod JournalRules
 pub mod DeviceRules
+pub mod ZoneSets
 pub mod PortsData
 pub mod Steps
 pub mod Tokens

@@ -21,6 +21,7 @@ mod page_list;
 mod ports;
 mod scripts;
 mod slots;
+mod zone_set;
 mod zones;
 
 pub use desk::{Desk, DeskReport};
@@ -31,4 +32,5 @@ pub use page_list::PageList;
 pub use ports::Ports;
 pub use scripts::is_limited;
 pub use slots::Slots;
+pub use zone_set::ZoneSet;
 pub use zones::{DeviceZone, PhysicalZone, SuperblockStage, Zone, ZoneData};

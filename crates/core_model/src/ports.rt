@@ -2,9 +2,10 @@ ghost use Rattle.std.specs.Prelude.{◌≡◌, ◌+◌, ◌<◌, ◌≤◌, ◌�
 ghost use Rattle.std.specs.List.{AllByRecursion};
 ghost use Rattle.data_vio.specs.declared.items.Item.{Item};
 ghost use Rattle.core_model.specs.Limits.{IsShort};
-ghost use Rattle.core_model.specs.PortsData.{items_of};
+ghost use Rattle.core_model.specs.PortsData.{IsSetOfPosts, items_of};
 ghost use Rattle.core_model.specs.Steps.{posted};
 
+use crate::zone_set::ZoneSet;
 use data_vio::{Item, LANE_ROOM};
 use std::alloc::{AllocError, Global};
 use std::marker::Model;
@@ -15,27 +16,32 @@ use std::marker::Model;
 #[derive(Drop)]
 pub struct Ports {
     boxes: zone_queues::Ports<Item>,
+    posts: ZoneSet,
 }
 
 impl Model for Ports {
-    ghost use Rattle.core_model.specs.PortsData.{AreLanes, Ports as PortsData, ports_of};
+    ghost use Rattle.core_model.specs.PortsData.{ArePorts, Ports as PortsData, ports_of};
 
     ghost Value = { PortsData };
 
     ghost view = { λ p. ports_of p.boxes };
 
-    ghost invariant = { λ p. AreLanes p.boxes };
+    ghost invariant = { λ p. ArePorts p.boxes p.posts };
 }
 
 impl Ports {
-    /// An inbox, and as many outboxes, with nothing in them.
+    /// An inbox, and as many outboxes, with nothing in them. There are 32 outboxes at most.
     pub fn new(alloc: Global, count: u32) -> Result<Ports, AllocError>
+        requires { count ≤ 32 }
         ensures { IfOk result (λ ports.
             ports ≡ record { inbox = []; outboxes = replicate count [] }) }
     {
         let rooms = rooms(alloc, count)?;
         let boxes = zone_queues::Ports::new(alloc, LANE_ROOM, &rooms)?;
-        Ok(Ports { boxes })
+        Ok(Ports {
+            boxes,
+            posts: ZoneSet::empty(),
+        })
     }
 
     /// How many outboxes there are.
@@ -53,6 +59,7 @@ impl Ports {
         ensures { self.new ≡ record self.old { outboxes = posted to item self.old.outboxes } }
     {
         self.boxes.post(to, item);
+        self.posts.put(to, true);
     }
 
     /// Adds an item behind those of the zone's own inbox.
@@ -84,7 +91,14 @@ impl Ports {
         requires { to < length self.now.outboxes }
         ensures { (result ≡ false) ↔ (slice_get self.now.outboxes to ≡ Some []) }
     {
-        self.boxes.has_posts(to)
+        self.posts.has(to)
+    }
+
+    /// The zones in whose outboxes there are items.
+    pub fn posts(&self) -> ZoneSet
+        ensures { IsSetOfPosts self.now.outboxes result }
+    {
+        self.posts
     }
 
     /// All items of the outbox to a zone go to the inbox in that zone's ports, behind those that are there, in their
@@ -100,6 +114,7 @@ impl Ports {
         } }
     {
         self.boxes.hand_over(to, &mut receiver.boxes);
+        self.posts.put(to, false);
     }
 }
 

@@ -16,9 +16,9 @@ use Rattle.vdo_core.specs.Notes.{IsSetOfSenders, IsSetOfWork}
 use Rattle.vdo_core.specs.Plays.{HasNoWork, Plays, PlaysOne}
 use Rattle.vdo_core.specs.declared.events.Event.{Event}
 use Rattle.vdo_core.specs.declared.events.Event.TheVariants as event
-use Rattle.vdo_core.specs.ZoneSets.{TakesFirst, is_in}
+use Rattle.core_model.specs.ZoneSets.{TakesFirst, is_in}
 use Rattle.vdo_core.proofs.PlayLaws.{LeadsBy, plays_lead}
-use Rattle.vdo_core.proofs.ZoneSetLaws.{both_ways}
+use Rattle.core_model.proofs.ZoneSetLaws.{both_ways}
 use Rattle.schedule.specs.Turns.{AreReady, Drives, IsTurn, PlaysUntilDone, event_count, event_of}
 
 -- the number of a step

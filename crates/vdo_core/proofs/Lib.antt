@@ -15,4 +15,3 @@ pub mod SessionLaws
 mod MoveLaws
 pub mod NoteLaws
 mod RestLaws
-pub mod ZoneSetLaws

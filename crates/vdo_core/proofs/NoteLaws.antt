@@ -1,77 +1,42 @@
 -- What is known of the zones' work stays right over each event, and what it tells of moves.
-use Rattle.std.proofs.Common.{ℕ, zero, suc, ◌≡◌, ◌≢◌, ◌+◌, ◌<◌, ◌≤◌, Bool, true, false, Some, List, [], ◌∷◌, ◌++◌, length, take, slice_get, slice_set, slice_index_or, get_or, inl, inr, refl, sym, ◌∙◌, ap, subst, arith}
+use Rattle.std.proofs.Common.{ℕ, zero, suc, ◌≡◌, ◌≢◌, ◌<◌, ◌≤◌, Bool, true, false, Some, List, [], ◌∷◌, ◌++◌, length, take, slice_get, slice_set, slice_index_or, get_or, inl, inr, refl, sym, ◌∙◌, ap, subst, arith}
 use Rattle.std.proofs.lemmas.Bool.{cases_lt}
 use Rattle.std.proofs.lemmas.Bool.Decides.{eqb_tells}
 use Rattle.std.proofs.lemmas.List.{get_or-set_other, get_or-set_same, length-set}
-use Rattle.std.proofs.lemmas.Option.{same_Some, slice_get-get_or, slice_get_past, slice_get_within}
+use Rattle.std.proofs.lemmas.Option.{same_Some, slice_get-get_or, slice_get_within}
 use Rattle.disk_model.specs.Seen.{Seen}
 use Rattle.data_vio.specs.declared.items.Item.{Item}
 use Rattle.data_vio.specs.declared.sizes.Sizes.{Sizes}
 use Rattle.core_model.specs.declared.zones.Zone.{Zone}
 use Rattle.core_model.specs.declared.zones.ZoneData.{ZoneData}
+use Rattle.core_model.specs.PortsData.{IsSetOfPosts}
 use Rattle.core_model.specs.Steps.{IsIdle, MayBegin, step_limit}
 use Rattle.core_model.specs.Trace.{Trace}
 use Rattle.vdo_core.specs.Moves.{MovesSome, has_items}
 use Rattle.vdo_core.specs.Notes.{IsSetOfSenders, IsSetOfWork, IsTold, KnowsPosts, KnowsWork, OtherPostsStay, OthersStay, TellsNone, TellsPosts, TellsWork, sender_of, worker_of}
 use Rattle.vdo_core.specs.Plays.{MovesAll, PlaysOne}
-use Rattle.vdo_core.specs.ZoneSets.{IsBelow, Puts, is_in}
+use Rattle.core_model.specs.ZoneSets.{IsBelow, Puts, is_in}
 use Rattle.vdo_core.specs.declared.events.Event.{Event}
 use Rattle.vdo_core.specs.declared.events.Event.TheVariants as event
 use Rattle.vdo_core.proofs.MoveLaws.{moves_something}
-use Rattle.vdo_core.proofs.ZoneSetLaws.{none_inside, both_ways}
+use Rattle.core_model.proofs.ZoneSetLaws.{none_inside, both_ways}
 
--- The outboxes below a number that have items are those in a set.
-pub record AreCounted (lanes : List (List Item)) (end set : ℕ) : Type 0 where
-  pub yes : (to : ℕ) → is_in set to ≡ true → (to < end) × (has_items (slice_get lanes to) ≡ true)
-  pub no : (to : ℕ) → is_in set to ≡ false → to < end → has_items (slice_get lanes to) ≡ false
-
-pub counted_none : (lanes : List (List Item)) (set : ℕ) → set ≡ 0 → AreCounted lanes 0 set
-counted_none lanes set none = record {
-  yes = λ to inside. absurd (both_ways _ inside (none_inside set none to));
-  no = λ to outside below. absurd (omega (arith, below));
-}
-
--- one more that has items
-pub counted_in : (lanes : List (List Item)) (end old new : ℕ) → Puts old new end true → has_items (slice_get lanes end) ≡ true → AreCounted lanes end old → AreCounted lanes (end + 1) new
-counted_in lanes end old new puts some counted = record {
-  yes = λ to inside. elim (eqb_tells to end) [
-    | inl same ↦ (let at = same.1 in (omega (arith, at), subst (λ (k : ℕ). has_items (slice_get lanes k) ≡ true) (sym at) some))
-    | inr other ↦ (let (below, has) = counted.yes to (sym (puts.others to other.1) ∙ inside) in (omega (arith, below), has))
-  ];
-  no = λ to outside below. elim (eqb_tells to end) [
-    | inl same ↦ absurd (both_ways _ (ap (λ (k : ℕ). is_in new k) same.1 ∙ puts.there) outside)
-    | inr other ↦ (let apart = other.1 in counted.no to (sym (puts.others to apart) ∙ outside) (omega (arith, below, apart)))
-  ];
-}
-
--- or none
-pub counted_past : (lanes : List (List Item)) (end set : ℕ) → has_items (slice_get lanes end) ≡ false → AreCounted lanes end set → AreCounted lanes (end + 1) set
-counted_past lanes end set none counted = record {
-  yes = λ to inside. (let (below, has) = counted.yes to inside in (omega (arith, below), has));
-  no = λ to outside below. elim (eqb_tells to end) [
-    | inl same ↦ subst (λ (k : ℕ). has_items (slice_get lanes k) ≡ false) (sym same.1) none
-    | inr other ↦ (let apart = other.1 in counted.no to outside (omega (arith, below, apart)))
-  ];
-}
-
--- So are the zones to which another has posted something, where it doesn't count itself.
-pub counted_all : (z : Zone) (count number end old new : ℕ) → end ≤ count → (end < count → length z.ports.outboxes ≤ end) → AreCounted z.ports.outboxes end old → Puts old new number false
-    → TellsPosts count number new z
-counted_all z count number end old new most all counted puts = record {
+-- The zones to which another has posted something are in the set of its posts, without those past the last and itself.
+pub tells_posts : (z : Zone) (count number posts low set : ℕ) → IsSetOfPosts z.ports.outboxes posts → ((n : ℕ) → n < count → is_in low n ≡ is_in posts n) → IsBelow count low → Puts low set number false
+    → TellsPosts count number set z
+tells_posts z count number posts low set told same past puts = record {
   yes = λ to inside. elim (eqb_tells to number) [
-    | inl same ↦ absurd (both_ways _ inside (ap (λ (k : ℕ). is_in new k) same.1 ∙ puts.there))
+    | inl own ↦ absurd (both_ways _ inside (ap (λ (k : ℕ). is_in set k) own.1 ∙ puts.there))
     | inr other ↦ (
         let apart = other.1 in
-        let (below, has) = counted.yes to (sym (puts.others to apart) ∙ inside) in
-        (λ (same : number ≡ to). apart (sym same), omega (arith, below, most), has)
+        let had : is_in low to ≡ true = sym (puts.others to apart) ∙ inside in
+        elim (cases_lt to count) [
+          | inl below ↦ (λ (own : number ≡ to). apart (sym own), below, sym (told to) ∙ sym (same to below) ∙ had)
+          | inr high ↦ absurd (both_ways _ had (past to high))
+        ]
         )
   ];
-  no = λ to outside apart below.
-      (let left : is_in old to ≡ false = sym (puts.others to (λ (same : to ≡ number). apart (sym same))) ∙ outside in
-      elim (cases_lt to end) [
-        | inl inside ↦ counted.no to left inside
-        | inr past ↦ (let none = all (omega (arith, past, below)) in ap has_items (slice_get_past z.ports.outboxes to (omega (arith, past, none))))
-      ]);
+  no = λ to outside apart below. sym (told to) ∙ sym (same to below) ∙ sym (puts.others to (λ (own : to ≡ number). apart (sym own))) ∙ outside;
 }
 
 -- a set of receivers without a zone tells that there is none, and the flag that it isn't empty

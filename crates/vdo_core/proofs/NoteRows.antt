@@ -8,9 +8,9 @@ use Rattle.core_model.specs.declared.zones.Zone.{Zone}
 use Rattle.core_model.specs.declared.zones.ZoneData.{ZoneData}
 use Rattle.core_model.specs.Steps.{IsIdle, MayBegin}
 use Rattle.vdo_core.specs.Notes.{IsKnown, IsSetOfSenders, IsSetOfWork, KnowsPosts, KnowsWork, OthersStay, TellsNone, TellsPosts, TellsWork, sender_of, worker_of}
-use Rattle.vdo_core.specs.ZoneSets.{IsBelow, Puts, TakesFirst, is_in}
+use Rattle.core_model.specs.ZoneSets.{IsBelow, Puts, TakesFirst, is_in}
 use Rattle.vdo_core.specs.declared.events.Event.TheVariants as event
-use Rattle.vdo_core.proofs.ZoneSetLaws.{both_ways, none_inside}
+use Rattle.core_model.proofs.ZoneSetLaws.{both_ways, none_inside}
 
 -- the zones of a set are the places of its bits: of 6 the zones 1 and 2
 is_in_six : (is_in 6 0 ≡ false) × (is_in 6 1 ≡ true) × (is_in 6 2 ≡ true) × (is_in 6 3 ≡ false)

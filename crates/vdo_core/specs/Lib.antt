@@ -7,4 +7,3 @@ pub mod Notes
 pub mod Plays
 pub mod Starts
 pub mod StepTools
-pub mod ZoneSets

@@ -1,13 +1,7 @@
 -- What there is to move between zones.
-use Rattle.std.specs.Prelude.{ℕ, ◌≡◌, ◌≢◌, Bool, true, false, Option, None, Some, List, [], ◌∷◌, slice_get}
-use Rattle.data_vio.specs.declared.items.Item.{Item}
+use Rattle.std.specs.Prelude.{ℕ, ◌≡◌, ◌≢◌, true, false, Some, List, slice_get}
 use Rattle.core_model.specs.declared.zones.Zone.{Zone}
-
--- a list is there, and has items
-abbrev pub has_items : Option (List Item) → Bool
-has_items None = false
-has_items (Some []) = false
-has_items (Some (item ∷ rest)) = true
+pub use Rattle.core_model.specs.PortsData.{has_items}
 
 -- there is something to move from one zone to another
 pub record MovesSome (zones : List Zone) (from to : ℕ) : Type 0 where

@@ -6,7 +6,7 @@ use Rattle.core_model.specs.Steps.{IsIdle}
 use Rattle.plain_laws.specs.Sums.{Each}
 use Rattle.vdo_core.specs.Moves.{has_items}
 use Rattle.vdo_core.specs.Plays.{HasNoWork}
-use Rattle.vdo_core.specs.ZoneSets.{IsBelow, is_in}
+use Rattle.core_model.specs.ZoneSets.{IsBelow, is_in}
 use Rattle.vdo_core.specs.declared.events.Event.{Event}
 use Rattle.vdo_core.specs.declared.events.Event.TheVariants as event
 use Rattle.vdo_core.specs.declared.notes.WorkNotes.{WorkNotes}

@@ -20,7 +20,6 @@ mod stepped;
 mod steps;
 mod tools;
 mod work;
-mod zone_set;
 mod zones;
 
 pub use cores::{Core, CoreZones, Setup};
@@ -32,5 +31,4 @@ pub use laws::{
 pub use stepped::Stepped;
 pub use steps::step_zone;
 pub use tools::Tools;
-pub use zone_set::ZoneSet;
 pub use zones::Zones;

@@ -6,11 +6,9 @@ ghost use Rattle.vdo_core.specs.Plays.{HasNoWork};
 ghost use Rattle.vdo_core.specs.declared.events.Event.TheVariants as event;
 
 use crate::events::Event;
-use crate::moves::has_posted;
 use crate::work::has_work;
-use crate::zone_set::ZoneSet;
 use crate::zones::Zones;
-use core_model::Zone;
+use core_model::{Zone, ZoneSet};
 use data_vio::Sizes;
 
 /// How many zones a core has at most.
@@ -33,12 +31,7 @@ fn receivers_of(zone: &Zone, number: u32, count: u32) -> ZoneSet
     requires there { number < count }
     ensures { TellsPosts count number result zone.now }
 {
-    let mut receivers = ZoneSet::empty();
-    for to in 0..count.min(zone.ports.count()) {
-        if has_posted(zone, to) {
-            receivers.put(to, true);
-        }
-    }
+    let mut receivers = zone.ports.posts().below(count);
     receivers.put(number, false);
     receivers
 }

@@ -39,7 +39,8 @@ fn add(
     keeps: ZoneData,
     zones: &mut Vec<Zone>,
 ) -> Result<(), AllocError>
-    requires { length zones.old.items ≡ number }
+    requires there { length zones.old.items ≡ number }
+    requires few { AreFew sizes.now }
     ensures count { OnOk result (length zones.new.items ≡ length zones.old.items + 1) }
     ensures first { OnOk result ((s : Session) → s.sizes ≡ sizes.now → IsFirstData s number keeps
         → Each (IsFirstZone s) zones.old.items → Each (IsFirstZone s) zones.new.items) }
@@ -111,6 +112,7 @@ fn add_last(alloc: Global, sizes: &Sizes, zones: &mut Vec<Zone>) -> Result<(), A
     requires count { length zones.old.items ≡ numbers.journal_number sizes.now }
     requires geometry { IsGeometry sizes.now.geometry }
     requires start { (1 ≤ sizes.now.start) × (sizes.now.start < 2 ^ 54) }
+    requires few { AreFew sizes.now }
     requires physical { 0 < sizes.now.physical }
     ensures count { OnOk result (length zones.new.items ≡ numbers.zone_count sizes.now) }
     ensures first { OnOk result

@@ -41,5 +41,5 @@ lanes_not_the_inbox are = let room = are.inbox.room in absurd (omega (arith, roo
 lanes_not_the_second : AreLanes (boxes (queue 1452 0) (queue 1452 0 ∷ queue 3 0 ∷ [])) → ⊥
 lanes_not_the_second are = let room = are.outboxes.1.0.room in absurd (omega (arith, room))
 
-lanes_too_many : (outboxes : List (Queue Item)) → length outboxes ≡ 4294967296 → AreLanes (boxes (queue 1452 0) outboxes) → ⊥
+lanes_too_many : (outboxes : List (Queue Item)) → length outboxes ≡ 33 → AreLanes (boxes (queue 1452 0) outboxes) → ⊥
 lanes_too_many outboxes many are = let few = are.few in absurd (omega (arith, few, many))

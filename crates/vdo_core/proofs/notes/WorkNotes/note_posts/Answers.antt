@@ -1,5 +1,5 @@
 use Rattle.vdo_core.proofs.NoteLaws.{knows_posts}
-use Rattle.vdo_core.proofs.ZoneSetLaws.{empty_where}
+use Rattle.core_model.proofs.ZoneSetLaws.{empty_where}
 use Rattle.vdo_core.proofs.notes.WorkNotes.note_posts.Goals as goal
 
 pub returns-clause-posts : goal.returns-clause-posts

@@ -1,6 +1,6 @@
 use Rattle.std.proofs.Common.{◌<◌, ◌^◌, arith}
-use Rattle.vdo_core.proofs.ZoneSetLaws.{takes_first}
-use Rattle.vdo_core.proofs.zone_set.ZoneSet.take_first.Goals as goal
+use Rattle.core_model.proofs.ZoneSetLaws.{takes_first}
+use Rattle.core_model.proofs.zone_set.ZoneSet.take_first.Goals as goal
 
 pub returns-clause-some : goal.returns-clause-some
 returns-clause-some c =

@@ -1,10 +1,12 @@
 -- Sets of zones as the bits of a number.
-use Rattle.std.proofs.Common.{ℕ, ◌≡◌, ◌<◌, ◌≤◌, ◌*◌, ◌^◌, ◌%◌, ◌/◌, Bool, true, false, IsTrue, ◌↔◌, not, bit_and, bit_or, inl, inr, refl, sym, ◌∙◌, ap, arith, eqb}
+use Rattle.std.proofs.Common.{ℕ, ◌≡◌, ◌<◌, ◌≤◌, ◌-◌, ◌*◌, ◌^◌, ◌%◌, ◌/◌, Bool, true, false, IsTrue, ◌↔◌, not, bit_and, bit_or, inl, inr, refl, sym, ◌∙◌, ap, arith, eqb}
+use Rattle.std.proofs.Math.Nat.{mod-eq_of_lt}
+use Rattle.std.proofs.Math.Pow.{pow-lt}
 use Rattle.std.proofs.lemmas.Bool.{cases_lt}
 use Rattle.std.proofs.lemmas.Nat.{and_le_l}
-use Rattle.std.proofs.lemmas.Nat.Bits.{bit_at-zero, bit_at_above, bit_at_clear_other, bit_at_clear_same, bit_at_set_other, bit_at_set_same, bit_at-trailing_zeros, shr_and_one}
+use Rattle.std.proofs.lemmas.Nat.Bits.{bit_at-lt, bit_at-zero, bit_at_above, bit_at_and, bit_at_ones, bit_at_ones_above, bit_at_clear_other, bit_at_clear_same, bit_at_set_other, bit_at_set_same, bit_at-trailing_zeros, shr_and_one}
 use Rattle.std.specs.Int.{bit_at, bit_not, trailing_zeros, w32}
-use Rattle.vdo_core.specs.ZoneSets.{Puts, TakesFirst, is_in}
+use Rattle.core_model.specs.ZoneSets.{IsBelow, Puts, TakesFirst, is_in}
 
 -- by the bit of a number
 set_there : (set n : ℕ) → bit_at set n ≡ 1 → is_in set n ≡ true
@@ -76,3 +78,23 @@ takes_first old some fits =
       left = takes_out old first fits low;
       less = less_where_cleared new old first most gone had;
     }
+
+-- those below a number
+below_mask : (set end : ℕ) → end < 32 → bit_and set (1 * 2 ^ end % 2 ^ 32 - 1) ≡ bit_and set (2 ^ end - 1)
+below_mask set end low =
+    let fits : 2 ^ end < 2 ^ 32 = pow-lt low in
+    let mask : 1 * 2 ^ end % 2 ^ 32 ≡ 2 ^ end = (let one : 1 * 2 ^ end ≡ 2 ^ end = omega arith in ap (λ k. k % 2 ^ 32) one ∙ mod-eq_of_lt fits) in
+    ap (λ k. bit_and set (k - 1)) mask
+
+pub below_inside : (set end n : ℕ) → end < 32 → n < end → is_in (bit_and set (1 * 2 ^ end % 2 ^ 32 - 1)) n ≡ is_in set n
+below_inside set end n low inside =
+    let both = bit_at_and set (2 ^ end - 1) n in
+    let one = bit_at_ones end n inside in
+    let bit = bit_at-lt set n in
+    ap (λ m. is_in m n) (below_mask set end low) ∙ as_there _ set n (omega (arith, both, one, bit))
+
+pub below_past : (set end : ℕ) → end < 32 → IsBelow end (bit_and set (1 * 2 ^ end % 2 ^ 32 - 1))
+below_past set end low n past =
+    let both = bit_at_and set (2 ^ end - 1) n in
+    let none = bit_at_ones_above end n past in
+    ap (λ m. is_in m n) (below_mask set end low) ∙ unset_there _ n (omega (arith, both, none))

@@ -1,5 +1,5 @@
 ghost use Rattle.std.specs.Prelude.{ℕ, ◌≡◌, ◌≢◌, ◌<◌, ◌↔◌, IfSome, IfNone, IsTrue, false};
-ghost use Rattle.vdo_core.specs.ZoneSets.{Puts, TakesFirst, is_in};
+ghost use Rattle.core_model.specs.ZoneSets.{IsBelow, Puts, TakesFirst, is_in};
 
 use std::marker::Model;
 
@@ -40,6 +40,17 @@ impl ZoneSet {
         ensures { result ≡ is_in self.now number }
     {
         self.bits >> number & 1 == 1
+    }
+
+    /// Those of the set whose numbers are below this one.
+    pub fn below(&self, end: u32) -> ZoneSet
+        requires { end < 32 }
+        ensures inside { (n : ℕ) → n < end → is_in result n ≡ is_in self.now n }
+        ensures past { IsBelow end result }
+    {
+        ZoneSet {
+            bits: self.bits & ((1 << end) - 1),
+        }
     }
 
     /// Puts a zone into the set, or takes it out.
