@@ -6,8 +6,8 @@ ghost use Rattle.vdo_core.specs.Done.{IsDone};
 ghost use Rattle.vdo_core.specs.declared.events.Event.{Event};
 ghost use Rattle.schedule.specs.Turns.{Drives};
 
+use crate::events::EventList;
 use crate::turns::Schedule;
-use arrayvec::ArrayVec;
 use disk_model::Disk;
 use std::sync::Wait;
 use vdo_core::Core;
@@ -23,7 +23,7 @@ pub fn drive<R: Wait, D: Disk>(rt: &R, core: &mut Core, schedule: &mut Schedule,
         core.new.zones (D.seen device.old) (D.seen device.new) made }
     ensures done { IsDone core.new.zones }
 {
-    let mut ready = ArrayVec::new();
+    let mut ready = EventList::new();
     for _ in rt.forever() {
         if core.done() {
             return;

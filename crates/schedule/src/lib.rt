@@ -18,6 +18,7 @@
 #![tactic(auto)]
 
 mod driver;
+mod events;
 mod laws;
 mod player;
 mod turns;

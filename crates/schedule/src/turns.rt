@@ -7,13 +7,10 @@ ghost use Rattle.vdo_core.specs.Done.{IsDone};
 ghost use Rattle.vdo_core.specs.declared.events.Event.{Event};
 ghost use Rattle.schedule.specs.Turns.{AreReady, Drives, IsTurn, event_count, event_of};
 
-use arrayvec::ArrayVec;
+use crate::events::EventList;
 use disk_model::{Disk, next_state, number_in};
 use std::marker::Model;
 use vdo_core::{Core, Event};
-
-/// How many events a core has at most: a step of each of eleven zones, and a move from each to each.
-pub(crate) const MOST_EVENTS: usize = 132;
 
 /// An order of the events of a core, made from a number: the state of a row of numbers, each of which chooses one event of
 /// those for which there is work.
@@ -42,12 +39,7 @@ impl Schedule {
 
     /// One turn of a core that isn't done: one event of those for which there is work. Where there is none, nothing changes.
     /// The list is room for the numbers of those events, whatever is in it.
-    pub(crate) fn turn<D: Disk>(
-        &mut self,
-        core: &mut Core,
-        ready: &mut ArrayVec<u8, MOST_EVENTS>,
-        device: &mut D,
-    )
+    pub(crate) fn turn<D: Disk>(&mut self, core: &mut Core, ready: &mut EventList, device: &mut D)
         requires { Fits core.old.sizes (D.seen device.old) }
         ensures stays { Stays (D.seen device.old) (D.seen device.new) }
         ensures sizes { core.new.sizes ≡ core.old.sizes }
@@ -78,11 +70,11 @@ fn event_of(zones: u32, k: u32) -> Event
 }
 
 // The numbers of the steps for which there is work, in their order, in an empty list.
-fn list_steps(core: &Core, ready: &mut ArrayVec<u8, MOST_EVENTS>)
-    requires none { ready.old.items ≡ [] }
-    ensures room { length ready.new.items ≤ length core.now.zones }
+fn list_steps(core: &Core, ready: &mut EventList)
+    requires none { ready.old ≡ [] }
+    ensures room { length ready.new ≤ length core.now.zones }
     ensures ready { AreReady core.now.sizes core.now.zones (length core.now.zones)
-        (map (event_of (length core.now.zones)) ready.new.items) }
+        (map (event_of (length core.now.zones)) ready.new) }
 {
     // Asked for the proof alone: a core has at most eleven zones.
     let _zones = core.zone_count();
@@ -93,17 +85,17 @@ fn list_steps(core: &Core, ready: &mut ArrayVec<u8, MOST_EVENTS>)
 }
 
 // Those of the moves from one zone, behind the steps and the moves from the zones before it.
-fn add_moves(core: &Core, from: u32, ready: &mut ArrayVec<u8, MOST_EVENTS>)
+fn add_moves(core: &Core, from: u32, ready: &mut EventList)
     requires there { from < length core.now.zones }
-    requires room { length ready.old.items ≤ length core.now.zones + from * length core.now.zones }
+    requires room { length ready.old ≤ length core.now.zones + from * length core.now.zones }
     requires ready { AreReady core.now.sizes core.now.zones
         (length core.now.zones + from * length core.now.zones)
-        (map (event_of (length core.now.zones)) ready.old.items) }
-    ensures room { length ready.new.items
+        (map (event_of (length core.now.zones)) ready.old) }
+    ensures room { length ready.new
         ≤ length core.now.zones + (from + 1) * length core.now.zones }
     ensures ready { AreReady core.now.sizes core.now.zones
         (length core.now.zones + (from + 1) * length core.now.zones)
-        (map (event_of (length core.now.zones)) ready.new.items) }
+        (map (event_of (length core.now.zones)) ready.new) }
 {
     let zones = core.zone_count();
     let first = zones + from * zones;
@@ -116,10 +108,10 @@ fn add_moves(core: &Core, from: u32, ready: &mut ArrayVec<u8, MOST_EVENTS>)
 // The numbers of the events for which there is work, in their order, in an empty list.
 // Listed anew each turn, so that no list has to follow what steps and moves change. A core of eleven zones has 132
 // events.
-fn list_ready(core: &Core, ready: &mut ArrayVec<u8, MOST_EVENTS>)
-    requires none { ready.old.items ≡ [] }
+fn list_ready(core: &Core, ready: &mut EventList)
+    requires none { ready.old ≡ [] }
     ensures { AreReady core.now.sizes core.now.zones (event_count (length core.now.zones))
-        (map (event_of (length core.now.zones)) ready.new.items) }
+        (map (event_of (length core.now.zones)) ready.new) }
 {
     list_steps(core, ready);
     let mut senders = core.senders();
@@ -130,7 +122,7 @@ fn list_ready(core: &Core, ready: &mut ArrayVec<u8, MOST_EVENTS>)
 
 // The event that a turn takes by this number, if there is work for any. The list is of no use to the next turn but for
 // its room.
-fn choose(core: &Core, number: u32, ready: &mut ArrayVec<u8, MOST_EVENTS>) -> Option<Event>
+fn choose(core: &Core, number: u32, ready: &mut EventList) -> Option<Event>
     ensures { MatchOption result
         (AreReady core.now.sizes core.now.zones (event_count (length core.now.zones)) []) (λ event.
         (state : ℕ) → number ≡ number_in (next_state state) →
@@ -138,7 +130,7 @@ fn choose(core: &Core, number: u32, ready: &mut ArrayVec<u8, MOST_EVENTS>) -> Op
 {
     ready.clear();
     list_ready(core, ready);
-    let count = ready.len() as u64;
+    let count = ready.as_slice().len() as u64;
     if count == 0 {
         return None;
     }

@@ -58,6 +58,8 @@ pub(crate) fn act_at_device<D: Disk>(
 }
 
 /// With no item the desk begins a request, where one may begin; it says whether one may.
+// Apart from its caller, which would else have the frame of a begin at each of its steps.
+#[inline(never)]
 pub(crate) fn begin(sizes: &Sizes, keeps: &mut ZoneData, posts: &mut Posts) -> bool
     requires can { CanBeginAt sizes.now keeps.old }
     requires none { posts.old ≡ [] }

@@ -15,7 +15,7 @@ loop-to-init c =
     record {
       first = ap (λ (k : ℕ). k + from * k) count;
       few = omega (arith, count, few);
-      listed = listed_first sizes zones base (λ to. event.Move from to) (move_is (length zones) from) c.receivers-receivers.result c.args.ready.now.items (no_move_past sizes zones from) c.requires.room
+      listed = listed_first sizes zones base (λ to. event.Move from to) (move_is (length zones) from) c.receivers-receivers.result c.args.ready.now (no_move_past sizes zones from) c.requires.room
           c.requires.ready c.receivers-receivers.ensures;
     }
 
@@ -25,9 +25,9 @@ loop-to-preserved c =
     let zones = c.args.core.now.zones in
     let from = c.args.from in
     let base : ℕ = length zones + from * length zones in
-    let items = c.loop-to.ready.items in
+    let items = c.loop-to.ready in
     let before = c.loop-to.invariant in
-    let all : items ++ (base + c.in-Some.to) ∷ [] ≡ c.push.new.self.items = ap (λ (k : ℕ). items ++ (k + c.in-Some.to) ∷ []) (sym before.first) ∙ sym c.push.ensures.items in
+    let all : items ++ (base + c.in-Some.to) ∷ [] ≡ c.push.new.self = ap (λ (k : ℕ). items ++ (k + c.in-Some.to) ∷ []) (sym before.first) ∙ sym c.push.ensures in
     record {
       first = before.first;
       few = before.few;
@@ -41,7 +41,7 @@ returns-clause-ready c =
     let zones = c.args.core.now.zones in
     let from = c.args.from in
     let base : ℕ = length zones + from * length zones in
-    let items = c.loop-to.ready.items in
+    let items = c.loop-to.ready in
     let last = c.loop-to.invariant in
     let order : base + length zones ≡ length zones + (from + 1) * length zones = omega arith in
     subst (λ (k : ℕ). AreReady sizes zones k (map (event_of (length zones)) items)) order

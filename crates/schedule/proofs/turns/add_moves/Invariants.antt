@@ -7,7 +7,7 @@ abbrev pub invariant-loop-to : goal.invariant-loop-to
 invariant-loop-to l = record {
   first : l.first ≡ length l.core.zones + l.from * length l.core.zones;
   few : length l.core.zones ≤ 11;
-  listed : Listed l.core.sizes l.core.zones (length l.core.zones + l.from * length l.core.zones) (λ to. event.Move l.from to) l.receivers l.ready.items;
+  listed : Listed l.core.sizes l.core.zones (length l.core.zones + l.from * length l.core.zones) (λ to. event.Move l.from to) l.receivers l.ready;
 }
 
 abbrev pub decreases-loop-to : goal.decreases-loop-to

@@ -8,10 +8,10 @@ pub loop-zone-preserved : goal.loop-zone-preserved
 loop-zone-preserved c =
     let sizes = c.args.core.now.sizes in
     let zones = c.args.core.now.zones in
-    let items = c.loop-zone.ready.items in
+    let items = c.loop-zone.ready in
     let before = c.loop-zone.invariant in
     let order : 0 + c.in-Some.zone ≡ c.in-Some.zone = omega arith in
-    let all : items ++ (0 + c.in-Some.zone) ∷ [] ≡ c.push.new.self.items = ap (λ (k : ℕ). items ++ k ∷ []) order ∙ sym c.push.ensures.items in
+    let all : items ++ (0 + c.in-Some.zone) ∷ [] ≡ c.push.new.self = ap (λ (k : ℕ). items ++ k ∷ []) order ∙ sym c.push.ensures in
     record {
       few = before.few;
       listed = subst (λ (ks : List ℕ). Listed sizes zones 0 (λ n. event.Step n) c.take_first.new.self ks) all
@@ -22,7 +22,7 @@ pub returns-clause-ready : goal.returns-clause-ready
 returns-clause-ready c =
     let sizes = c.args.core.now.sizes in
     let zones = c.args.core.now.zones in
-    let items = c.loop-zone.ready.items in
+    let items = c.loop-zone.ready in
     let last = c.loop-zone.invariant in
     let order : 0 + length zones ≡ length zones = omega arith in
     subst (λ (k : ℕ). AreReady sizes zones k (map (event_of (length zones)) items)) order

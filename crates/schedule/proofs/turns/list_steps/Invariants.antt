@@ -6,7 +6,7 @@ use Rattle.schedule.proofs.turns.list_steps.Given as goal
 abbrev pub invariant-loop-zone : goal.invariant-loop-zone
 invariant-loop-zone l = record {
   few : length l.core.zones ≤ 11;
-  listed : Listed l.core.sizes l.core.zones 0 (λ n. event.Step n) l.workers l.ready.items;
+  listed : Listed l.core.sizes l.core.zones 0 (λ n. event.Step n) l.workers l.ready;
 }
 
 abbrev pub decreases-loop-zone : goal.decreases-loop-zone

@@ -1,0 +1,59 @@
+ghost use Rattle.std.specs.Prelude.{◌≡◌, ◌<◌, [], ◌∷◌, ◌++◌, length};
+
+use std::marker::Model;
+
+/// How many events a core has at most: a step of each of eleven zones, and a move from each to each.
+const MOST_EVENTS: usize = 132;
+
+/// Numbers of events, in a list with room for those of any core, which is emptied without going over it. A contract
+/// sees the list.
+#[derive(Drop)]
+pub(crate) struct EventList {
+    numbers: [u8; MOST_EVENTS],
+    len: usize,
+}
+
+impl Model for EventList {
+    ghost use Rattle.std.specs.Prelude.{ℕ, ◌≤◌, List, take};
+
+    ghost Value = { List ℕ };
+
+    ghost view = { λ l. take l.len l.numbers };
+
+    ghost invariant = { λ l. l.len ≤ 132 };
+}
+
+impl EventList {
+    /// A list of none.
+    pub(crate) fn new() -> EventList
+        ensures { result ≡ [] }
+    {
+        EventList {
+            numbers: [0; MOST_EVENTS],
+            len: 0,
+        }
+    }
+
+    /// The numbers.
+    pub(crate) fn as_slice(&self) -> &[u8]
+        ensures { result.now ≡ self.now }
+    {
+        &self.numbers[..self.len]
+    }
+
+    /// Adds a number behind the others.
+    pub(crate) fn push(&mut self, number: u8)
+        requires { length self.old < 132 }
+        ensures { self.new ≡ self.old ++ number ∷ [] }
+    {
+        self.numbers[self.len] = number;
+        self.len += 1;
+    }
+
+    /// All numbers leave the list.
+    pub(crate) fn clear(&mut self)
+        ensures { self.new ≡ [] }
+    {
+        self.len = 0;
+    }
+}
