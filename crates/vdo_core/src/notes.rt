@@ -139,7 +139,9 @@ impl WorkNotes {
         }
     }
 
+    // Inlined, since a call would be a fifth of what it does.
     /// What is known after an event: only the zone that stepped, or from which and to which something moved, is looked at.
+    #[inline(always)]
     pub(crate) fn follow(&mut self, sizes: &Sizes, zones: &Zones, event: Event)
         requires can { AllCanStep sizes.now zones.now }
         requires few { length zones.now ≤ 11 }
