@@ -1,10 +1,11 @@
 -- Notes of answers and places: for each clause a note that it takes and one that it refuses.
 use Rattle.std.proofs.Common.{zero, suc, List, [], ◌∷◌, Some, None, refl, arith}
 use Rattle.blk_base.specs.declared.request.Answer.TheVariants as reply
+use Rattle.blk_base.specs.Forms.{writer}
 use Rattle.vdo_model.specs.declared.report.DeskLine.{DeskLine}
 use Rattle.vdo_model.specs.declared.report.DeskLine.TheVariants.{Begin, Answer}
 use Rattle.vdo_model.specs.declared.report.Placed.{Placed}
-use Rattle.answer_notes.specs.Notes.{IsNewestAnswer, NotesAnswer, NotesAnswers, NotesPlaces, writer}
+use Rattle.answer_notes.specs.Notes.{IsNewestAnswer, NotesAnswer, NotesAnswers, NotesPlaces}
 
 -- the first request is begun, answered Stopped and answered Ok; the second has no answer
 abbrev lines : List DeskLine

@@ -2,15 +2,12 @@
 use Rattle.std.specs.Prelude.{ℕ, ◌≡◌, ◌<◌, List, length, get_or, slice_get, Option, Some, None}
 use Rattle.blk_base.specs.declared.request.Answer.{Answer as Reply}
 use Rattle.blk_base.specs.declared.request.Writer.{Writer}
+use Rattle.blk_base.specs.Forms.{writer}
 use Rattle.vdo_model.specs.declared.report.DeskLine.{DeskLine}
 use Rattle.vdo_model.specs.declared.report.DeskLine.TheVariants.{Answer}
 use Rattle.vdo_model.specs.declared.report.Placed.{Placed}
 use Rattle.vdo_model.specs.DeskLog.{answer_of}
 use Rattle.vdo_model.specs.Places.{place_of}
-
--- the name of a request
-abbrev pub writer : ℕ → ℕ → Writer
-writer stream number = record { stream = stream; number = number }
 
 -- the line of this number, from 0, answers a request, and nothing answers it later
 pub record IsNewestAnswer (lines older : List DeskLine) (w : Writer) (at : ℕ) : Type 0 where

@@ -2,12 +2,12 @@
 use Rattle.std.proofs.Common.{ℕ, ◌≡◌, ◌+◌, ◌-◌, ◌*◌, ◌/◌, ◌%◌, ◌<◌, ◌≤◌, ◌↔◌, Bool, List, All, length, Contains, Some, Result, Ok, Err, IfOk, slice_index, refl, sym, ◌∙◌, ap, ap₂, subst, inr, arith}
 use Rattle.std.proofs.lemmas.Nat.{div-add-mod', mod_below, mul-add-lt, same_from_place}
 use Rattle.blk_base.specs.Counters.{limit_of}
-use Rattle.blk_base.specs.Regions.{first_slab_of, needed_blocks, slab_stride_of}
+use Rattle.blk_base.specs.Regions.{first_slab_of, needed_blocks, slab_stride_of, data_blocks as all_blocks}
 use Rattle.blk_base.specs.declared.geometry.Geometry.{Geometry}
 use Rattle.blk_base.specs.declared.geometry.Super.{Super as Superblock}
 use Rattle.blk_base.specs.declared.layout.DataPlace.{DataPlace}
 use Rattle.blk_base.specs.declared.journal_entry.CommittedEntry.{CommittedEntry}
-use Rattle.count_updates.specs.Numbers.{all_blocks, all_sectors, block_number}
+use Rattle.count_updates.specs.Numbers.{all_sectors, block_number}
 use Rattle.disk_model.specs.Log.{Blocks, block_at}
 use Rattle.disk_model.specs.Seen.{Seen}
 use Rattle.blk_base.specs.Limits.{IsGeometry}

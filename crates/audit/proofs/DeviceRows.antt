@@ -9,11 +9,12 @@ use Rattle.blk_base.specs.Counters.{sectors_per_slab}
 use Rattle.blk_base.specs.Regions.{ReferenceBlock, Root, SlabJournalSlot, block_of, references_of}
 use Rattle.blk_base.specs.Sectors.{zero_block}
 use Rattle.blk_base.specs.declared.place.Mapping.TheVariants.{Unmapped}
+use Rattle.blk_base.specs.Forms.{pbn}
 use Rattle.count_updates.specs.Numbers.{block_number}
 use Rattle.disk_model.specs.Log.{Blocks, block_at}
 use Rattle.disk_model.specs.Seen.{Seen}
 use Rattle.image_model.proofs.EmptyLaws.{blank_slot, no_commits, no_updates, none_kept_in_zeros, nothing_there, pages_good, root_says, the_image}
-use Rattle.image_model.proofs.Example.{pbn, small, small_is}
+use Rattle.image_model.proofs.Example.{small, small_is}
 use Rattle.image_model.specs.Counts.{Stores}
 use Rattle.image_model.specs.Empty.{HasNothing, empty_root, root_head}
 use Rattle.image_model.specs.Maps.{ArePagesGood}
@@ -22,11 +23,13 @@ use Rattle.image_model.proofs.ReadExample.{seen, next_failed, were_read, failed}
 use Rattle.page_codec.proofs.SpellingLaws.{page_size}
 use Rattle.replay_counts.specs.Recovered.{AreSlabsRead, HasCounts, Holds, no_points}
 use Rattle.replay_counts.specs.declared.forms.SectorPoints.{SectorPoints}
+use Rattle.replay_counts.proofs.ReadRows.{no_entries}
 use Rattle.replay_map.proofs.ReplayRows.{map_of_nothing}
 use Rattle.replay_map.specs.Reads.{BlocksRead, Reading, Shows}
 use Rattle.slab_reading.specs.Slabs.{first_of_slab}
+use Rattle.slab_reading.proofs.ReadRows.{zero_slab as five}
 use Rattle.audit.proofs.AcceptedRows.{its_report}
-use Rattle.audit.proofs.ReadExample.{head_is_read, head_of, no_entries, window_is_read}
+use Rattle.audit.proofs.ReadExample.{head_is_read, head_of, window_is_read}
 use Rattle.audit.specs.Audits.{AreBothRead, AuditFails, IsAudited, IsOpenedTo}
 use Rattle.audit.specs.Reads.{AreContents}
 use Rattle.audit.specs.declared.forms.Contents.{Contents}
@@ -60,9 +63,6 @@ roots_shown blocks (suc n) shown tree below = elim (cases_eq tree n) [
 ]
 
 -- the slab: a block of counters and four of its journal
-abbrev pub five : Blocks
-five = replicate 5 zero_block
-
 pub slab_read : (honest : Bool) → AreSlabsRead false honest small seen seen (five ∷ [])
 slab_read honest = record {
   count = refl;

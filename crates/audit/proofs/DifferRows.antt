@@ -5,16 +5,17 @@ use Rattle.std.proofs.lemmas.List.{drop-replicate, get_or-replicate, length-repl
 use Rattle.blk_base.proofs.SectorLaws.{zero_size}
 use Rattle.blk_base.specs.Regions.{Root, SlabJournalSlot, block_of}
 use Rattle.blk_base.specs.Sectors.{sector, zero_block}
-use Rattle.blk_base.specs.declared.layout.DataPlace.{DataPlace}
 use Rattle.blk_base.specs.declared.place.PageId.{PageId}
 use Rattle.blk_base.specs.declared.place.Pbn.{Pbn}
+use Rattle.blk_base.specs.Forms.{pbn}
+use Rattle.blk_base.proofs.Example.{place}
 use Rattle.byte_fields.proofs.FieldLaws.{number_at-drop}
 use Rattle.byte_fields.specs.Fields.{number_at}
 use Rattle.count_updates.specs.Numbers.{block_number}
 use Rattle.disk_model.specs.Log.{Blocks, block_at}
 use Rattle.image_model.proofs.CountLaws.{none_in_nothing, one_number, one_stored}
-use Rattle.image_model.proofs.EmptyLaws.{all_counted, blank_slot, no_updates, none_kept_in_zeros, not_shared, pages_good, root_says, stored_counter, the_image}
-use Rattle.image_model.proofs.Example.{pbn, small, small_is}
+use Rattle.image_model.proofs.EmptyLaws.{all_counted, blank_slot, no_updates, none_kept_in_zeros, not_shared, pages_good, root_says, stored_counter, the_image, zero_first}
+use Rattle.image_model.proofs.Example.{small, small_is}
 use Rattle.image_model.proofs.FaultRows.{zeros_unheaded}
 use Rattle.image_model.proofs.MapLaws.{page_in_range}
 use Rattle.image_model.specs.Counts.{HasMappings, Stores, block_of_data, counter_of, reference_sector_at}
@@ -27,19 +28,16 @@ use Rattle.image_model.specs.declared.fault.ImageFault.TheVariants.{Counter, Pag
 use Rattle.page_codec.specs.Grammar.{HasHead}
 use Rattle.page_codec.specs.declared.fault.PageFault.TheVariants.{Header}
 use Rattle.replay_counts.specs.Recovered.{Holds}
+use Rattle.replay_counts.proofs.ReadRows.{no_entries}
 use Rattle.replay_map.specs.Reads.{Shows}
 use Rattle.slab_reading.specs.Slabs.{first_of_slab}
 use Rattle.audit.proofs.DeviceRows.{none_told, opened_to, root_readings, roots_read, roots_shown}
-use Rattle.audit.proofs.ReadExample.{no_entries}
 use Rattle.image_model.proofs.ReadExample.{seen, were_read}
 use Rattle.audit.proofs.ReadExample as example
 use Rattle.audit.specs.Audits.{AreBothRead, AuditFails, IsAudited}
 use Rattle.audit.specs.Reports.{AreUsed, Differs, IsReport}
 use Rattle.audit.specs.declared.forms.Difference.{Difference}
 use Rattle.audit.specs.declared.forms.Report.{Report}
-
-abbrev place : ℕ → DataPlace
-place offset = record { slab = 0; offset = offset }
 
 -- A block of counters: the first data block has this one, and the others have 0.
 
@@ -56,11 +54,6 @@ first_counter = (refl, refl)
 no_commit : (number_at 8 0 (sector 0 (counters_with 1)) ≡ 0) × (number_at 8 0 (sector 0 (counters_with 255)) ≡ 0)
 unfolding number_at
 no_commit = (refl, refl)
-
-zero_first : (n : ℕ) → number_at 1 0 (replicate n 0) ≡ 0
-unfolding number_at
-zero_first zero = refl
-zero_first (suc n) = refl
 
 zeros_after : (c : ℕ) → drop 9 (sector 0 (counters_with c)) ≡ replicate 503 0
 zeros_after c = refl

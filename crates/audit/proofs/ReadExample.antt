@@ -1,5 +1,6 @@
 -- A small image, as a device gives it that doesn't tell which calls were made: its superblock, and a journal of zeros.
 use Rattle.std.proofs.Common.{◌≡◌, Bool, false, [], ◌∷◌, reverse, Ok, refl, inl, arith}
+use Rattle.replay_counts.proofs.ReadRows.{no_entries}
 use Rattle.blk_base.specs.declared.geometry.Super.{Super as Superblock}
 use Rattle.image_layout.proofs.AgainLaws.{written_again}
 use Rattle.image_layout.proofs.SpellingLaws.{super_size}
@@ -9,7 +10,6 @@ use Rattle.image_model.specs.Windows.{IsWindow}
 use Rattle.image_model.proofs.ReadExample.{seen, were_read, zeros_given, zero_journal, none_there}
 use Rattle.image_opening.specs.Heads.{IsHeadRead}
 use Rattle.journal_window.specs.Reads.{IsWindowRead}
-use Rattle.journal_window.specs.States.{WindowState}
 
 -- The superblock of a session that was closed, or wasn't.
 abbrev pub head_of : Bool → Superblock
@@ -24,9 +24,6 @@ head_is_read honest clean = record {
   read = were_read honest 0 (super_block (head_of clean) ∷ []) (super_size (head_of clean), (λ told. absurd (cc told)), tt);
   is = record { says = says_head clean; sizes = small_is; start = (omega arith, omega arith); room = omega arith };
 }
-
-abbrev pub no_entries : WindowState
-no_entries = record { last = 0; entries = [] }
 
 pub window_of_zeros : IsWindow small 1 zero_journal 0 []
 window_of_zeros = record {

@@ -10,8 +10,9 @@ use Rattle.blk_base.specs.Limits.{IsGeometry}
 use Rattle.blk_base.specs.declared.geometry.Geometry.{Geometry}
 use Rattle.blk_base.specs.declared.layout.DataPlace.{DataPlace}
 use Rattle.blk_base.specs.declared.place.Pbn.{Pbn}
+use Rattle.blk_base.specs.Regions.{data_blocks}
 use Rattle.count_updates.proofs.NumberLaws.{before_is_earlier, block_inside, earlier_below}
-use Rattle.count_updates.specs.Numbers.{all_blocks, block_number}
+use Rattle.count_updates.specs.Numbers.{block_number}
 use Rattle.image_model.proofs.CountLaws.{is_first_or_behind, none_in_nothing, one_number, one_stored}
 use Rattle.image_model.specs.Counts.{HasMappings, Stores, block_of_data, mapped_below}
 use Rattle.image_model.specs.Maps.{Image, ArePagesGood, mapping_of, page_at}
@@ -72,7 +73,7 @@ none_between g stored mapped first (suc count) same =
 module _ (g : Geometry) (sizes : IsGeometry g) where
   -- Numbers and places.
 
-  pub place_inside : (n : ℕ) → n < all_blocks g → IsDataPlace g (place_of_number g n)
+  pub place_inside : (n : ℕ) → n < data_blocks g → IsDataPlace g (place_of_number g n)
   place_inside n below = let some = sizes.slab_blocks.0 in (div_below n g.slab_blocks g.slabs (omega (arith, some)) below, mod_below n g.slab_blocks (omega (arith, some)))
 
   pub number_again : (n : ℕ) → block_number g (place_of_number g n) ≡ n
@@ -86,7 +87,7 @@ module _ (g : Geometry) (sizes : IsGeometry g) where
       ap₂ (λ (s o : ℕ). record { slab = s; offset = o }) parts.0 parts.1
 
   -- blocks rise with their numbers
-  block_rises : (m n : ℕ) → m < n → n < all_blocks g → (block_of_data g (place_of_number g m)).0 < (block_of_data g (place_of_number g n)).0
+  block_rises : (m n : ℕ) → m < n → n < data_blocks g → (block_of_data g (place_of_number g m)).0 < (block_of_data g (place_of_number g n)).0
   block_rises m n less below =
       let first = place_inside m (omega (arith, less, below)) in
       let second = place_inside n below in
@@ -147,7 +148,7 @@ module _ (g : Geometry) (sizes : IsGeometry g) where
           (subst (λ (ds : List Difference). Contains ds (row_of g stored mapped m)) (sym (row_there m differs)) (0, omega arith, refl)))
     ]
 
-    all_rise : (n : ℕ) → n ≤ all_blocks g → AreRising (differences_below g stored mapped n)
+    all_rise : (n : ℕ) → n ≤ data_blocks g → AreRising (differences_below g stored mapped n)
     all_rise zero within = tt
     all_rise (suc n) within = elim (eqb_tells (slice_index stored n) (mapped n)) [
       | inl same ↦ rw (same.0, append-nil) (all_rise n (omega (arith, within)))
@@ -166,7 +167,7 @@ module _ (g : Geometry) (sizes : IsGeometry g) where
 module _ (image : Image) (sizes : IsGeometry image.geometry) (links : List Link) (mapped : List Pbn) (stored : List ℕ) (tallies : ℕ → ℕ)
     (all_links : (link : Link) → Contains links link ↔ ((link.page.level + 1 < image.geometry.height) × (page_at image link.page ≡ Some link.at)))
     (all_mapped : (block : Pbn) → times block mapped ≡ mapped_below (mapping_of image) block (address_count image.geometry))
-    (size : length stored ≡ all_blocks image.geometry)
+    (size : length stored ≡ data_blocks image.geometry)
     (counts : (place : DataPlace) → IsDataPlace image.geometry place → Stores image place (Ok (slice_index stored (block_number image.geometry place))))
     (tallied : AreNumbers image.geometry links mapped tallies) where
   abbrev g : Geometry
@@ -184,9 +185,9 @@ module _ (image : Image) (sizes : IsGeometry image.geometry) (links : List Link)
         sum = is.sum ∙ ap (λ (n : ℕ). n + is.pages) (all_mapped (block_of_data g place));
       }
 
-  differs_there : (d : Difference) → Contains (differences_below g stored tallies (all_blocks g)) d → Differs image d
+  differs_there : (d : Difference) → Contains (differences_below g stored tallies (data_blocks g)) d → Differs image d
   differs_there d has =
-      let is = in_list g sizes stored tallies (all_blocks g) d has in
+      let is = in_list g sizes stored tallies (data_blocks g) d has in
       let place = place_of_number g is.0 in
       let inside = place_inside g sizes is.0 is.1 in
       let number = number_again g sizes is.0 in
@@ -200,7 +201,7 @@ module _ (image : Image) (sizes : IsGeometry image.geometry) (links : List Link)
         apart = is.3;
       })
 
-  listed_there : (d : Difference) → Differs image d → Contains (differences_below g stored tallies (all_blocks g)) d
+  listed_there : (d : Difference) → Differs image d → Contains (differences_below g stored tallies (data_blocks g)) d
   listed_there d is =
       let place = is.place in
       let n = block_number g place in
@@ -213,18 +214,18 @@ module _ (image : Image) (sizes : IsGeometry image.geometry) (links : List Link)
       let row : row_of g stored tallies n ≡ d =
       ap (λ (a : Pbn). record { at = a; stored = slice_index stored n; mapped = tallies n }) at_is
       ∙ ap₂ (λ (s m : ℕ). record { at = d.at; stored = s; mapped = m }) (sym stored_is) (sym mapped_is) in
-      subst (Contains (differences_below g stored tallies (all_blocks g))) row
-      (list_there g sizes stored tallies (all_blocks g) n below (λ same. is.apart (stored_is ∙ same ∙ sym mapped_is)))
+      subst (Contains (differences_below g stored tallies (data_blocks g))) row
+      (list_there g sizes stored tallies (data_blocks g) n below (λ same. is.apart (stored_is ∙ same ∙ sym mapped_is)))
 
-  pub is_report : (report : Report) → ArePagesGood image → AreUnshared image → report.differs.items ≡ differences_below g stored tallies (all_blocks g)
-      → report.used ≡ used_in stored → report.total ≡ all_blocks g → IsReport image report
+  pub is_report : (report : Report) → ArePagesGood image → AreUnshared image → report.differs.items ≡ differences_below g stored tallies (data_blocks g)
+      → report.used ≡ used_in stored → report.total ≡ data_blocks g → IsReport image report
   is_report report pages unshared list used all = record {
     right = record { pages = pages; stored = λ place inside. (slice_index stored (block_number g place), counts place inside); unshared = unshared };
     each = λ d. (
       λ has. differs_there d (subst (λ (ds : List Difference). Contains ds d) list has),
       λ is. subst (λ (ds : List Difference). Contains ds d) (sym list) (listed_there d is),
     );
-    rising = subst AreRising (sym list) (all_rise g sizes stored tallies (all_blocks g) (omega arith));
+    rising = subst AreRising (sym list) (all_rise g sizes stored tallies (data_blocks g) (omega arith));
     used = record { counts = stored; size = size; stored = counts; sum = used };
     all = all;
   }

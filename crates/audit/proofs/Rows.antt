@@ -8,11 +8,13 @@ use Rattle.blk_base.specs.Counters.{limit_of}
 use Rattle.blk_base.specs.declared.geometry.Geometry.{Geometry}
 use Rattle.blk_base.specs.declared.geometry.Super.{Super as Superblock}
 use Rattle.blk_base.specs.declared.place.Pbn.{Pbn}
-use Rattle.count_updates.specs.Numbers.{all_blocks, all_sectors}
+use Rattle.blk_base.specs.Forms.{pbn}
+use Rattle.blk_base.specs.Regions.{data_blocks}
+use Rattle.count_updates.specs.Numbers.{all_sectors}
 use Rattle.disk_model.specs.Seen.{Seen}
 use Rattle.disk_model.specs.Since.{reads_of}
 use Rattle.image_model.proofs.CountLaws.{none_in_nothing}
-use Rattle.image_model.proofs.Example.{pbn, small}
+use Rattle.image_model.proofs.Example.{small}
 use Rattle.image_model.specs.Maps.{Image, ArePagesGood}
 use Rattle.image_model.specs.Sound.{AreStored, AreUnshared}
 use Rattle.image_model.specs.declared.fault.ImageFault.TheVariants.{Window, Counts, Unclean}
@@ -142,7 +144,7 @@ named_twice rising = let less = rising.0.0 in omega (arith, less)
 used_of_none : (image : Image) (used : ℕ) → image.geometry ≡ small → (are : AreUsed image used) → are.counts ≡ [] → ⊥
 used_of_none image used same are none =
     let size = are.size in
-    let all = ap all_blocks same in
+    let all = ap data_blocks same in
     let length_is = ap length none in
     omega (arith, size, all, length_is)
 
@@ -177,7 +179,7 @@ out_of_order image report list is = let rising : AreRising (at 90 ∷ at 85 ∷ 
 
 -- all
 one_too_few : (image : Image) (report : Report) → image.geometry ≡ small → report.total ≡ 63 → IsReport image report → ⊥
-one_too_few image report same total is = let all = is.all ∙ ap all_blocks same in omega (arith, all, total)
+one_too_few image report same total is = let all = is.all ∙ ap data_blocks same in omega (arith, all, total)
 
 -- What was read. All slabs are read.
 no_slab_read : (tells honest : Bool) (head : Superblock) (seen : Seen) → head.geometry ≡ small → AreBothRead tells honest head seen seen [] [] → ⊥
@@ -211,7 +213,7 @@ module _ (tells honest : Bool) (head : Superblock) (window : WindowState) (befor
   entries_miscounted none seven = let entries = are.entries in let empty = ap length none in omega (arith, entries, empty, seven)
 
   count_left_out : head.geometry ≡ small → length contents.counts.counts.items ≡ 63 → ⊥
-  count_left_out same short = let blocks = are.blocks in let all = ap all_blocks same in omega (arith, blocks, all, short)
+  count_left_out same short = let blocks = are.blocks in let all = ap data_blocks same in omega (arith, blocks, all, short)
 
   points_left_out : head.geometry ≡ small → length contents.counts.sectors.items ≡ 0 → ⊥
   points_left_out same none = let sectors = are.sectors in let all = ap all_sectors same in omega (arith, sectors, all, none)

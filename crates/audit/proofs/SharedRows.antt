@@ -6,15 +6,17 @@ use Rattle.std.proofs.lemmas.Bool.{cases_eq}
 use Rattle.std.proofs.lemmas.Bool.Decides.{eqb_tells}
 use Rattle.std.proofs.lemmas.List.{get_or-replicate, length-replicate}
 use Rattle.std.proofs.lemmas.List.Elements.{All-cons, All-replicate}
+use Rattle.slab_reading.proofs.ReadRows.{zero_slab as five}
 use Rattle.blk_base.specs.Regions.{IsDataBlock, Root, block_of}
 use Rattle.blk_base.specs.declared.place.Mapping.{Mapping}
 use Rattle.blk_base.specs.declared.place.Mapping.TheVariants.{At, Unmapped}
-use Rattle.blk_base.specs.declared.place.PageId.{PageId}
 use Rattle.blk_base.specs.declared.place.Pbn.{Pbn}
+use Rattle.blk_base.specs.Forms.{pbn}
+use Rattle.blk_base.proofs.Example.{leaf}
 use Rattle.disk_model.specs.Log.{Blocks, block_at}
 use Rattle.disk_model.specs.Seen.{Seen}
-use Rattle.image_model.proofs.EmptyLaws.{none_kept_in_zeros, stored_zero, the_image}
-use Rattle.image_model.proofs.Example.{pbn, small}
+use Rattle.image_model.proofs.EmptyLaws.{none_kept_in_zeros, stored_zero, the_image, chosen}
+use Rattle.image_model.proofs.Example.{small, head_of_leaf as leaf_head}
 use Rattle.image_model.proofs.MapLaws.{guarded, page_in_range, slot_says_its_mapping}
 use Rattle.image_model.proofs.ReadExample.{seen, were_read}
 use Rattle.image_model.specs.Empty.{root_head}
@@ -26,11 +28,11 @@ use Rattle.page_codec.proofs.ReadLaws.{slots}
 use Rattle.page_codec.proofs.SpellingLaws.{page_size}
 use Rattle.page_codec.specs.Grammar.{AreHeld, HoldsMapping, IsSlot}
 use Rattle.page_codec.specs.PageBytes.{page_bytes}
-use Rattle.page_codec.specs.declared.forms.PageHead.{PageHead}
 use Rattle.replay_counts.specs.Recovered.{Holds}
+use Rattle.replay_counts.proofs.ReadRows.{no_entries}
 use Rattle.replay_map.specs.Reads.{BlocksRead, Reading, Shows}
-use Rattle.audit.proofs.DeviceRows.{counters_are, five, journals_are, none_told, opened_to, slab_read}
-use Rattle.audit.proofs.ReadExample.{head_of, no_entries}
+use Rattle.audit.proofs.DeviceRows.{counters_are, journals_are, none_told, opened_to, slab_read}
+use Rattle.audit.proofs.ReadExample.{head_of}
 use Rattle.audit.specs.Audits.{AuditFails}
 
 -- what the root of a tree says in its slots: that of the first tree leads to the leaf
@@ -44,12 +46,6 @@ root_mappings zero = At (pbn 85) ∷ replicate 811 Unmapped
 root_mappings (suc tree) = replicate 812 Unmapped
 
 -- and the leaf says the same as the first root
-abbrev leaf_page : PageId
-leaf_page = record { tree = 0; level = 0; index = 0 }
-
-abbrev leaf_head : PageHead
-leaf_head = record { geometry = small; page = leaf_page; at = pbn 85 }
-
 many : (tree : ℕ) → length (root_mappings tree) ≡ 812
 unfolding root_mappings
 many zero = let rest = length-replicate {A = Mapping} 811 Unmapped in omega (arith, rest)
@@ -124,10 +120,6 @@ led zero zero at is = (refl, refl, cc is)
 led zero (suc slot) at is = absurd (cc is)
 led (suc tree) slot at is = absurd (cc is)
 
-first_if : (b : Bool) (x at : Pbn) → (if b then Some x else None) ≡ Some at → (b ≡ true) × (x ≡ at)
-first_if true x at is = (refl, cc is)
-first_if false x at is = absurd (cc is)
-
 second_if : (b : Bool) (x at : Pbn) (mapping : Pbn → Mapping) → ◌≡◌ {A = Option Pbn} (elim (if b then Some x else None) [ Some root ↦ target_of (mapping root) | None ↦ None ]) (Some at)
     → (b ≡ true) × (target_of (mapping x) ≡ Some at)
 second_if true x at mapping is = (refl, is)
@@ -171,7 +163,7 @@ module _ (blocks : Blocks) (shown : Shows blocks all_readings) where
       inr (leads.0, refl, omega (arith, page, slot), leads.2)
   linked tree (suc zero) index at there =
       let linked_there = (guarded (nat_lt tree 60) (nat_lt 1 2) (linked_at image 0 (record { tree = tree; level = 1; index = index })) at there).2 in
-      let root = first_if (index == 0) (pbn (block_of small (Root tree))) at linked_there in
+      let root = chosen (index == 0) (pbn (block_of small (Root tree))) at linked_there in
       inl (refl, is_zero index root.0, root.1)
   linked tree (suc (suc level)) index at there =
       let range = page_in_range image (record { tree = tree; level = suc (suc level); index = index }) at there in
@@ -180,7 +172,7 @@ module _ (blocks : Blocks) (shown : Shows blocks all_readings) where
   good_root : (tree : ℕ) → tree < 60 → IsGoodPage image (record { tree = tree; level = 1; index = 0 }) (pbn (block_of small (Root tree)))
   good_root tree inside = record { headed = (root_slot tree 0 inside (omega arith)).headed; slots = λ slot below. inr (root_mapping tree slot, root_slot tree slot inside below) }
 
-  good_leaf : IsGoodPage image leaf_page (pbn 85)
+  good_leaf : IsGoodPage image leaf (pbn 85)
   good_leaf = record { headed = (leaf_slot 0 (omega arith)).headed; slots = λ slot below. inr (root_mapping 0 slot, leaf_slot slot below) }
 
   good_page : (tree level index : ℕ) (at : Pbn) → page_at image (record { tree = tree; level = level; index = index }) ≡ Some at → IsGoodPage image (record { tree = tree; level = level; index = index }) at
@@ -202,7 +194,7 @@ module _ (blocks : Blocks) (shown : Shows blocks all_readings) where
   good page at there = good_page page.tree page.level page.index at there
 
   -- the leaf stands at block 85, to which address 0 is mapped; no other block has a leaf
-  leaf_there : page_at image leaf_page ≡ Some (pbn 85)
+  leaf_there : page_at image leaf ≡ Some (pbn 85)
   unfolding root_mapping
   leaf_there = ap target_of (root_says 0 0 (omega arith) (omega arith))
 
@@ -210,7 +202,7 @@ module _ (blocks : Blocks) (shown : Shows blocks all_readings) where
   unfolding root_mapping
   mapped_there =
       let said : mapping_in (block_at blocks 85) 0 ≡ At (pbn 85) = slot_says_its_mapping leaf_head (block_at blocks 85) 0 (At (pbn 85)) (leaf_slot 0 (omega arith)) in
-      ap (λ (o : Option Pbn). elim o [ Some at ↦ says image leaf_page at 0 | None ↦ Unmapped ]) leaf_there ∙ said
+      ap (λ (o : Option Pbn). elim o [ Some at ↦ says image leaf at 0 | None ↦ Unmapped ]) leaf_there ∙ said
 
   at_85 : (tree level index : ℕ) (at : Pbn) → level < 1 → page_at image (record { tree = tree; level = level; index = index }) ≡ Some at → 85 ≡ at.0
   at_85 tree level index at low there = elim (linked tree level index at there) [
@@ -220,7 +212,7 @@ module _ (blocks : Blocks) (shown : Shows blocks all_readings) where
 
   shared : IsShareFault image (pbn 85)
   shared = record {
-    page = (leaf_page, omega arith, leaf_there);
+    page = (leaf, omega arith, leaf_there);
     address = 0;
     mapped = mapped_there;
     first = λ other address before (page, low, there) mapped. let is = at_85 page.tree page.level page.index other (omega (arith, low)) there in omega (arith, is, before);

@@ -11,13 +11,13 @@ use Rattle.std.proofs.Math.ListN.{get_or-append}
 use Rattle.std.proofs.Math.Seq.{get_or-append_right}
 use Rattle.std.proofs.lemmas.List.{get_or-set_same, get_or-set_other, get_or-replicate, take_more}
 use Rattle.std.proofs.lemmas.List.Elements.{Contains-append_left, Contains-append_right, Contains-append_cases}
-use Rattle.blk_base.specs.Regions.{DataBlock, IsDataBlock}
+use Rattle.blk_base.specs.Regions.{DataBlock, IsDataBlock, data_blocks}
 use Rattle.blk_base.proofs.RegionLaws.{apart}
 use Rattle.blk_base.specs.declared.geometry.Geometry.{Geometry}
 use Rattle.blk_base.specs.declared.layout.DataPlace.{DataPlace}
 use Rattle.blk_base.specs.declared.place.Pbn.{Pbn}
 use Rattle.count_updates.proofs.NumberLaws.{block_inside}
-use Rattle.count_updates.specs.Numbers.{all_blocks, block_number}
+use Rattle.count_updates.specs.Numbers.{block_number}
 use Rattle.image_model.proofs.CountLaws.{is_first_or_behind, none_in_nothing}
 use Rattle.image_model.specs.Counts.{block_of_data}
 use Rattle.image_model.specs.Sound.{IsDataPlace}
@@ -55,7 +55,7 @@ changed_at g at change old new place n inside stands number is rest = record {
 }
 
 -- in a list
-pub changed_by : (g : Geometry) (at : Pbn) (change : ℕ → ℕ) (old : List ℕ) (place : DataPlace) (n v : ℕ) → length old ≡ all_blocks g → IsDataPlace g place → block_of_data g place ≡ at
+pub changed_by : (g : Geometry) (at : Pbn) (change : ℕ → ℕ) (old : List ℕ) (place : DataPlace) (n v : ℕ) → length old ≡ data_blocks g → IsDataPlace g place → block_of_data g place ≡ at
     → n ≡ block_number g place → v ≡ change (slice_index old n) → IsChanged g at change (slice_index old) (slice_index (slice_set old n v))
 changed_by g at change old place n v size inside stands number is =
     let below = block_inside g place inside in
@@ -70,11 +70,11 @@ changed_nothing g at change old none = record {
 
 -- Pages.
 
-pub none_tallied : (g : Geometry) (counts : List ℕ) → counts ≡ replicate (all_blocks g) 0 → AreNumbers g [] [] (slice_index counts)
+pub none_tallied : (g : Geometry) (counts : List ℕ) → counts ≡ replicate (data_blocks g) 0 → AreNumbers g [] [] (slice_index counts)
 none_tallied g counts zeros = λ place inside. record {
   pages = 0;
   one_page = inr (refl, λ linked. none_in_nothing linked.0 linked.1);
-  sum = ap (λ (ns : List ℕ). slice_index ns (block_number g place)) zeros ∙ get_or-replicate (all_blocks g) (block_number g place) 0 0 (block_inside g place inside);
+  sum = ap (λ (ns : List ℕ). slice_index ns (block_number g place)) zeros ∙ get_or-replicate (data_blocks g) (block_number g place) 0 0 (block_inside g place inside);
 }
 
 -- the same numbers, told otherwise
@@ -248,7 +248,7 @@ listed_more counts n old new count size each is more = (
   ],
 )
 
-pub tallied_list : (g : Geometry) (links : List Link) (mapped : List Pbn) (counts : ℕ → ℕ) (n : ℕ) (list : List ℕ) → n ≡ all_blocks g → length list ≡ n
+pub tallied_list : (g : Geometry) (links : List Link) (mapped : List Pbn) (counts : ℕ → ℕ) (n : ℕ) (list : List ℕ) → n ≡ data_blocks g → length list ≡ n
     → ((k : ℕ) → k < n → slice_index list k ≡ counts k) → AreNumbers g links mapped counts → AreTallied g links mapped list
 tallied_list g links mapped counts n list all size same are = record {
   size = size ∙ all;

@@ -2,7 +2,8 @@
 use Rattle.std.specs.Prelude.{◌≡◌, ◌≤◌, Bool, All, length}
 use Rattle.blk_base.specs.Counters.{limit_of}
 use Rattle.blk_base.specs.declared.geometry.Super.{Super as Superblock}
-use Rattle.count_updates.specs.Numbers.{all_blocks, all_sectors}
+use Rattle.blk_base.specs.Regions.{data_blocks}
+use Rattle.count_updates.specs.Numbers.{all_sectors}
 use Rattle.disk_model.specs.Seen.{Seen}
 use Rattle.journal_window.specs.States.{WindowState}
 use Rattle.replay_counts.specs.Recovered.{HasCounts}
@@ -14,7 +15,7 @@ use Rattle.audit.specs.declared.forms.Contents.{Contents}
 -- no count is above the limit
 pub record AreContents (tells honest : Bool) (head : Superblock) (window : WindowState) (before now : Seen) (contents : Contents) : Type 0 where
   pub entries : contents.map.entries ≡ length window.entries
-  pub blocks : length contents.counts.counts.items ≡ all_blocks head.geometry
+  pub blocks : length contents.counts.counts.items ≡ data_blocks head.geometry
   pub sectors : length contents.counts.sectors.items ≡ all_sectors head.geometry
   pub limit : All (λ count. count ≤ limit_of head.geometry) contents.counts.counts.items
   pub shown : BothShow tells honest head window before now

@@ -2,7 +2,8 @@
 use Rattle.std.specs.Prelude.{ℕ, ◌≡◌, ◌<◌, ◌↔◌, List, [], ◌∷◌, length, Contains, Ok, slice_index}
 use Rattle.std.specs.List.{AllByRecursion}
 use Rattle.blk_base.specs.declared.layout.DataPlace.{DataPlace}
-use Rattle.count_updates.specs.Numbers.{all_blocks, block_number}
+use Rattle.blk_base.specs.Regions.{data_blocks}
+use Rattle.count_updates.specs.Numbers.{block_number}
 use Rattle.image_model.specs.Counts.{HasMappings, Stores, block_of_data}
 use Rattle.image_model.specs.Maps.{Image, ArePagesGood}
 use Rattle.image_model.specs.Sound.{AreStored, AreUnshared, IsDataPlace}
@@ -34,7 +35,7 @@ AreRising (difference ∷ later) = AllByRecursion (λ (other : Difference). diff
 -- so many data blocks have a stored count above 0
 pub record AreUsed (image : Image) (used : ℕ) : Type 0 where
   pub counts : List ℕ
-  pub size : length counts ≡ all_blocks image.geometry
+  pub size : length counts ≡ data_blocks image.geometry
   pub stored : (place : DataPlace) → IsDataPlace image.geometry place → Stores image place (Ok (slice_index counts (block_number image.geometry place)))
   pub sum : used ≡ used_in counts
 
@@ -44,4 +45,4 @@ pub record IsReport (image : Image) (report : Report) : Type 0 where
   pub each : (difference : Difference) → Contains report.differs.items difference ↔ Differs image difference
   pub rising : AreRising report.differs.items
   pub used : AreUsed image report.used
-  pub all : report.total ≡ all_blocks image.geometry
+  pub all : report.total ≡ data_blocks image.geometry

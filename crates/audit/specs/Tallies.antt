@@ -5,7 +5,8 @@ use Rattle.std.specs.Ordering.{nat_cmp}
 use Rattle.blk_base.specs.declared.geometry.Geometry.{Geometry}
 use Rattle.blk_base.specs.declared.layout.DataPlace.{DataPlace}
 use Rattle.blk_base.specs.declared.place.Pbn.{Pbn}
-use Rattle.count_updates.specs.Numbers.{all_blocks, block_number}
+use Rattle.blk_base.specs.Regions.{data_blocks}
+use Rattle.count_updates.specs.Numbers.{block_number}
 use Rattle.image_model.specs.Counts.{block_of_data}
 use Rattle.image_model.specs.Sound.{IsDataPlace}
 use Rattle.plain_laws.specs.Sums.{bit, total}
@@ -30,7 +31,7 @@ AreNumbers g links mapped counts = (place : DataPlace) → IsDataPlace g place �
 
 -- the same as a list
 pub record AreTallied (g : Geometry) (links : List Link) (mapped : List Pbn) (counts : List ℕ) : Type 0 where
-  pub size : length counts ≡ all_blocks g
+  pub size : length counts ≡ data_blocks g
   pub each : (place : DataPlace) → IsDataPlace g place → Tallies links mapped (block_of_data g place) (slice_index counts (block_number g place))
 
 -- the number of this data block was changed so, and no other

@@ -1,7 +1,6 @@
 ghost use Rattle.std.specs.Prelude.{◌≡◌, ◌≤◌, ◌<◌, ◌^◌, IfOk, IfErr, length};
 ghost use Rattle.blk_base.specs.Limits.{IsGeometry};
-ghost use Rattle.blk_base.specs.Regions.{needed_blocks};
-ghost use Rattle.count_updates.specs.Numbers.{all_blocks};
+ghost use Rattle.blk_base.specs.Regions.{needed_blocks, data_blocks};
 ghost use Rattle.disk_model.specs.Log.{Blocks};
 ghost use Rattle.disk_model.specs.Since.{IsUntouched};
 ghost use Rattle.image_model.specs.Maps.{Image};
@@ -81,7 +80,7 @@ pub fn report_of(
     map: &RecoveredMap,
     counts: &RecoveredCounts,
 ) -> Result<Report, AllocError>
-    requires { length counts.now.counts.items ≡ all_blocks layout.now.geometry }
+    requires { length counts.now.counts.items ≡ data_blocks layout.now.geometry }
     ensures report { IfOk result (λ report.
         (image : Image) → image.geometry ≡ layout.now.geometry → HasMap image map.now
         → HasCounts image counts.now.counts.items counts.now.sectors.items →

@@ -1,6 +1,6 @@
 ghost use Rattle.std.specs.Prelude.{◌≡◌, ◌++◌, ◌+◌, ◌*◌, ◌<◌, ◌≤◌, ◌^◌, ℕ, length, slice_index, IfOk, OnOk};
 ghost use Rattle.std.specs.Bool.{OnTrue};
-ghost use Rattle.count_updates.specs.Numbers.{all_blocks};
+ghost use Rattle.blk_base.specs.Regions.{data_blocks};
 ghost use Rattle.audit.specs.Tallies.{IsSplit, difference_in, differences_below, number_in, used_in};
 
 use crate::tallies::MappingCounts;
@@ -16,16 +16,16 @@ pub(crate) fn compare(
     stored: &[u16],
     mapped: &MappingCounts,
 ) -> Result<Report, AllocError>
-    requires stored { length stored.now ≡ all_blocks layout.now.geometry }
-    requires mapped { length mapped.now.low.items ≡ all_blocks layout.now.geometry }
-    requires few { (n : ℕ) → n < all_blocks layout.now.geometry → number_in mapped.now n < 2 ^ 64 }
+    requires stored { length stored.now ≡ data_blocks layout.now.geometry }
+    requires mapped { length mapped.now.low.items ≡ data_blocks layout.now.geometry }
+    requires few { (n : ℕ) → n < data_blocks layout.now.geometry → number_in mapped.now n < 2 ^ 64 }
     requires split { IsSplit mapped.now }
     ensures differs { IfOk result (λ report.
         report.differs.items
         ≡ differences_below layout.now.geometry stored.now (number_in mapped.now)
-        (all_blocks layout.now.geometry)) }
+        (data_blocks layout.now.geometry)) }
     ensures used { IfOk result (λ report. report.used ≡ used_in stored.now) }
-    ensures total { IfOk result (λ report. report.total ≡ all_blocks layout.now.geometry) }
+    ensures total { IfOk result (λ report. report.total ≡ data_blocks layout.now.geometry) }
     ensures few { IfOk result (λ report. length report.differs.items < 2 ^ 32) }
 {
     let used = count_used(stored);
@@ -50,9 +50,9 @@ fn push_slab(
     slab: u32,
 ) -> Result<(), AllocError>
     requires inside { slab < layout.now.geometry.slabs }
-    requires stored { length stored.now ≡ all_blocks layout.now.geometry }
-    requires mapped { length mapped.now.low.items ≡ all_blocks layout.now.geometry }
-    requires few { (n : ℕ) → n < all_blocks layout.now.geometry → number_in mapped.now n < 2 ^ 64 }
+    requires stored { length stored.now ≡ data_blocks layout.now.geometry }
+    requires mapped { length mapped.now.low.items ≡ data_blocks layout.now.geometry }
+    requires few { (n : ℕ) → n < data_blocks layout.now.geometry → number_in mapped.now n < 2 ^ 64 }
     requires split { IsSplit mapped.now }
     requires before { differs.old.items
         ≡ differences_below layout.now.geometry stored.now (number_in mapped.now)
@@ -120,9 +120,9 @@ fn push_difference(
     mapped: &MappingCounts,
     n: u32,
 ) -> Result<(), AllocError>
-    requires inside { n < all_blocks layout.now.geometry }
-    requires stored { length stored.now ≡ all_blocks layout.now.geometry }
-    requires mapped { length mapped.now.low.items ≡ all_blocks layout.now.geometry }
+    requires inside { n < data_blocks layout.now.geometry }
+    requires stored { length stored.now ≡ data_blocks layout.now.geometry }
+    requires mapped { length mapped.now.low.items ≡ data_blocks layout.now.geometry }
     requires few { number_in mapped.now n < 2 ^ 64 }
     ensures { OnOk result
         (differs.new.items ≡ differs.old.items

@@ -1,7 +1,7 @@
 ghost use Rattle.std.specs.Prelude.{◌≡◌, ◌+◌, ◌-◌, ◌^◌, ◌<◌, ℕ, List, [], length, replicate, IfOk, OnOk, IfSome, IfNone, slice_index};
-ghost use Rattle.blk_base.specs.Regions.{IsDataBlock};
+ghost use Rattle.blk_base.specs.Regions.{IsDataBlock, data_blocks};
 ghost use Rattle.blk_base.specs.declared.layout.DataPlace.{DataPlace as Place};
-ghost use Rattle.count_updates.specs.Numbers.{all_blocks, block_number};
+ghost use Rattle.count_updates.specs.Numbers.{block_number};
 ghost use Rattle.image_model.specs.Counts.{block_of_data};
 ghost use Rattle.image_model.specs.Sound.{IsDataPlace};
 ghost use Rattle.replay_map.specs.declared.links.Link.{Link as Page};
@@ -87,11 +87,11 @@ pub(crate) fn count_mappings(
 ) -> Result<MappingCounts, AllocError>
     requires { length mapped.now < 2 ^ 63 }
     ensures size { IfOk result (λ tally.
-        length tally.low.items ≡ all_blocks layout.now.geometry) }
+        length tally.low.items ≡ data_blocks layout.now.geometry) }
     ensures tallied { IfOk result (λ tally.
         AreNumbers layout.now.geometry links.now mapped.now (number_in tally)) }
     ensures few { IfOk result (λ tally.
-        (n : ℕ) → n < all_blocks layout.now.geometry → number_in tally n < 2 ^ 64) }
+        (n : ℕ) → n < data_blocks layout.now.geometry → number_in tally n < 2 ^ 64) }
     ensures split { IfOk result IsSplit }
 {
     let mut low = repeated(alloc, 0, layout.data_blocks() as usize)?;
@@ -106,7 +106,7 @@ pub(crate) fn count_mappings(
 
 // Puts 1 where a page stands.
 fn mark_all(counts: &mut [u8], layout: &Layout, links: &[Link])
-    requires { counts.old ≡ replicate (all_blocks layout.now.geometry) 0 }
+    requires { counts.old ≡ replicate (data_blocks layout.now.geometry) 0 }
     ensures { AreNumbers layout.now.geometry links.now [] (slice_index counts.new) }
 {
     for link in links {
@@ -117,7 +117,7 @@ fn mark_all(counts: &mut [u8], layout: &Layout, links: &[Link])
 // Adds one for each mapped block.
 fn count_all(tally: &mut MappingCounts, layout: &Layout, mapped: &[Pbn]) -> Result<(), AllocError>
     requires few { length mapped.now < 2 ^ 63 }
-    requires size { length tally.old.low.items ≡ all_blocks layout.now.geometry }
+    requires size { length tally.old.low.items ≡ data_blocks layout.now.geometry }
     requires tallied { (pages : List Page)
         × AreNumbers layout.now.geometry pages [] (number_in tally.old) }
     ensures size { length tally.new.low.items ≡ length tally.old.low.items }
@@ -134,7 +134,7 @@ fn count_all(tally: &mut MappingCounts, layout: &Layout, mapped: &[Pbn]) -> Resu
 
 // Puts 1 for this block.
 fn mark(counts: &mut [u8], layout: &Layout, at: Pbn)
-    requires { length counts.old ≡ all_blocks layout.now.geometry }
+    requires { length counts.old ≡ data_blocks layout.now.geometry }
     ensures { IsChanged layout.now.geometry at (λ n. 1)
         (slice_index counts.old) (slice_index counts.new) }
 {
@@ -145,7 +145,7 @@ fn mark(counts: &mut [u8], layout: &Layout, at: Pbn)
 
 // Adds one for this block.
 fn count(tally: &mut MappingCounts, layout: &Layout, at: Pbn) -> Result<(), AllocError>
-    requires size { length tally.old.low.items ≡ all_blocks layout.now.geometry }
+    requires size { length tally.old.low.items ≡ data_blocks layout.now.geometry }
     requires room { (place : Place) → IsDataPlace layout.now.geometry place →
         number_in tally.old (block_number layout.now.geometry place) < 2 ^ 64 - 1 }
     ensures size { length tally.new.low.items ≡ length tally.old.low.items }

@@ -1,8 +1,10 @@
--- When two pages are the same.
+-- When two pages are the same, and when two blocks are.
 use Rattle.std.specs.Prelude.{ℕ, ◌≡◌, ◌≢◌, ◌⊎◌}
 use Rattle.std.proofs.Common.{◌∙◌, ap, inl, inr}
 use Rattle.std.proofs.lemmas.Bool.Decides.{eqb_tells}
+use Rattle.blk_base.specs.declared.place.Mapping.TheVariants.{At}
 use Rattle.blk_base.specs.declared.place.PageId.{PageId}
+use Rattle.blk_base.specs.declared.place.Pbn.{Pbn}
 
 pub same_page : (p q : PageId) → p.tree ≡ q.tree → p.level ≡ q.level → p.index ≡ q.index → p ≡ q
 same_page p q tree level index =
@@ -22,3 +24,7 @@ same_or_not p q =
       ]
       | inr differs ↦ inr (λ same. differs.1 (ap (λ (r : PageId). r.tree) same))
     ]
+
+-- a mapping names one block
+pub same_block : (x y : Pbn) → At x ≡ At y → x ≡ y
+same_block x y is = cc

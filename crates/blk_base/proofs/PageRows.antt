@@ -4,9 +4,7 @@ use Rattle.std.specs.declared.cmp.Ordering.TheVariants.{Less, Equal, Greater}
 use Rattle.blk_base.specs.Pages.{above, leaf_of, page_above, page_below, page_order, root_page, slot_of, slot_of_address}
 use Rattle.blk_base.specs.declared.geometry.Geometry.{Geometry}
 use Rattle.blk_base.specs.declared.place.PageId.{PageId}
-
-abbrev page : ℕ → ℕ → ℕ → PageId
-page tree level index = record { tree = tree; level = level; index = index }
+use Rattle.blk_base.specs.Forms.{page}
 
 root_is : (g : Geometry) → g.height ≡ 3 → root_page g 5 ≡ page 5 2 0
 root_is g high = ap (λ (height : ℕ). page 5 (height - 1) 0) high

@@ -5,3 +5,4 @@ pub mod Limits
 pub mod Counters
 pub mod Regions
 pub mod Pages
+pub mod Forms

@@ -25,6 +25,10 @@ first_slab_of g = first_index_of g + g.index
 abbrev pub slab_start_of : Geometry → ℕ → ℕ
 slab_start_of g slab = first_slab_of g + slab * slab_stride_of g
 
+-- how many data blocks there are
+abbrev pub data_blocks : Geometry → ℕ
+data_blocks g = g.slabs * g.slab_blocks
+
 -- how many blocks the image takes
 abbrev pub needed_blocks : Geometry → ℕ
 needed_blocks g = first_slab_of g + g.slabs * slab_stride_of g

@@ -6,7 +6,7 @@ use Rattle.std.proofs.lemmas.Bool.Decides.{eqb_tells}
 use Rattle.std.proofs.lemmas.List.Elements.{All-cons, All-nil}
 use Rattle.std.proofs.lemmas.Option.{none-some}
 use Rattle.blk_base.proofs.PageIdLaws.{same_page}
-use Rattle.blk_base.proofs.Example.{small}
+use Rattle.blk_base.proofs.Example.{small, leaf, root as inner}
 use Rattle.blk_base.specs.declared.opened.Opened.{Opened}
 use Rattle.blk_base.specs.declared.opened.OpenedPage.{OpenedPage}
 use Rattle.blk_base.specs.declared.place.Mapping.{Mapping}
@@ -14,6 +14,7 @@ use Rattle.blk_base.specs.declared.place.Mapping.TheVariants.{At, Unmapped, Zero
 use Rattle.blk_base.specs.declared.place.PageId.{PageId}
 use Rattle.blk_base.specs.declared.place.Pbn.{Pbn}
 use Rattle.blk_base.specs.Pages.{above, slot_of}
+use Rattle.blk_base.specs.Forms.{point as p, pbn as b}
 use Rattle.dirty_pages.specs.DirtyPoints.{clean, dirty_points_at}
 use Rattle.dirty_pages.specs.declared.dirty_points.DirtyPoints.{DirtyPoints}
 use Rattle.page_codec.specs.Grammar.{AreHeld}
@@ -21,7 +22,7 @@ use Rattle.block_map_tree.specs.declared.forms.Forest.{Forest}
 use Rattle.block_map_tree.specs.OpenedTree.{AreEnough, IsLed, IsListed, IsOpened, IsOpening, IsPlaced, IsTakenOver, all_trees, blank, forest_of}
 use Rattle.block_map_tree.specs.Pages.{IsInner, IsLower, IsOnPath, IsRoot, IsTreeOf}
 use Rattle.block_map_tree.specs.Tree.{IsAt, as_root, by_link, mapping_of, mappings_of, number_of, row_of}
-use Rattle.block_map_tree.proofs.TreeRows.{b, dirty_tree, p, forest, held, held_at, inner, inner_at, inner_below, inner_is, is_root, leaf, linked, linked_is, none_behind, own, page_with, root, root_at, tree_of}
+use Rattle.block_map_tree.proofs.TreeRows.{dirty_tree, forest, held, held_at, inner_at, inner_below, inner_is, is_root, linked, linked_is, none_behind, own, page_with, root, root_at, tall, tree_of}
 
 -- forest_of, all_trees
 
@@ -178,15 +179,15 @@ opened_twice is = is.once 1 2 root_page (omega arith) (omega arith) refl
 
 -- inner
 opened_with_a_leaf : IsOpened forest (root_page ∷ inner_page ∷ record { page = leaf; at = b 90; mappings = page_with Unmapped } ∷ []) → ⊥
-opened_with_a_leaf is = omega (arith, (is.inner 2 root_page (omega arith) own).level)
+opened_with_a_leaf is = omega (arith, (is.inner 2 root_page (omega arith) (own tall)).level)
 
 -- placed
 opened_elsewhere : IsOpened forest (record root_page { at = b 10 } ∷ inner_page ∷ []) → ⊥
-opened_elsewhere is = root_misplaced (record root_page { at = b 10 } ∷ inner_page ∷ []) (is.placed 0 root_page (omega arith) own)
+opened_elsewhere is = root_misplaced (record root_page { at = b 10 } ∷ inner_page ∷ []) (is.placed 0 root_page (omega arith) (own tall))
 
 -- held: zeros stand in leaves alone
 opened_with_zeros : IsOpened forest (root_page ∷ record inner_page { mappings = page_with Zero } ∷ []) → ⊥
-opened_with_zeros is = omega (arith, (is.held 1 root_page (omega arith) own).each 0 Unmapped (omega arith))
+opened_with_zeros is = omega (arith, (is.held 1 root_page (omega arith) (own tall)).each 0 Unmapped (omega arith))
 
 -- roots
 opened_without_root : IsOpened forest [] → ⊥
@@ -265,12 +266,12 @@ opening_without_dirty_points is = omega (arith, is.form.dirty_points)
 -- taken
 opening_with_another_link : IsOpening forest pages (tree_of (At (b 87)) (At (b 91)) clean clean) → ⊥
 unfolding block_in
-opening_with_another_link is = omega (arith, ap (λ (ms : List Mapping). block_in (slice_index_or ms 0 Unmapped)) (is.taken 1 root_page (omega arith) own))
+opening_with_another_link is = omega (arith, ap (λ (ms : List Mapping). block_in (slice_index_or ms 0 Unmapped)) (is.taken 1 root_page (omega arith) (own tall)))
 
 -- placed
 opening_elsewhere : IsOpening forest (root_page ∷ record inner_page { at = b 88 } ∷ []) linked → ⊥
 unfolding block_in
-opening_elsewhere is = never (is.placed 1 root_page (omega arith) own)
+opening_elsewhere is = never (is.placed 1 root_page (omega arith) (own tall))
   where
     never : IsAt linked inner (b 88) → ⊥
     never (as_root top here) = omega (arith, top.level)
@@ -322,10 +323,10 @@ more_than_there_are : AreEnough forest pages 814 → ⊥
 more_than_there_are are = omega (arith, are.most)
 
 too_few_for_a_path : AreEnough forest [] 1 → ⊥
-too_few_for_a_path are = omega (arith, are.paths inner (record { address = 0; inside = omega arith; level = omega arith; there = refl; tree = own }) (omega arith))
+too_few_for_a_path are = omega (arith, are.paths inner (record { address = 0; inside = omega arith; level = omega arith; there = refl; tree = own tall }) (omega arith))
 
 too_few_for_a_page : AreEnough forest (record inner_page { page = record inner { index = 1 } } ∷ []) 2 → ⊥
-too_few_for_a_page are = omega (arith, are.opened_too 0 root_page (omega arith) own)
+too_few_for_a_page are = omega (arith, are.opened_too 0 root_page (omega arith) (own tall))
 
 -- blank
 
@@ -354,7 +355,7 @@ first_taken = record {
 
     others_stay : (n : ℕ) → ((k : ℕ) (d : OpenedPage) → k < 1 → IsTreeOf forest (slice_index_or pages k d).page.tree → number_of forest (slice_index_or pages k d).page ≡ n → ⊥)
         → slice_index_or (page_with (At (b 87)) ∷ nothing ∷ []) n [] ≡ slice_index_or (nothing ∷ nothing ∷ []) n []
-    others_stay zero none = absurd (none 0 root_page (omega arith) own refl)
+    others_stay zero none = absurd (none 0 root_page (omega arith) (own tall) refl)
     others_stay (suc zero) none = refl
     others_stay (suc (suc k)) none = refl
 
@@ -372,14 +373,14 @@ last_taken = record {
     taken : (k : ℕ) (d : OpenedPage) → k < 2 → IsTreeOf forest (slice_index_or again k d).page.tree
         → ((j : ℕ) → k < j → j < 2 → IsTreeOf forest (slice_index_or again j d).page.tree → number_of forest (slice_index_or again j d).page ≡ number_of forest (slice_index_or again k d).page → ⊥)
         → slice_index_or (nothing ∷ page_with (At (b 91)) ∷ []) (number_of forest (slice_index_or again k d).page) [] ≡ (slice_index_or again k d).mappings
-    taken zero d below is last = absurd (last 1 (omega arith) (omega arith) own refl)
+    taken zero d below is last = absurd (last 1 (omega arith) (omega arith) (own tall) refl)
     taken (suc zero) d below is last = refl
     taken (suc (suc k)) d below is last = absurd (omega (arith, below))
 
     others_stay : (n : ℕ) → ((k : ℕ) (d : OpenedPage) → k < 2 → IsTreeOf forest (slice_index_or again k d).page.tree → number_of forest (slice_index_or again k d).page ≡ n → ⊥)
         → slice_index_or (nothing ∷ page_with (At (b 91)) ∷ []) n [] ≡ slice_index_or (nothing ∷ nothing ∷ []) n []
     others_stay zero none = refl
-    others_stay (suc zero) none = absurd (none 0 root_page (omega arith) own refl)
+    others_stay (suc zero) none = absurd (none 0 root_page (omega arith) (own tall) refl)
     others_stay (suc (suc k)) none = refl
 
 -- size
@@ -393,11 +394,11 @@ taken_with_zeros is = omega (arith, (is.held (All-cons (AreHeld forest.geometry 
 -- taken
 not_taken : IsTakenOver forest pages 1 (nothing ∷ nothing ∷ []) (nothing ∷ nothing ∷ []) → ⊥
 unfolding block_in
-not_taken is = omega (arith, ap (λ (ms : List Mapping). block_in (slice_index_or ms 0 Unmapped)) (is.taken 0 root_page (omega arith) own (λ j above below. absurd (omega (arith, above, below)))))
+not_taken is = omega (arith, ap (λ (ms : List Mapping). block_in (slice_index_or ms 0 Unmapped)) (is.taken 0 root_page (omega arith) (own tall) (λ j above below. absurd (omega (arith, above, below)))))
 
 first_of_two_taken : IsTakenOver forest again 2 (nothing ∷ nothing ∷ []) (nothing ∷ page_with (At (b 90)) ∷ []) → ⊥
 unfolding block_in
-first_of_two_taken is = omega (arith, ap (λ (ms : List Mapping). block_in (slice_index_or ms 0 Unmapped)) (is.taken 1 root_page (omega arith) own (λ j above below. absurd (omega (arith, above, below)))))
+first_of_two_taken is = omega (arith, ap (λ (ms : List Mapping). block_in (slice_index_or ms 0 Unmapped)) (is.taken 1 root_page (omega arith) (own tall) (λ j above below. absurd (omega (arith, above, below)))))
 
 -- others
 taken_too_soon : IsTakenOver forest pages 1 (nothing ∷ nothing ∷ []) (page_with (At (b 87)) ∷ page_with (At (b 90)) ∷ []) → ⊥

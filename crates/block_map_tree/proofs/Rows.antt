@@ -5,12 +5,10 @@ use Rattle.std.proofs.lemmas.List.Elements.{All-cons, All-nil}
 use Rattle.blk_base.proofs.Example.{small, small_is}
 use Rattle.blk_base.specs.Pages.{page_above}
 use Rattle.blk_base.specs.declared.place.PageId.{PageId}
+use Rattle.blk_base.specs.Forms.{page}
 use Rattle.block_map_tree.specs.declared.forms.Forest.{Forest}
 use Rattle.block_map_tree.specs.declared.forms.Path.{Path}
 use Rattle.block_map_tree.specs.Pages.{IsForest, IsInner, IsLower, IsOnPath, IsPath, IsRoot, IsTreeOf, digits_of, first_below, page_on, path_of, spelled_behind}
-
-abbrev page : ℕ → ℕ → ℕ → PageId
-page tree level index = record { tree = tree; level = level; index = index }
 
 -- digits_of, spelled_behind
 

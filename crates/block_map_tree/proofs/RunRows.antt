@@ -1,9 +1,11 @@
 -- Runs of a tree: calls that lead on, and such that don't. The trees are those of `TreeRows`.
 use Rattle.std.proofs.Common.{◌≡◌, List, [], ◌∷◌, refl, subst, arith}
+use Rattle.blk_base.specs.Forms.{point as p, pbn as b}
+use Rattle.blk_base.proofs.Example.{leaf, root as inner}
 use Rattle.dirty_pages.specs.History.{Changed, HandedOut, Written}
 use Rattle.block_map_tree.specs.History.{Operation, HandOut, LeadTo, Leads, Link, Write, event_of, events_of}
 use Rattle.block_map_tree.specs.Tree.{Tree}
-use Rattle.block_map_tree.proofs.TreeRows.{b, copy, dirty_tree, expires, half, inner, leaf, linkable, linkable_root, linked, links, links_elsewhere, out_tree, p, root, writes, writing, writing_before}
+use Rattle.block_map_tree.proofs.TreeRows.{copy, dirty_tree, expires, half, linkable, linkable_root, linked, links, links_elsewhere, out_tree, root, writes, writing, writing_before}
 
 -- Leads: a page below a root is linked, the page above it is handed out, and its write is reported
 links_a_page : Leads half (Link leaf (b 90) (p 5)) dirty_tree

@@ -1,12 +1,12 @@
 -- Whole trees of the default sizes at height 3, each of which is accepted, or breaks one clause alone and is refused: what
 -- a tree is, what is found in one, and what each call leaves of one.
-use Rattle.std.proofs.Common.{ℕ, zero, suc, ◌≡◌, ◌<◌, ◌≤◌, ◌/◌, ◌^◌, ◌+◌, ◌*◌, Option, None, Some, List, [], ◌∷◌, replicate, slice_index_or, refl, ap, sym, subst, inl, inr, arith}
+use Rattle.std.proofs.Common.{ℕ, zero, suc, ◌≡◌, ◌<◌, ◌≤◌, ◌/◌, ◌^◌, ◌+◌, ◌*◌, None, Some, List, [], ◌∷◌, slice_index_or, refl, ap, sym, subst, inl, inr, arith}
 use Rattle.std.proofs.lemmas.Bool.{cases_lt}
 use Rattle.std.proofs.lemmas.Bool.Decides.{eqb_tells}
 use Rattle.std.proofs.lemmas.List.{get_or-replicate, length-replicate}
 use Rattle.std.proofs.lemmas.List.Elements.{All-cons, All-head, All-nil, All-replicate}
 use Rattle.std.proofs.lemmas.Option.{none-some}
-use Rattle.blk_base.proofs.Example.{small}
+use Rattle.blk_base.proofs.Example.{small, leaf, root as inner, others, number_of_point}
 use Rattle.blk_base.specs.Limits.{IsGeometry}
 use Rattle.blk_base.specs.Regions.{IsDataBlock, Root, block_of}
 use Rattle.blk_base.specs.declared.geometry.Geometry.{Geometry}
@@ -15,8 +15,10 @@ use Rattle.blk_base.specs.declared.place.Mapping.TheVariants.{At, Unmapped, Zero
 use Rattle.blk_base.specs.declared.place.PageId.{PageId}
 use Rattle.blk_base.specs.declared.place.Pbn.{Pbn}
 use Rattle.blk_base.specs.declared.point.Point.{Point}
+use Rattle.blk_base.specs.Forms.{point as p, pbn as b}
 use Rattle.dirty_pages.specs.DirtyPoints.{HasPoint, IsDue, changed_at, clean, dirty_points_at}
 use Rattle.dirty_pages.specs.declared.dirty_points.DirtyPoints.{DirtyPoints}
+use Rattle.dirty_pages.proofs.Rows.{out}
 use Rattle.page_codec.specs.Grammar.{AreHeld, HoldsMapping}
 use Rattle.page_codec.specs.declared.forms.MapPage.{MapPage}
 use Rattle.block_map_tree.specs.declared.forms.Forest.{Forest}
@@ -24,12 +26,6 @@ use Rattle.block_map_tree.specs.declared.forms.Found.TheVariants.{Leaf, Missing}
 use Rattle.block_map_tree.specs.declared.forms.Path.{Path}
 use Rattle.block_map_tree.specs.Pages.{IsInner, IsLower, IsOnPath, IsRoot, IsTreeOf, page_on}
 use Rattle.block_map_tree.specs.Tree.{Expires, IsAt, IsFound, IsLinkable, IsThere, IsTree, IsWriting, Links, Tree, Writes, as_root, by_link, mapping_of, mappings_of, dirty_points_of, most_rows, number_of, row_of, trees_of, with_change, with_mapping}
-
-abbrev pub p : ℕ → Point
-p n = record { 0 = n }
-
-abbrev pub b : ℕ → Pbn
-b n = record { 0 = n }
 
 abbrev pub tall : Geometry
 tall = record small { height = 3 }
@@ -46,30 +42,28 @@ tall_is = record {
   slab_journal = (omega arith, omega arith);
 }
 
--- the zone of the first of 60 trees: its root, the page below it and the leaf below that, each of slot 0
+-- the zone of the first of 60 trees of an image
+abbrev pub first_zone : Geometry → Forest
+first_zone g = record { geometry = g; zone = 0; zones = 60 }
+
+-- of a tall one: its root, the page below it and the leaf below that, each of slot 0
 abbrev pub forest : Forest
-forest = record { geometry = tall; zone = 0; zones = 60 }
+forest = first_zone tall
 
 abbrev pub root : PageId
 root = record { tree = 0; level = 2; index = 0 }
 
-abbrev pub inner : PageId
-inner = record { tree = 0; level = 1; index = 0 }
-
-abbrev pub leaf : PageId
-leaf = record { tree = 0; level = 0; index = 0 }
-
-pub own : IsTreeOf forest 0
-own = record { inside = omega arith; own = refl }
+pub own : (g : Geometry) → IsTreeOf (first_zone g) 0
+own g = record { inside = omega arith; own = refl }
 
 pub is_root : IsRoot forest root
-is_root = record { tree = own; level = refl; index = refl }
+is_root = record { tree = own tall; level = refl; index = refl }
 
 pub inner_below : IsLower forest inner
-inner_below = record { tree = own; level = omega arith; index = omega arith }
+inner_below = record { tree = own tall; level = omega arith; index = omega arith }
 
 pub leaf_below : IsLower forest leaf
-leaf_below = record { tree = own; level = omega arith; index = omega arith }
+leaf_below = record { tree = own tall; level = omega arith; index = omega arith }
 
 pub inner_is : IsInner forest inner
 inner_is = record { level = omega arith; there = inr inner_below }
@@ -89,10 +83,6 @@ rows_of_height : (most_rows 2 ≡ 1) × (most_rows 3 ≡ 813)
 rows_of_height = (refl, refl)
 
 -- The trees: the root and the page below it, of each its first slot and its dirty points.
-
--- the slots of a page behind its first two: none is mapped
-pub others : List Mapping
-others = replicate 810 Unmapped
 
 pub none_behind : (k : ℕ) → k < 810 → slice_index_or others k Unmapped ≡ Unmapped
 unfolding others
@@ -288,7 +278,7 @@ of_no_zone is = omega (arith, is.forest.zone)
 
 -- room: the page above the leaf of address 0 needs a place
 on_path : IsOnPath forest inner
-on_path = record { address = 0; inside = omega arith; level = omega arith; there = refl; tree = own }
+on_path = record { address = 0; inside = omega arith; level = omega arith; there = refl; tree = own tall }
 
 without_room : IsTree (record linked { pages = page_with (At (b 87)) ∷ []; dirty_points = clean ∷ [] }) → ⊥
 without_room is = omega (arith, is.room inner on_path (omega arith))
@@ -312,7 +302,7 @@ dirty_and_not_there is = inner_missing Unmapped clean dirty (is.there inner (p 5
 -- IsLinkable
 
 pub linkable : IsLinkable half leaf
-linkable = record { path = record { address = 0; inside = omega arith; level = omega arith; there = refl; tree = own }; lower = λ top. omega (arith, top.level) }
+linkable = record { path = record { address = 0; inside = omega arith; level = omega arith; there = refl; tree = own tall }; lower = λ top. omega (arith, top.level) }
 
 linkable_beside_the_path : IsLinkable half (record leaf { index = 1 }) → ⊥
 linkable_beside_the_path is = let index : 1 ≡ is.path.address / 812 / 60 / 1 = ap (λ (q : PageId). q.index) is.path.there in omega (arith, is.path.inside, index)
@@ -343,21 +333,13 @@ pub links_elsewhere : Links half dirty_tree leaf (b 91) (p 5) → ⊥
 unfolding block_in
 links_elsewhere is = omega (arith, ap (λ (t : Tree). block_in (mapping_of t inner 0)) is.set)
 
-point_in : Option Point → ℕ
-point_in None = 0
-point_in (Some q) = q.0
-
 links_at_another_point : Links half dirty_tree leaf (b 90) (p 6) → ⊥
-unfolding point_in
-links_at_another_point is = omega (arith, ap (λ (t : Tree). point_in (dirty_points_of t inner).dirty) is.set)
+links_at_another_point is = omega (arith, ap (λ (t : Tree). number_of_point (dirty_points_of t inner).dirty) is.set)
 
 links_without_a_mark : Links half linked leaf (b 90) (p 5) → ⊥
 links_without_a_mark is = none-some (p 5) (ap (λ (t : Tree). (dirty_points_of t inner).dirty) is.set)
 
 -- Expires: the page above is handed out with its link
-
-abbrev pub out : DirtyPoints
-out = record { dirty = None; writing = Some (p 5) }
 
 abbrev pub out_tree : Tree
 out_tree = tree_of (At (b 87)) (At (b 90)) clean out
@@ -366,9 +348,8 @@ abbrev pub copy : MapPage
 copy = record { head = record { geometry = tall; page = inner; at = b 87 }; mappings = page_with (At (b 90)) }
 
 least_due : (other : ℕ) (later : Point) → IsDue (dirty_points_at dirty_tree.dirty_points other) later → 5 ≤ later.0
-unfolding point_in
 least_due zero later due = absurd (none-some later due.dirty)
-least_due (suc zero) later due = omega (arith, ap point_in due.dirty)
+least_due (suc zero) later due = omega (arith, ap number_of_point due.dirty)
 least_due (suc (suc k)) later due = absurd (none-some later due.dirty)
 
 lowest_due : (other : ℕ) → IsDue (dirty_points_at dirty_tree.dirty_points other) (p 5) → 1 ≤ other

@@ -1,6 +1,7 @@
 -- How long the lists of a legal core get: its locks by the requests that are under way, its slots and retired addresses by the
 -- entries of the journal, and those by the journal's blocks.
-use Rattle.std.proofs.Common.{ℕ, ◌^◌, ◌≡◌, ◌<◌, ◌≤◌, Bool, true, false, Some, List, [], ◌∷◌, IsNone, length, slice_get, refl, ap, ◌∙◌, subst, inl, inr, arith}
+use Rattle.std.proofs.Common.{ℕ, ◌^◌, ◌≡◌, ◌<◌, ◌≤◌, Some, List, [], ◌∷◌, IsNone, length, slice_get, refl, ap, ◌∙◌, subst, inl, inr, arith}
+use Rattle.plain_laws.proofs.ListLaws.{bit_most}
 use Rattle.core_laws.proofs.Common.{bit, journaled, Logged, remappings, DataOk, DeviceZone, ended_at, entered, entered_at, entry_token, every-map, given, held_at, holder_token, holds, IsSession, IsWrite, Item, journal_number, JournalZone, Remapping, logged_of, LogicalZone, made_by, RightTrace, room_token, same_tells, Token, new_pages, sealed, Seals, Session, some_is, total, total-get, total_alone, Trace, Vio, weight, Writer, Zone, ZoneData}
 use Rattle.data_vio.specs.declared.items.Item.TheVariants as item
 use Rattle.core_model.specs.declared.zones.ZoneData.TheVariants as at
@@ -48,10 +49,6 @@ blocks_few s (Seals ∷ t) right = let left = right.0.left in omega (arith, left
 blocks_few s (other ∷ t) right = blocks_few s t right.2
 
 -- an item that holds a lock is a request that is under way
-bit_most : (b : Bool) → bit b ≤ 1
-bit_most true = omega arith
-bit_most false = omega arith
-
 holders_in : (vs : List Vio) → total (λ v. bit (holds v.phase)) vs ≤ total (λ v. 1) vs
 holders_in [] = omega arith
 holders_in (v ∷ vs) = omega (arith, bit_most (holds v.phase), holders_in vs)

@@ -1,10 +1,11 @@
 -- A desk log has two lines for each request of its script exactly where each request is answered.
 use Rattle.std.proofs.Common.{◌≡◌, ℕ, zero, suc, ◌+◌, ◌*◌, ◌<◌, ◌≤◌, Bool, if◌then◌else◌, IsNone, IsSome, List, [], ◌∷◌, length, slice_get, get_or, sym, subst, inl, inr, arith}
 use Rattle.std.proofs.lemmas.Option.{slice_get_cases}
+use Rattle.blk_base.specs.Forms.{writer}
 use Rattle.core_laws.proofs.Common.{AllAnswered, AllByRecursion, DeskLine, IsDeskLog, Request, Script, Writer, answer_of, eqb_tells, is_answer, none_is, option_cases, request_at, same_tells, some_is, total}
 use Rattle.vdo_model.specs.declared.report.DeskLine.TheVariants.{Begin, Answer}
 use Rattle.core_model.specs.Limits.{requests_in}
-use Rattle.core_limits.proofs.StreamSums.{Apart, Inside, at, more_of, named, names_few, of_stream, over, over_le, over_more, over_none, over_script}
+use Rattle.core_limits.proofs.StreamSums.{Apart, Inside, more_of, named, names_few, of_stream, over, over_le, over_more, over_none, over_script}
 use Rattle.core_limits.proofs.DeskLimits.{answered_apart, answered_inside, answered_names, answers_few, as_many, asked_inside, begins_few, begun_few, itself, lines_are, log_few, none_named, requests_of}
 
 -- where each is at least 1
@@ -15,8 +16,8 @@ over_all (suc k) f ones = let here = ones k (omega arith) in omega (arith, here,
 -- one more name is counted in its stream alone, and there at its number alone
 counted_once : (bound : ℕ → ℕ) (w : Writer) (names : List Writer) (i : ℕ) → of_stream itself bound (w ∷ names) i ≤ more_of w.stream (of_stream itself bound names) i
 counted_once bound w names i =
-    let before : ℕ → ℕ = λ n. named itself (at i n) names in
-    let now : ℕ → ℕ = λ n. named itself (at i n) (w ∷ names) in
+    let before : ℕ → ℕ = λ n. named itself (writer i n) names in
+    let now : ℕ → ℕ = λ n. named itself (writer i n) (w ∷ names) in
     let Counted : Bool → Type 0 = λ here. over (bound i) now ≤ (if here then over (bound i) before + 1 else over (bound i) before) in
     elim (eqb_tells w.stream i) [
       | inl same ↦
@@ -54,7 +55,7 @@ asked_there requests n below = elim (slice_get_cases requests n).1 [ inl there �
 answers_many : (script : Script) (log : List DeskLine) → AllAnswered script log → requests_in script ≤ total is_answer log
 answers_many script log all =
     let each : (i : ℕ) → requests_of script i ≤ of_stream itself (requests_of script) (answered_names log) i
-    = λ i. over_all (requests_of script i) (λ n. named itself (at i n) (answered_names log)) (λ n below. some_named log (at i n) (all (at i n) (asked_there (get_or script i []) n below))) in
+    = λ i. over_all (requests_of script i) (λ n. named itself (writer i n) (answered_names log)) (λ n below. some_named log (writer i n) (all (writer i n) (asked_there (get_or script i []) n below))) in
     let many = over_le (length script) (requests_of script) (of_stream itself (requests_of script) (answered_names log)) each in
     omega (arith, many, all_counted_once (length script) (requests_of script) (answered_names log), as_many log, over_script script)
 

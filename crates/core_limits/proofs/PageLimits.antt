@@ -1,12 +1,13 @@
 -- How many entries of the journal there are: a request has one for its address, and makes one page of each level at most.
-use Rattle.std.proofs.Common.{ℕ, zero, suc, ◌≡◌, ◌+◌, ◌*◌, ◌<◌, ◌≤◌, ◌==◌, ◌⊎◌, ◌&&◌, true, false, Option, None, Some, IsNone, IsSome, List, [], ◌∷◌, length, length-append, if◌then◌else◌, refl, ap, sym, ◌∙◌, subst, inl, inr, arith}
-use Rattle.core_laws.proofs.Common.{AllByRecursion, Enters, IsSession, Logged, Pbn, Makes, NewPage, PageMayFollow, Remaps, RightTrace, Session, Trace, Writer, cases_Bool, durable, entered, passed, eq-eqb, eqb_tells, every-map, none_is, option_cases, some_of, journaled, remappings, new_pages, request_at, same_Some, same_tells, same_writer, some_is}
+use Rattle.std.proofs.Common.{ℕ, zero, suc, ◌≡◌, ◌+◌, ◌*◌, ◌<◌, ◌≤◌, ◌==◌, ◌⊎◌, ◌&&◌, false, Option, None, Some, IsNone, IsSome, List, [], ◌∷◌, length, length-append, if◌then◌else◌, refl, ap, sym, ◌∙◌, subst, inl, inr, arith}
+use Rattle.core_laws.proofs.Common.{AllByRecursion, Enters, IsSession, Logged, Pbn, Makes, NewPage, PageMayFollow, Remaps, RightTrace, Session, Trace, Writer, cases_Bool, durable, entered, passed, eqb_tells, every-map, none_is, option_cases, some_of, journaled, remappings, new_pages, request_at, same_Some, same_tells, same_writer, some_is}
 use Rattle.blk_base.specs.Pages.{page_above}
 use Rattle.blk_base.specs.declared.request.Request.{Request}
 use Rattle.blk_base.specs.declared.request.Request.TheVariants as request
 use Rattle.core_model.specs.Limits.{requests_in}
 use Rattle.blk_base.specs.declared.place.PageId.{PageId}
 use Rattle.core_model.specs.PageLinks.{MayLack, page_in}
+use Rattle.core_model.proofs.TreeLinks.{page_itself}
 use Rattle.image_model.specs.Pages.{is_page}
 use Rattle.core_laws.proofs.trace.DeskOfTrace.{durable_part}
 use Rattle.core_limits.proofs.DeskLimits.{asked_inside, requests_of}
@@ -93,9 +94,6 @@ made_has P (p ∷ ps) w level q is all = elim (same_tells p.request w) [
 ]
 
 -- and the entries put it somewhere
-itself_is : (page : PageId) → is_page page page ≡ true
-itself_is page = rw (eq-eqb page.tree page.tree refl, eq-eqb page.level page.level refl, eq-eqb page.index page.index refl) refl
-
 put_there : (links : PageId → Option Pbn) (es : List Logged) (w : Writer) (level : ℕ) (q : NewPage) → page_made (new_pages es) w level ≡ Some q → IsSome (page_in links es q.page)
 put_there links [] w level q is = absurd cc
 put_there links (Remaps e ∷ es) w level q is = put_there links es w level q is
@@ -105,7 +103,7 @@ put_there links (Makes p ∷ es) w level q is = elim (cases_Bool (is_page p.page
     | inl mine ↦
         let p_is : p ≡ q = same_Some p q (rw mine at is) in
         let same : is_page p.page p.page ≡ false = subst (λ (x : NewPage). is_page p.page x.page ≡ false) (sym p_is) there in
-        absurd (let itself = itself_is p.page in cc)
+        absurd (let itself = page_itself p.page in cc)
     | inr other ↦ rw there (put_there links es w level q (rw other at is))
   ]
 ]

@@ -6,13 +6,14 @@ use Rattle.blk_base.specs.declared.request.Answer.{Answer as Reply}
 use Rattle.blk_base.specs.declared.request.Answer.TheVariants as reply
 use Rattle.blk_base.specs.declared.request.Request.{Request}
 use Rattle.blk_base.specs.declared.request.Request.TheVariants as request
+use Rattle.blk_base.specs.Forms.{writer}
 use Rattle.core_laws.proofs.Common.{AllByRecursion, DeskLine, Fails, Flushes, IsDeskLog, MayAnswer, RightTrace, Says, Script, Session, Trace, Writer, answer_of, begun, lines, request_at, same_tells, total}
 use Rattle.core_laws.proofs.trace.DeskOfTrace.{desk_log_right}
 use Rattle.core_model.specs.DeskLines.{is_bytes}
 use Rattle.core_model.specs.SessionLimits.{asks_read, reads_in}
 use Rattle.vdo_model.specs.declared.report.DeskLine.TheVariants.{Begin, Answer}
 use Rattle.core_limits.proofs.DeskLimits.{begun_few, itself}
-use Rattle.core_limits.proofs.StreamSums.{Apart, Inside, all_named, asked_inside, at, named, of_stream, over, over_first, over_le, requests_of}
+use Rattle.core_limits.proofs.StreamSums.{Apart, Inside, all_named, asked_inside, named, of_stream, over, over_first, over_le, requests_of}
 
 -- the requests that are answered with bytes
 abbrev given_names : List DeskLine → List Writer
@@ -109,7 +110,7 @@ row_reads [] = refl
 row_reads (r ∷ rest) = omega (arith, over_first (length rest) (λ n. read_bit (slice_get (r ∷ rest) n)), row_reads rest)
 
 abbrev reads_of : Script → ℕ → ℕ
-reads_of script i = over (requests_of script i) (λ n. read_bit (request_at script (at i n)))
+reads_of script i = over (requests_of script i) (λ n. read_bit (request_at script (writer i n)))
 
 all_reads : (script : Script) → over (length script) (reads_of script) ≡ reads_in script
 all_reads [] = refl
@@ -123,5 +124,5 @@ bytes_few s t right =
     let reads = given_reads s t right in
     let counted = all_named itself (length s.script) (requests_of s.script) names (given_inside s.script names reads) in
     let few = over_le (length s.script) (of_stream itself (requests_of s.script) names) (reads_of s.script) (λ i.
-    over_le (requests_of s.script i) (λ n. named itself (at i n) names) (λ n. read_bit (request_at s.script (at i n))) (λ n. once_read s.script (at i n) names apart reads)) in
+    over_le (requests_of s.script i) (λ n. named itself (writer i n) names) (λ n. read_bit (request_at s.script (writer i n))) (λ n. once_read s.script (writer i n) names apart reads)) in
     omega (arith, as_many (lines t), counted, few, all_reads s.script)

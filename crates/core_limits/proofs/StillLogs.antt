@@ -1,6 +1,7 @@
 -- A desk log of which nothing is under way, and in which no stream may begin a request, is full.
 use Rattle.std.proofs.Common.{◌≡◌, ℕ, ◌+◌, ◌<◌, ◌≤◌, List, [], ◌∷◌, length, get_or, refl, ap, subst, inl, inr, arith}
 use Rattle.std.proofs.lemmas.Bool.{cases_lt}
+use Rattle.blk_base.specs.Forms.{writer}
 use Rattle.core_laws.proofs.Common.{DeskLine, IsDeskLog, IsNextLine, Script, Writer, answered, begun, bit, eqb_tells, is_answer, is_begin, same_self, same_writer, total}
 use Rattle.vdo_model.specs.declared.report.DeskLine.TheVariants.{Begin, Answer}
 use Rattle.core_model.specs.Limits.{requests_in}
@@ -8,21 +9,21 @@ use Rattle.core_laws.proofs.trace.Growth.{begun_more}
 use Rattle.core_limits.proofs.DeskLimits.{all_counted, answered_apart, answered_names, begun_few, itself, requests_of}
 use Rattle.core_limits.proofs.FullLogs.{asked_there}
 use Rattle.core_limits.proofs.StreamSums.{stream_there}
-use Rattle.core_limits.proofs.StreamSums.{at, named, once, over, over_le, over_less, over_more, over_ones, over_script}
+use Rattle.core_limits.proofs.StreamSums.{named, once, over, over_le, over_less, over_more, over_ones, over_script}
 
 -- the answers of a stream are counted at their numbers, which are below what is begun of it
-by_number : (depth : ℕ) (script : Script) (log : List DeskLine) (i bound : ℕ) → IsDeskLog depth script log → begun i log ≤ bound → answered i log ≤ over bound (λ n. named itself (at i n) (answered_names log))
+by_number : (depth : ℕ) (script : Script) (log : List DeskLine) (i bound : ℕ) → IsDeskLog depth script log → begun i log ≤ bound → answered i log ≤ over bound (λ n. named itself (writer i n) (answered_names log))
 by_number depth script [] i bound right le = omega arith
 by_number depth script (Begin w ∷ older) i bound right le = by_number depth script older i bound right.1 (let more = begun_more i (Begin w) older in omega (arith, le, more))
 by_number depth script (Answer w a ∷ older) i bound right le =
     let rest = by_number depth script older i bound right.1 le in
-    let before : ℕ → ℕ = λ n. named itself (at i n) (answered_names older) in
-    let now : ℕ → ℕ = λ n. named itself (at i n) (w ∷ answered_names older) in
+    let before : ℕ → ℕ = λ n. named itself (writer i n) (answered_names older) in
+    let now : ℕ → ℕ = λ n. named itself (writer i n) (w ∷ answered_names older) in
     elim (eqb_tells w.stream i) [
       | inl same ↦
           let number = right.0.0 in
           let stream = ap (λ k. begun k older) same.1 in
-          let one : bit (same_writer w (at i w.number)) ≡ 1 = subst (λ (k : ℕ). bit (same_writer w (at k w.number)) ≡ 1) same.1 (ap bit (same_self w)) in
+          let one : bit (same_writer w (writer i w.number)) ≡ 1 = subst (λ (k : ℕ). bit (same_writer w (writer k w.number)) ≡ 1) same.1 (ap bit (same_self w)) in
           let more = over_less bound w.number before now (λ n. omega arith) (omega (arith, one)) (omega (arith, number, stream, le)) in
           let said : answered i (Answer w a ∷ older) ≡ answered i older + 1 = rw same.0 refl in
           omega (arith, said, rest, more)
@@ -36,7 +37,7 @@ by_number depth script (Answer w a ∷ older) i bound right le =
 answered_few : (depth : ℕ) (script : Script) (log : List DeskLine) (i : ℕ) → IsDeskLog depth script log → answered i log ≤ begun i log
 answered_few depth script log i right =
     let counted = by_number depth script log i (begun i log) right (omega arith) in
-    let ones = over_ones (begun i log) (λ n. named itself (at i n) (answered_names log)) (λ n. once itself (at i n) (answered_names log) (answered_apart depth script log right)) in
+    let ones = over_ones (begun i log) (λ n. named itself (writer i n) (answered_names log)) (λ n. once itself (writer i n) (answered_names log) (answered_apart depth script log right)) in
     omega (arith, counted, ones)
 
 -- all answers are of streams of the script
@@ -70,7 +71,7 @@ module _ (depth : ℕ) (script : Script) (log : List DeskLine) (right : IsDeskLo
       | inl fewer ↦
           let there = stream_there script i (omega (arith, fewer)) in
           let answers = each_answered i there in
-          absurd (none_begins (at i (begun i log)) (refl, asked_there (get_or script i []) (begun i log) fewer, omega (arith, answers, some)))
+          absurd (none_begins (writer i (begun i log)) (refl, asked_there (get_or script i []) (begun i log) fewer, omega (arith, answers, some)))
     ]
 
     pub all_there : requests_in script ≤ total is_begin log

@@ -1,6 +1,7 @@
 -- Sums over the streams, and over the numbers of a stream; and how many names of requests there are, where none is there twice.
 use Rattle.std.proofs.Common.{◌≡◌, ℕ, zero, suc, ◌+◌, ◌<◌, ◌≤◌, ◌==◌, ◌⊎◌, if◌then◌else◌, IsSome, List, [], ◌∷◌, length, get_or, refl, subst, inl, inr, arith}
 use Rattle.std.proofs.lemmas.Option.{slice_get_within}
+use Rattle.blk_base.specs.Forms.{writer}
 use Rattle.core_model.specs.SessionLimits.{most_of_stream}
 use Rattle.core_laws.proofs.Common.{AllByRecursion, Script, Writer, bit, request_at, some_of, eqb_tells, same_self, same_tells, same_writer, total}
 
@@ -69,9 +70,6 @@ Apart name (x ∷ xs) = (named name (name x) xs ≡ 0) × Apart name xs
 abbrev pub Inside : (k : ℕ) (bound : ℕ → ℕ) → Writer → Type 0
 Inside k bound w = (w.stream < k) × (w.number < bound w.stream)
 
-abbrev pub at : ℕ → ℕ → Writer
-at stream number = record { stream = stream; number = number }
-
 module _ {X : Type 0} (name : X → Writer) where
   -- each request is there once at most
   pub once : (w : Writer) (xs : List X) → Apart name xs → named name w xs ≤ 1
@@ -83,7 +81,7 @@ module _ {X : Type 0} (name : X → Writer) where
 
   -- how many are of each number of a stream
   abbrev pub of_stream : (ℕ → ℕ) → List X → ℕ → ℕ
-  of_stream bound xs stream = over (bound stream) (λ number. named name (at stream number) xs)
+  of_stream bound xs stream = over (bound stream) (λ number. named name (writer stream number) xs)
 
   -- each is counted at its number
   pub all_named : (k : ℕ) (bound : ℕ → ℕ) (xs : List X) → AllByRecursion (λ x. Inside k bound (name x)) xs → length xs ≤ over k (of_stream bound xs)
@@ -92,16 +90,16 @@ module _ {X : Type 0} (name : X → Writer) where
       let rest = all_named k bound xs inside.1 in
       let w = name x in
       let more : (i : ℕ) → of_stream bound xs i ≤ of_stream bound (x ∷ xs) i
-      = λ i. over_le (bound i) (λ n. named name (at i n) xs) (λ n. named name (at i n) (x ∷ xs)) (λ n. omega arith) in
+      = λ i. over_le (bound i) (λ n. named name (writer i n) xs) (λ n. named name (writer i n) (x ∷ xs)) (λ n. omega arith) in
       let here : named name w xs < named name w (x ∷ xs) = rw (same_self w) (omega arith) in
-      let one = over_less (bound w.stream) w.number (λ n. named name (at w.stream n) xs) (λ n. named name (at w.stream n) (x ∷ xs)) (λ n. omega arith) here inside.0.1 in
+      let one = over_less (bound w.stream) w.number (λ n. named name (writer w.stream n) xs) (λ n. named name (writer w.stream n) (x ∷ xs)) (λ n. omega arith) here inside.0.1 in
       let all = over_less k w.stream (of_stream bound xs) (of_stream bound (x ∷ xs)) more (omega (arith, one)) inside.0.0 in
       omega (arith, rest, all)
 
   -- Of names that are apart there are no more than all numbers of all streams.
   pub names_few : (k : ℕ) (bound : ℕ → ℕ) (xs : List X) → Apart name xs → AllByRecursion (λ x. Inside k bound (name x)) xs → length xs ≤ over k bound
   names_few k bound xs apart inside =
-      let few = over_le k (of_stream bound xs) bound (λ i. over_ones (bound i) (λ n. named name (at i n) xs) (λ n. once (at i n) xs apart)) in
+      let few = over_le k (of_stream bound xs) bound (λ i. over_ones (bound i) (λ n. named name (writer i n) xs) (λ n. once (writer i n) xs apart)) in
       omega (arith, few, all_named k bound xs inside)
 
 -- The streams of a script.

@@ -5,7 +5,7 @@ use Rattle.core_laws.proofs.kept.ZoneKinds.{physical_below}
 use Rattle.core_laws.proofs.logical.ReportFacts.{each_logged}
 use Rattle.core_laws.proofs.tokens.Known.{Replaces}
 use Rattle.core_laws.proofs.trace.DeskOfTrace.{committed_writes}
-use Rattle.core_limits.proofs.StreamSums.{Inside, all_named, asked_inside, requests_of, at, named, over, over_le, over_none}
+use Rattle.core_limits.proofs.StreamSums.{Inside, all_named, asked_inside, requests_of, named, over, over_le, over_none}
 use Rattle.core_model.specs.Facts.{IsDecrement}
 use Rattle.core_model.specs.Legal.{Legal}
 use Rattle.core_model.specs.PageLinks.{block_in}
@@ -14,6 +14,7 @@ use Rattle.core_model.specs.Tokens.{damage_token, decrement_weight, has_old, is_
 use Rattle.core_model.specs.Trace.{passed}
 use Rattle.core_model.specs.declared.zones.ZoneData.TheVariants as kind
 use Rattle.blk_base.specs.declared.place.Mapping.{Mapping}
+use Rattle.blk_base.specs.Forms.{writer}
 use Rattle.data_vio.specs.declared.items.Item.TheVariants as item
 
 -- what a zone's lanes and lists weigh, apart from its own part
@@ -60,16 +61,16 @@ of_one false m n = over_none n (λ j. 0) (λ j. omega arith)
 
 module _ (k : ℕ) (bound : ℕ → ℕ) where
   abbrev sum : (Writer → ℕ) → ℕ
-  sum f = over k (λ i. over (bound i) (λ n. f (at i n)))
+  sum f = over k (λ i. over (bound i) (λ n. f (writer i n)))
 
   sum_le : (f g : Writer → ℕ) → ((u : Writer) → f u ≤ g u) → sum f ≤ sum g
-  sum_le f g le = over_le k (λ i. over (bound i) (λ n. f (at i n))) (λ i. over (bound i) (λ n. g (at i n))) (λ i. over_le (bound i) (λ n. f (at i n)) (λ n. g (at i n)) (λ n. le (at i n)))
+  sum_le f g le = over_le k (λ i. over (bound i) (λ n. f (writer i n))) (λ i. over (bound i) (λ n. g (writer i n))) (λ i. over_le (bound i) (λ n. f (writer i n)) (λ n. g (writer i n)) (λ n. le (writer i n)))
 
   sum_plus : (f g : Writer → ℕ) → sum (λ u. f u + g u) ≤ sum f + sum g
   sum_plus f g =
-      let each = over_le k (λ i. over (bound i) (λ n. f (at i n) + g (at i n))) (λ i. over (bound i) (λ n. f (at i n)) + over (bound i) (λ n. g (at i n)))
-      (λ i. let both = over_plus (bound i) (λ n. f (at i n)) (λ n. g (at i n)) in omega (arith, both)) in
-      let all = over_plus k (λ i. over (bound i) (λ n. f (at i n))) (λ i. over (bound i) (λ n. g (at i n))) in
+      let each = over_le k (λ i. over (bound i) (λ n. f (writer i n) + g (writer i n))) (λ i. over (bound i) (λ n. f (writer i n)) + over (bound i) (λ n. g (writer i n)))
+      (λ i. let both = over_plus (bound i) (λ n. f (writer i n)) (λ n. g (writer i n)) in omega (arith, both)) in
+      let all = over_plus k (λ i. over (bound i) (λ n. f (writer i n))) (λ i. over (bound i) (λ n. g (writer i n))) in
       omega (arith, each, all)
 
   sum_none : sum (λ u. 0) ≤ 0
@@ -77,7 +78,7 @@ module _ (k : ℕ) (bound : ℕ → ℕ) where
 
   name_one : (w : Writer) → sum (λ u. bit (same_writer w u)) ≤ 1
   name_one w =
-      let each = over_le k (λ i. over (bound i) (λ n. bit (same_writer w (at i n)))) (λ i. bit (w.stream == i)) (λ i. of_one (w.stream == i) w.number (bound i)) in
+      let each = over_le k (λ i. over (bound i) (λ n. bit (same_writer w (writer i n)))) (λ i. bit (w.stream == i)) (λ i. of_one (w.stream == i) w.number (bound i)) in
       let all = (ones w.stream k).0 in
       omega (arith, each, all)
 

@@ -126,7 +126,7 @@ first_append a (v ∷ vs) u none other = elim (eqb_tells v.at.0 a) [
   | inr there ↦ rw there.0 (first_append a vs u (rw there.0 at none) other)
 ]
 
-first_at : (a : ℕ) (vs : List Vio) (v : Vio) → first_for a vs ≡ Some v → v.at.0 ≡ a
+pub first_at : (a : ℕ) (vs : List Vio) (v : Vio) → first_for a vs ≡ Some v → v.at.0 ≡ a
 first_at a [] v some = absurd cc
 first_at a (w ∷ vs) v some = elim (eqb_tells w.at.0 a) [
   | inl here ↦ let same : w ≡ v = same_Some w v (rw here.0 at some) in sym (ap (λ (u : Vio). u.at.0) same) ∙ here.1

@@ -33,7 +33,7 @@ pub page_itself : (page : PageId) → is_page page page ≡ true
 page_itself page = rw (eq-eqb page.tree page.tree refl, eq-eqb page.level page.level refl, eq-eqb page.index page.index refl) refl
 
 -- a page that is no root stands where the page above leads to it
-at_block : (m : Mapping) (b : Pbn) → block_in m ≡ Some b → m ≡ At b
+pub at_block : (m : Mapping) (b : Pbn) → block_in m ≡ Some b → m ≡ At b
 at_block (At x) b is = ap At (same_Some x b is)
 at_block Unmapped b is = absurd cc
 at_block Zero b is = absurd cc

@@ -15,12 +15,13 @@ use Rattle.vdo_model.specs.declared.report.RunReport.{RunReport}
 use Rattle.data_vio.specs.declared.logged.Remapping.{Remapping}
 use Rattle.core_model.specs.Sessions.{Session, opened_image}
 use Rattle.core_model.specs.Superblocks.{superblock_bytes}
-use Rattle.core_model.specs.Uses.{data_blocks, used_at}
+use Rattle.core_model.specs.Uses.{used_at}
 use Rattle.core_model.specs.Trace.{Trace, lines, marks, receipts, places, damage_in, entered, done, logged_of}
 use Rattle.image_model.specs.Windows.{IsWindow}
 use Rattle.image_model.specs.Looked.{is_looked_at}
 use Rattle.blk_base.specs.declared.journal_entry.CommittedEntry.{CommittedEntry}
 use Rattle.blk_base.specs.declared.geometry.Geometry.{Geometry}
+use Rattle.blk_base.specs.Regions.{data_blocks}
 
 abbrev pub is_there : Option Remapping → Bool
 is_there None = false

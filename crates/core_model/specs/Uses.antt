@@ -1,7 +1,6 @@
 -- How often a data block was claimed, mapped and let go, by what happened: which blocks are free at a moment.
-use Rattle.std.specs.Prelude.{ℕ, zero, suc, Bool, ◌&&◌, if◌then◌else◌, ◌+◌, ◌*◌, ◌≡◌, ◌<◌, nat_eq, nat_lt, Option, None, Some, [], ◌∷◌}
+use Rattle.std.specs.Prelude.{ℕ, zero, suc, Bool, ◌&&◌, if◌then◌else◌, ◌+◌, ◌≡◌, ◌<◌, nat_eq, nat_lt, Option, None, Some, [], ◌∷◌}
 use Rattle.blk_base.specs.Regions.{DataBlock, IsDataBlock, block_of}
-use Rattle.blk_base.specs.declared.geometry.Geometry.{Geometry}
 use Rattle.blk_base.specs.declared.place.Pbn.{Pbn}
 use Rattle.plain_laws.specs.Sums.{bit, total}
 use Rattle.core_model.specs.Sessions.{Session, opened_uses}
@@ -80,7 +79,3 @@ used_of_slab s t slab = sum_below (λ offset. bit (is_used s t (record { 0 = blo
 
 abbrev pub used_at : Session → Trace → ℕ
 used_at s t = sum_below (used_of_slab s t) s.sizes.geometry.slabs
-
--- how many data blocks there are
-abbrev pub data_blocks : Geometry → ℕ
-data_blocks g = g.slabs * g.slab_blocks

@@ -1,6 +1,7 @@
 -- The zones of a legal core have what its report says.
 use Rattle.std.proofs.Common.{ℕ, suc, ◌≡◌, ◌<◌, ◌≤◌, ◌+◌, ◌-◌, ◌++◌, min, Option, Some, List, [], ◌∷◌, length, slice_get, refl, sym, ◌∙◌, ap, subst, append_assoc, inl, inr, arith}
 use Rattle.std.proofs.lemmas.List.{append-nil}
+use Rattle.blk_base.specs.Regions.{data_blocks}
 use Rattle.core_laws.proofs.Common.{AllAnswered, AllByRecursion, AreDrawn, DataOk, DeskLine, HistoryEntry, IsSession, Placed, RunReport, Script, Session, Trace, Zone, ZoneData, desk_number, journal_number, journaled, lines, marks, places, some_is, cases_lt}
 use Rattle.core_laws.proofs.kept.ZoneKinds.{desk_sits, device_sits, journal_sits, physical_sits}
 use Rattle.core_laws.proofs.trace.PlacesOfTrace.{places_drawn}
@@ -11,7 +12,7 @@ use Rattle.vdo_model.specs.Histories.{histories_of}
 use Rattle.vdo_model.specs.ZoneOrder.{by_zone}
 use Rattle.core_model.specs.DeskData.{Desk}
 use Rattle.core_model.specs.Trace.{damage_in, receipts}
-use Rattle.core_model.specs.Uses.{data_blocks, sum_below, used_at, used_of_slab}
+use Rattle.core_model.specs.Uses.{sum_below, used_at, used_of_slab}
 use Rattle.data_vio.specs.Zones.{device_number, physical_number}
 use Rattle.vdo_model.specs.declared.report.Damage.{Damage}
 use Rattle.core_model.specs.declared.desk.DeskReport.{DeskReport}

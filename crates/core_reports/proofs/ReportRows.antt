@@ -10,6 +10,7 @@ use Rattle.blk_base.specs.declared.geometry.Geometry.{Geometry}
 use Rattle.blk_base.specs.declared.request.Answer.TheVariants as reply
 use Rattle.blk_base.specs.declared.request.Request.TheVariants.{Flush}
 use Rattle.blk_base.specs.declared.request.Writer.{Writer}
+use Rattle.blk_base.specs.Forms.{writer, pbn as block}
 use Rattle.vdo_model.specs.declared.report.DeskLine.{DeskLine}
 use Rattle.vdo_model.specs.declared.report.DeskLine.TheVariants.{Begin, Answer}
 use Rattle.vdo_model.specs.declared.report.Placed.{Placed}
@@ -32,7 +33,7 @@ use Rattle.core_model.specs.declared.zones.Zone.{Zone}
 use Rattle.core_model.specs.declared.zones.ZoneData.{ZoneData}
 use Rattle.core_model.specs.declared.zones.ZoneData.TheVariants as at
 use Rattle.core_model.proofs.rows.PhaseRows.{desk, device, empty_log, journal, logical, nothing, one, physical, slab_with, zone_with}
-use Rattle.core_model.proofs.rows.WorkedTraces.{block, first, of_first, other, place, script, second, writer}
+use Rattle.core_model.proofs.rows.WorkedTraces.{first, of_first, other, place, script, second}
 use Rattle.core_reports.specs.Found.{AreEntered, AreFound, AreNoted, IsFound, entered_in}
 use Rattle.core_reports.specs.Listed.{HasDamage, HasDesk, HasEntered, HasGeometry, places_at, places_of_all, used_by, used_by_all}
 use Rattle.core_reports.specs.Rooms.{IsRoomFor}

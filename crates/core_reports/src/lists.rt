@@ -1,9 +1,9 @@
 ghost use Rattle.std.specs.Prelude.{◌≡◌, ◌+◌, ◌<◌, ◌≤◌, ◌^◌, ◌++◌, Option, List, [], length, reverse};
 ghost use Rattle.blk_base.specs.declared.geometry.Geometry.{Geometry};
+ghost use Rattle.blk_base.specs.Regions.{data_blocks};
 ghost use Rattle.core_model.specs.DeskData.{Desk as DeskData};
 ghost use Rattle.core_model.specs.SessionLimits.{most_requests};
 ghost use Rattle.data_vio.specs.declared.logged.Logged.{Logged as Entered};
-ghost use Rattle.core_model.specs.Uses.{data_blocks};
 ghost use Rattle.core_reports.specs.Listed.{HasDamage, HasDesk, HasEntered, HasGeometry, places_at, places_of_all, used_by, used_by_all};
 ghost use Rattle.vdo_model.specs.declared.report.Damage.{Damage as Found};
 

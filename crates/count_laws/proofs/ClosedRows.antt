@@ -7,6 +7,7 @@ use Rattle.blk_base.specs.Counters.{sector_of_offset}
 use Rattle.blk_base.specs.Regions.{ReferenceBlock, Root, SlabJournalSlot, block_of, needed_blocks, references_of}
 use Rattle.blk_base.specs.Sectors.{sector, zero_block}
 use Rattle.blk_base.specs.declared.layout.DataPlace.{DataPlace}
+use Rattle.blk_base.proofs.Example.{place}
 use Rattle.byte_fields.specs.Fields.{number_at}
 use Rattle.disk_model.specs.Log.{Blocks, block_at}
 use Rattle.image_model.proofs.CountLaws.{none_in_nothing}
@@ -24,7 +25,7 @@ use Rattle.slab_codec.specs.BlockBytes.{block_bytes, entries_in}
 use Rattle.slab_codec.specs.declared.forms.SlabEntry.{SlabEntry}
 use Rattle.count_laws.specs.Closed.{HasClosedCounts}
 use Rattle.count_laws.specs.Counters.{entry_at}
-use Rattle.count_laws.proofs.Example.{counter_none, place}
+use Rattle.count_laws.proofs.Example.{counter_none}
 
 -- A block of a slab's journal with one update, of the first data block.
 

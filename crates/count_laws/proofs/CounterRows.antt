@@ -10,6 +10,8 @@ use Rattle.blk_base.specs.declared.layout.DataPlace.{DataPlace}
 use Rattle.blk_base.specs.declared.place.Mapping.TheVariants.{At}
 use Rattle.blk_base.specs.declared.place.Pbn.{Pbn}
 use Rattle.blk_base.proofs.RegionLaws.{apart}
+use Rattle.blk_base.specs.Forms.{pbn}
+use Rattle.blk_base.proofs.Example.{place}
 use Rattle.byte_fields.specs.Fields.{number_at}
 use Rattle.disk_model.specs.declared.call.Call.{Call}
 use Rattle.disk_model.specs.declared.call.Call.TheVariants.{Flush, Write}
@@ -17,7 +19,7 @@ use Rattle.disk_model.specs.Log.{Blocks, block_at}
 use Rattle.disk_model.proofs.LookedLaws.{one_in-all}
 use Rattle.disk_model.proofs.OneImageLaws.{one_image-opening}
 use Rattle.image_model.proofs.CountLaws.{none_in_nothing}
-use Rattle.image_model.proofs.Example.{pbn, small}
+use Rattle.image_model.proofs.Example.{small}
 use Rattle.image_model.proofs.ZeroLaws.{no_slab_sector}
 use Rattle.image_model.specs.Counts.{HasMappings, IsUpdate, Stores, block_of_data, commit_at, commit_of, count_after, counter_of, reference_sector_at}
 use Rattle.image_model.specs.Empty.{IsEmpty}
@@ -33,7 +35,7 @@ use Rattle.count_laws.specs.Closed.{HasClosedCounts}
 use Rattle.count_laws.specs.Counters.{CountsStand, HasUpdate, IsCounted, IsKnown, IsOfSector, MayWrite, SurelyCounters, UpdateStands, counter_in, entry_at, points_at}
 use Rattle.count_laws.specs.Points.{up_to}
 use Rattle.count_laws.proofs.KeepLaws.{counts_after_write, counts_begin}
-use Rattle.count_laws.proofs.Example.{closed, commit_behind, commits_before, counter_none, four, opened, place}
+use Rattle.count_laws.proofs.Example.{closed, commit_behind, commits_before, counter_none, four, opened}
 
 -- Closed counts.
 

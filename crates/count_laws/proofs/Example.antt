@@ -8,11 +8,11 @@ use Rattle.blk_base.specs.Sectors.{sector}
 use Rattle.blk_base.specs.declared.journal_entry.CommittedEntry.{CommittedEntry}
 use Rattle.blk_base.specs.declared.journal_entry.Entry.{Entry}
 use Rattle.blk_base.specs.declared.journal_entry.Entry.TheVariants.{Remap, NewPage}
-use Rattle.blk_base.specs.declared.layout.DataPlace.{DataPlace}
 use Rattle.blk_base.specs.declared.place.Mapping.{Mapping}
 use Rattle.blk_base.specs.declared.place.Mapping.TheVariants.{Unmapped, Zero, At}
-use Rattle.blk_base.specs.declared.place.PageId.{PageId}
 use Rattle.blk_base.specs.declared.place.Pbn.{Pbn}
+use Rattle.blk_base.specs.Forms.{page, at_point, pbn}
+use Rattle.blk_base.proofs.Example.{place}
 use Rattle.byte_fields.specs.Fields.{number_at}
 use Rattle.disk_model.specs.Images.{IsImage}
 use Rattle.disk_model.specs.Log.{Blocks, block_at}
@@ -20,7 +20,7 @@ use Rattle.disk_model.proofs.OneImageLaws.{one_image-is_image, one_image-opening
 use Rattle.disk_model.proofs.LookedLaws.{one_in-all}
 use Rattle.image_model.proofs.EmptyLaws.{has_nothing, no_updates, sizes_of_image}
 use Rattle.image_model.proofs.ZeroLaws.{no_commit, no_slab_sector}
-use Rattle.image_model.proofs.Example.{pbn, small}
+use Rattle.image_model.proofs.Example.{small}
 use Rattle.image_model.specs.Counts.{IsKept, Stores, block_of_data, commit_at, count_after, counter_of}
 use Rattle.image_model.specs.Empty.{HasNothing, IsEmpty, empty_super}
 use Rattle.image_model.specs.Maps.{Image}
@@ -42,12 +42,6 @@ use Rattle.count_laws.proofs.StoredLaws.{stored}
 use Rattle.count_laws.proofs.TurnLaws.{addresses_fit, one_number_after, opened_has, opened_mapping, running_count}
 use Rattle.count_laws.proofs.UnusedLaws.{none_is_unused}
 
-abbrev pub page : ℕ → ℕ → ℕ → PageId
-page tree level index = record { tree = tree; level = level; index = index }
-
-abbrev pub at_point : Entry → ℕ → CommittedEntry
-at_point entry point = record { entry = entry; point = record { 0 = point } }
-
 abbrev pub remap : ℕ → Mapping → Mapping → Entry
 remap address old new = Remap (record { 0 = address }) old new
 
@@ -66,9 +60,6 @@ three = at_point (remap 6 Unmapped (At (pbn 86))) 516 ∷ two
 
 abbrev pub four : List CommittedEntry
 four = at_point (remap 5 (At (pbn 86)) Zero) 518 ∷ three
-
-abbrev pub place : ℕ → DataPlace
-place offset = record { slab = 0; offset = offset }
 
 pub are_pointed : ArePointed 512 four
 are_pointed = (omega arith, refl, (omega arith, refl, (omega arith, refl, (omega arith, refl, tt))))

@@ -3,11 +3,11 @@
 use Rattle.std.proofs.Common.{ℕ, ◌≡◌, nat_lt, true, false, [], ◌∷◌, Result, Err, refl, arith}
 use Rattle.blk_base.specs.declared.journal_entry.Update.{Update}
 use Rattle.blk_base.specs.declared.place.Mapping.TheVariants.{At}
-use Rattle.image_model.proofs.Example.{pbn}
+use Rattle.blk_base.specs.Forms.{at_point, pbn}
 use Rattle.image_model.specs.Counts.{count_after}
 use Rattle.count_laws.specs.Points.{ArePointed, adds_to, next_point, past, points_for, points_in, takes_from, those_of, up_to, updates_of}
 use Rattle.count_laws.specs.Strays.{FitsCounter}
-use Rattle.count_laws.proofs.Example.{at_point, four, leaf, one, remap}
+use Rattle.count_laws.proofs.Example.{four, leaf, one, remap}
 
 -- Points of a block.
 

@@ -10,7 +10,7 @@ use Rattle.blk_base.specs.Pages.{above}
 use Rattle.disk_model.specs.Log.{Blocks}
 use Rattle.blk_base.specs.declared.journal_entry.Entry.{Entry}
 use Rattle.image_model.proofs.EmptyLaws.{has_nothing}
-use Rattle.image_model.proofs.Example.{pbn, small}
+use Rattle.image_model.proofs.Example.{small}
 use Rattle.image_model.specs.Counts.{leads_to, mapped_below}
 use Rattle.image_model.specs.Empty.{IsEmpty}
 use Rattle.image_model.specs.Maps.{Image}
@@ -22,8 +22,9 @@ use Rattle.count_laws.specs.Turns.{AreInTurn, AreUnsharedAfter, ComesInTurn, Has
 use Rattle.count_laws.proofs.StepLaws.{new_mapping}
 use Rattle.count_laws.proofs.TurnLaws.{one_number_after, opened_mapping}
 use Rattle.blk_base.specs.Regions.{IsDataBlock}
+use Rattle.blk_base.specs.Forms.{page, at_point, pbn}
 use Rattle.count_laws.proofs.BelowLaws.{counts_one}
-use Rattle.count_laws.proofs.Example.{at_point, data_block, first_has, first_unused, fits, four, leaf, leaf_gone, one, one_maps_none, opened, page, remap, three, two}
+use Rattle.count_laws.proofs.Example.{data_block, first_has, first_unused, fits, four, leaf, leaf_gone, one, one_maps_none, opened, remap, three, two}
 
 -- at the limit nothing more leads to a block
 at_limit : (image : Image) (older : List CommittedEntry) (block : Pbn) → HasMappingsAfter image older block 254 → MayLeadTo image older (At block) → ⊥

@@ -2,29 +2,32 @@
 -- each image still has the stored count.
 use Rattle.std.proofs.Common.{ℕ, zero, suc, ◌≡◌, ◌+◌, ◌-◌, ◌%◌, ◌<◌, ◌≤◌, ◌==◌, true, false, List, [], ◌∷◌, Contains, length, drop, replicate, Result, Ok, refl, sym, ◌∙◌, ap, subst, inl, inr, arith}
 use Rattle.std.proofs.Math.Nat.{mod-lt}
-use Rattle.std.proofs.lemmas.Bool.Decides.{eqb_tells}
 use Rattle.std.proofs.lemmas.List.{drop-replicate}
+use Rattle.std.proofs.lemmas.Bool.{ne_eqb}
 use Rattle.blk_base.specs.Counters.{sector_of_offset, sectors_per_slab}
 use Rattle.blk_base.specs.Regions.{SlabJournalSlot, block_of, needed_blocks}
 use Rattle.blk_base.specs.Sectors.{sector}
 use Rattle.blk_base.specs.declared.layout.DataPlace.{DataPlace}
 use Rattle.blk_base.specs.declared.place.Pbn.{Pbn}
+use Rattle.blk_base.specs.Forms.{pbn}
+use Rattle.blk_base.proofs.Example.{place}
 use Rattle.byte_fields.specs.Fields.{number_at}
 use Rattle.byte_fields.proofs.FieldLaws.{number_at-drop}
 use Rattle.disk_model.specs.declared.call.Call.{Call}
 use Rattle.disk_model.specs.declared.call.Call.TheVariants.{Flush, Write}
 use Rattle.disk_model.specs.Images.{IsImage}
 use Rattle.disk_model.specs.Log.{Blocks, block_at}
-use Rattle.image_model.proofs.Example.{pbn, small}
+use Rattle.image_model.proofs.Example.{small}
 use Rattle.image_model.proofs.ZeroLaws.{of_eight}
 use Rattle.image_model.specs.Counts.{Stores, block_of_data, commit_at, count_after, counter_of}
 use Rattle.image_model.specs.Empty.{IsEmpty}
 use Rattle.image_model.specs.Maps.{Image}
 use Rattle.image_model.specs.Sound.{IsDataPlace}
+use Rattle.image_model.proofs.EmptyLaws.{zero_first}
 use Rattle.journal_stops.specs.Mapped.{later_image}
 use Rattle.count_laws.specs.Counters.{CountsStand, IsCounted, IsOfSector, MayWrite, SurelyCounters, counter_in, points_at}
 use Rattle.count_laws.specs.Points.{points_for, up_to}
-use Rattle.count_laws.proofs.Example.{are_pointed, block_count, commits_before, counter_none, counts_stand, fits, first_has, four, four_turn, opened, place}
+use Rattle.count_laws.proofs.Example.{are_pointed, block_count, commits_before, counter_none, counts_stand, fits, first_has, four, four_turn, opened}
 use Rattle.count_laws.proofs.KeepLaws.{counts_after_write, counts_kept, counts_with_window}
 use Rattle.count_laws.proofs.PointLaws.{of_all, points_below}
 use Rattle.count_laws.proofs.StoredLaws.{stored}
@@ -52,11 +55,6 @@ other_commits n below some =
     of_eight (λ k. 1 ≤ k → number_at 8 0 (sector k written) ≡ 0) (λ none. absurd (omega (arith, none))) (λ some. refl) (λ some. refl) (λ some. refl) (λ some. refl) (λ some. refl) (λ some. refl) (λ some. refl)
     n below some
 
-zero_first : (n : ℕ) → number_at 1 0 (replicate n 0) ≡ 0
-unfolding number_at
-zero_first zero = refl
-zero_first (suc n) = refl
-
 zeros_behind : drop 10 (sector 0 written) ≡ replicate 502 0
 zeros_behind = refl
 
@@ -70,13 +68,10 @@ no_counter k =
 no_points : (x : Pbn) → (85 == x.0) ≡ false → (86 == x.0) ≡ false → points_for four x ≡ []
 no_points x not_first not_second = rw (not_first, not_second) refl
 
-differs : (m n : ℕ) → (m ≡ n → ⊥) → (m == n) ≡ false
-differs m n apart = elim (eqb_tells m n) [ inl same ↦ absurd (apart same.1) | inr other ↦ other.0 ]
-
 pub other_points : (k : ℕ) → points_at small four (place (suc (suc k))) ≡ []
 other_points k =
     let x = block_of_data small (place (suc (suc k))) in
-    no_points x (differs 85 x.0 (λ (same : 85 ≡ x.0). omega (arith, same))) (differs 86 x.0 (λ (same : 86 ≡ x.0). omega (arith, same)))
+    no_points x (ne_eqb 85 x.0 (λ (same : 85 ≡ x.0). omega (arith, same))) (ne_eqb 86 x.0 (λ (same : 86 ≡ x.0). omega (arith, same)))
 
 -- What a counter has up to the commit point.
 up_to_counter : (offset : ℕ) → offset < 64 → count_after 254 0 (up_to 519 (points_at small four (place offset))) ≡ Ok (number_at 1 (8 + offset) (sector 0 written))

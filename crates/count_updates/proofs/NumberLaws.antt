@@ -5,23 +5,21 @@ use Rattle.std.proofs.lemmas.Nat.{mul-le}
 use Rattle.std.proofs.Math.ListN.{get_or-append}
 use Rattle.std.proofs.Math.Seq.{get_or-append_right}
 use Rattle.blk_base.specs.Counters.{sectors_per_slab}
-use Rattle.blk_base.specs.Regions.{slab_stride_of}
+use Rattle.blk_base.specs.Regions.{slab_stride_of, data_blocks}
 use Rattle.blk_base.specs.declared.geometry.Geometry.{Geometry}
 use Rattle.blk_base.specs.declared.layout.DataPlace.{DataPlace}
+use Rattle.blk_base.specs.Forms.{place_in}
 use Rattle.image_model.specs.Counts.{block_of_data}
 use Rattle.image_model.specs.Sound.{IsDataPlace}
 use Rattle.count_updates.specs.Counted.{AreCounted, AreCountedUpTo, IsCountedAt, Leaves}
-use Rattle.count_updates.specs.Numbers.{all_blocks, all_sectors, block_number, sector_number, IsEarlier}
+use Rattle.count_updates.specs.Numbers.{all_sectors, block_number, sector_number, IsEarlier}
 use Rattle.count_updates.specs.FoundLists.{FoundLists}
-
-abbrev pub place_of : ℕ → ℕ → DataPlace
-place_of slab offset = record { slab = slab; offset = offset }
 
 -- a row of one slab ends where the next one begins, and that is no later than the end of all
 pub row_ends : (slab slabs width : ℕ) → slab < slabs → slab * width + width ≤ slabs * width
 row_ends slab slabs width less = let most = mul-le (slab + 1) width slabs width (omega (arith, less)) (omega arith) in omega (arith, most)
 
-pub block_inside : (g : Geometry) (place : DataPlace) → IsDataPlace g place → block_number g place < all_blocks g
+pub block_inside : (g : Geometry) (place : DataPlace) → IsDataPlace g place → block_number g place < data_blocks g
 block_inside g place inside = let ends = row_ends place.slab g.slabs g.slab_blocks inside.0 in let offset = inside.1 in omega (arith, ends, offset)
 
 sector_below : (offset size : ℕ) → offset < size → offset / 504 < (size + 504 - 1) / 504
@@ -39,7 +37,7 @@ pub earlier_below : (g : Geometry) (place : DataPlace) (slab offset : ℕ) → p
 earlier_below g place slab offset inside (inl less) = let ends = row_ends place.slab slab g.slab_blocks less in omega (arith, ends, inside)
 earlier_below g place slab offset inside (inr (same, less)) = let here = ap (λ (n : ℕ). n * g.slab_blocks) same in omega (arith, here, less)
 
-pub earlier_or_here : (place : DataPlace) (slab offset : ℕ) → IsEarlier place slab (offset + 1) → IsEarlier place slab offset ⊎ (place ≡ place_of slab offset)
+pub earlier_or_here : (place : DataPlace) (slab offset : ℕ) → IsEarlier place slab (offset + 1) → IsEarlier place slab offset ⊎ (place ≡ place_in slab offset)
 earlier_or_here place slab offset (inl less) = inl (inl less)
 earlier_or_here place slab offset (inr (same, less)) = elim (cases_lt place.offset offset) [
   | inl before ↦ inl (inr (same, before))
@@ -55,7 +53,7 @@ earlier_row place slab size inside (inr (same, none)) = absurd (omega (arith, no
 
 -- a block that stands before another one is an earlier one
 pub before_is_earlier : (g : Geometry) (other : DataPlace) (slab offset : ℕ) → other.offset < g.slab_blocks → offset < g.slab_blocks
-    → (block_of_data g other).0 < (block_of_data g (place_of slab offset)).0 → IsEarlier other slab offset
+    → (block_of_data g other).0 < (block_of_data g (place_in slab offset)).0 → IsEarlier other slab offset
 before_is_earlier g other slab offset inside within before = elim (cases_lt other.slab slab) [
   | inl less ↦ inl less
   | inr most ↦ elim (cases_lt slab other.slab) [
@@ -68,10 +66,10 @@ before_is_earlier g other slab offset inside within before = elim (cases_lt othe
 ]
 
 -- the blocks of a slab stand one behind the other, and those of the next slab behind them
-pub next_block : (g : Geometry) (slab offset : ℕ) → (block_of_data g (place_of slab offset)).0 < (block_of_data g (place_of slab (offset + 1))).0
+pub next_block : (g : Geometry) (slab offset : ℕ) → (block_of_data g (place_in slab offset)).0 < (block_of_data g (place_in slab (offset + 1))).0
 next_block g slab offset = omega arith
 
-pub next_slab : (g : Geometry) (slab : ℕ) → (block_of_data g (place_of slab g.slab_blocks)).0 ≤ (block_of_data g (place_of (slab + 1) 0)).0
+pub next_slab : (g : Geometry) (slab : ℕ) → (block_of_data g (place_in slab g.slab_blocks)).0 ≤ (block_of_data g (place_in (slab + 1) 0)).0
 next_slab g slab = omega arith
 
 module _ (g : Geometry) (found : FoundLists) where
@@ -82,7 +80,7 @@ module _ (g : Geometry) (found : FoundLists) where
   }
 
   pub one_counted : (slab offset count : ℕ) (counts : List ℕ) → AreCountedUpTo g found slab offset counts
-      → IsCountedAt g found (place_of slab offset) (Ok count)
+      → IsCountedAt g found (place_in slab offset) (Ok count)
       → AreCountedUpTo g found slab (offset + 1) (counts ++ (count ∷ []))
   one_counted slab offset count counts were is = record {
     size = let size = were.size in omega (arith, size, length-append counts (count ∷ []));
@@ -97,7 +95,7 @@ module _ (g : Geometry) (found : FoundLists) where
           let read : get_or (counts ++ (count ∷ [])) (slab * g.slab_blocks + offset) 0 ≡ count =
           get_or-append_right counts (count ∷ []) (slab * g.slab_blocks + offset) 0 last ∙ ap (λ (n : ℕ). get_or (count ∷ []) n 0) none in
           subst (λ (other : DataPlace). IsCountedAt g found other (Ok (get_or (counts ++ (count ∷ [])) (block_number g other) 0))) (sym here)
-          (subst (λ (n : ℕ). IsCountedAt g found (place_of slab offset) (Ok n)) (sym read) is)
+          (subst (λ (n : ℕ). IsCountedAt g found (place_in slab offset) (Ok n)) (sym read) is)
     ];
   }
 
@@ -113,10 +111,10 @@ module _ (g : Geometry) (found : FoundLists) where
     each = λ place inside. were.each place inside (inl inside.0);
   }
 
-  pub one_leaves : (slab offset at point : ℕ) (counts : List ℕ) → IsDataPlace g (place_of slab offset) → at ≡ (block_of_data g (place_of slab offset)).0
-      → AreCountedUpTo g found slab offset counts → IsCountedAt g found (place_of slab offset) (Err point) → Leaves g found at point
+  pub one_leaves : (slab offset at point : ℕ) (counts : List ℕ) → IsDataPlace g (place_in slab offset) → at ≡ (block_of_data g (place_in slab offset)).0
+      → AreCountedUpTo g found slab offset counts → IsCountedAt g found (place_in slab offset) (Err point) → Leaves g found at point
   one_leaves slab offset at point counts inside stands were leaves = record {
-    place = place_of slab offset;
+    place = place_in slab offset;
     inside = inside;
     stands = sym stands;
     leaves = leaves;

@@ -5,18 +5,20 @@ use Rattle.blk_base.specs.declared.journal_entry.Entry.TheVariants.{NewPage}
 use Rattle.blk_base.specs.declared.journal_entry.Update.{Update}
 use Rattle.blk_base.specs.declared.layout.DataPlace.{DataPlace}
 use Rattle.blk_base.specs.declared.place.Mapping.TheVariants.{Unmapped, Zero, At}
-use Rattle.blk_base.specs.declared.place.Pbn.{Pbn}
 use Rattle.blk_base.specs.declared.point.Point.{Point}
+use Rattle.blk_base.specs.Forms.{place_in, pbn}
+use Rattle.blk_base.proofs.Example.{place}
+use Rattle.blk_base.specs.Regions.{data_blocks}
 use Rattle.image_model.specs.Counts.{block_of_data, count_from}
 use Rattle.image_model.specs.Sound.{IsDataPlace}
 use Rattle.image_model.proofs.CountLaws.{one_rising, none_in_nothing, is_first_or_behind}
 use Rattle.image_model.proofs.Example.{small}
-use Rattle.image_model.proofs.CountRows.{remap, place}
+use Rattle.image_model.proofs.CountRows.{remap}
 use Rattle.count_updates.specs.Applied.{IsGreatest, AreApplied}
 use Rattle.count_updates.specs.Counted.{IsCountedAt, AreCounted, Leaves}
 use Rattle.count_updates.specs.Entries.{updates_in}
 use Rattle.count_updates.specs.Listed.{Lists, IsUpTo, AreInOrder, ArePoints, IsCounted, IsPassed}
-use Rattle.count_updates.specs.Numbers.{all_blocks, all_sectors, block_number, sector_number, IsEarlier}
+use Rattle.count_updates.specs.Numbers.{all_sectors, block_number, sector_number, IsEarlier}
 use Rattle.count_updates.proofs.AppliedLaws.{none_yet}
 use Rattle.count_updates.proofs.PointLaws.{are_points, is_counted, made as one}
 use Rattle.count_updates.specs.FoundLists.{found_lists}
@@ -106,9 +108,6 @@ passed_too_many : IsPassed (one 85 512 ∷ []) 2 86 → ⊥
 passed_too_many passed = let most = passed.within in omega (arith, most)
 
 -- What an entry makes.
-abbrev pbn : ℕ → Pbn
-pbn n = record { 0 = n }
-
 makes_two : updates_in (remap (At (pbn 85)) (At (pbn 86))) ≡ one 86 512 ∷ one 85 513 ∷ []
 makes_two = refl
 
@@ -122,7 +121,7 @@ makes_one = refl
 abbrev two_slabs : Geometry
 two_slabs = record small { slabs = 2; slab_blocks = 600 }
 
-all_of_two : (all_blocks two_slabs ≡ 1200) × (all_sectors two_slabs ≡ 4)
+all_of_two : (data_blocks two_slabs ≡ 1200) × (all_sectors two_slabs ≡ 4)
 all_of_two = (refl, refl)
 
 block_of_two : block_number two_slabs (record { slab = 1; offset = 5 }) ≡ 605
@@ -176,14 +175,11 @@ blocks n = record small { slab_blocks = n }
 abbrev at_512 : List Point
 at_512 = record { 0 = 512 } ∷ []
 
-abbrev here : ℕ → ℕ → DataPlace
-here slab offset = record { slab = slab; offset = offset }
-
 only_place : (p : DataPlace) → IsDataPlace (blocks 1) p → p ≡ place 0
 only_place p inside =
     let slab : p.slab ≡ 0 = let less = inside.0 in omega (arith, less) in
     let offset : p.offset ≡ 0 = let less = inside.1 in omega (arith, less) in
-    ap₂ (λ (s o : ℕ). here s o) slab offset
+    ap₂ (λ (s o : ℕ). place_in s o) slab offset
 
 counted_at : (counter : ℕ) (result : Result ℕ ℕ) → count_from 254 512 counter [] ≡ result → IsCountedAt (blocks 1) (found_lists (counter ∷ []) at_512 []) (place 0) result
 counted_at counter result is = is_counted 254 (block_of_data (blocks 1) (place 0)).0 512 counter [] result tt is

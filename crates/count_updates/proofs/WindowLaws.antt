@@ -8,15 +8,13 @@ use Rattle.blk_base.specs.declared.journal_entry.Update.{Update}
 use Rattle.blk_base.specs.declared.place.Mapping.{Mapping}
 use Rattle.blk_base.specs.declared.place.Mapping.TheVariants.{Unmapped, Zero, At}
 use Rattle.blk_base.specs.declared.place.Pbn.{Pbn}
+use Rattle.blk_base.specs.Forms.{pbn}
 use Rattle.image_model.specs.Counts.{Updates}
 use Rattle.image_model.specs.Maps.{target_of}
 use Rattle.image_model.proofs.CountLaws.{is_first_or_behind, is_first, is_behind, none_in_nothing}
 use Rattle.count_updates.specs.Entries.{update_at, updates_in}
 use Rattle.count_updates.specs.Listed.{Lists}
 use Rattle.count_updates.proofs.PointLaws.{made}
-
-abbrev pbn : ℕ → Pbn
-pbn at = record { 0 = at }
 
 -- An update that is there, or not.
 

@@ -4,11 +4,12 @@ use Rattle.blk_base.specs.Counters.{limit_of}
 use Rattle.blk_base.specs.declared.geometry.Geometry.{Geometry}
 use Rattle.blk_base.specs.declared.layout.DataPlace.{DataPlace}
 use Rattle.blk_base.specs.declared.point.Point.{Point}
+use Rattle.blk_base.specs.Regions.{data_blocks}
 use Rattle.image_model.specs.Counts.{block_of_data}
 use Rattle.image_model.specs.Sound.{IsDataPlace}
 use Rattle.count_updates.specs.FoundLists.{FoundLists}
 use Rattle.count_updates.specs.Listed.{IsCounted}
-use Rattle.count_updates.specs.Numbers.{all_blocks, block_number, sector_number, IsEarlier}
+use Rattle.count_updates.specs.Numbers.{block_number, sector_number, IsEarlier}
 use Rattle.count_updates.specs.declared.forms.CountFault.{CountFault}
 use Rattle.count_updates.specs.declared.forms.CountFault.TheVariants.{Counter, Memory}
 
@@ -29,7 +30,7 @@ pub record AreCountedUpTo (g : Geometry) (found : FoundLists) (slab offset : ℕ
 
 -- the counts of all data blocks
 pub record AreCounted (g : Geometry) (found : FoundLists) (counts : List ℕ) : Type 0 where
-  pub size : length counts ≡ all_blocks g
+  pub size : length counts ≡ data_blocks g
   pub each : (place : DataPlace) → IsDataPlace g place → IsCountedAt g found place (Ok (slice_index counts (block_number g place)))
 
 -- the count of this data block leaves its range at this point; the least such block

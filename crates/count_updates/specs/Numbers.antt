@@ -3,11 +3,9 @@ use Rattle.std.specs.Prelude.{ℕ, ◌≡◌, ◌⊎◌, ◌+◌, ◌*◌, ◌<�
 use Rattle.blk_base.specs.Counters.{sectors_per_slab, sector_of_offset}
 use Rattle.blk_base.specs.declared.geometry.Geometry.{Geometry}
 use Rattle.blk_base.specs.declared.layout.DataPlace.{DataPlace}
+use Rattle.blk_base.specs.Regions.{data_blocks}
 
--- how many data blocks there are, and the number of one
-abbrev pub all_blocks : Geometry → ℕ
-all_blocks g = g.slabs * g.slab_blocks
-
+-- the number of a data block
 abbrev pub block_number : Geometry → DataPlace → ℕ
 block_number g place = place.slab * g.slab_blocks + place.offset
 

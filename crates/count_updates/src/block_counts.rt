@@ -1,12 +1,13 @@
 ghost use Rattle.std.specs.Prelude.{◌≡◌, ◌+◌, ◌<◌, ◌≤◌, ◌++◌, ℕ, List, ◌∷◌, Ok, Err, IfOk, IfErr, IfSome, IfNone, OnOk, length, get_or, slice_index};
 ghost use Rattle.std.specs.Bool.{OnTrue};
 ghost use Rattle.blk_base.specs.declared.journal_entry.Update.{Update};
+ghost use Rattle.blk_base.specs.Regions.{data_blocks};
 ghost use Rattle.image_model.specs.Counts.{block_of_data, count_after};
 ghost use Rattle.image_model.specs.Sound.{IsDataPlace};
 ghost use Rattle.count_updates.specs.Counted.{AreCounted, AreCountedUpTo, IsCountedAt, IsCountRefusal};
 ghost use Rattle.count_updates.specs.FoundLists.{found_lists, lists_of};
 ghost use Rattle.count_updates.specs.Listed.{AreInOrder, IsCounted, IsPassed};
-ghost use Rattle.count_updates.specs.Numbers.{all_blocks, all_sectors};
+ghost use Rattle.count_updates.specs.Numbers.{all_sectors};
 
 use crate::{CountFault, Found};
 use blk_base::{DataPlace, Half, Layout, Pbn, Point, Update};
@@ -19,7 +20,7 @@ const PART: usize = 2048;
 /// The count of each data block, slab after slab: its counter, and then its updates above the commit point of its
 /// counter's sector, each once, in the order of their points. It goes through the updates once.
 pub fn counts_of(alloc: Global, layout: &Layout, found: &Found) -> Result<Vec<u16>, CountFault>
-    requires counters { length found.now.counters.items ≡ all_blocks layout.now.geometry }
+    requires counters { length found.now.counters.items ≡ data_blocks layout.now.geometry }
     requires commits { length found.now.commits.items ≡ all_sectors layout.now.geometry }
     requires order { AreInOrder found.now.updates.items }
     ensures counts { IfOk result (λ counts.
@@ -48,7 +49,7 @@ fn count_slab(
     counts: &mut Vec<u16>,
 ) -> Result<usize, CountFault>
     requires inside { slab < layout.now.geometry.slabs }
-    requires counters { length found.now.counters.items ≡ all_blocks layout.now.geometry }
+    requires counters { length found.now.counters.items ≡ data_blocks layout.now.geometry }
     requires commits { length found.now.commits.items ≡ all_sectors layout.now.geometry }
     requires order { AreInOrder found.now.updates.items }
     requires before { IsPassed found.now.updates.items passed
@@ -167,7 +168,7 @@ fn count_of(
     updates: &[Update],
 ) -> Result<u16, Point>
     requires inside { IsDataPlace layout.now.geometry place }
-    requires counters { length found.now.counters.items ≡ all_blocks layout.now.geometry }
+    requires counters { length found.now.counters.items ≡ data_blocks layout.now.geometry }
     requires commits { length found.now.commits.items ≡ all_sectors layout.now.geometry }
     requires order { AreInOrder updates.now }
     ensures counted { IfOk result (λ count.

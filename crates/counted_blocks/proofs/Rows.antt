@@ -1,31 +1,30 @@
 -- A slab that took two of the four updates that the example's entries give it, and those that it can't have taken.
-use Rattle.std.proofs.Common.{ℕ, zero, suc, ◌≡◌, ◌+◌, ◌/◌, ◌%◌, ◌<◌, ◌==◌, true, false, List, [], ◌∷◌, ◌++◌, Contains, replicate, slice_index, get_or, refl, sym, ◌∙◌, ap, subst, inl, inr, arith}
+use Rattle.std.proofs.Common.{ℕ, zero, suc, ◌≡◌, ◌+◌, ◌/◌, ◌%◌, ◌<◌, true, false, List, [], ◌∷◌, ◌++◌, Contains, replicate, slice_index, get_or, refl, sym, ◌∙◌, ap, subst, inl, inr, arith}
 use Rattle.std.proofs.Math.Nat.{mod-lt}
-use Rattle.std.proofs.lemmas.Bool.Decides.{eqb_tells}
 use Rattle.std.proofs.lemmas.List.{get_or-replicate, length-replicate}
 use Rattle.std.proofs.lemmas.List.Elements.{All-cons, All-nil}
+use Rattle.std.proofs.lemmas.Bool.{ne_eqb}
 use Rattle.blk_base.specs.Counters.{sector_of_offset, sectors_per_slab}
 use Rattle.blk_base.specs.Regions.{ReferenceBlock, references_of}
 use Rattle.blk_base.specs.Sectors.{sector}
 use Rattle.blk_base.specs.declared.journal_entry.Update.{Update}
 use Rattle.blk_base.specs.declared.point.Point.{Point}
+use Rattle.blk_base.specs.Forms.{at_point, pbn, place_in}
 use Rattle.byte_fields.specs.Fields.{number_at}
 use Rattle.disk_model.specs.Log.{Blocks}
 use Rattle.image_model.proofs.CountLaws.{is_first_or_behind, none_in_nothing}
-use Rattle.image_model.proofs.Example.{pbn, small}
+use Rattle.image_model.proofs.Example.{small}
 use Rattle.image_model.proofs.ZeroLaws.{no_commit}
 use Rattle.image_model.specs.Counts.{commit_at}
 use Rattle.image_model.specs.Empty.{IsEmpty}
 use Rattle.reference_blocks.specs.References.{point_at}
 use Rattle.reference_blocks.specs.Updates.{AreRising, counters_after}
 use Rattle.slab_codec.specs.declared.forms.SlabEntry.{SlabEntry}
+use Rattle.slab_codec.specs.Updates.{slab_entry as update}
 use Rattle.count_laws.specs.Counters.{points_at}
-use Rattle.count_laws.proofs.Example.{at_point, counter_none, four, leaf, opened}
+use Rattle.count_laws.proofs.Example.{counter_none, four, leaf, opened}
 use Rattle.count_laws.proofs.WriteExample.{other_points}
-use Rattle.counted_blocks.specs.Taken.{HasTaken, entries_taken, entry_of, in_slab, place_in, taken_at}
-
-abbrev update : ℕ → ℕ → SlabEntry
-update point offset = record { point = record { 0 = point }; offset = offset }
+use Rattle.counted_blocks.specs.Taken.{HasTaken, entries_taken, entry_of, in_slab, taken_at}
 
 -- the newest first
 abbrev taken : List SlabEntry
@@ -50,13 +49,10 @@ one_of_two P x y first second e has = elim (is_first_or_behind x (y ∷ []) e ha
   | inr behind ↦ elim (is_first_or_behind y [] e behind) [ inl same ↦ subst P same second | inr none ↦ absurd (none_in_nothing e none) ]
 ]
 
-differs : (m n : ℕ) → (m ≡ n → ⊥) → (m == n) ≡ false
-differs m n apart = elim (eqb_tells m n) [ inl same ↦ absurd (apart same.1) | inr other ↦ other.0 ]
-
 parts : (offset : ℕ) → points_at small four (place_in 0 offset) ≡ taken_at offset taken ++ taken_at offset later
 parts zero = refl
 parts (suc zero) = refl
-parts (suc (suc k)) = rw (differs 0 (suc (suc k)) (λ (same : ◌≡◌ {A = ℕ} 0 (suc (suc k))). omega (arith, same)), differs 1 (suc (suc k)) (λ (same : ◌≡◌ {A = ℕ} 1 (suc (suc k))). omega (arith, same))) (other_points k)
+parts (suc (suc k)) = rw (ne_eqb 0 (suc (suc k)) (λ (same : ◌≡◌ {A = ℕ} 0 (suc (suc k))). omega (arith, same)), ne_eqb 1 (suc (suc k)) (λ (same : ◌≡◌ {A = ℕ} 1 (suc (suc k))). omega (arith, same))) (other_points k)
 
 -- the data blocks of slab 0, what an update is called there, and what was taken of a stream, the newest first
 abbrev at_block : ℕ → ℕ → Update
@@ -125,7 +121,7 @@ module _ (blocks : Blocks) (empty : IsEmpty small blocks) where
     where
       last_part : (offset : ℕ) → points_at small (at_point leaf 18446744073709551615 ∷ []) (place_in 0 offset) ≡ taken_at offset (update 18446744073709551615 0 ∷ []) ++ taken_at offset []
       last_part zero = refl
-      last_part (suc k) = rw (differs 0 (suc k) (λ (same : ◌≡◌ {A = ℕ} 0 (suc k)). omega (arith, same)), differs 85 (85 + suc k) (λ (same : ◌≡◌ {A = ℕ} 85 (85 + suc k)). omega (arith, same))) refl
+      last_part (suc k) = rw (ne_eqb 0 (suc k) (λ (same : ◌≡◌ {A = ℕ} 0 (suc k)). omega (arith, same)), ne_eqb 85 (85 + suc k) (λ (same : ◌≡◌ {A = ℕ} 85 (85 + suc k)). omega (arith, same))) refl
 
   -- one that leaves out an update between two others
   left_out : HasTaken (opened blocks empty) four 0 points (replicate 64 0) (update 516 1 ∷ update 512 0 ∷ []) → ⊥

@@ -14,9 +14,10 @@ use Rattle.std.proofs.lemmas.List.Kept.{AllPairs-from_increasing, Contains-dedup
 use Rattle.std.proofs.lemmas.List.Sorted.{Contains-permutation, IsPermutation-sym}
 use Rattle.std.proofs.lemmas.Map.Keys.{IsStrictlyIncreasing-dedup}
 use Rattle.blk_base.specs.declared.place.Lba.{Lba}
+use Rattle.blk_base.specs.Forms.{lba}
 use Rattle.image_model.proofs.CountLaws.{is_behind, is_first, is_first_or_behind, none_in_nothing}
 use Rattle.vdo_model.specs.Scripts.{Script, address_of}
-use Rattle.crash_images.specs.Addresses.{AreAddresses, IsNamed, address_below, lba, where_below}
+use Rattle.crash_images.specs.Addresses.{AreAddresses, IsNamed, address_below, where_below}
 
 -- Of one request.
 

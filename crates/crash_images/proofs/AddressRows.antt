@@ -2,9 +2,10 @@
 use Rattle.std.proofs.Common.{ℕ, ◌≡◌, ◌<◌, None, Some, [], ◌∷◌, Contains, refl, ap, inl, inr, arith}
 use Rattle.blk_base.specs.declared.place.Lba.{Lba}
 use Rattle.blk_base.specs.declared.request.Request.TheVariants as request
+use Rattle.blk_base.specs.Forms.{lba}
 use Rattle.image_model.proofs.CountLaws.{is_first_or_behind, none_in_nothing}
 use Rattle.vdo_model.specs.Scripts.{Script}
-use Rattle.crash_images.specs.Addresses.{AreAddresses, IsNamed, address_below, lba, where_below}
+use Rattle.crash_images.specs.Addresses.{AreAddresses, IsNamed, address_below, where_below}
 use Rattle.crash_images.proofs.AddressLaws.{address_in, named_of, number_in, of_named, rising_too}
 
 -- where_below: below the number, not at it

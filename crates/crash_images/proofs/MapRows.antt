@@ -1,7 +1,7 @@
 -- For each definition of the map of an image a case that it accepts, and for each clause one that breaks it alone.
 use Rattle.std.proofs.Common.{◌≡◌, true, false, List, [], ◌∷◌, Ok, Err, refl, sym, subst, inl, inr, arith}
 use Rattle.audit.specs.Audits.{IsOpenedTo}
-use Rattle.blk_base.proofs.Example.{small, small_is}
+use Rattle.blk_base.proofs.Example.{small, small_is, leaf}
 use Rattle.blk_base.specs.Limits.{IsGeometry}
 use Rattle.blk_base.specs.Regions.{IsDataBlock}
 use Rattle.blk_base.specs.declared.geometry.Geometry.{Geometry}
@@ -9,7 +9,6 @@ use Rattle.blk_base.specs.declared.geometry.Super.{Super}
 use Rattle.blk_base.specs.declared.journal_entry.CommittedEntry.{CommittedEntry}
 use Rattle.blk_base.specs.declared.place.Mapping.{Mapping}
 use Rattle.blk_base.specs.declared.place.Mapping.TheVariants.{At}
-use Rattle.blk_base.specs.declared.place.PageId.{PageId}
 use Rattle.disk_model.specs.Log.{Blocks}
 use Rattle.disk_model.specs.Seen.{Seen}
 use Rattle.image_layout.specs.Opened.{super_of_image}
@@ -28,9 +27,6 @@ use Rattle.replay_map.specs.declared.changes.SlotId.{SlotId}
 use Rattle.replay_map.specs.declared.links.Link.{Link}
 use Rattle.crash_images.specs.Maps.{Fits, HasNoMap, IsMapIn, OfMap, ShowsMap}
 use Rattle.crash_images.specs.declared.maps.ImageMap.{ImageMap}
-
-abbrev leaf : PageId
-leaf = record { tree = 0; level = 0; index = 0 }
 
 abbrev slot : SlotId
 slot = record { page = leaf; slot = 0 }

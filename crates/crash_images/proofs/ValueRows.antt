@@ -1,8 +1,9 @@
 -- For each definition of the values of an image a case that it accepts, and for each clause one that breaks it alone.
-use Rattle.std.proofs.Common.{ℕ, ◌≡◌, None, Some, [], ◌∷◌, Contains, refl, ap, inl, inr, arith}
+use Rattle.std.proofs.Common.{◌≡◌, None, Some, [], ◌∷◌, Contains, refl, ap, inl, inr, arith}
 use Rattle.blk_base.specs.declared.place.Lba.{Lba}
 use Rattle.blk_base.specs.declared.place.PageId.{PageId}
-use Rattle.blk_base.specs.declared.place.Pbn.{Pbn}
+use Rattle.blk_base.specs.Forms.{pbn, lba}
+use Rattle.blk_base.proofs.Example.{leaf}
 use Rattle.image_model.proofs.CountLaws.{is_first, is_first_or_behind, none_in_nothing}
 use Rattle.image_model.proofs.ReadExample.{failed, seen}
 use Rattle.image_model.specs.Maps.{Image, value_of}
@@ -12,12 +13,6 @@ use Rattle.crash_images.specs.declared.fault.ValueFault.TheVariants.{Device, Pag
 use Rattle.crash_images.specs.declared.maps.ImageMap.{ImageMap}
 use Rattle.crash_images.specs.Values.{AreRefused, IsNoDamage, IsRefused, LinkTo, address_of, value_in}
 
-abbrev lba : ℕ → Lba
-lba address = record { 0 = address }
-
-abbrev pbn : ℕ → Pbn
-pbn block = record { 0 = block }
-
 -- value_in, address_of
 value_with_its_address : (image : Image) → ((value_in image (lba 3)).at ≡ lba 3) × ((value_in image (lba 3)).block ≡ value_of image 3)
 value_with_its_address image = (refl, refl)
@@ -26,9 +21,6 @@ address_of_its_value : (image : Image) → address_of (value_in image (lba 3)) �
 address_of_its_value image is = let same = ap (λ (at : Lba). at.0) is in omega (arith, same)
 
 -- LinkTo: the first leaf of tree 0 stands at block 90, and no other page is linked
-abbrev leaf : PageId
-leaf = record { tree = 0; level = 0; index = 0 }
-
 abbrev link : Link
 link = record { page = leaf; at = pbn 90 }
 

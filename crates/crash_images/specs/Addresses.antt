@@ -15,9 +15,6 @@ abbrev pub address_below : ℕ → Request → Option ℕ
 address_below logical request = where_below logical (address_of request)
 
 -- the address with this number
-abbrev pub lba : ℕ → Lba
-lba number = record { 0 = number }
-
 -- a request of the script has this address, which is below the logical size
 abbrev pub IsNamed : Script → ℕ → ℕ → Type 0
 IsNamed script logical address =

@@ -1,6 +1,7 @@
 ghost use Rattle.std.specs.Prelude.{◌≡◌, ◌≤◌, ◌++◌, IfOk, OnOk, length, flat_map, map};
 ghost use Rattle.std.specs.List.{filter_map};
-ghost use Rattle.crash_images.specs.Addresses.{AreAddresses, address_below, lba};
+ghost use Rattle.blk_base.specs.Forms.{lba};
+ghost use Rattle.crash_images.specs.Addresses.{AreAddresses, address_below};
 
 use blk_base::{Lba, Request};
 use std::alloc::{AllocError, Global};

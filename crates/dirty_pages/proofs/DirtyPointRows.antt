@@ -3,9 +3,11 @@
 use Rattle.std.proofs.Common.{ℕ, zero, suc, ◌≡◌, ◌≤◌, true, false, None, Some, [], ◌∷◌, refl, ap, sym, inl, inr, arith}
 use Rattle.std.proofs.lemmas.Option.{none-some}
 use Rattle.blk_base.specs.declared.point.Point.{Point}
+use Rattle.blk_base.specs.Forms.{point as p}
+use Rattle.blk_base.proofs.Example.{number_of_point}
 use Rattle.dirty_pages.specs.declared.dirty_points.DirtyPoints.{DirtyPoints}
 use Rattle.dirty_pages.specs.DirtyPoints.{AreClean, HasPoint, IsBeingWritten, IsDue, IsLowPoint, NoneIsDue, changed_at, clean, clean_by, clean_of, due_by, due_of, handed_out, least_of, dirty_points_at, settled, unwritten_by, unwritten_of, with_dirty_points}
-use Rattle.dirty_pages.proofs.Rows.{busy, changed, least, out, p, pages, value, written}
+use Rattle.dirty_pages.proofs.Rows.{busy, changed, least, out, pages, written}
 
 -- clean
 clean_is : clean ≡ record { dirty = None; writing = None }
@@ -47,8 +49,8 @@ has_its_written_point : HasPoint busy (p 2)
 has_its_written_point = inr refl
 
 has_no_other : HasPoint busy (p 5) → ⊥
-has_no_other (inl is) = omega (arith, ap value is)
-has_no_other (inr is) = omega (arith, ap value is)
+has_no_other (inl is) = omega (arith, ap number_of_point is)
+has_no_other (inr is) = omega (arith, ap number_of_point is)
 
 clean_has_none : HasPoint clean (p 0) → ⊥
 clean_has_none (inl is) = none-some (p 0) is
@@ -67,7 +69,7 @@ clean_is_not_due : IsDue clean (p 5) → ⊥
 clean_is_not_due is = none-some (p 5) is.dirty
 
 due_by_another_point : IsDue (changed 5) (p 4) → ⊥
-due_by_another_point is = omega (arith, ap value is.dirty)
+due_by_another_point is = omega (arith, ap number_of_point is.dirty)
 
 -- IsBeingWritten
 is_being_written : IsBeingWritten busy
@@ -99,13 +101,13 @@ one_is_due_at_5 none = omega (arith, none 2 (p 5) is_due)
 
 -- IsLowPoint: 2, with which the second page is being written
 from_2_on : (other : ℕ) (point : Point) → HasPoint (dirty_points_at pages other) point → 2 ≤ point.0
-from_2_on zero point (inl is) = omega (arith, ap value is)
+from_2_on zero point (inl is) = omega (arith, ap number_of_point is)
 from_2_on zero point (inr is) = absurd (none-some point is)
-from_2_on (suc zero) point (inl is) = omega (arith, ap value is)
-from_2_on (suc zero) point (inr is) = omega (arith, ap value is)
-from_2_on (suc (suc zero)) point (inl is) = omega (arith, ap value is)
+from_2_on (suc zero) point (inl is) = omega (arith, ap number_of_point is)
+from_2_on (suc zero) point (inr is) = omega (arith, ap number_of_point is)
+from_2_on (suc (suc zero)) point (inl is) = omega (arith, ap number_of_point is)
 from_2_on (suc (suc zero)) point (inr is) = absurd (none-some point is)
-from_2_on (suc (suc (suc zero))) point (inl is) = omega (arith, ap value is)
+from_2_on (suc (suc (suc zero))) point (inl is) = omega (arith, ap number_of_point is)
 from_2_on (suc (suc (suc zero))) point (inr is) = absurd (none-some point is)
 from_2_on (suc (suc (suc (suc n)))) point (inl is) = absurd (none-some point is)
 from_2_on (suc (suc (suc (suc n)))) point (inr is) = absurd (none-some point is)

@@ -4,13 +4,12 @@ use Rattle.std.proofs.Common.{◌≢◌, None, Some, List, [], ◌∷◌, refl, 
 use Rattle.std.proofs.lemmas.Option.{none-some}
 use Rattle.blk_base.specs.declared.place.PageId.{PageId}
 use Rattle.blk_base.specs.declared.point.Point.{Point}
+use Rattle.blk_base.specs.Forms.{point as p}
+use Rattle.blk_base.proofs.Example.{leaf as a, number_of_point}
 use Rattle.dirty_pages.specs.declared.dirty_points.DirtyPoints.{DirtyPoints}
 use Rattle.dirty_pages.specs.History.{AtMost, Becomes, Changed, Event, HandedOut, IsAfter, IsInWrite, IsUnreported, IsUnwritten, IsWaiting, Written}
 use Rattle.dirty_pages.specs.DirtyPoints.{clean}
-use Rattle.dirty_pages.proofs.Rows.{busy, changed, out, p, value}
-
-abbrev a : PageId
-a = record { tree = 0; level = 0; index = 0 }
+use Rattle.dirty_pages.proofs.Rows.{busy, changed, out}
 
 abbrev b : PageId
 b = record { tree = 0; level = 0; index = 1 }
@@ -160,4 +159,4 @@ none_at_most is = none-some is.first is.is
 
 -- early
 later_than_that : AtMost (Some (p 6)) (p 5) → ⊥
-later_than_that is = omega (arith, ap value is.is, is.early)
+later_than_that is = omega (arith, ap number_of_point is.is, is.early)

@@ -2,16 +2,11 @@
 use Rattle.std.proofs.Common.{ℕ, zero, suc, ◌≡◌, ◌≢◌, ◌<◌, ◌≤◌, Option, None, Some, List, [], ◌∷◌, refl, ap, sym, arith}
 use Rattle.std.proofs.lemmas.Option.{none-some}
 use Rattle.blk_base.specs.declared.point.Point.{Point}
+use Rattle.blk_base.specs.Forms.{point as p}
+use Rattle.blk_base.proofs.Example.{number_of_point}
 use Rattle.dirty_pages.specs.declared.dirty_points.DirtyPoints.{DirtyPoints}
 use Rattle.dirty_pages.specs.DirtyPoints.{clean, dirty_points_at, IsDue, IsFirstDue, NoneIsEverDue, HandsOut}
 use Rattle.dirty_pages.specs.Minima.{key_at, IsLeast}
-
-abbrev pub p : ℕ → Point
-p n = record { 0 = n }
-
-abbrev pub value : Option Point → ℕ
-value None = 0
-value (Some q) = q.0
 
 abbrev pub number : Option ℕ → ℕ
 number None = 0
@@ -64,14 +59,14 @@ abbrev pub written : List DirtyPoints
 written = changed 7 ∷ busy ∷ out ∷ changed 5 ∷ []
 
 pub least : (other : ℕ) (later : Point) → IsDue (dirty_points_at pages other) later → 5 ≤ later.0
-least zero later due = omega (arith, ap value due.dirty)
+least zero later due = omega (arith, ap number_of_point due.dirty)
 least (suc zero) later due = absurd (none-some (p 2) (sym due.idle))
-least (suc (suc zero)) later due = omega (arith, ap value due.dirty)
-least (suc (suc (suc zero))) later due = omega (arith, ap value due.dirty)
+least (suc (suc zero)) later due = omega (arith, ap number_of_point due.dirty)
+least (suc (suc (suc zero))) later due = omega (arith, ap number_of_point due.dirty)
 least (suc (suc (suc (suc n)))) later due = absurd (none-some later due.dirty)
 
 lowest : (other : ℕ) → IsDue (dirty_points_at pages other) (p 5) → 2 ≤ other
-lowest zero due = omega (arith, ap value due.dirty)
+lowest zero due = omega (arith, ap number_of_point due.dirty)
 lowest (suc zero) due = absurd (none-some (p 2) (sym due.idle))
 lowest (suc (suc n)) due = omega arith
 
@@ -91,11 +86,11 @@ while_it_is_written new is = none-some (p 2) (sym is.due.idle)
 
 -- reached: none is before its point
 before_its_point : (new : List DirtyPoints) → HandsOut pages new (p 4) 2 → ⊥
-before_its_point new is = omega (arith, is.reached, ap value is.due.dirty)
+before_its_point new is = omega (arith, is.reached, ap number_of_point is.due.dirty)
 
 -- least: nor one that was changed later
 a_later_one : (new : List DirtyPoints) → HandsOut pages new (p 7) 0 → ⊥
-a_later_one new is = omega (arith, is.least 2 (p 5) (record { idle = refl; dirty = refl }), ap value is.due.dirty)
+a_later_one new is = omega (arith, is.least 2 (p 5) (record { idle = refl; dirty = refl }), ap number_of_point is.due.dirty)
 
 -- lowest: of two with the same first point the second isn't
 the_second_of_two : (new : List DirtyPoints) → HandsOut pages new (p 7) 3 → ⊥

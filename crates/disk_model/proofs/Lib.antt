@@ -1,5 +1,5 @@
 pub mod CausePins
-mod StreamPins
+pub mod StreamPins
 pub mod SincePins
 pub mod Honest
 pub mod ImageLaws

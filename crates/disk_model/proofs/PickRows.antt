@@ -1,15 +1,12 @@
 -- Picked images: each definition at a small log. The newest call stands first.
-use Rattle.std.proofs.Common.{ℕ, ◌≡◌, true, false, List, [], ◌∷◌, refl}
-use Rattle.blk_base.specs.declared.place.Pbn.{Pbn}
+use Rattle.std.proofs.Common.{◌≡◌, true, false, List, [], ◌∷◌, refl}
+use Rattle.blk_base.specs.Forms.{pbn as at}
 use Rattle.disk_model.specs.Numbers.{next_state, number_in, state_after}
 use Rattle.disk_model.specs.declared.call.Call.{Call}
 use Rattle.disk_model.specs.declared.call.Call.TheVariants.{Read, Write, Flush}
 use Rattle.disk_model.specs.declared.fuse.Fuse.TheVariants.{Passes, Spent}
 use Rattle.disk_model.specs.Fuses.{is_cut, burnt}
 use Rattle.disk_model.specs.Picks.{choice, content_of, counted_log, numbers_before, pending}
-
-abbrev at : ℕ → Pbn
-at n = record { 0 = n }
 
 -- block 2 is written, and the write fails; block 0 is written and flushed, and then written twice, once in vain
 abbrev log : List Call

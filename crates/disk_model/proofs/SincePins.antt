@@ -1,8 +1,9 @@
 -- Rows that pin what was done to a device since a moment: for each clause one that it accepts, and one that breaks it alone.
-use Rattle.std.proofs.Common.{ℕ, ◌≡◌, ◌++◌, true, false, List, [], ◌∷◌, length, get_or, replicate, refl, ap, inl, inr, arith}
-use Rattle.std.proofs.lemmas.List.{length-replicate}
-use Rattle.blk_base.specs.Sectors.{sector}
+use Rattle.std.proofs.Common.{ℕ, ◌≡◌, ◌++◌, true, false, List, [], ◌∷◌, length, refl, ap, inl, inr, arith}
+use Rattle.blk_base.specs.Sectors.{sector, filled_block as block}
 use Rattle.blk_base.specs.declared.place.Pbn.{Pbn}
+use Rattle.blk_base.specs.Forms.{pbn as at}
+use Rattle.blk_base.proofs.SectorLaws.{filled_size as block_length, sectors_tell}
 use Rattle.disk_model.specs.declared.call.Call.{Call}
 use Rattle.disk_model.specs.declared.call.Call.TheVariants.{Read, Write, Flush}
 use Rattle.disk_model.specs.declared.reads.BlocksFault.TheVariants.{Device, Memory}
@@ -11,21 +12,6 @@ use Rattle.disk_model.specs.Log.{Blocks, block_at}
 use Rattle.disk_model.specs.Seen.{Seen, Stays, Later}
 use Rattle.disk_model.specs.Since.{SinceThen, OnlyReads, IsUntouched, reads_of, AreGiven, WereRead, NextFailed, StopsBefore, OfDevice}
 use Rattle.disk_model.specs.LogSteps.{FailedInLog}
-
--- a block filled with one byte; blocks of different bytes differ in their first sectors
-unfoldable block : ℕ → List ℕ
-block byte = replicate 4096 byte
-
-block_length : (byte : ℕ) → length (block byte) ≡ 4096
-unfolding block
-block_length byte = length-replicate 4096 byte
-
-sectors_tell : (a b : ℕ) → sector 0 (block a) ≡ sector 0 (block b) → a ≡ b
-unfolding block
-sectors_tell a b same = ap (λ (bytes : List ℕ). get_or bytes 0 0) same
-
-abbrev at : ℕ → Pbn
-at b = record { 0 = b }
 
 abbrev device : Blocks → ℕ → List Call → ℕ → ℕ → Seen
 device blocks size log faults unkept = record { opening = blocks; size = size; log = log; faults = faults; unkept = unkept }

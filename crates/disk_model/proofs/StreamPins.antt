@@ -10,7 +10,7 @@ abbrev failed : Result (Unit {0}) ℕ
 failed = Err 0
 
 -- a sink with these bytes, so often failed
-abbrev sink : List ℕ → ℕ → SinkSeen
+abbrev pub sink : List ℕ → ℕ → SinkSeen
 sink held faults = record { held = held; faults = faults }
 
 -- ok: all of the text stands behind what was there

@@ -7,8 +7,9 @@ use Rattle.blk_base.specs.Limits.{IsGeometry}
 use Rattle.blk_base.specs.declared.geometry.Geometry.{Geometry}
 use Rattle.blk_base.specs.declared.layout.DataPlace.{DataPlace}
 use Rattle.blk_base.specs.declared.place.Pbn.{Pbn}
+use Rattle.blk_base.specs.Regions.{data_blocks}
 use Rattle.count_updates.proofs.NumberLaws.{before_is_earlier, earlier_below}
-use Rattle.count_updates.specs.Numbers.{all_blocks, block_number}
+use Rattle.count_updates.specs.Numbers.{block_number}
 use Rattle.image_model.specs.Counts.{HasMappings, block_of_data}
 use Rattle.image_model.specs.Maps.{Image}
 use Rattle.image_model.specs.Sound.{IsDataPlace}
@@ -38,7 +39,7 @@ module _ (image : Image) (map : RecoveredMap) (has : HasMap image map) (counts :
   pub are_mappings : All (λ count. count ≤ limit_of g) counts → AreMappings image counts
   are_mappings limit = record { size = tallied.size; each = mappings_of; limit = limit }
 
-  pub counted_to : (forced : Forced) → All (λ count. count ≤ limit_of g) counts → forced.used ≡ used_in counts → forced.total ≡ all_blocks g → IsCountedTo image forced
+  pub counted_to : (forced : Forced) → All (λ count. count ≤ limit_of g) counts → forced.used ≡ used_in counts → forced.total ≡ data_blocks g → IsCountedTo image forced
   counted_to forced limit used all = record { pages = has.pages; unshared = has.unshared; counters = counts; mappings = are_mappings limit; used = used; all = all }
 
   -- Behind the first number above the limit.
@@ -50,7 +51,7 @@ module _ (image : Image) (map : RecoveredMap) (has : HasMap image map) (counts :
       let place = place_of_number g n in
       let size = tallied.size in
       let within = is.first.inside in
-      let below : n < all_blocks g = omega (arith, size, within) in
+      let below : n < data_blocks g = omega (arith, size, within) in
       let inside : IsDataPlace g place = (div_below n g.slab_blocks g.slabs (omega (arith, some)) below, mod_below n g.slab_blocks (omega (arith, some))) in
       let number : block_number g place ≡ n = div-add-mod' n g.slab_blocks in
       let maps : HasMappings image (block_of_data g place) (slice_index counts n) =

@@ -3,7 +3,8 @@ use Rattle.std.proofs.Common.{ℕ, zero, suc, ◌≡◌, ◌*◌, ◌<◌, ◌�
 use Rattle.audit.specs.Tallies.{AreTallied, place_of_number, used_in}
 use Rattle.blk_base.specs.declared.geometry.Geometry.{Geometry}
 use Rattle.blk_base.specs.declared.place.Pbn.{Pbn}
-use Rattle.image_model.proofs.Example.{small, pbn}
+use Rattle.blk_base.specs.Forms.{pbn}
+use Rattle.image_model.proofs.Example.{small}
 use Rattle.image_model.specs.Counts.{block_of_data}
 use Rattle.image_model.specs.Maps.{Image}
 use Rattle.image_model.specs.declared.fault.ImageFault.TheVariants.{Counter, Counts, Memory, Unclean}

@@ -1,13 +1,12 @@
 -- What a forced rebuild promises, by how it ended.
 use Rattle.std.proofs.Common.{ℕ, ◌≡◌, ◌≤◌, ◌<◌, ◌^◌, ◌++◌, Bool, IsTrue, List, [], Result, Ok, Err, IsErrAnd, length, reverse, refl, sym, ◌∙◌, ap, subst, inl, inr}
 use Rattle.blk_base.specs.Limits.{IsGeometry}
-use Rattle.blk_base.specs.Regions.{IndexBlock, block_of, needed_blocks}
+use Rattle.blk_base.specs.Regions.{IndexBlock, block_of, needed_blocks, data_blocks as all_blocks}
 use Rattle.blk_base.specs.declared.geometry.Geometry.{Geometry}
 use Rattle.blk_base.specs.declared.geometry.Super.{Super as Superblock}
 use Rattle.audit.specs.Tallies.{used_in}
 use Rattle.blk_base.specs.declared.journal_entry.CommittedEntry.{CommittedEntry}
 use Rattle.blk_base.specs.declared.place.Mapping.{Mapping}
-use Rattle.count_updates.specs.Numbers.{all_blocks}
 use Rattle.disk_model.specs.declared.call.Call.{Call}
 use Rattle.disk_model.specs.declared.call.Failed.{Failed}
 use Rattle.disk_model.specs.Log.{Blocks}

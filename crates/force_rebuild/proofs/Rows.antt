@@ -1,7 +1,7 @@
 -- What a forced rebuild needs, keeps and writes: for each clause a case that it accepts, and one that it refuses.
 use Rattle.std.proofs.Common.{ℕ, ◌≡◌, ◌+◌, ◌*◌, ◌<◌, ◌≤◌, ◌^◌, ◌++◌, true, false, IsTrue, List, [], ◌∷◌, All, length, replicate, get_or, take, slice_index, Some, Ok, refl, sym, ◌∙◌, ap, subst, arith}
 use Rattle.blk_base.specs.Points.{point_of}
-use Rattle.blk_base.specs.Regions.{DataBlock, ReferenceBlock, Root, SlabJournalSlot, block_of}
+use Rattle.blk_base.specs.Regions.{DataBlock, ReferenceBlock, Root, SlabJournalSlot, block_of, data_blocks}
 use Rattle.blk_base.specs.Sectors.{sector, zero_block}
 use Rattle.blk_base.specs.declared.geometry.Geometry.{Geometry}
 use Rattle.blk_base.specs.declared.geometry.Super.{Super}
@@ -11,8 +11,10 @@ use Rattle.blk_base.specs.declared.place.Mapping.TheVariants.{Zero, At}
 use Rattle.blk_base.specs.declared.place.PageId.{PageId}
 use Rattle.blk_base.specs.declared.place.Pbn.{Pbn}
 use Rattle.blk_base.specs.declared.point.Half.TheVariants.{Increment}
+use Rattle.blk_base.specs.Forms.{page, pbn}
+use Rattle.blk_base.proofs.Example.{root}
 use Rattle.byte_fields.specs.Fields.{number_at}
-use Rattle.count_updates.specs.Numbers.{all_blocks, block_number}
+use Rattle.count_updates.specs.Numbers.{block_number}
 use Rattle.disk_model.specs.declared.call.Call.TheVariants.{Flush}
 use Rattle.disk_model.specs.Log.{Blocks, block_at}
 use Rattle.image_format.specs.Calls.{put}
@@ -21,9 +23,9 @@ use Rattle.image_layout.specs.Opened.{super_of_image}
 use Rattle.image_layout.specs.Superblock.{super_block}
 use Rattle.image_layout.specs.Values.{journal_of}
 use Rattle.image_model.proofs.CountLaws.{one_number}
-use Rattle.image_model.proofs.Example.{small, pbn}
+use Rattle.image_model.proofs.Example.{small}
 use Rattle.image_model.proofs.FaultRows.{zeros_unheaded}
-use Rattle.image_model.proofs.MapRows.{image as mapped, page, remap, root, said, with_root}
+use Rattle.image_model.proofs.MapRows.{image as mapped, remap, said, with_root}
 use Rattle.image_model.specs.Counts.{HasMappings, block_of_data}
 use Rattle.image_model.specs.Looked.{is_looked_at}
 use Rattle.image_model.specs.Maps.{Image, page_at}
@@ -188,7 +190,7 @@ past_the_limit : (image : Image) (others : List ℕ) → AreMappings image (255 
 past_the_limit image others are = let most = are.limit 0 0 (omega arith) in omega (arith, most)
 
 -- and it is accepted where these are they
-all_there : (image : Image) (counters : List ℕ) → length counters ≡ all_blocks image.geometry
+all_there : (image : Image) (counters : List ℕ) → length counters ≡ data_blocks image.geometry
     → ((place : DataPlace) → IsDataPlace image.geometry place → HasMappings image (block_of_data image.geometry place) (slice_index counters (block_number image.geometry place)))
     → All (λ count. count ≤ 254) counters → AreMappings image counters
 all_there image counters size each limit = record { size = size; each = each; limit = limit }

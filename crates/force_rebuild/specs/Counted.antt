@@ -5,7 +5,7 @@ use Rattle.blk_base.specs.Counters.{limit_of}
 use Rattle.blk_base.specs.declared.geometry.Geometry.{Geometry}
 use Rattle.blk_base.specs.declared.layout.DataPlace.{DataPlace}
 use Rattle.blk_base.specs.declared.place.Pbn.{Pbn}
-use Rattle.count_updates.specs.Numbers.{all_blocks}
+use Rattle.blk_base.specs.Regions.{data_blocks}
 use Rattle.image_model.specs.Counts.{HasMappings, block_of_data}
 use Rattle.image_model.specs.Maps.{Image, ArePagesGood}
 use Rattle.image_model.specs.Sound.{AreUnshared, IsDataPlace}
@@ -62,7 +62,7 @@ pub record IsCountedTo (image : Image) (forced : Forced) : Type 0 where
   pub counters : List ℕ
   pub mappings : AreMappings image counters
   pub used : forced.used ≡ used_in counters
-  pub all : forced.total ≡ all_blocks image.geometry
+  pub all : forced.total ≡ data_blocks image.geometry
 
 -- Its map has no fault; this data block is mapped more often than a counter can say, the least such one.
 pub record IsUncountable (image : Image) (at : Pbn) (stored mapped : ℕ) : Type 0 where

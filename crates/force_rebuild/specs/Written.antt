@@ -2,14 +2,14 @@
 use Rattle.std.specs.Prelude.{ℕ, ◌≡◌, ◌+◌, ◌*◌, ◌≤◌, List, All, length, map, take, drop, slice_index, Some}
 use Rattle.blk_base.specs.Counters.{limit_of}
 use Rattle.blk_base.specs.Points.{point_of}
-use Rattle.blk_base.specs.Regions.{Place, ReferenceBlock, IsPlace, block_of}
+use Rattle.blk_base.specs.Regions.{Place, ReferenceBlock, IsPlace, block_of, data_blocks}
 use Rattle.blk_base.specs.Sectors.{sector, zero_block}
 use Rattle.blk_base.specs.declared.geometry.Geometry.{Geometry}
 use Rattle.blk_base.specs.declared.layout.DataPlace.{DataPlace}
 use Rattle.blk_base.specs.declared.place.PageId.{PageId}
 use Rattle.blk_base.specs.declared.place.Pbn.{Pbn}
 use Rattle.blk_base.specs.declared.point.Half.TheVariants.{Decrement}
-use Rattle.count_updates.specs.Numbers.{all_blocks, block_number}
+use Rattle.count_updates.specs.Numbers.{block_number}
 use Rattle.disk_model.specs.Log.{Blocks, block_at}
 use Rattle.image_model.specs.Counts.{HasMappings, block_of_data}
 use Rattle.image_model.specs.Maps.{Image, page_at}
@@ -24,7 +24,7 @@ use Rattle.force_rebuild.specs.Kept.{AreOthersKept, IsSlabPlace}
 
 -- these are the numbers of mappings of all data blocks, slab after slab, and a counter can say each
 pub record AreMappings (image : Image) (counters : List ℕ) : Type 0 where
-  pub size : length counters ≡ all_blocks image.geometry
+  pub size : length counters ≡ data_blocks image.geometry
   pub each : (place : DataPlace) → IsDataPlace image.geometry place
       → HasMappings image (block_of_data image.geometry place) (slice_index counters (block_number image.geometry place))
   pub limit : All (λ count. count ≤ limit_of image.geometry) counters

@@ -1,8 +1,7 @@
 ghost use Rattle.std.specs.Prelude.{◌≡◌, ◌<◌, ◌≤◌, ◌^◌, All, IfErr, IfOk, OnOk, length};
 ghost use Rattle.blk_base.specs.Counters.{limit_of};
 ghost use Rattle.blk_base.specs.Limits.{IsGeometry};
-ghost use Rattle.blk_base.specs.Regions.{needed_blocks};
-ghost use Rattle.count_updates.specs.Numbers.{all_blocks};
+ghost use Rattle.blk_base.specs.Regions.{needed_blocks, data_blocks};
 ghost use Rattle.disk_model.specs.Log.{Blocks};
 ghost use Rattle.disk_model.specs.Since.{IsUntouched};
 ghost use Rattle.journal_window.specs.Windows.{IsWindowOf};
@@ -74,7 +73,7 @@ fn counters_of(alloc: Global, layout: &Layout, map: &RecoveredMap) -> Result<Vec
 
 // Refuses the first number above the limit, one for each data block, slab after slab.
 fn check_limit(layout: &Layout, mapped: &[u64]) -> Result<(), ImageFault>
-    requires { length mapped.now ≡ all_blocks layout.now.geometry }
+    requires { length mapped.now ≡ data_blocks layout.now.geometry }
     ensures all { OnOk result (All (λ count. count ≤ limit_of layout.now.geometry) mapped.now) }
     ensures first { IfErr result (IsLimitFault layout.now.geometry mapped.now) }
 {
@@ -89,7 +88,7 @@ fn check_limit(layout: &Layout, mapped: &[u64]) -> Result<(), ImageFault>
 
 // The fault of the data block with this number, which is mapped so often.
 fn limit_fault(layout: &Layout, n: u32, mapped: u64) -> ImageFault
-    requires { n < all_blocks layout.now.geometry }
+    requires { n < data_blocks layout.now.geometry }
     ensures { IsFaultOf layout.now.geometry n mapped result }
 {
     ImageFault::Counts {

@@ -1,7 +1,6 @@
 ghost use Rattle.std.specs.Prelude.{◌≡◌, ◌≤◌, ◌<◌, ◌^◌, false, length};
 ghost use Rattle.blk_base.specs.Limits.{IsGeometry};
-ghost use Rattle.blk_base.specs.Regions.{needed_blocks};
-ghost use Rattle.count_updates.specs.Numbers.{all_blocks};
+ghost use Rattle.blk_base.specs.Regions.{needed_blocks, data_blocks};
 ghost use Rattle.image_format.specs.Runs.{Makes};
 ghost use Rattle.replay_map.specs.Forms.{HasForm};
 ghost use Rattle.force_rebuild.specs.Calls.{closing_calls};
@@ -112,7 +111,7 @@ fn write_image<D: Disk>(
 ) -> Result<(), Failed>
     requires room { needed_blocks layout.now.geometry ≤ (D.seen device.old).size }
     requires few { last < 2 ^ 54 }
-    requires counts { length counters.now ≡ all_blocks layout.now.geometry }
+    requires counts { length counters.now ≡ data_blocks layout.now.geometry }
     requires form { HasForm layout.now.geometry map.now.links.items map.now.slots.items }
     ensures { WritesAll D.tells D.honest (D.seen device.old) (D.seen device.new)
         (HasContents layout.now.geometry changes.now map.now.links.items counters.now) last result }
@@ -130,7 +129,7 @@ fn write_counted<D: Disk>(
 ) -> Result<(), Failed>
     requires room { needed_blocks layout.now.geometry ≤ (D.seen device.old).size }
     requires few { last < 2 ^ 54 }
-    requires counts { length counters.now ≡ all_blocks layout.now.geometry }
+    requires counts { length counters.now ≡ data_blocks layout.now.geometry }
     ensures { Makes D.tells (D.seen device.old) (D.seen device.new)
         (closing_calls layout.now.geometry last counters.now) result }
 {

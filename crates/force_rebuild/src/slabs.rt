@@ -1,6 +1,5 @@
 ghost use Rattle.std.specs.Prelude.{◌≡◌, ◌<◌, ◌≤◌, ◌^◌, length};
-ghost use Rattle.blk_base.specs.Regions.{SlabJournalSlot, block_of, needed_blocks, references_of};
-ghost use Rattle.count_updates.specs.Numbers.{all_blocks};
+ghost use Rattle.blk_base.specs.Regions.{SlabJournalSlot, block_of, needed_blocks, references_of, data_blocks};
 ghost use Rattle.image_format.specs.Calls.{zeros_from};
 ghost use Rattle.image_format.specs.Runs.{Makes};
 ghost use Rattle.force_rebuild.specs.Calls.{counters_below, slab_calls, slabs_below};
@@ -27,7 +26,7 @@ pub(crate) fn put_slabs<D: Disk>(
 ) -> Result<(), Failed>
     requires room { needed_blocks layout.now.geometry ≤ (D.seen device.old).size }
     requires few { last < 2 ^ 54 }
-    requires all { length counters.now ≡ all_blocks layout.now.geometry }
+    requires all { length counters.now ≡ data_blocks layout.now.geometry }
     ensures { Makes D.tells (D.seen device.old) (D.seen device.new)
         (slabs_below layout.now.geometry
         (commit_behind last) counters.now layout.now.geometry.slabs) result }
@@ -57,7 +56,7 @@ fn put_slab<D: Disk>(
 ) -> Result<(), Failed>
     requires room { needed_blocks layout.now.geometry ≤ (D.seen device.old).size }
     requires inside { slab < layout.now.geometry.slabs }
-    requires all { length counters.now ≡ all_blocks layout.now.geometry }
+    requires all { length counters.now ≡ data_blocks layout.now.geometry }
     ensures { Makes D.tells (D.seen device.old) (D.seen device.new)
         (slab_calls layout.now.geometry commit.0 counters.now slab) result }
 {
@@ -74,7 +73,7 @@ fn put_slab<D: Disk>(
 // The counters of a slab.
 fn of_slab<'a>(layout: &Layout, slab: u32, counters: &'a [u8]) -> &'a [u8]
     requires inside { slab < layout.now.geometry.slabs }
-    requires all { length counters.now ≡ all_blocks layout.now.geometry }
+    requires all { length counters.now ≡ data_blocks layout.now.geometry }
     ensures { result.now ≡ counters_of_slab layout.now.geometry counters.now slab }
 {
     let first = layout.block_number(slab, 0) as usize;

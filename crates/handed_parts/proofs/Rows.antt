@@ -1,11 +1,8 @@
 -- For each definition a small case that it accepts, and one that it refuses.
 use Rattle.std.proofs.Common.{ℕ, ◌≡◌, inl, inr, true, false, None, Some, [], ◌∷◌, refl, arith}
-use Rattle.blk_base.specs.declared.point.Point.{Point}
+use Rattle.blk_base.specs.Forms.{point as p}
 use Rattle.handed_parts.specs.declared.part.Part.{Part}
 use Rattle.handed_parts.specs.Parts.{Handed, Has, points_for, is_part, without_part, rounded, least_of, lesser, low_of, opening, handed_out, reported, watermark_of}
-
-abbrev p : ℕ → Point
-p n = record { 0 = n }
 
 abbrev part : ℕ → ℕ → Part
 part zone n = record { zone = zone; point = p n }

@@ -6,6 +6,8 @@ use Rattle.std.proofs.lemmas.List.{append-nil, get_or-replicate, length-replicat
 use Rattle.blk_base.proofs.SectorLaws.{zero_size}
 use Rattle.blk_base.specs.Sectors.{sector, zero_block}
 use Rattle.blk_base.specs.declared.geometry.Super.{Super}
+use Rattle.blk_base.specs.Forms.{pbn}
+use Rattle.blk_base.proofs.Example.{root}
 use Rattle.disk_model.specs.declared.call.Call.{Call}
 use Rattle.disk_model.specs.Images.{IsImage, IsMixOf}
 use Rattle.disk_model.specs.Log.{Blocks, block_at, contents}
@@ -15,9 +17,8 @@ use Rattle.image_layout.proofs.AgainLaws.{written_again}
 use Rattle.image_layout.proofs.SpellingLaws.{super_size}
 use Rattle.image_layout.specs.Opened.{super_of_image}
 use Rattle.image_layout.specs.Superblock.{super_block}
-use Rattle.image_model.proofs.Example.{pbn, small, small_is}
+use Rattle.image_model.proofs.Example.{small, small_is}
 use Rattle.image_model.proofs.FaultRows.{zeros_unheaded}
-use Rattle.image_model.proofs.MapRows.{root}
 use Rattle.image_model.specs.Empty.{IsEmpty, IsUnused, empty_super}
 use Rattle.image_model.specs.Maps.{ArePagesGood}
 use Rattle.image_model.specs.Sound.{image_of}

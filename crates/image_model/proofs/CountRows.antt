@@ -4,21 +4,23 @@ use Rattle.std.proofs.lemmas.List.Elements.{All-cons, All-nil}
 use Rattle.blk_base.specs.Sectors.{sector, zero_block}
 use Rattle.blk_base.specs.declared.journal_entry.CommittedEntry.{CommittedEntry}
 use Rattle.blk_base.specs.declared.journal_entry.Entry.TheVariants.{Remap, NewPage}
-use Rattle.blk_base.specs.declared.layout.DataPlace.{DataPlace}
 use Rattle.blk_base.specs.declared.place.Mapping.{Mapping}
 use Rattle.blk_base.specs.declared.place.Mapping.TheVariants.{Unmapped, Zero, At}
 use Rattle.blk_base.specs.declared.place.Pbn.{Pbn}
+use Rattle.blk_base.specs.Forms.{page, pbn}
+use Rattle.blk_base.proofs.Example.{place}
 use Rattle.byte_fields.specs.Fields.{number_at}
 use Rattle.slab_codec.specs.Grammar.{HoldsBlock, HoldsEntry, IsSlabSector}
 use Rattle.slab_codec.specs.BlockBytes.{block_bytes, entries_in}
 use Rattle.slab_codec.specs.declared.forms.SlabEntry.{SlabEntry}
 use Rattle.slab_codec.proofs.ReadLaws.{written, one_reading}
+use Rattle.slab_codec.specs.Updates.{slab_entry as kept}
 use Rattle.image_model.specs.Counts.{leads_to, mapped_below, HasMappings, counter_of, commit_of, IsKept, Updates, IsUpdate, AreRising, AreUpdates, count_after, count_from, Stores}
 use Rattle.image_model.specs.Maps.{Image, mapping_of, IsTreePage}
 use Rattle.image_model.specs.Pages.{address_count}
 use Rattle.image_model.proofs.CountLaws.{is_first_or_behind, none_in_nothing, one_list_of_updates, one_stored}
-use Rattle.image_model.proofs.Example.{small, pbn}
-use Rattle.image_model.proofs.MapRows.{image as mapped_image, page}
+use Rattle.image_model.proofs.Example.{small}
+use Rattle.image_model.proofs.MapRows.{image as mapped_image}
 use Rattle.image_model.proofs.ZeroLaws.{no_slab_sector, of_eight}
 
 -- How many slots all leaves have: 60 × 812 × 812, and once more by 812 at height 3.
@@ -68,9 +70,6 @@ page_alone n other has = let sum = has.sum in elim has.one_page [
 abbrev pub counters : List ℕ
 counters = 0 ∷ 4 ∷ 0 ∷ 0 ∷ 0 ∷ 0 ∷ 0 ∷ 0 ∷ 1 ∷ 2 ∷ []
 
-abbrev pub place : ℕ → DataPlace
-place offset = record { slab = 0; offset = offset }
-
 -- in the default sizes it stands at 149
 abbrev pub counted : Image
 counted = record { geometry = small; blocks = replicate 149 [] ++ counters ∷ []; window = [] }
@@ -108,9 +107,6 @@ unfolding number_at
 counter_of_second_block = refl
 
 -- A slab's journal: slot 1 has a block with an update of block 86 at point 1536. Its sequence is 0, which isn't looked at.
-abbrev pub kept : ℕ → ℕ → SlabEntry
-kept point offset = record { point = record { 0 = point }; offset = offset }
-
 abbrev slab_block : List ℕ
 slab_block = block_bytes 1 0 0 (kept 1536 1 ∷ [])
 

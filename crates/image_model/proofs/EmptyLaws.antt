@@ -97,7 +97,7 @@ leads_on : (o : Option Pbn) (mapping : Pbn → Mapping) → ((at : Pbn) → o �
 leads_on (Some at) mapping none = absurd (none at refl)
 leads_on None mapping none = refl
 
-chosen : (b : Bool) (x at : Pbn) → (if b then Some x else None) ≡ Some at → (b ≡ true) × (x ≡ at)
+pub chosen : (b : Bool) (x at : Pbn) → (if b then Some x else None) ≡ Some at → (b ≡ true) × (x ≡ at)
 chosen true x at is = (refl, cc is)
 chosen false x at is = absurd (cc is)
 

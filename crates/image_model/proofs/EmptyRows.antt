@@ -5,6 +5,7 @@ use Rattle.blk_base.specs.Sectors.{zero_block}
 use Rattle.blk_base.specs.declared.layout.DataPlace.{DataPlace}
 use Rattle.blk_base.specs.declared.place.Mapping.TheVariants.{At, Unmapped}
 use Rattle.blk_base.specs.declared.place.Pbn.{Pbn}
+use Rattle.blk_base.specs.Forms.{pbn}
 use Rattle.byte_fields.specs.Fields.{number_at}
 use Rattle.disk_model.specs.Log.{Blocks}
 use Rattle.page_codec.proofs.SpellingLaws.{head_of_page}
@@ -15,7 +16,7 @@ use Rattle.image_model.specs.Maps.{Image}
 use Rattle.image_model.specs.Sound.{IsDataPlace}
 use Rattle.image_model.proofs.CountLaws.{one_number, one_stored}
 use Rattle.image_model.proofs.EmptyLaws.{has_nothing, is_unused, the_image}
-use Rattle.image_model.proofs.Example.{pbn, small}
+use Rattle.image_model.proofs.Example.{small}
 use Rattle.image_model.proofs.FaultRows.{zeros_unheaded}
 use Rattle.image_model.proofs.MapRows.{image, remap}
 use Rattle.image_model.proofs.WholeRows.{empty_image, empty_is, pages_differ, sound_opens, whole_with, zero_super}

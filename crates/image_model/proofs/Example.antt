@@ -4,21 +4,21 @@ use Rattle.std.proofs.lemmas.List.Elements.{All-cons, All-nil}
 pub use Rattle.blk_base.proofs.Example.{small, small_is}
 use Rattle.blk_base.specs.Sectors.{sector, zero_block}
 use Rattle.blk_base.specs.declared.journal_entry.Entry.{Entry}
-use Rattle.blk_base.specs.declared.journal_entry.Entry.TheVariants.{Remap}
-use Rattle.blk_base.specs.declared.place.Mapping.TheVariants.{Unmapped, At}
-use Rattle.blk_base.specs.declared.place.Pbn.{Pbn}
+use Rattle.blk_base.specs.Forms.{pbn}
+use Rattle.blk_base.proofs.Example.{leaf, maps, root}
+use Rattle.page_codec.specs.declared.forms.PageHead.{PageHead}
 use Rattle.byte_fields.specs.Fields.{number_at}
 use Rattle.journal_codec.specs.Grammar.{HoldsEntry, HoldsBlock, IsSector}
 use Rattle.journal_codec.specs.BlockBytes.{block_bytes}
 use Rattle.journal_codec.proofs.PrefixLaws.{written}
 use Rattle.journal_codec.proofs.ReadLaws.{fields_of, one_reading}
 
-abbrev pub pbn : ℕ → Pbn
-pbn n = record { 0 = n }
+-- the root of tree 0 stands at block 9, and the leaf of address 0 at block 85
+abbrev pub head_of_root : PageHead
+head_of_root = record { geometry = small; page = root; at = pbn 9 }
 
--- address 5 is mapped to a block
-abbrev pub maps : ℕ → Entry
-maps x = Remap (record { 0 = 5 }) Unmapped (At (pbn x))
+abbrev pub head_of_leaf : PageHead
+head_of_leaf = record { geometry = small; page = leaf; at = pbn 85 }
 
 -- one entry, and a journal's block that has it
 abbrev pub one : List Entry

@@ -19,11 +19,12 @@ use Rattle.image_model.specs.Faults.{HasFault, IsPageFault, IsCountFault}
 use Rattle.image_model.specs.Maps.{Image, IsGoodPage, IsReadable, head_of, page_at, put_last}
 use Rattle.image_model.specs.Pages.{IsAhead}
 use Rattle.image_model.proofs.CountLaws.{none_in_nothing, one_stored}
-use Rattle.image_model.proofs.CountRows.{place}
-use Rattle.image_model.proofs.Example.{small, pbn}
-use Rattle.image_model.proofs.MapRows.{with_root, root, bad_slot, bad_slots, logged, page}
+use Rattle.image_model.proofs.Example.{small}
+use Rattle.image_model.proofs.MapRows.{with_root, bad_slot, bad_slots, logged}
 use Rattle.image_model.proofs.ZeroLaws.{no_slab_sector, of_eight}
 use Rattle.blk_base.specs.declared.journal_entry.Entry.TheVariants.{NewPage}
+use Rattle.blk_base.specs.Forms.{page, pbn}
+use Rattle.blk_base.proofs.Example.{place, root}
 
 -- zeros are no page
 pub zeros_unheaded : HasHead (head_of (with_root zero_block []) root (pbn 9)) zero_block → ⊥

@@ -2,11 +2,12 @@
 use Rattle.std.proofs.Common.{ℕ, ◌≡◌, ◌≢◌, ◌<◌, Bool, true, false, IsTrue, List, [], ◌∷◌, length, Ok, refl, sym, ◌∙◌, ap, subst, arith}
 use Rattle.blk_base.specs.declared.geometry.Geometry.{Geometry}
 use Rattle.blk_base.specs.declared.geometry.Super.{Super}
+use Rattle.blk_base.specs.Forms.{pbn}
 use Rattle.disk_model.proofs.LookedLaws.{one_in-aside}
 use Rattle.disk_model.specs.declared.call.Call.TheVariants.{Write}
 use Rattle.disk_model.specs.Log.{Blocks, block_at}
 use Rattle.image_layout.specs.Opened.{super_of_image}
-use Rattle.image_model.proofs.Example.{small, pbn}
+use Rattle.image_model.proofs.Example.{small}
 use Rattle.image_model.proofs.LookedLaws.{looked_by, looked_first}
 use Rattle.image_model.specs.Looked.{HasOneImageButIndex, is_looked_at, looked_in}
 

@@ -8,15 +8,17 @@ use Rattle.blk_base.specs.declared.journal_entry.Entry.TheVariants.{Remap, NewPa
 use Rattle.blk_base.specs.declared.place.Mapping.{Mapping}
 use Rattle.blk_base.specs.declared.place.Mapping.TheVariants.{Unmapped, Zero, At}
 use Rattle.blk_base.specs.declared.place.PageId.{PageId}
+use Rattle.blk_base.specs.Forms.{page, pbn}
+use Rattle.blk_base.proofs.Example.{blank, root}
 use Rattle.byte_fields.specs.Fields.{le, number_at}
 use Rattle.byte_fields.proofs.MappingLaws.{state_at, state_small}
 use Rattle.page_codec.specs.Grammar.{IsPage}
 use Rattle.page_codec.specs.PageBytes.{head_bytes, page_bytes}
 use Rattle.page_codec.proofs.HeldLaws.{held_unmapped}
 use Rattle.page_codec.proofs.ReadLaws.{slots}
-use Rattle.image_model.specs.Maps.{Image, mapping_in, page_at, mapping_of, value_of, HaveSameMap, head_of, IsReadable, IsGoodPage}
+use Rattle.image_model.specs.Maps.{Image, mapping_in, page_at, slot_in, mapping_of, value_of, HaveSameMap, head_of, IsReadable, IsGoodPage}
 use Rattle.image_model.specs.Pages.{IsAhead}
-use Rattle.image_model.proofs.Example.{small, pbn}
+use Rattle.image_model.proofs.Example.{small}
 
 -- The mapping of a slot: a state and a block.
 abbrev pub said : ℕ → ℕ → ℕ → List ℕ
@@ -42,9 +44,6 @@ blocks = replicate 9 [] ++ said 0 1 85 ∷ said 0 1 87 ∷ replicate 74 [] ++ sa
 abbrev pub image : List CommittedEntry → Image
 image window = record { geometry = small; blocks = blocks; window = window }
 
-abbrev pub page : ℕ → ℕ → ℕ → PageId
-page tree level index = record { tree = tree; level = level; index = index }
-
 -- Its pages: each root at its block, and each page that is linked.
 page_root : page_at (image []) (page 1 1 0) ≡ Some (pbn 10)
 page_root = refl
@@ -67,8 +66,21 @@ page_of_no_level = refl
 page_past_root : page_at (image []) (page 0 0 812) ≡ None
 page_past_root = refl
 
+-- What it has in a slot.
+slot_is : slot_in (image []) (page 0 0 0) 5 ≡ At (pbn 86)
+unfolding number_at
+slot_is = refl
+
+slot_of_link : slot_in (image []) (page 1 1 0) 0 ≡ At (pbn 87)
+unfolding number_at
+slot_of_link = refl
+
+slot_of_no_page : slot_in (image []) (page 2 0 0) 5 ≡ Unmapped
+unfolding number_at
+slot_of_no_page = refl
+
 -- Its addresses.
-mapped : mapping_of (image []) 5 ≡ At (pbn 86)
+pub mapped : mapping_of (image []) 5 ≡ At (pbn 86)
 unfolding number_at
 mapped = refl
 
@@ -119,7 +131,7 @@ unfolding number_at
 window_discards = refl
 
 -- It links pages too; an entry of an address whose leaf nothing links is one of no slot.
-abbrev new_leaf : CommittedEntry
+abbrev pub new_leaf : CommittedEntry
 new_leaf = logged (NewPage (page 2 0 0) (pbn 89))
 
 window_links : page_at (image (remap 1624 (At (pbn 88)) ∷ new_leaf ∷ [])) (page 2 0 0) ≡ Some (pbn 89)
@@ -202,12 +214,6 @@ not_ahead_tree (inr (inl up)) = let same = up.0 in omega (arith, same)
 not_ahead_tree (inr (inr left)) = let same = left.0 in omega (arith, same)
 
 -- A page that can be read: one without mappings can.
-abbrev pub root : PageId
-root = page 0 1 0
-
-abbrev blank : List Mapping
-blank = replicate 812 Unmapped
-
 abbrev pub with_root : List ℕ → List CommittedEntry → Image
 with_root bytes window = record { geometry = small; blocks = replicate 9 [] ++ bytes ∷ []; window = window }
 

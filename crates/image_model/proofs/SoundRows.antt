@@ -1,6 +1,7 @@
 -- Sound images: for each clause that speaks of a part, a part that it accepts and one that it refuses.
 use Rattle.std.proofs.Common.{ℕ, ◌≡◌, ◌+◌, ◌-◌, ◌%◌, ◌<◌, ◌≤◌, ◌^◌, true, false, List, [], ◌∷◌, Ok, Err, length, get_or, refl, ap, inl, inr, arith}
 use Rattle.std.proofs.Math.Nat.{mod-lt}
+use Rattle.slab_codec.specs.Updates.{slab_entry as kept}
 use Rattle.blk_base.specs.Sectors.{sector, zero_block}
 use Rattle.blk_base.specs.declared.geometry.Super.{Super}
 use Rattle.blk_base.specs.declared.journal_entry.Entry.{Entry}
@@ -13,14 +14,16 @@ use Rattle.journal_codec.specs.BlockBytes.{entries_in}
 use Rattle.journal_codec.proofs.PrefixLaws.{written}
 use Rattle.journal_codec.proofs.ReadLaws.{one_reading}
 use Rattle.blk_base.specs.declared.journal_entry.CommittedEntry.{CommittedEntry}
+use Rattle.blk_base.specs.Forms.{page, pbn}
+use Rattle.blk_base.proofs.Example.{place}
 use Rattle.image_layout.specs.Values.{journal_of}
 use Rattle.image_model.specs.Counts.{HasMappings, Stores, block_of_data, commit_at, commit_of}
 use Rattle.image_model.specs.Maps.{Image}
 use Rattle.image_model.specs.Sound.{IsDataPlace, HasSequences, AreUnshared, IsOfItsTime, IsClosed, IsTrueOf}
-use Rattle.image_model.proofs.CountRows.{counted, journaled, kept, kept_is, place}
+use Rattle.image_model.proofs.CountRows.{counted, journaled, kept_is}
 use Rattle.image_model.proofs.CountLaws.{none_in_nothing, one_number, one_stored}
-use Rattle.image_model.proofs.Example.{small, pbn, one, block, holds as journal_holds, has_sector}
-use Rattle.image_model.proofs.MapRows.{image as mapped_image, page, remap}
+use Rattle.image_model.proofs.Example.{small, one, block, holds as journal_holds, has_sector}
+use Rattle.image_model.proofs.MapRows.{image as mapped_image, remap}
 use Rattle.image_model.proofs.ZeroLaws.{no_commit, no_journal_sector, no_slab_sector, of_eight}
 
 -- Places of data blocks, and their blocks.

@@ -20,6 +20,8 @@ use Rattle.blk_base.specs.Limits.{IsGeometry}
 use Rattle.blk_base.specs.Regions.{Place, Superblock, JournalSlot, Root, IndexBlock, DataBlock, ReferenceBlock, SlabJournalSlot, IsPlace, block_of}
 use Rattle.blk_base.specs.Sectors.{sector, zero_block}
 use Rattle.blk_base.specs.declared.geometry.Super.{Super}
+use Rattle.blk_base.specs.Forms.{pbn}
+use Rattle.blk_base.proofs.Example.{place, root}
 use Rattle.byte_fields.specs.Fields.{number_at}
 use Rattle.disk_model.specs.Log.{Blocks, block_at}
 use Rattle.image_layout.specs.Opened.{super_of_image}
@@ -32,6 +34,7 @@ use Rattle.journal_codec.specs.Grammar.{IsSector}
 use Rattle.slab_codec.specs.Grammar.{HoldsBlock, HoldsEntry, IsSlabSector}
 use Rattle.slab_codec.specs.BlockBytes.{block_bytes}
 use Rattle.slab_codec.proofs.ReadLaws.{written}
+use Rattle.slab_codec.specs.Updates.{slab_entry as kept}
 use Rattle.image_model.specs.Counts.{Stores, IsKept, commit_at, commit_of, count_from, counter_of, HasMappings, block_of_data, reference_sector_at}
 use Rattle.image_model.specs.Empty.{IsEmpty, IsMade, empty_root, empty_super, made_block, root_head}
 use Rattle.image_model.specs.Faults.{IsImageFault}
@@ -39,11 +42,9 @@ use Rattle.image_model.specs.Maps.{ArePagesGood, head_of, mapping_in}
 use Rattle.image_model.specs.Sound.{AreStored, IsClosed, IsOfItsTime, IsSound, image_of, AreTrue, AreUnshared, IsDataPlace, Opens}
 use Rattle.image_model.specs.Windows.{IsLast, IsThere, IsWindow}
 use Rattle.image_model.specs.declared.fault.ImageFault.TheVariants.{Super as SuperFaulty}
-use Rattle.image_model.proofs.CountRows.{kept, place}
 use Rattle.image_model.proofs.EmptyLaws.{is_sound, all_counted, blank_slot, no_sector, no_updates, not_shared, pages_good, root_says, stored_counter, the_image, window_is}
-use Rattle.image_model.proofs.Example.{small, small_is, pbn, zeros}
+use Rattle.image_model.proofs.Example.{small, small_is, zeros}
 use Rattle.image_model.proofs.FaultRows.{zeros_unheaded}
-use Rattle.image_model.proofs.MapRows.{root}
 use Rattle.image_model.proofs.ZeroLaws.{no_commit, no_slab_sector, of_eight}
 
 -- The empty image, block by block.

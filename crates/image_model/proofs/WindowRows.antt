@@ -9,6 +9,8 @@ use Rattle.blk_base.specs.declared.journal_entry.Entry.{Entry}
 use Rattle.blk_base.specs.declared.journal_entry.Entry.TheVariants.{Remap, NewPage}
 use Rattle.blk_base.specs.declared.place.Mapping.TheVariants.{Unmapped, Zero, At}
 use Rattle.blk_base.specs.declared.place.PageId.{PageId}
+use Rattle.blk_base.specs.Forms.{pbn}
+use Rattle.blk_base.proofs.Example.{maps, entry_at as at}
 use Rattle.journal_codec.specs.Grammar.{IsPrefix, IsSector}
 use Rattle.journal_codec.specs.BlockBytes.{entries_in}
 use Rattle.journal_codec.proofs.PrefixLaws.{ends-none, one_prefix, prefix_partial, run-first, written_prefix}
@@ -17,7 +19,7 @@ use Rattle.byte_fields.specs.Fields.{number_at}
 use Rattle.std.proofs.Math.Seq.{drop-append_seam}
 use Rattle.std.proofs.lemmas.List.{take-append-le, take_all}
 use Rattle.image_model.specs.Windows.{in_slot, IsThere, IsLast, IsFirst, IsOfImage, IsReplayable, entries_from, IsWindow, IsFaulty}
-use Rattle.image_model.proofs.Example.{small, pbn, maps, one, block, holds, has_sector, only_sector, zeros}
+use Rattle.image_model.proofs.Example.{small, one, block, holds, has_sector, only_sector, zeros}
 use Rattle.image_model.proofs.ZeroLaws.{of_eight}
 use Rattle.image_model.proofs.WindowLaws.{one_window, one_last, one_fault, not_both}
 use Rattle.image_model.proofs.ReadExample.{zero_journal, none_there}
@@ -206,7 +208,7 @@ torn_prefix =
 torn_journal : List (List ℕ)
 torn_journal = zero_block ∷ block 1 1 ∷ torn ∷ block 3 2 ∷ []
 
-each_is : All (IsOfImage small) one
+pub each_is : All (IsOfImage small) one
 each_is = All-cons (IsOfImage small) (maps 86) [] (omega arith, tt, data_86) (All-nil (IsOfImage small))
 
 replayable_at : (n head : ℕ) → 1 ≤ n → n < 2 ^ 55 → head ≤ n → IsPrefix 1 (in_slot small journal n) n head one true → IsReplayable small journal 3 n one
@@ -250,9 +252,6 @@ order_is : entries_from 2 ((maps 87 ∷ maps 88 ∷ []) ∷ (maps 86 ∷ []) ∷
 order_is = refl
 
 -- The window of the journal above: the entries of blocks 2 and 3.
-abbrev at : ℕ → CommittedEntry
-at point = record { entry = maps 86; point = record { 0 = point } }
-
 window_is : IsWindow small 1 journal 3 (at 1536 ∷ at 1024 ∷ [])
 window_is = record {
   is_last = last_is;

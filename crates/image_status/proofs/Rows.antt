@@ -2,10 +2,9 @@
 use Rattle.std.proofs.Common.{ℕ, ◌≡◌, Bool, true, false, List, [], ◌∷◌, length, reverse, Option, Some, refl, ap, subst, arith, length-append}
 use Rattle.audit.specs.Audits.{BothShow, IsOpenedTo}
 use Rattle.audit.specs.Reports.{AreUsed, HasNoFault}
-use Rattle.blk_base.specs.Regions.{first_index_of}
+use Rattle.blk_base.specs.Regions.{first_index_of, data_blocks as all_blocks}
 use Rattle.blk_base.specs.declared.geometry.Geometry.{Geometry}
 use Rattle.blk_base.specs.declared.geometry.Super.{Super}
-use Rattle.count_updates.specs.Numbers.{all_blocks}
 use Rattle.disk_model.specs.Log.{Blocks}
 use Rattle.disk_model.specs.Seen.{Seen}
 use Rattle.disk_model.specs.Since.{reads_of}

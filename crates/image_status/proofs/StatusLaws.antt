@@ -6,7 +6,8 @@ use Rattle.audit.specs.Reports.{AreUsed, HasNoFault}
 use Rattle.audit.specs.Tallies.{used_in}
 use Rattle.audit.specs.declared.forms.Contents.{Contents}
 use Rattle.blk_base.specs.declared.geometry.Super.{Super}
-use Rattle.count_updates.specs.Numbers.{all_blocks, block_number}
+use Rattle.blk_base.specs.Regions.{data_blocks as all_blocks}
+use Rattle.count_updates.specs.Numbers.{block_number}
 use Rattle.disk_model.specs.Seen.{Seen}
 use Rattle.image_status.specs.Statuses.{HasSpace}
 use Rattle.journal_window.specs.States.{WindowState}

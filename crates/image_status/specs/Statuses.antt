@@ -2,10 +2,9 @@
 use Rattle.std.specs.Prelude.{ℕ, ◌≡◌, Bool, List, length, Option}
 use Rattle.audit.specs.Audits.{BothShow, IsOpenedTo}
 use Rattle.audit.specs.Reports.{AreUsed, HasNoFault}
-use Rattle.blk_base.specs.Regions.{first_index_of}
+use Rattle.blk_base.specs.Regions.{first_index_of, data_blocks as all_blocks}
 use Rattle.blk_base.specs.declared.geometry.Geometry.{Geometry}
 use Rattle.blk_base.specs.declared.geometry.Super.{Super}
-use Rattle.count_updates.specs.Numbers.{all_blocks}
 use Rattle.disk_model.specs.Seen.{Seen}
 use Rattle.index_advice.specs.Books.{Book}
 use Rattle.journal_window.specs.States.{WindowState}

@@ -1,7 +1,8 @@
 -- For each clause on advice and answers, a case that it accepts, and one that breaks it alone.
-use Rattle.std.specs.Prelude.{ℕ, ◌≡◌, ◌+◌, ◌*◌, true, false, List, [], ◌∷◌, length, Option, None, Some, refl}
+use Rattle.std.specs.Prelude.{ℕ, ◌≡◌, ◌+◌, ◌*◌, true, false, List, [], ◌∷◌, length, None, Some, refl}
 use Rattle.std.proofs.Common.{sym, ◌∙◌, ap, arith, inl, inr}
-use Rattle.blk_base.specs.declared.place.Pbn.{Pbn}
+use Rattle.blk_base.specs.Forms.{pbn as at}
+use Rattle.blk_base.proofs.Example.{number_of_block}
 use Rattle.uds_chapters.specs.declared.entry.Record.{Record}
 use Rattle.uds_chapters.specs.Pages.{IsPage}
 use Rattle.uds_chapters.proofs.PageRows.{unequal}
@@ -11,13 +12,6 @@ use Rattle.index_advice.specs.Books.{Book, DuePage, finished, block_of}
 use Rattle.index_advice.specs.Advices.{Leads, LeadTo, HasDuePage}
 use Rattle.index_advice.specs.Answers.{Looks, Reads}
 use Rattle.index_advice.specs.Kept.{next_of, rest_of, Tabled, known, kept_with}
-
-abbrev at : ℕ → Pbn
-at block = record { 0 = block }
-
-abbrev block_in : Option Pbn → ℕ
-block_in None = 0
-block_in (Some place) = place.0
 
 -- a book with one chapter of four pages, which are to be written from the second on, and a record in the open chapter
 abbrev one : Record
@@ -44,7 +38,7 @@ looked_in_vain : Leads some (Looked (2 ∷ []) None true) some
 looked_in_vain = (refl, refl)
 
 another_place_found : ¬ Leads some (Looked (2 ∷ []) (Some (at 86)) false) some
-another_place_found = λ leads. unequal 86 87 (ap block_in leads.0) (omega arith)
+another_place_found = λ leads. unequal 86 87 (ap number_of_block leads.0) (omega arith)
 
 nothing_found_though_known : ¬ Leads some (Looked (2 ∷ []) None false) some
 nothing_found_though_known = λ leads. let found = leads.0 in cc
@@ -108,7 +102,7 @@ answered : Looks (2 ∷ []) some false false (Known (at 87))
 answered = (refl, refl, refl)
 
 answered_wrong : ¬ Looks (2 ∷ []) some false false (Known (at 86))
-answered_wrong = λ looks. unequal 87 86 (ap block_in looks.0) (omega arith)
+answered_wrong = λ looks. unequal 87 86 (ap number_of_block looks.0) (omega arith)
 
 answered_though_unread : ¬ Looks (2 ∷ []) some true false (Known (at 87))
 answered_though_unread = λ looks. let read = looks.1 in cc

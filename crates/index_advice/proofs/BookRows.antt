@@ -3,15 +3,12 @@ use Rattle.std.specs.Prelude.{ℕ, ◌≡◌, true, false, List, [], ◌∷◌, 
 use Rattle.std.proofs.Common.{arith}
 use Rattle.std.proofs.lemmas.List.Elements.{All-cons}
 use Rattle.std.proofs.lemmas.List.Kept.{AllPairs-cons}
-use Rattle.blk_base.specs.declared.place.Pbn.{Pbn}
+use Rattle.blk_base.specs.Forms.{pbn as at}
 use Rattle.byte_fields.specs.Fields.{number_at}
 use Rattle.uds_chapters.specs.declared.entry.Record.{Record}
 use Rattle.uds_chapters.specs.Chapters.{Numbered}
 use Rattle.index_advice.specs.Books.{Book, DuePage, chapter_of, has_tag, newest_record, number_after, has_number, is_same_place, chapters_elsewhere, pages_elsewhere, closed, has_room, has_written, added, learnt, finished, block_of}
 use Rattle.index_advice.specs.Orders.{IsNewer, IsChapter, IsOfKept, IsInOrder}
-
-abbrev at : ℕ → Pbn
-at block = record { 0 = block }
 
 -- a name of 5 bytes, the first four of which are its tag, and the last tells names of one tag apart
 abbrev name : ℕ → ℕ → List ℕ

@@ -1,6 +1,6 @@
 -- The map that entries give, and the images that show it: for each definition what it gives or accepts, and what it refuses.
 -- The image is the one of the rows of maps: leaves of the trees 0 and 1 at 85 and 87, and address 5 at 86.
-use Rattle.std.proofs.Common.{ℕ, zero, suc, ◌≡◌, ◌+◌, ◌-◌, ◌*◌, ◌%◌, ◌<◌, List, [], ◌∷◌, ◌++◌, length, replicate, Some, None, refl, sym, ◌∙◌, ap, subst, get_or, inl, inr, arith}
+use Rattle.std.proofs.Common.{ℕ, ◌≡◌, ◌+◌, ◌-◌, ◌*◌, ◌%◌, ◌<◌, List, [], ◌∷◌, ◌++◌, length, replicate, Some, None, refl, sym, ◌∙◌, ap, subst, get_or, inl, inr, arith}
 use Rattle.std.proofs.Math.Nat.{mod-lt}
 use Rattle.std.proofs.lemmas.Bool.{cases_Bool}
 use Rattle.blk_base.specs.Sectors.{sector, zero_block}
@@ -11,40 +11,26 @@ use Rattle.blk_base.specs.declared.place.Mapping.TheVariants.{Unmapped, Zero, At
 use Rattle.blk_base.specs.declared.place.PageId.{PageId}
 use Rattle.blk_base.specs.declared.place.Pbn.{Pbn}
 use Rattle.blk_base.specs.declared.sizes.TheConstants.{PAGE_SLOTS}
+use Rattle.blk_base.specs.Forms.{page, pbn}
 use Rattle.byte_fields.specs.Fields.{number_at}
 use Rattle.byte_fields.proofs.FieldLaws.{number_at-drop}
 use Rattle.std.proofs.lemmas.List.{drop-replicate}
 use Rattle.disk_model.specs.Log.{Blocks, block_at}
 use Rattle.image_layout.specs.Values.{journal_of}
-use Rattle.image_model.specs.Maps.{mapping_in, mapping_with, mapping_of, page_at, slot_in}
+use Rattle.image_model.specs.Maps.{mapping_in, mapping_with, mapping_of, page_at}
 use Rattle.image_model.specs.Windows.{in_slot, IsThere, IsWindow}
 use Rattle.image_model.specs.Pages.{is_page}
-use Rattle.image_model.proofs.Example.{small, pbn}
-use Rattle.image_model.proofs.MapRows.{said, blocks, image, page, logged, remap}
+use Rattle.image_model.proofs.Example.{small}
+use Rattle.image_model.proofs.MapRows.{said, blocks, image, logged, remap, new_leaf, mapped}
 use Rattle.image_model.proofs.WindowLaws.{one_window}
 use Rattle.image_model.proofs.ZeroLaws.{of_eight}
+use Rattle.image_model.proofs.EmptyLaws.{zero_first}
 use Rattle.journal_codec.proofs.ReadLaws.{length-sector_bytes}
 use Rattle.journal_stops.specs.Mapped.{slot_after, linked_after, page_after, mapping_after, put_at, newest_for, put_page, newest_page, page_of, AreRooted, ArePagesShown, ArePagesMade, ShowsEntries}
 use Rattle.journal_stops.specs.Shown.{HasInWindow}
 use Rattle.journal_stops.proofs.MapLaws.{pages_show}
 use Rattle.journal_stops.proofs.NewestLaws.{page_equal}
 use Rattle.journal_stops.proofs.OpenedLaws.{page_with_none, rooted_old_page, slot_of_page}
-
-abbrev new_leaf : CommittedEntry
-new_leaf = logged (NewPage (page 2 0 0) (pbn 89))
-
--- What the opened image has in a slot.
-slot_is : slot_in (image []) (page 0 0 0) 5 ≡ At (pbn 86)
-unfolding number_at
-slot_is = refl
-
-slot_of_link : slot_in (image []) (page 1 1 0) 0 ≡ At (pbn 87)
-unfolding number_at
-slot_of_link = refl
-
-slot_of_no_page : slot_in (image []) (page 2 0 0) 5 ≡ Unmapped
-unfolding number_at
-slot_of_no_page = refl
 
 -- The newest entry for a slot counts, and where there is none what was there.
 slot_put_there : slot_after (image []) (remap 5 Zero ∷ remap 5 (At (pbn 88)) ∷ []) (page 0 0 0) 5 ≡ Zero
@@ -227,10 +213,6 @@ shows_no_page s =
     let there = ap (λ (window : List CommittedEntry). page_at (image window) (page 2 0 0)) (sym none) in
     let is : None ≡ Some (pbn 89) = sym unlinked ∙ there ∙ s.pages (page 2 0 0) ∙ linked_by_entry in absurd (cc is)
 
-mapped : mapping_of (image []) 5 ≡ At (pbn 86)
-unfolding number_at
-mapped = refl
-
 zero_by_entry : mapping_after (image []) (remap 5 Zero ∷ []) 5 ≡ Zero
 unfolding number_at
 zero_by_entry = refl
@@ -250,11 +232,6 @@ unfolding number_at
 linked_still_1 = refl
 
 -- Pages that are made: below a root, not linked before, and empty. A block of zeros says nothing.
-zero_first : (n : ℕ) → number_at 1 0 (replicate n 0) ≡ 0
-unfolding number_at
-zero_first zero = refl
-zero_first (suc n) = refl
-
 zeros_say : (slot : ℕ) → mapping_in zero_block slot ≡ Unmapped
 unfolding zero_block
 zeros_say slot =

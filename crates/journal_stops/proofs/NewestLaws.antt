@@ -1,6 +1,6 @@
 -- The newest entry for an address or a page, and what it gives.
 use Rattle.std.proofs.Common.{ℕ, ◌≡◌, ◌+◌, ◌/◌, ◌%◌, ◌==◌, ◌&&◌, Bool, true, false, if◌then◌else◌, Option, Some, None, List, [], ◌∷◌, ◌++◌, map, refl, sym, ◌∙◌, ap, ap₂, inl, inr, arith}
-use Rattle.std.proofs.lemmas.Bool.{cases_Bool}
+use Rattle.std.proofs.lemmas.Bool.{cases_Bool, false_from_ne_true}
 use Rattle.std.proofs.lemmas.Bool.Decides.{eqb_tells}
 use Rattle.blk_base.specs.declared.journal_entry.CommittedEntry.{CommittedEntry}
 use Rattle.blk_base.specs.declared.journal_entry.Entry.{Entry}
@@ -34,10 +34,6 @@ same_test : (b c : Bool) → (b ≡ true → c ≡ true) → (c ≡ true → b �
 same_test true c there back = sym (there refl)
 same_test false true there back = back refl
 same_test false false there back = refl
-
-never_true : (b : Bool) → (b ≡ true → ⊥) → b ≡ false
-never_true true never = absurd (never refl)
-never_true false never = refl
 
 same_address : (a b : ℕ) → a / 812 % 60 ≡ b / 812 % 60 → a / 812 / 60 / 1 ≡ b / 812 / 60 / 1 → a % 812 ≡ b % 812 → a ≡ b
 same_address a b tree index slot = omega (arith, tree, index, slot)
@@ -82,11 +78,11 @@ page_test p q = same_test (is_page (above p) (above q) && (slot_of p == slot_of 
     (eq_is (p.index % 812) (q.index % 812) (ap (λ (n : ℕ). n % 812) page.2)))
 
 no_leaf : (a : ℕ) (p : PageId) (t : Bool) → (is_page (leaf_of a) (above p) && t) ≡ false
-no_leaf a p t = never_true (is_page (leaf_of a) (above p) && t)
+no_leaf a p t = false_from_ne_true (is_page (leaf_of a) (above p) && t)
     (λ is. let page = page_parts (leaf_of a) (above p) (both (is_page (leaf_of a) (above p)) t is).0 in let level : 0 ≡ p.level + 1 = page.1 in omega (arith, level))
 
 no_branch : (p : PageId) (a : ℕ) (t : Bool) → (is_page (above p) (leaf_of a) && t) ≡ false
-no_branch p a t = never_true (is_page (above p) (leaf_of a) && t)
+no_branch p a t = false_from_ne_true (is_page (above p) (leaf_of a) && t)
     (λ is. let page = page_parts (above p) (leaf_of a) (both (is_page (above p) (leaf_of a)) t is).0 in let level : p.level + 1 ≡ 0 = page.1 in omega (arith, level))
 
 put_same : (e : Entry) (a : ℕ) → put_by e (leaf_of a) (slot_of_address a) ≡ put_at e a

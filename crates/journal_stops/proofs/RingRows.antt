@@ -7,10 +7,12 @@ use Rattle.std.proofs.lemmas.List.Elements.{All-head}
 use Rattle.image_model.specs.Windows.{IsOfImage}
 use Rattle.blk_base.specs.Sectors.{sector, zero_block}
 use Rattle.blk_base.specs.declared.journal_entry.Entry.{Entry}
+use Rattle.blk_base.specs.Forms.{pbn}
+use Rattle.blk_base.proofs.Example.{maps}
 use Rattle.disk_model.specs.declared.call.Call.{Call}
 use Rattle.disk_model.specs.declared.call.Call.TheVariants.{Write, Flush}
 use Rattle.disk_model.specs.Log.{Blocks}
-use Rattle.image_model.proofs.Example.{small, pbn, maps, one, block, holds, has_sector, only_sector}
+use Rattle.image_model.proofs.Example.{small, one, block, holds, has_sector, only_sector}
 use Rattle.image_model.proofs.ZeroLaws.{no_journal_sector, of_eight}
 use Rattle.journal_codec.specs.Grammar.{IsSector}
 use Rattle.journal_codec.specs.BlockBytes.{entries_in}

@@ -1,10 +1,12 @@
 -- Sealed blocks: for each definition what it gives or accepts, and for each clause one that it refuses.
-use Rattle.std.proofs.Common.{ℕ, ◌≡◌, ◌+◌, ◌≤◌, ◌^◌, List, [], ◌∷◌, length, replicate, All, refl, arith}
-use Rattle.std.proofs.lemmas.List.Elements.{All-cons, All-nil, All-head}
-use Rattle.blk_base.specs.Regions.{IsDataBlock}
+use Rattle.std.proofs.Common.{ℕ, ◌≡◌, ◌+◌, ◌≤◌, ◌^◌, List, [], ◌∷◌, length, replicate, refl, arith}
+use Rattle.std.proofs.lemmas.List.Elements.{All-head}
 use Rattle.blk_base.specs.declared.journal_entry.CommittedEntry.{CommittedEntry}
+use Rattle.blk_base.proofs.Example.{maps}
+use Rattle.blk_base.specs.Forms.{at_point}
 use Rattle.image_model.specs.Windows.{IsOfImage}
-use Rattle.image_model.proofs.Example.{small, maps, one, holds}
+use Rattle.image_model.proofs.Example.{small, one, holds}
+use Rattle.image_model.proofs.WindowRows.{each_is}
 use Rattle.journal_stops.specs.Sealed.{Sealed, IsSealed, next_of, head_of, lists_of, entries_of, since, before, window_of, front_of}
 
 -- a block with this head and the entry of the example, and one with two entries
@@ -28,11 +30,6 @@ head_of_none : head_of 7 [] ≡ 7
 head_of_none = refl
 
 -- A block may be sealed.
-data_86 : IsDataBlock small 86
-data_86 = record { slab = 0; offset = 1; inside = (omega arith, omega arith); stands = refl }
-
-pub each_is : All (IsOfImage small) one
-each_is = All-cons (IsOfImage small) (maps 86) [] (omega arith, tt, data_86) (All-nil (IsOfImage small))
 
 -- six blocks of the ring of eight, all of which are still needed
 abbrev six : List Sealed
@@ -110,8 +107,8 @@ lists_are = refl
 lists_of_none : lists_of [] ≡ []
 lists_of_none = refl
 
-abbrev at : ℕ → ℕ → CommittedEntry
-at x point = record { entry = maps x; point = record { 0 = point } }
+abbrev pub at : ℕ → ℕ → CommittedEntry
+at x point = at_point (maps x) point
 
 entries_are : entries_of 2 (pair 2 ∷ names 1 ∷ []) ≡ at 88 1538 ∷ at 87 1536 ∷ at 86 1024 ∷ []
 entries_are = refl

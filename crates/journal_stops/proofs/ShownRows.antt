@@ -9,20 +9,18 @@ use Rattle.journal_codec.proofs.ReadLaws.{length-sector_bytes}
 use Rattle.sector_records.proofs.SectorLaws.{few_in}
 use Rattle.sector_records.specs.SectorBytes.{eight_sectors, sector_numbers}
 use Rattle.blk_base.specs.declared.journal_entry.CommittedEntry.{CommittedEntry}
+use Rattle.blk_base.specs.Forms.{pbn}
 use Rattle.disk_model.specs.declared.call.Call.TheVariants.{Flush}
 use Rattle.disk_model.specs.Images.{IsImage}
 use Rattle.disk_model.specs.Log.{Blocks, block_at}
 use Rattle.disk_model.proofs.OneImageLaws.{one_image-opening, one_image-write_flush, one_image-is_image}
-use Rattle.image_model.proofs.Example.{small, pbn, maps, one, block}
+use Rattle.image_model.proofs.Example.{small, one, block}
 use Rattle.image_model.proofs.WindowLaws.{one_window}
 use Rattle.journal_stops.specs.Shown.{Extends, HasInWindow}
 use Rattle.journal_stops.proofs.EntryLaws.{shown_at_rest}
 use Rattle.journal_stops.proofs.RingRows.{empty, wrote, flushed_is}
-use Rattle.journal_stops.proofs.SealedRows.{names}
+use Rattle.journal_stops.proofs.SealedRows.{names, at}
 use Rattle.journal_stops.proofs.ShownLaws.{window_at_rest}
-
-abbrev at : ℕ → ℕ → CommittedEntry
-at x point = record { entry = maps x; point = record { 0 = point } }
 
 -- Newer entries stand before the older ones.
 extends : Extends (at 87 514 ∷ at 86 512 ∷ []) (at 86 512 ∷ [])

@@ -2,10 +2,11 @@
 -- The device doesn't tell which calls were made, where nothing else is said.
 use Rattle.std.proofs.Common.{ℕ, ◌≡◌, ◌+◌, Bool, true, false, Some, None, [], ◌∷◌, length, reverse, refl, ap, inl, arith}
 use Rattle.blk_base.specs.declared.geometry.Super.{Super}
+use Rattle.blk_base.specs.Forms.{pbn}
 use Rattle.disk_model.specs.Seen.{Seen}
 use Rattle.image_layout.specs.declared.fault.Field.TheVariants.{Start}
 use Rattle.image_layout.specs.declared.fault.SuperFault.TheVariants.{BadField, NotAnImage}
-use Rattle.image_model.proofs.Example.{pbn, small, zeros}
+use Rattle.image_model.proofs.Example.{small, zeros}
 use Rattle.image_model.proofs.WindowLaws.{one_last}
 use Rattle.image_model.specs.Windows.{IsLast}
 use Rattle.image_model.specs.declared.fault.ImageFault.TheVariants.{Super as Superblock, Window, Counts, Device, Unclean, Memory}

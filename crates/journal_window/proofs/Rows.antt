@@ -8,13 +8,14 @@ use Rattle.blk_base.specs.declared.geometry.Geometry.{Geometry}
 use Rattle.blk_base.specs.declared.geometry.Super.{Super}
 use Rattle.blk_base.specs.declared.journal_entry.CommittedEntry.{CommittedEntry}
 use Rattle.blk_base.specs.declared.journal_entry.Entry.{Entry}
+use Rattle.blk_base.proofs.Example.{maps}
 use Rattle.disk_model.specs.Seen.{Seen}
 use Rattle.disk_model.proofs.SeenLaws.{stays_yet, later_yet}
 use Rattle.image_layout.specs.declared.fault.Field.TheVariants.{Start, Nonce}
 use Rattle.image_layout.specs.declared.fault.SuperFault.TheVariants.{BadField}
 use Rattle.image_model.specs.Windows.{IsThere, IsLast, IsReplayable, AreReplayable, entries_from, IsOfImage, IsWindow, IsFaulty}
 use Rattle.image_model.specs.declared.fault.ImageFault.TheVariants.{Super as Superblock, Window, Device, Memory}
-use Rattle.image_model.proofs.Example.{small, maps, one, block, holds, has_sector, only_sector, zeros}
+use Rattle.image_model.proofs.Example.{small, one, block, holds, has_sector, only_sector, zeros}
 use Rattle.image_model.proofs.WindowLaws.{one_last, one_window, one_fault}
 use Rattle.image_model.proofs.ZeroLaws.{of_eight}
 use Rattle.image_model.proofs.ReadExample.{zero_journal, none_there}

@@ -7,6 +7,7 @@ use Rattle.core_model.specs.LogicalRules.{all_for, but_first_for, first_for, is_
 use Rattle.core_model.specs.Waiters.{IsFree}
 use Rattle.data_vio.specs.declared.items.Vio.{Vio}
 use Rattle.core_model.specs.LogicalData.{Lock, LogicalZone}
+use Rattle.core_model.proofs.LockLaws.{first_at}
 
 -- where nobody waits for it, all wait for others
 pub nobody : (a : ℕ) (vs : List Vio) → first_for a vs ≡ None → (all_for a vs ≡ []) × (none_for a vs ≡ vs) × (but_first_for a vs ≡ vs)
@@ -52,13 +53,6 @@ without_twice a [] = refl
 without_twice a (lock ∷ held) = elim (eqb_tells lock.at.0 a) [
   | inl gone ↦ rw gone.0 (without_twice a held)
   | inr stays ↦ rw (stays.0, stays.0) (ap (λ (ls : List Lock). lock ∷ ls) (without_twice a held))
-]
-
-first_at : (a : ℕ) (vs : List Vio) (v : Vio) → first_for a vs ≡ Some v → v.at.0 ≡ a
-first_at a [] v some = absurd cc
-first_at a (w ∷ vs) v some = elim (eqb_tells w.at.0 a) [
-  | inl here ↦ let same : w ≡ v = same_Some w v (rw here.0 at some) in sym (ap (λ (u : Vio). u.at.0) same) ∙ here.1
-  | inr there ↦ first_at a vs v (rw there.0 at some)
 ]
 
 pub next_emptied : (a : ℕ) (l : LogicalZone) (v : Vio) → first_for a l.waiting ≡ Some v → emptied a (released a l) ≡ emptied a l

@@ -1,36 +1,31 @@
 -- What a cache is, and what each call leaves of one: whole caches of the default sizes, with two frames, each of which is
 -- accepted, or breaks one clause alone and is refused.
-use Rattle.std.proofs.Common.{ℕ, zero, suc, ◌≡◌, ◌<◌, ◌≤◌, true, false, Option, None, Some, List, [], ◌∷◌, ◌+◌, replicate, slice_index_or, slice_set, refl, ap, sym, ◌∙◌, arith}
+use Rattle.std.proofs.Common.{ℕ, zero, suc, ◌≡◌, ◌<◌, ◌≤◌, true, false, Option, None, Some, List, [], ◌∷◌, ◌+◌, slice_index_or, slice_set, refl, ap, sym, ◌∙◌, arith}
 use Rattle.std.proofs.lemmas.List.{length-replicate}
 use Rattle.std.proofs.lemmas.List.Elements.{All-cons, All-head, All-nil, All-replicate}
 use Rattle.std.proofs.lemmas.Option.{none-some}
-use Rattle.blk_base.proofs.Example.{small}
+use Rattle.blk_base.proofs.Example.{small, others, number_of_point}
 use Rattle.blk_base.specs.declared.geometry.Geometry.{Geometry}
 use Rattle.blk_base.specs.declared.place.Mapping.{Mapping}
 use Rattle.blk_base.specs.declared.place.Mapping.TheVariants.{At, Unmapped, Zero}
 use Rattle.blk_base.specs.declared.place.PageId.{PageId}
 use Rattle.blk_base.specs.declared.point.Point.{Point}
+use Rattle.blk_base.specs.Forms.{point as p}
 use Rattle.dirty_pages.specs.DirtyPoints.{IsDue, changed_at, clean, handed_out, dirty_points_at, settled, with_dirty_points}
 use Rattle.dirty_pages.specs.Minima.{key_at}
 use Rattle.dirty_pages.specs.declared.dirty_points.DirtyPoints.{DirtyPoints}
+use Rattle.dirty_pages.proofs.Rows.{out, number}
 use Rattle.page_codec.specs.Grammar.{AreHeld, HoldsMapping}
 use Rattle.page_codec.specs.declared.forms.MapPage.{MapPage}
 use Rattle.map_page_cache.specs.CachedPages.{AreApart, CachedPages, Expires, Fills, GivesUp, HasNoFrame, IsAbsent, IsCache, IsIn, IsPageOf, IsThere, IsWriting, Sets, Writes, no_pages, with_mapping}
 use Rattle.map_page_cache.specs.Turns.{Turns, with_turn}
-use Rattle.map_page_cache.proofs.Rows.{none, number}
-
-abbrev pub p : ℕ → Point
-p n = record { 0 = n }
+use Rattle.map_page_cache.proofs.Rows.{none}
 
 abbrev pub g : Geometry
 g = small
 
 abbrev pub page : ℕ → PageId
 page index = record { tree = 0; level = 0; index = index }
-
--- the slots of a page behind its first two: none is mapped
-pub others : List Mapping
-others = replicate 810 Unmapped
 
 held : (level : ℕ) (second : Mapping) → HoldsMapping g level second → AreHeld g level (Unmapped ∷ second ∷ others)
 unfolding others
@@ -118,9 +113,6 @@ two_are i j first second turns differ = record {
 
 abbrev pub dirty : DirtyPoints
 dirty = record { dirty = Some (p 5); writing = None }
-
-abbrev pub out : DirtyPoints
-out = record { dirty = None; writing = Some (p 5) }
 
 abbrev pub one_page : CachedPages
 one_page = cache_of (leaf 0 ∷ []) (clean ∷ clean ∷ []) (with_turn 0 true none)
@@ -367,13 +359,8 @@ sets_and_stays_clean is = omega (arith, ap (λ (c : CachedPages). c.turns.last) 
 abbrev pub out_one : CachedPages
 out_one = record set_one { dirty_points = out ∷ clean ∷ [] }
 
-point_of : Option Point → ℕ
-point_of None = 0
-point_of (Some q) = q.0
-
 least_due : (other : ℕ) (later : Point) → IsDue (dirty_points_at set_one.dirty_points other) later → 5 ≤ later.0
-unfolding point_of
-least_due zero later due = omega (arith, ap point_of due.dirty)
+least_due zero later due = omega (arith, ap number_of_point due.dirty)
 least_due (suc zero) later due = absurd (none-some later due.dirty)
 least_due (suc (suc k)) later due = absurd (none-some later due.dirty)
 

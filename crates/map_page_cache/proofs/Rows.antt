@@ -1,12 +1,9 @@
 -- Of the order in which clean pages are given up: small cases that are accepted and refused.
-use Rattle.std.proofs.Common.{ℕ, zero, suc, ◌≡◌, ◌≢◌, ◌<◌, ◌≤◌, true, false, Option, None, Some, [], ◌∷◌, refl, ap, sym, arith}
+use Rattle.std.proofs.Common.{ℕ, zero, suc, ◌≡◌, ◌≢◌, ◌<◌, ◌≤◌, true, false, None, Some, [], ◌∷◌, refl, ap, sym, arith}
 use Rattle.std.proofs.lemmas.Option.{none-some}
 use Rattle.dirty_pages.specs.Minima.{key_at}
+use Rattle.dirty_pages.proofs.Rows.{number}
 use Rattle.map_page_cache.specs.Turns.{IsLongestClean, NoneClean, Turns, flags_of, next_turn, no_turns, with_turn}
-
-abbrev pub number : Option ℕ → ℕ
-number None = 0
-number (Some n) = n
 
 -- next_turn: behind the last of 64 bits comes 0
 

@@ -2,11 +2,12 @@
 use Rattle.std.proofs.Common.{ℕ, zero, suc, ◌≡◌, ◌<◌, List, [], ◌∷◌, slice_index_or, refl, ap, sym, subst, ◌∙◌, inl, inr, arith}
 use Rattle.blk_base.specs.declared.place.Mapping.TheVariants.{Unmapped, Zero}
 use Rattle.blk_base.specs.declared.place.PageId.{PageId}
+use Rattle.blk_base.specs.Forms.{point as p}
 use Rattle.dirty_pages.specs.History.{Changed, HandedOut, Written}
 use Rattle.page_codec.specs.declared.forms.MapPage.{MapPage}
 use Rattle.map_page_cache.specs.CachedPages.{CachedPages, with_mapping}
 use Rattle.map_page_cache.specs.Runs.{Operation, HandOut, Install, IsContent, LeadTo, Leads, Set, Write, events_of}
-use Rattle.map_page_cache.proofs.OperationRows.{absent, absent_of_two, expires, fills, gives_up, leaf, leaf_with, not_absent, one_page, out_one, p, page, set_one, sets, sets_what_is_not_there, third, two_pages, writes, writing, writing_before, written_one}
+use Rattle.map_page_cache.proofs.OperationRows.{absent, absent_of_two, expires, fills, gives_up, leaf, leaf_with, not_absent, one_page, out_one, page, set_one, sets, sets_what_is_not_there, third, two_pages, writes, writing, writing_before, written_one}
 
 -- Leads: a page that isn't there is installed, in an empty frame or in that of a clean page
 installs : Leads one_page (Install (leaf 1)) two_pages

@@ -1,20 +1,19 @@
 -- Small maps that each clause accepts, and one that it refuses: what a map is, and what is looked up, applied and installed.
-use Rattle.std.proofs.Common.{ℕ, subst, ◌⊎◌, zero, suc, ◌≡◌, ◌^◌, ◌<◌, inl, inr, true, false, None, Some, List, [], ◌∷◌, length, replicate, slice_index_or, ◌+◌, ◌≤◌, refl, ap, sym, arith, ◌∙◌}
+use Rattle.std.proofs.Common.{ℕ, subst, ◌⊎◌, zero, suc, ◌≡◌, ◌^◌, ◌<◌, inl, inr, true, false, None, Some, List, [], ◌∷◌, length, slice_index_or, ◌+◌, ◌≤◌, refl, ap, sym, arith, ◌∙◌}
 use Rattle.std.proofs.lemmas.List.{length-replicate}
 use Rattle.std.proofs.lemmas.List.Elements.{All-cons, All-nil, All-replicate}
 use Rattle.std.proofs.lemmas.Option.{none-some}
-use Rattle.blk_base.proofs.Example.{small, small_is}
+use Rattle.blk_base.proofs.Example.{small, small_is, root, leaf, others}
 use Rattle.blk_base.specs.Pages.{page_above, leaf_of}
 use Rattle.blk_base.specs.Regions.{IsDataBlock, Root, block_of}
 use Rattle.blk_base.specs.declared.geometry.Geometry.{Geometry}
 use Rattle.blk_base.specs.declared.journal_entry.Entry.TheVariants.{NewPage, Remap}
 use Rattle.blk_base.specs.declared.opened.Opened.{Opened}
-use Rattle.blk_base.specs.declared.place.Lba.{Lba}
 use Rattle.blk_base.specs.declared.place.Mapping.{Mapping}
 use Rattle.blk_base.specs.declared.place.Mapping.TheVariants.{At, Unmapped, Zero}
 use Rattle.blk_base.specs.declared.place.PageId.{PageId}
 use Rattle.blk_base.specs.declared.place.Pbn.{Pbn}
-use Rattle.blk_base.specs.declared.point.Point.{Point}
+use Rattle.blk_base.specs.Forms.{point as p, pbn as b, lba}
 use Rattle.dirty_pages.specs.DirtyPoints.{changed_at, clean, dirty_points_at, with_dirty_points}
 use Rattle.dirty_pages.specs.declared.dirty_points.DirtyPoints.{DirtyPoints}
 use Rattle.page_codec.specs.Grammar.{AreHeld, HoldsMapping, IsPage, IsPageFault}
@@ -25,6 +24,7 @@ use Rattle.block_map_tree.specs.OpenedTree.{IsOpening, forest_of}
 use Rattle.block_map_tree.specs.Pages.{IsLower, IsOnPath, IsTreeOf}
 use Rattle.block_map_tree.specs.Tree.{IsAt, IsThere, IsTree, Links, Tree, as_root, by_link, number_of}
 use Rattle.block_map_tree.specs.declared.forms.Forest.{Forest}
+use Rattle.block_map_tree.proofs.TreeRows.{first_zone, own}
 use Rattle.map_page_cache.specs.CachedPages.{CachedPages, IsCache, IsPageOf}
 use Rattle.map_page_cache.specs.CachedPages as cached
 use Rattle.map_page_cache.specs.Turns.{Turns, no_turns, with_turn}
@@ -34,38 +34,16 @@ use Rattle.map_zone.specs.declared.forms.Looked.TheVariants as looked
 use Rattle.map_zone.specs.declared.forms.NotInstalled.TheVariants as refused
 use Rattle.map_zone.specs.ZoneMap.{head_at, IsLeafAt, IsOpened, IsZoneMap, ZoneMap}
 
-abbrev pub p : ℕ → Point
-p n = record { 0 = n }
-
-abbrev pub b : ℕ → Pbn
-b n = record { 0 = n }
-
-abbrev pub lba : ℕ → Lba
-lba n = record { 0 = n }
-
 -- The default image, and of it the zone of the first of 60 trees: its root, and the leaf of the addresses 0 to 811.
 
 abbrev pub g : Geometry
 g = small
 
 abbrev pub forest : Forest
-forest = record { geometry = g; zone = 0; zones = 60 }
-
-abbrev pub root : PageId
-root = record { tree = 0; level = 1; index = 0 }
-
-abbrev pub leaf : PageId
-leaf = record { tree = 0; level = 0; index = 0 }
-
-pub own : IsTreeOf forest 0
-own = record { inside = omega arith; own = refl }
+forest = first_zone g
 
 pub below : IsLower forest leaf
-below = record { tree = own; level = omega arith; index = omega arith }
-
--- the slots of a page behind its first two: none is mapped
-pub others : List Mapping
-others = replicate 810 Unmapped
+below = record { tree = own g; level = omega arith; index = omega arith }
 
 pub held : (level : ℕ) (first second : Mapping) → HoldsMapping g level first → HoldsMapping g level second → AreHeld g level (first ∷ second ∷ others)
 unfolding others
@@ -253,7 +231,7 @@ module _ (opened : Opened) (of_sizes : opened.head.geometry ≡ g) where
 -- IsOwn
 
 is_own : IsOwn m 811
-is_own = record { inside = omega arith; tree = own }
+is_own = record { inside = omega arith; tree = own g }
 
 past_the_last : IsOwn m 1000 → ⊥
 past_the_last is = omega (arith, is.inside)
@@ -297,7 +275,7 @@ misses = record { low = omega arith; missing = is_missing; above = above }
   where
     above : (level : ℕ) → 0 < level → level < 2 → IsThere unlinked (page_above level 1)
     above zero from inside = absurd (omega (arith, from))
-    above (suc zero) from inside = record { at = b 9; stands = as_root (record { tree = own; level = refl; index = refl }) refl }
+    above (suc zero) from inside = record { at = b 9; stands = as_root (record { tree = own g; level = refl; index = refl }) refl }
     above (suc (suc level)) from inside = absurd (omega (arith, inside))
 
 misses_one_that_is_linked : MissesPage unread 1 0 → ⊥
@@ -337,7 +315,7 @@ may_not_add_it_again : (at : Pbn) → MayAddPage unread leaf at → ⊥
 may_not_add_it_again at is = is.missing (record { at = b 90; stands = stands })
 
 may_not_add_a_root : (at : Pbn) → MayAddPage bare root at → ⊥
-may_not_add_a_root at is = is.linkable.lower (record { tree = own; level = refl; index = refl })
+may_not_add_a_root at is = is.linkable.lower (record { tree = own g; level = refl; index = refl })
 
 may_not_add_below_nothing : (at : Pbn) → MayAddPage high leaf at → ⊥
 may_not_add_below_nothing at is = never is.above.at is.above.stands
@@ -349,10 +327,10 @@ may_not_add_below_nothing at is = never is.above.at is.above.stands
 may_add : MayAddPage bare leaf (b 90)
 may_add = record {
   linkable = record {
-    path = record { address = 1; inside = omega arith; level = omega arith; there = refl; tree = own };
+    path = record { address = 1; inside = omega arith; level = omega arith; there = refl; tree = own g };
     lower = λ is. omega (arith, is.level);
   };
-  above = record { at = b 9; stands = as_root (record { tree = own; level = refl; index = refl }) refl };
+  above = record { at = b 9; stands = as_root (record { tree = own g; level = refl; index = refl }) refl };
   missing = is_missing;
   block = record { slab = 0; offset = 5; inside = (omega arith, omega arith); stands = refl };
 }
@@ -430,7 +408,7 @@ adds_and_forgets_a_leaf new is adds =
 -- HasPath
 has_path : HasPath m 1
 has_path zero low' = record { at = b 90; stands = stands }
-has_path (suc zero) low' = record { at = b 9; stands = as_root (record { tree = own; level = refl; index = refl }) refl }
+has_path (suc zero) low' = record { at = b 9; stands = as_root (record { tree = own g; level = refl; index = refl }) refl }
 has_path (suc (suc level)) low' = absurd (omega (arith, low'))
 
 has_no_path : HasPath bare 1 → ⊥

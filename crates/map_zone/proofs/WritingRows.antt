@@ -1,5 +1,5 @@
 -- Small maps that each clause accepts, and one that it refuses: what is handed out to be written and settled, and lists of calls.
-use Rattle.std.proofs.Common.{ℕ, subst, zero, suc, ◌≡◌, ◌≢◌, ◌<◌, inl, inr, true, false, Option, None, Some, List, [], ◌∷◌, length, replicate, slice_index_or, ◌≤◌, ◌%◌, refl, ap, sym, arith, ◌∙◌}
+use Rattle.std.proofs.Common.{ℕ, subst, zero, suc, ◌≡◌, ◌≢◌, ◌<◌, inl, inr, true, false, None, Some, List, [], ◌∷◌, length, replicate, slice_index_or, ◌≤◌, ◌%◌, refl, ap, sym, arith, ◌∙◌}
 use Rattle.std.proofs.Math.Nat.{mod-lt}
 use Rattle.std.proofs.lemmas.List.{get_or-replicate}
 use Rattle.std.proofs.lemmas.Option.{none-some}
@@ -9,6 +9,8 @@ use Rattle.blk_base.specs.declared.place.Mapping.TheVariants.{At, Unmapped, Zero
 use Rattle.blk_base.specs.declared.place.PageId.{PageId}
 use Rattle.blk_base.specs.declared.place.Pbn.{Pbn}
 use Rattle.blk_base.specs.declared.point.Point.{Point}
+use Rattle.blk_base.specs.Forms.{point as p, pbn as b, lba}
+use Rattle.blk_base.proofs.Example.{root, leaf, others, number_of_point}
 use Rattle.dirty_pages.specs.History.{Changed, HandedOut, Written}
 use Rattle.dirty_pages.specs.DirtyPoints.{HandsOut, HasPoint, IsDue, dirty_points_at, settled, with_dirty_points}
 use Rattle.dirty_pages.specs.declared.dirty_points.DirtyPoints.{DirtyPoints}
@@ -21,13 +23,14 @@ use Rattle.page_codec.specs.declared.forms.PageHead.{PageHead}
 use Rattle.block_map_tree.specs.Pages.{IsRoot}
 use Rattle.block_map_tree.specs.Tree.{IsAt, Tree, as_root, by_link}
 use Rattle.block_map_tree.specs.Tree as trees
+use Rattle.block_map_tree.proofs.TreeRows.{own}
 use Rattle.map_page_cache.specs.CachedPages.{CachedPages}
 use Rattle.map_page_cache.specs.CachedPages as cached
 use Rattle.map_page_cache.specs.Turns.{no_turns}
 use Rattle.map_zone.specs.Operations.{Apply, AreReadBack, Operation, HandOut, HasLink, HasNoLeaf, Install, IsStored, LeadTo, Leads, SayOf, Write, changed_by, events_of, mapped}
 use Rattle.map_zone.specs.PageWrites.{IsOut, Settles, SettlesLeaf, SettlesNode, Takes, TakesLeaf, TakesNode, IsClean, IsLeafFirst, IsLow, IsNodeFirst, IsSpelled, NoneDue, comes_first, lesser_point}
 use Rattle.map_zone.specs.ZoneMap.{ZoneMap}
-use Rattle.map_zone.proofs.Rows.{installs, may_install, may_not_install_it_again, may_not_past_the_last, remaps, zeroed, p, b, lba, g, forest, root, leaf, own, below, others, held, held_at, linked, unlinked, is_tree, stands, content, full, empty, is_cache, m, unread, clean_at, changed, there, whole, filled, fills, bytes, reads}
+use Rattle.map_zone.proofs.Rows.{installs, may_install, may_not_install_it_again, may_not_past_the_last, remaps, zeroed, g, forest, below, held, held_at, linked, unlinked, is_tree, stands, content, full, empty, is_cache, m, unread, clean_at, changed, there, whole, filled, fills, bytes, reads}
 
 -- comes_first, lesser_point
 
@@ -68,15 +71,11 @@ spelled_otherwise bytes other is = other is.said
 abbrev both : ZoneMap
 both = record { tree = record linked { dirty_points = changed 5 }; cache = record full { dirty_points = changed 6 } }
 
-abbrev value : Option Point → ℕ
-value None = 0
-value (Some q) = q.0
-
 due_at : (n : ℕ) → IsDue (dirty_points_at (changed n) 0) (p n)
 due_at n = record { idle = refl; dirty = refl }
 
 due_from : (n number : ℕ) (first : Point) → IsDue (dirty_points_at (changed n) number) first → first.0 ≡ n
-due_from n zero first due = sym (ap value due.dirty)
+due_from n zero first due = sym (ap number_of_point due.dirty)
 due_from n (suc k) first due = absurd (none-some first due.dirty)
 
 root_first : IsNodeFirst both
@@ -109,7 +108,7 @@ leaf_is_due none = omega (arith, none.leaves 0 (p 6) (due_at 6))
 -- IsLow, IsClean
 
 has_from : (n number : ℕ) (point : Point) → HasPoint (dirty_points_at (changed n) number) point → point.0 ≡ n
-has_from n zero point (inl dirty) = sym (ap value dirty)
+has_from n zero point (inl dirty) = sym (ap number_of_point dirty)
 has_from n zero point (inr writing) = absurd (none-some point writing)
 has_from n (suc k) point (inl dirty) = absurd (none-some point dirty)
 has_from n (suc k) point (inr writing) = absurd (none-some point writing)
@@ -236,7 +235,7 @@ abbrev root_page : MapPage
 root_page = record { head = record { geometry = g; page = root; at = b 9 }; mappings = At (b 90) ∷ Unmapped ∷ others }
 
 is_root : IsRoot forest root
-is_root = record { tree = own; level = refl; index = refl }
+is_root = record { tree = own g; level = refl; index = refl }
 
 root_expires : trees.Expires both.tree (record linked { dirty_points = handed 5 }) (p 9) root root_page
 root_expires = record {

@@ -1,8 +1,7 @@
 -- The fields of a page's head, as they are read, and that a block has one head.
 use Rattle.std.specs.Prelude.{ℕ, ◌≡◌, List, [], ◌∷◌, ◌++◌}
 use Rattle.std.proofs.Common.{sym, ◌∙◌, ap, ap₂, refl, arith, length-append, append_assoc}
-use Rattle.blk_base.specs.declared.place.Pbn.{Pbn}
-use Rattle.blk_base.specs.declared.place.PageId.{PageId}
+use Rattle.blk_base.specs.Forms.{page, pbn}
 use Rattle.byte_fields.specs.Fields.{le, number_at}
 use Rattle.byte_fields.proofs.FieldLaws.{length-le, number_behind}
 use Rattle.page_codec.specs.declared.forms.PageHead.{PageHead}
@@ -44,12 +43,6 @@ index_read h is =
     number_behind 4 h.page.index 24 ((86 ∷ 77 ∷ 80 ∷ 49 ∷ []) ++ (le 8 h.geometry.nonce ++ (le 8 h.at.0 ++ (le 1 h.page.tree ++ (le 1 h.page.level ++ le 2 0))))) (le 8 0)
     (head_bytes h) (simp append_assoc) (simp (length-append, length-le)) (omega (arith, fits))
 
-abbrev at_of : ℕ → Pbn
-at_of block = record { 0 = block }
-
-abbrev page_of : ℕ → ℕ → ℕ → PageId
-page_of tree level index = record { tree = tree; level = level; index = index }
-
 pub one_head : (h h' : PageHead) (block : List ℕ) → IsHead h → IsHead h' → HasHead h block → HasHead h' block
     → (h.geometry.nonce ≡ h'.geometry.nonce) × (h.at ≡ h'.at) × (h.page ≡ h'.page)
 one_head h h' block is is' headed headed' =
@@ -58,6 +51,6 @@ one_head h h' block is is' headed headed' =
     let level = sym (level_read h is) ∙ ap (number_at 1 21) same ∙ level_read h' is' in
     let index = sym (index_read h is) ∙ ap (number_at 4 24) same ∙ index_read h' is' in (
       sym (nonce_read h is) ∙ ap (number_at 8 4) same ∙ nonce_read h' is',
-      ap at_of (sym (at_read h is) ∙ ap (number_at 8 12) same ∙ at_read h' is'),
-      ap (λ (n : ℕ). page_of n h.page.level h.page.index) tree ∙ ap₂ (λ (l i : ℕ). page_of h'.page.tree l i) level index,
+      ap pbn (sym (at_read h is) ∙ ap (number_at 8 12) same ∙ at_read h' is'),
+      ap (λ (n : ℕ). page n h.page.level h.page.index) tree ∙ ap₂ (λ (l i : ℕ). page h'.page.tree l i) level index,
     )

@@ -1,8 +1,10 @@
 -- Sums and elements of lists, after a write and after an append.
-use Rattle.std.proofs.Common.{◌≡◌, ℕ, zero, suc, ◌+◌, ◌≤◌, List, [], ◌∷◌, ◌++◌, length, Some, slice_get, slice_set, refl, ap, arith}
+use Rattle.std.proofs.Common.{◌≡◌, ℕ, zero, suc, ◌+◌, ◌≤◌, Bool, true, false, List, [], ◌∷◌, ◌++◌, length, replicate, Some, slice_get, slice_index, slice_set, refl, ap, inl, inr, arith}
+use Rattle.std.proofs.lemmas.Bool.{cases_lt}
+use Rattle.std.proofs.lemmas.List.{get_or-replicate, get_or_past, length-replicate}
 use Rattle.std.proofs.lemmas.Option.{same_Some}
 use Rattle.std.specs.List.{AllByRecursion}
-use Rattle.plain_laws.specs.Sums.{total, Each}
+use Rattle.plain_laws.specs.Sums.{bit, total, Each}
 
 pub total-append : {X : Type 0} (f : X → ℕ) (xs ys : List X) → total f (xs ++ ys) ≡ total f xs + total f ys
 total-append f [] ys = omega arith
@@ -141,3 +143,12 @@ each_both P Q (x ∷ xs) p q = ((p.0, q.0), each_both P Q xs p.1 q.1)
 -- what each has, the first has and the others have
 pub each_at : {X : Type 0} (P : X → Type 0) (x : X) (xs ys : List X) → ys ≡ x ∷ xs → AllByRecursion P ys → P x × AllByRecursion P xs
 each_at P x xs ys is all = let here : AllByRecursion P (x ∷ xs) = rw is at all in (here.0, here.1)
+
+-- each number of zeros is 0, and so is what stands behind them
+pub zero_at : (n k : ℕ) → slice_index (replicate n 0) k ≡ 0
+zero_at n k = elim (cases_lt k n) [ inl low ↦ get_or-replicate n k 0 0 low | inr past ↦ get_or_past (replicate n 0) k 0 (omega (arith, past, length-replicate {A = ℕ} n 0)) ]
+
+-- a bit is 1 at most
+pub bit_most : (b : Bool) → bit b ≤ 1
+bit_most true = omega arith
+bit_most false = omega arith

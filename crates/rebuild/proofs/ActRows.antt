@@ -8,6 +8,8 @@ use Rattle.blk_base.specs.declared.geometry.Geometry.{Geometry}
 use Rattle.blk_base.specs.declared.geometry.Super.{Super as Superblock}
 use Rattle.blk_base.specs.declared.place.PageId.{PageId}
 use Rattle.blk_base.specs.declared.place.Pbn.{Pbn}
+use Rattle.blk_base.specs.Forms.{pbn}
+use Rattle.blk_base.proofs.Example.{root}
 use Rattle.disk_model.specs.declared.call.Call.{Call}
 use Rattle.disk_model.specs.declared.call.Call.TheVariants.{Read, Write, Flush}
 use Rattle.disk_model.specs.declared.call.Failed.{Failed}
@@ -15,11 +17,10 @@ use Rattle.disk_model.specs.Log.{Blocks, block_at}
 use Rattle.disk_model.specs.Seen.{Seen}
 use Rattle.image_format.specs.Runs.{as_failed}
 use Rattle.image_layout.specs.Opened.{super_of_image}
-use Rattle.image_model.proofs.Example.{pbn}
 use Rattle.image_model.specs.Empty.{IsMade, made_block}
 use Rattle.image_model.specs.Maps.{Image, page_at}
 use Rattle.image_model.proofs.FaultRows.{zeros_unheaded}
-use Rattle.image_model.proofs.MapRows.{root, with_root}
+use Rattle.image_model.proofs.MapRows.{with_root}
 use Rattle.image_model.proofs.LookedLaws.{looked_first}
 use Rattle.recovery_laws.proofs.OpenedExample.{opened_is_to_recover, opened_super}
 use Rattle.recovery_laws.specs.Calls.{IsPut}

@@ -6,11 +6,13 @@ use Rattle.blk_base.specs.declared.journal_entry.Entry.TheVariants.{NewPage}
 use Rattle.blk_base.specs.declared.place.Mapping.{Mapping}
 use Rattle.blk_base.specs.declared.place.Mapping.TheVariants.{At}
 use Rattle.blk_base.specs.declared.place.Pbn.{Pbn}
+use Rattle.blk_base.specs.Forms.{page, pbn}
+use Rattle.blk_base.proofs.Example.{root}
 use Rattle.disk_model.specs.declared.call.Call.{Call}
 use Rattle.disk_model.specs.declared.call.Call.TheVariants.{Read, Write}
 use Rattle.image_model.proofs.CountLaws.{is_first, is_first_or_behind, none_in_nothing}
-use Rattle.image_model.proofs.Example.{pbn, small}
-use Rattle.image_model.proofs.MapRows.{logged, page, root, with_root}
+use Rattle.image_model.proofs.Example.{small}
+use Rattle.image_model.proofs.MapRows.{logged, with_root}
 use Rattle.image_model.specs.Counts.{commit_at}
 use Rattle.image_model.specs.Maps.{Image}
 use Rattle.recovery_blocks.specs.Counters.{HasUpdate}

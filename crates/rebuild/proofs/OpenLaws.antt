@@ -5,11 +5,11 @@ use Rattle.audit.specs.Audits.{AuditWithFails, BothShow, IsOpenedTo}
 use Rattle.block_map_tree.specs.OpenedTree.{IsOpened as AreTrees, all_trees}
 use Rattle.blk_base.specs.Counters.{limit_of}
 use Rattle.blk_base.specs.Limits.{IsGeometry}
-use Rattle.blk_base.specs.Regions.{needed_blocks}
+use Rattle.blk_base.specs.Regions.{needed_blocks, data_blocks}
 use Rattle.blk_base.specs.declared.geometry.Geometry.{Geometry}
 use Rattle.blk_base.specs.declared.geometry.Super.{Super as Superblock}
 use Rattle.blk_base.specs.declared.opened.Opened.{Opened}
-use Rattle.count_updates.specs.Numbers.{all_blocks, all_sectors}
+use Rattle.count_updates.specs.Numbers.{all_sectors}
 use Rattle.disk_model.specs.Log.{Blocks}
 use Rattle.disk_model.specs.Seen.{Seen}
 use Rattle.disk_model.specs.Since.{IsUntouched}
@@ -83,7 +83,7 @@ module _ (tells honest : Bool) (head : Superblock) (window : WindowState) (befor
       let geometry : head.geometry ≡ opened.head.geometry = sym (ap (λ (h : Superblock). h.geometry) same) in
       let g = head.geometry in record {
         sizes = subst IsGeometry geometry sizes;
-        counters = subst (λ (h : Geometry). length opened.counters.items ≡ all_blocks h) geometry (ap (λ (ns : List ℕ). length ns) counters ∙ are.blocks);
+        counters = subst (λ (h : Geometry). length opened.counters.items ≡ data_blocks h) geometry (ap (λ (ns : List ℕ). length ns) counters ∙ are.blocks);
         limit = subst (λ (h : Geometry). All (λ (n : ℕ). n ≤ limit_of h) opened.counters.items) geometry
             (subst (λ (ns : List ℕ). All (λ (n : ℕ). n ≤ limit_of g) ns) (sym counters) are.limit);
         commits = subst (λ (h : Geometry). length opened.commits.items ≡ all_sectors h) geometry (commits ∙ are.sectors);

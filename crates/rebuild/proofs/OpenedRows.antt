@@ -11,7 +11,7 @@ use Rattle.blk_base.specs.declared.opened.Opened.{Opened}
 use Rattle.blk_base.specs.declared.place.Mapping.TheVariants.{At}
 use Rattle.blk_base.specs.declared.place.PageId.{PageId}
 use Rattle.blk_base.specs.declared.place.Pbn.{Pbn}
-use Rattle.count_updates.specs.Numbers.{all_blocks, all_sectors}
+use Rattle.count_updates.specs.Numbers.{all_sectors}
 use Rattle.disk_model.specs.Log.{Blocks}
 use Rattle.disk_model.specs.Seen.{Seen}
 use Rattle.disk_model.proofs.SinceLaws.{untouched_yet}
@@ -27,16 +27,18 @@ use Rattle.image_model.specs.declared.fault.ImageFault.TheVariants.{Super, Windo
 use Rattle.image_model.proofs.ReadExample.{next_failed, failed}
 use Rattle.journal_window.specs.States.{WindowState}
 use Rattle.replay_counts.specs.Recovered.{HasCounts, Holds}
+use Rattle.replay_counts.proofs.ReadRows.{no_entries}
 use Rattle.replay_map.specs.Reads.{Shows}
 use Rattle.replay_map.specs.Replayed.{HasMap}
 use Rattle.recovery_laws.specs.Kept.{image_in}
 use Rattle.session_opening.specs.Starts.{IsStart, AreLedTo}
-use Rattle.audit.proofs.ReadExample.{head_is_read, head_of, no_entries, window_is_read}
+use Rattle.audit.proofs.ReadExample.{head_is_read, head_of, window_is_read}
 use Rattle.blk_base.proofs.Example.{small_is}
 use Rattle.rebuild.proofs.RecoveryRows.{head_there, with_head}
 use Rattle.rebuild.proofs.Rows.{seen}
 use Rattle.rebuild.proofs.ShownLaws.{audit_last}
 use Rattle.blk_base.specs.declared.opened.OpenedPage.{OpenedPage}
+use Rattle.blk_base.specs.Regions.{data_blocks}
 use Rattle.block_map_tree.specs.OpenedTree.{IsOpened, all_trees}
 use Rattle.replay_map.specs.Forms.{HasForm}
 use Rattle.replay_map.specs.declared.links.Link.{Link}
@@ -90,7 +92,7 @@ module _ (opened : Opened) (head : opened.head ≡ head_of true) where
       let within : All (λ (n : ℕ). n ≤ limit_of small) (replicate 64 0) = All-replicate (λ (n : ℕ). n ≤ limit_of small) 64 0 (omega arith) in
       record {
         sizes = subst (λ (h : Superblock). IsGeometry h.geometry) (sym head) small_is;
-        counters = ap length counters ∙ sym (ap (λ (h : Superblock). all_blocks h.geometry) head);
+        counters = ap length counters ∙ sym (ap (λ (h : Superblock). data_blocks h.geometry) head);
         limit = subst (λ (h : Superblock). All (λ (n : ℕ). n ≤ limit_of h.geometry) opened.counters.items) (sym head)
             (subst (λ (ns : List ℕ). All (λ (n : ℕ). n ≤ limit_of small) ns) (sym counters) within);
         commits = ap length commits ∙ sym (ap (λ (h : Superblock). all_sectors h.geometry) head);

@@ -7,11 +7,13 @@ use Rattle.blk_base.specs.declared.layout.DataPlace.{DataPlace}
 use Rattle.blk_base.specs.declared.opened.Opened.{Opened}
 use Rattle.blk_base.specs.declared.place.Mapping.TheVariants.{At}
 use Rattle.blk_base.specs.declared.place.Pbn.{Pbn}
+use Rattle.blk_base.specs.Forms.{pbn}
+use Rattle.blk_base.proofs.Example.{root}
 use Rattle.disk_model.specs.Log.{Blocks}
 use Rattle.image_layout.specs.Opened.{super_of_image}
 use Rattle.image_model.proofs.CountLaws.{one_number, one_stored}
-use Rattle.image_model.proofs.Example.{pbn, small}
-use Rattle.image_model.proofs.MapRows.{bad_head, root, with_root}
+use Rattle.image_model.proofs.Example.{small}
+use Rattle.image_model.proofs.MapRows.{bad_head, with_root}
 use Rattle.image_model.specs.Counts.{HasMappings, Stores, block_of_data}
 use Rattle.image_model.specs.Maps.{Image, IsTreePage, mapping_of}
 use Rattle.image_model.specs.Sound.{IsDataPlace}

@@ -7,6 +7,8 @@ use Rattle.blk_base.specs.declared.geometry.Super.{Super as Superblock}
 use Rattle.blk_base.specs.declared.journal_entry.Entry.TheVariants.{NewPage}
 use Rattle.blk_base.specs.declared.place.Mapping.TheVariants.{At}
 use Rattle.blk_base.specs.Regions.{IndexBlock, block_of}
+use Rattle.blk_base.specs.Forms.{page, pbn}
+use Rattle.blk_base.proofs.Example.{root}
 use Rattle.disk_model.proofs.OneImageLaws.{one_image-unique}
 use Rattle.disk_model.proofs.SinceLaws.{untouched_yet}
 use Rattle.disk_model.specs.declared.call.Call.{Call}
@@ -19,8 +21,8 @@ use Rattle.disk_model.specs.Since.{reads_of}
 use Rattle.image_layout.specs.Superblock.{super_of}
 use Rattle.image_layout.specs.declared.fault.SuperFault.{SuperFault}
 use Rattle.image_layout.specs.declared.fault.SuperFault.TheVariants.{NotAnImage}
-use Rattle.image_model.proofs.Example.{pbn, small}
-use Rattle.image_model.proofs.MapRows.{logged, page, root, with_root}
+use Rattle.image_model.proofs.Example.{small}
+use Rattle.image_model.proofs.MapRows.{logged, with_root}
 use Rattle.image_model.proofs.WindowLaws.{one_last, one_window}
 use Rattle.image_model.specs.Maps.{Image}
 use Rattle.image_model.specs.Sound.{IsSound, image_of}
@@ -35,9 +37,10 @@ use Rattle.recovery_laws.proofs.KeptRows.{kept_by_itself, kept_by_nothing}
 use Rattle.recovery_laws.specs.Calls.{ArePuts, IsPut, recovery_calls}
 use Rattle.recovery_laws.specs.Kept.{AreKept, image_in, AreStopsKept}
 use Rattle.replay_counts.specs.Recovered.{Holds}
+use Rattle.replay_counts.proofs.ReadRows.{no_entries}
 use Rattle.replay_map.specs.Reads.{Shows}
 use Rattle.rebuild.proofs.ActLaws.{none_made}
-use Rattle.audit.proofs.ReadExample.{head_of, no_entries, window_is_read, window_of_none, without_journal}
+use Rattle.audit.proofs.ReadExample.{head_of, window_is_read, window_of_none, without_journal}
 use Rattle.rebuild.proofs.Rows.{call_failed, called_after, flushed, last_is_failed, last_is_not, none_flushed, seen}
 use Rattle.rebuild.proofs.ShownLaws.{both_logged, both_read, unclean_last}
 use Rattle.rebuild.specs.Acts.{IsStart}

@@ -1,6 +1,7 @@
 -- What is promised of a recovery: for each clause that `Rows` hasn't, a small case that it accepts, and one that breaks it
 -- and is refused.
 use Rattle.std.proofs.Common.{ℕ, zero, suc, ◌≡◌, ◌<◌, ◌^◌, Bool, true, false, List, [], ◌∷◌, ◌++◌, length, length-append, replicate, reverse, Ok, Err, refl, sym, ◌∙◌, ap, subst, inl, inr, arith}
+use Rattle.replay_counts.proofs.ReadRows.{no_entries}
 use Rattle.audit.specs.Audits.{BothShow}
 use Rattle.audit.specs.Reports.{HasNoFault}
 use Rattle.blk_base.specs.Regions.{Place, JournalSlot, IsPlace, block_of}
@@ -20,7 +21,6 @@ use Rattle.disk_model.proofs.LookedLaws.{one_in-all, one_in-unique}
 use Rattle.image_layout.specs.Opened.{super_of_image}
 use Rattle.image_layout.specs.Superblock.{super_block, super_of}
 use Rattle.image_model.proofs.EmptyLaws.{sizes_of_image, the_image, window_is}
-use Rattle.image_model.proofs.Example.{pbn}
 use Rattle.image_model.specs.Empty.{IsMade, made_block}
 use Rattle.image_model.specs.Maps.{Image}
 use Rattle.image_model.specs.Sound.{IsSound, Opens}
@@ -36,9 +36,10 @@ use Rattle.recovery_laws.specs.Kept.{IsRecovered, image_in}
 use Rattle.recovery_laws.proofs.AlikeLaws.{alike_super}
 use Rattle.rebuild.proofs.KeptLaws.{image_alike, opened_alike}
 use Rattle.rebuild.proofs.OutcomeRows.{kept_yet, never_unclean, none_of_zeros, opened}
-use Rattle.audit.proofs.ReadExample.{head_is_read, head_of, no_entries, says_head}
+use Rattle.audit.proofs.ReadExample.{head_is_read, head_of, says_head}
 use Rattle.image_layout.proofs.SpellingLaws.{super_size}
 use Rattle.blk_base.proofs.SectorLaws.{zero_size}
+use Rattle.blk_base.specs.Forms.{pbn}
 use Rattle.rebuild.proofs.ShownLaws.{both_logged}
 use Rattle.rebuild.proofs.Rows.{flushed, none_flushed, seen}
 use Rattle.rebuild.specs.Recoveries.{Answers, AreStopsSound, IsAnswer, IsRecovery, IsRefusal, IsResult, IsTold, IsUnclean, LeavesClosed, RecoverFails}

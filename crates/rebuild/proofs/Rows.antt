@@ -4,6 +4,7 @@ pub use Rattle.image_model.proofs.ReadExample.{seen}
 use Rattle.audit.specs.Reports.{HasNoFault}
 use Rattle.blk_base.specs.declared.geometry.Super.{Super as Superblock}
 use Rattle.blk_base.specs.declared.journal_entry.CommittedEntry.{CommittedEntry}
+use Rattle.blk_base.specs.Forms.{pbn}
 use Rattle.disk_model.specs.declared.call.Call.{Call}
 use Rattle.disk_model.specs.declared.call.Call.TheVariants.{Read, Write, Flush}
 use Rattle.disk_model.specs.Causes.{Rose}
@@ -13,7 +14,6 @@ use Rattle.disk_model.specs.Since.{OnlyReads}
 use Rattle.disk_model.specs.LogSteps.{FailedInLog}
 use Rattle.disk_model.proofs.SinceLaws.{untouched_yet}
 use Rattle.image_format.specs.Formats.{IsFailed, LastFailed}
-use Rattle.image_model.proofs.Example.{pbn}
 use Rattle.image_model.specs.Maps.{Image}
 use Rattle.image_model.specs.Sound.{image_of}
 use Rattle.image_model.specs.declared.fault.ImageFault.TheVariants.{Device, Unclean, Memory}

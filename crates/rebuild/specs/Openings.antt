@@ -8,8 +8,9 @@ use Rattle.blk_base.specs.declared.geometry.Super.{Super as Superblock}
 use Rattle.blk_base.specs.declared.journal_entry.CommittedEntry.{CommittedEntry}
 use Rattle.blk_base.specs.declared.opened.Opened.{Opened}
 use Rattle.blk_base.specs.declared.place.Pbn.{Pbn}
+use Rattle.blk_base.specs.Regions.{data_blocks}
 use Rattle.block_map_tree.specs.OpenedTree.{IsOpened, all_trees}
-use Rattle.count_updates.specs.Numbers.{all_blocks, all_sectors}
+use Rattle.count_updates.specs.Numbers.{all_sectors}
 use Rattle.disk_model.specs.Log.{Blocks}
 use Rattle.disk_model.specs.Seen.{Seen}
 use Rattle.disk_model.specs.Since.{IsUntouched}
@@ -50,7 +51,7 @@ pub record HasWrongCount (image : Image) (at : Pbn) (stored mapped : ℕ) : Type
 -- each page one.
 pub record Fits (opened : Opened) : Type 0 where
   pub sizes : IsGeometry opened.head.geometry
-  pub counters : length opened.counters.items ≡ all_blocks opened.head.geometry
+  pub counters : length opened.counters.items ≡ data_blocks opened.head.geometry
   pub limit : All (λ counter. counter ≤ limit_of opened.head.geometry) opened.counters.items
   pub commits : length opened.commits.items ≡ all_sectors opened.head.geometry
   pub pages : IsOpened (all_trees opened.head.geometry) opened.pages.items

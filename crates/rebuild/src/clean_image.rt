@@ -1,7 +1,6 @@
 ghost use Rattle.std.specs.Prelude.{◌≡◌, ◌≤◌, true, false, length, IfOk, IfErr, OnOk};
 ghost use Rattle.blk_base.specs.Limits.{IsGeometry};
-ghost use Rattle.blk_base.specs.Regions.{needed_blocks};
-ghost use Rattle.count_updates.specs.Numbers.{all_blocks};
+ghost use Rattle.blk_base.specs.Regions.{needed_blocks, data_blocks};
 ghost use Rattle.disk_model.specs.Log.{Blocks};
 ghost use Rattle.disk_model.specs.Since.{IsUntouched};
 ghost use Rattle.image_model.specs.Maps.{Image};
@@ -82,7 +81,7 @@ fn open_with<D: Disk>(
 
 // Refuses the least data block whose stored count isn't the number of its mappings.
 fn check_counts(alloc: Global, layout: &Layout, contents: &Contents) -> Result<(), ImageFault>
-    requires { length contents.now.counts.counts.items ≡ all_blocks layout.now.geometry }
+    requires { length contents.now.counts.counts.items ≡ data_blocks layout.now.geometry }
     ensures all { OnOk result
         ((image : Image) → image.geometry ≡ layout.now.geometry → HasMap image contents.now.map
         → HasCounts image contents.now.counts.counts.items contents.now.counts.sectors.items →

@@ -1,6 +1,6 @@
 ghost use Rattle.std.specs.Prelude.{◌≡◌, ◌≤◌, ◌<◌, length};
-ghost use Rattle.blk_base.specs.Regions.{ReferenceBlock, IsPlace, needed_blocks, references_of};
-ghost use Rattle.count_updates.specs.Numbers.{all_blocks, all_sectors};
+ghost use Rattle.blk_base.specs.Regions.{ReferenceBlock, IsPlace, needed_blocks, references_of, data_blocks};
+ghost use Rattle.count_updates.specs.Numbers.{all_sectors};
 ghost use Rattle.rebuild.specs.Acts.{Acts, recovery};
 ghost use Rattle.rebuild.specs.Done.{AreSlabsDone, HasTheseCounts, IsBlockDone, IsSlabDone};
 
@@ -17,7 +17,7 @@ pub(crate) fn put_slabs<D: Disk>(
     counts: &RecoveredCounts,
 ) -> Result<(), Failed>
     requires room { needed_blocks layout.now.geometry ≤ (D.seen device.old).size }
-    requires counts { length counts.now.counts.items ≡ all_blocks layout.now.geometry }
+    requires counts { length counts.now.counts.items ≡ data_blocks layout.now.geometry }
     requires sectors { length counts.now.sectors.items ≡ all_sectors layout.now.geometry }
     ensures { Acts D.tells (recovery D.tells D.honest) (D.seen device.old) (D.seen device.new)
         (HasTheseCounts layout.now.geometry counts.now.counts.items counts.now.sectors.items)
@@ -39,7 +39,7 @@ fn put_slab<D: Disk>(
 ) -> Result<(), Failed>
     requires room { needed_blocks layout.now.geometry ≤ (D.seen device.old).size }
     requires inside { slab < layout.now.geometry.slabs }
-    requires counts { length counts.now.counts.items ≡ all_blocks layout.now.geometry }
+    requires counts { length counts.now.counts.items ≡ data_blocks layout.now.geometry }
     requires sectors { length counts.now.sectors.items ≡ all_sectors layout.now.geometry }
     ensures { Acts D.tells (recovery D.tells D.honest) (D.seen device.old) (D.seen device.new)
         (HasTheseCounts layout.now.geometry counts.now.counts.items counts.now.sectors.items)
@@ -62,7 +62,7 @@ fn put_block<D: Disk>(
 ) -> Result<(), Failed>
     requires room { needed_blocks layout.now.geometry ≤ (D.seen device.old).size }
     requires inside { IsPlace layout.now.geometry (ReferenceBlock slab i) }
-    requires counts { length counts.now.counts.items ≡ all_blocks layout.now.geometry }
+    requires counts { length counts.now.counts.items ≡ data_blocks layout.now.geometry }
     requires sectors { length counts.now.sectors.items ≡ all_sectors layout.now.geometry }
     ensures { Acts D.tells (recovery D.tells D.honest) (D.seen device.old) (D.seen device.new)
         (HasTheseCounts layout.now.geometry counts.now.counts.items counts.now.sectors.items)
@@ -85,7 +85,7 @@ fn write_block<D: Disk>(
 ) -> Result<(), Failed>
     requires room { needed_blocks layout.now.geometry ≤ (D.seen device.old).size }
     requires inside { IsPlace layout.now.geometry (ReferenceBlock slab i) }
-    requires counts { length counts.now.counts.items ≡ all_blocks layout.now.geometry }
+    requires counts { length counts.now.counts.items ≡ data_blocks layout.now.geometry }
     requires sectors { length counts.now.sectors.items ≡ all_sectors layout.now.geometry }
     ensures { Acts D.tells (recovery D.tells D.honest) (D.seen device.old) (D.seen device.new)
         (HasTheseCounts layout.now.geometry counts.now.counts.items counts.now.sectors.items)

@@ -1,7 +1,7 @@
 ghost use Rattle.std.specs.Prelude.{◌≡◌, ◌≤◌, ◌<◌, ◌^◌, false, length};
 ghost use Rattle.blk_base.specs.Limits.{IsGeometry};
-ghost use Rattle.blk_base.specs.Regions.{needed_blocks};
-ghost use Rattle.count_updates.specs.Numbers.{all_blocks, all_sectors};
+ghost use Rattle.blk_base.specs.Regions.{needed_blocks, data_blocks};
+ghost use Rattle.count_updates.specs.Numbers.{all_sectors};
 ghost use Rattle.replay_map.specs.Forms.{HasForm};
 ghost use Rattle.rebuild.specs.Acts.{Acts, recovery};
 ghost use Rattle.rebuild.specs.Done.{AreBothDone, HasContents};
@@ -54,7 +54,7 @@ fn write_contents<D: Disk>(
 ) -> Result<(), Failed>
     requires room { needed_blocks layout.now.geometry ≤ (D.seen device.old).size }
     requires few { last < 2 ^ 55 }
-    requires counts { length contents.now.counts.counts.items ≡ all_blocks layout.now.geometry }
+    requires counts { length contents.now.counts.counts.items ≡ data_blocks layout.now.geometry }
     requires sectors { length contents.now.counts.sectors.items ≡ all_sectors layout.now.geometry }
     requires form { HasForm layout.now.geometry contents.now.map.links.items
         contents.now.map.slots.items }
@@ -74,7 +74,7 @@ fn write_blocks<D: Disk>(
     contents: &Contents,
 ) -> Result<(), Failed>
     requires room { needed_blocks layout.now.geometry ≤ (D.seen device.old).size }
-    requires counts { length contents.now.counts.counts.items ≡ all_blocks layout.now.geometry }
+    requires counts { length contents.now.counts.counts.items ≡ data_blocks layout.now.geometry }
     requires sectors { length contents.now.counts.sectors.items ≡ all_sectors layout.now.geometry }
     requires form { HasForm layout.now.geometry contents.now.map.links.items
         contents.now.map.slots.items }

@@ -2,7 +2,7 @@
 use Rattle.std.proofs.Common.{ℕ, ◌≡◌, List, [], ◌∷◌, ◌++◌, length, replicate, get_or, refl, ◌∙◌, ap, arith}
 use Rattle.blk_base.specs.declared.place.Mapping.{Mapping}
 use Rattle.blk_base.specs.declared.place.Mapping.TheVariants.{Zero}
-use Rattle.blk_base.specs.declared.place.PageId.{PageId}
+use Rattle.blk_base.proofs.Example.{leaf}
 use Rattle.byte_fields.specs.Fields.{le, number_at}
 use Rattle.byte_fields.specs.Mappings.{mapping_bytes}
 use Rattle.image_model.proofs.Example.{small}
@@ -12,9 +12,6 @@ use Rattle.recovery_blocks.specs.Counters.{AreCountsPut, HasUpdate, IsSectorPut}
 use Rattle.recovery_blocks.specs.Patches.{HasChange, IsPatched}
 
 -- A page of one slot, into which zeros are put.
-
-abbrev leaf : PageId
-leaf = record { tree = 0; level = 0; index = 0 }
 
 abbrev changes : List (SlotId × Mapping)
 changes = (record { page = leaf; slot = 0 }, Zero) ∷ []

@@ -1,9 +1,9 @@
 ghost use Rattle.std.specs.Prelude.{◌≡◌, ◌+◌, ◌*◌, ◌<◌, length, min};
 ghost use Rattle.std.specs.Bool.{OnTrue, OnFalse};
 ghost use Rattle.blk_base.specs.Counters.{sectors_per_slab};
-ghost use Rattle.blk_base.specs.Regions.{ReferenceBlock as Reference, IsPlace};
+ghost use Rattle.blk_base.specs.Regions.{ReferenceBlock as Reference, IsPlace, data_blocks};
 ghost use Rattle.blk_base.specs.Sectors.{sector};
-ghost use Rattle.count_updates.specs.Numbers.{all_blocks, all_sectors};
+ghost use Rattle.count_updates.specs.Numbers.{all_sectors};
 ghost use Rattle.recovery_blocks.specs.Counters.{AreCountsPut, HasUpdate, points_of};
 ghost use Rattle.recovery_blocks.specs.Spelled.{AreSpelled, IsCounted, IsSpelled};
 
@@ -20,7 +20,7 @@ const SECTORS: u32 = 8;
 /// it stay.
 pub fn put_counts(block: &mut Block, layout: &Layout, slab: u32, i: u32, counts: &RecoveredCounts)
     requires inside { IsPlace layout.now.geometry (Reference slab i) }
-    requires counts { length counts.now.counts.items ≡ all_blocks layout.now.geometry }
+    requires counts { length counts.now.counts.items ≡ data_blocks layout.now.geometry }
     requires sectors { length counts.now.sectors.items ≡ all_sectors layout.now.geometry }
     ensures put { AreCountsPut layout.now.geometry slab i counts.now.counts.items
         counts.now.sectors.items block.old block.new }
@@ -39,7 +39,7 @@ fn sectors_of(
     counts: &RecoveredCounts,
 ) -> [ReferenceSector; 8]
     requires inside { IsPlace layout.now.geometry (Reference slab i) }
-    requires counts { length counts.now.counts.items ≡ all_blocks layout.now.geometry }
+    requires counts { length counts.now.counts.items ≡ data_blocks layout.now.geometry }
     requires sectors { length counts.now.sectors.items ≡ all_sectors layout.now.geometry }
     ensures { AreSpelled layout.now.geometry slab i counts.now.counts.items counts.now.sectors.items
         block.now 8 result }
@@ -65,7 +65,7 @@ fn sector_at(
 ) -> ReferenceSector
     requires inside { IsPlace layout.now.geometry (Reference slab i) }
     requires small { j < 8 }
-    requires counts { length counts.now.counts.items ≡ all_blocks layout.now.geometry }
+    requires counts { length counts.now.counts.items ≡ data_blocks layout.now.geometry }
     requires sectors { length counts.now.sectors.items ≡ all_sectors layout.now.geometry }
     ensures { IsSpelled layout.now.geometry slab
         (i * 8 + j) counts.now.counts.items counts.now.sectors.items (sector j block.now) result }
@@ -82,7 +82,7 @@ fn sector_at(
 fn counted_sector(layout: &Layout, slab: u32, n: u32, counts: &RecoveredCounts) -> ReferenceSector
     requires slab { slab < layout.now.geometry.slabs }
     requires inside { n < sectors_per_slab layout.now.geometry }
-    requires counts { length counts.now.counts.items ≡ all_blocks layout.now.geometry }
+    requires counts { length counts.now.counts.items ≡ data_blocks layout.now.geometry }
     requires sectors { length counts.now.sectors.items ≡ all_sectors layout.now.geometry }
     ensures commit { result.commit
         ≡ (points_of layout.now.geometry counts.now.sectors.items slab n).applied }
@@ -110,7 +110,7 @@ fn points_at(layout: &Layout, slab: u32, n: u32, sectors: &[SectorPoints]) -> Se
 fn counters_of(layout: &Layout, slab: u32, n: u32, counts: &[u16]) -> [u8; SECTOR_COUNTERS]
     requires slab { slab < layout.now.geometry.slabs }
     requires inside { n < sectors_per_slab layout.now.geometry }
-    requires all { length counts.now ≡ all_blocks layout.now.geometry }
+    requires all { length counts.now ≡ data_blocks layout.now.geometry }
     ensures { IsCounted layout.now.geometry slab n counts.now
         (layout.now.geometry.slab_blocks) result }
 {

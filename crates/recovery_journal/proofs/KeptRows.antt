@@ -1,9 +1,11 @@
 -- What is true of a recovery journal at every moment: for each clause a case that it accepts, and one that breaks it alone.
 use Rattle.std.proofs.Common.{zero, suc, ◌≡◌, ◌+◌, ◌^◌, ◌≤◌, [], ◌∷◌, refl, ap, arith}
 use Rattle.blk_base.specs.declared.point.Point.{Point}
+use Rattle.blk_base.specs.Forms.{point as watermark}
+use Rattle.blk_base.proofs.Example.{maps, entry_at as at}
 use Rattle.recovery_journal.specs.Kept.{AreBelow, AreRising, IsKept, rank}
 use Rattle.recovery_journal.specs.Log.{IsNamed, IsNeeded}
-use Rattle.recovery_journal.proofs.LogRows.{at, both, empty, maps, watermark, one, the_log, two_watermarks}
+use Rattle.recovery_journal.proofs.LogRows.{both, empty, one, the_log, two_watermarks}
 
 -- Places: 192 in each block, of which two points each are one.
 rank_is : rank 1026 ≡ 385

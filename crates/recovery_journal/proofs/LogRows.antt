@@ -1,25 +1,15 @@
 -- What a recovery journal knows: for each clause a case that it accepts, and one that breaks it alone. The journal of the
 -- rows has two entries of its block 2, the first of which was handed out, and one entry in block 3.
 use Rattle.std.proofs.lemmas.List.{length-replicate, append-nil}
-use Rattle.std.proofs.Common.{ℕ, zero, suc, ◌≡◌, ◌<◌, ◌≤◌, ◌++◌, List, [], ◌∷◌, length, replicate, All, slice_index_or, refl, sym, ◌∙◌, ap, subst, inl, inr, arith, length-append}
+use Rattle.std.proofs.Common.{zero, suc, ◌≡◌, ◌<◌, ◌≤◌, ◌++◌, List, [], ◌∷◌, length, replicate, All, slice_index_or, refl, sym, ◌∙◌, ap, subst, inl, inr, arith, length-append}
 use Rattle.std.proofs.lemmas.List.Elements.{All-cons, All-nil}
 use Rattle.blk_base.specs.declared.geometry.Geometry.{Geometry}
 use Rattle.blk_base.specs.declared.journal_entry.CommittedEntry.{CommittedEntry}
-use Rattle.blk_base.specs.declared.journal_entry.Entry.{Entry}
-use Rattle.blk_base.specs.declared.journal_entry.Entry.TheVariants.{Remap}
-use Rattle.blk_base.specs.declared.place.Mapping.TheVariants.{At, Unmapped}
 use Rattle.blk_base.specs.declared.point.Point.{Point}
+use Rattle.blk_base.specs.Forms.{point as watermark}
+use Rattle.blk_base.proofs.Example.{maps, entry_at as at}
 use Rattle.journal_codec.specs.declared.forms.JournalBlock.{JournalBlock}
 use Rattle.recovery_journal.specs.Log.{Advances, HandsOut, HasNoRoom, HasRoom, IsBehind, IsDurable, IsHead, IsNamed, IsNeeded, IsWriting, Log, NoneCommitted, Seals, first_point, first_sequence, head_of, opening, placed, point_at, unhanded}
-
-abbrev pub maps : ℕ → Entry
-maps block = Remap (record { 0 = 5 }) Unmapped (At (record { 0 = block }))
-
-abbrev pub at : ℕ → CommittedEntry
-at point = record { entry = maps 86; point = record { 0 = point } }
-
-abbrev pub watermark : ℕ → Point
-watermark point = record { 0 = point }
 
 abbrev pub the_log : Log
 the_log = record {

@@ -4,6 +4,8 @@ use Rattle.blk_base.specs.Sectors.{sector, zero_block}
 use Rattle.blk_base.specs.declared.geometry.Geometry.{Geometry}
 use Rattle.blk_base.specs.declared.geometry.Super.{Super}
 use Rattle.blk_base.specs.declared.place.Mapping.TheVariants.{Zero, At}
+use Rattle.blk_base.specs.Forms.{pbn}
+use Rattle.blk_base.proofs.Example.{place}
 use Rattle.byte_fields.specs.Fields.{number_at}
 use Rattle.disk_model.specs.Log.{Blocks, block_at}
 use Rattle.disk_model.specs.declared.call.Call.TheVariants.{Write, Flush}
@@ -11,8 +13,7 @@ use Rattle.image_layout.specs.Opened.{super_of_image}
 use Rattle.image_layout.specs.Superblock.{super_of}
 use Rattle.image_layout.specs.declared.fault.SuperFault.{SuperFault}
 use Rattle.image_model.proofs.CountLaws.{none_in_nothing, one_stored}
-use Rattle.image_model.proofs.CountRows.{place}
-use Rattle.image_model.proofs.Example.{small, pbn}
+use Rattle.image_model.proofs.Example.{small}
 use Rattle.image_model.proofs.MapRows.{image as mapped, remap, said}
 use Rattle.image_model.proofs.ZeroLaws.{no_slab_sector}
 use Rattle.image_model.specs.Counts.{IsKept, IsUpdate, Stores, counter_of}

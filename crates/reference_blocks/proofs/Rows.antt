@@ -4,22 +4,18 @@ use Rattle.std.proofs.Common.{ap, arith, refl}
 use Rattle.std.proofs.lemmas.List.Elements.{All-nil}
 use Rattle.blk_base.specs.declared.geometry.Geometry.{Geometry}
 use Rattle.blk_base.specs.declared.point.Point.{Point}
+use Rattle.blk_base.specs.Forms.{point as p}
+use Rattle.blk_base.proofs.Example.{number_of_point}
 use Rattle.dirty_pages.specs.DirtyPoints.{clean, dirty_points_at, IsDue}
 use Rattle.slab_codec.specs.Reference.{reference_bytes}
 use Rattle.slab_codec.specs.declared.forms.ReferenceSector.{ReferenceSector}
-use Rattle.slab_codec.specs.declared.forms.SlabEntry.{SlabEntry}
+use Rattle.slab_codec.specs.Updates.{slab_entry as entry}
 use Rattle.reference_blocks.specs.References.{References, HandsOutBlock, IsKept, NoneDirty, opening, point_at, points_of, sectors_of, updated, with_sectors, written}
 use Rattle.reference_blocks.specs.Updates.{Updated, Written, AreRising, Does, LeadTo, counters_after, newest_of, up_to, updates_of}
 
 -- a slab of 1000 data blocks: two sectors of counters, in one block
 abbrev sizes : Geometry
 sizes = record { logical = 1000; slabs = 1; slab_blocks = 1000; journal = 8; index = 16; slab_journal = 4; height = 2; nonce = 1 }
-
-abbrev p : ℕ → Point
-p n = record { 0 = n }
-
-abbrev pub entry : ℕ → ℕ → SlabEntry
-entry point offset = record { point = p point; offset = offset }
 
 abbrev some : References
 some = record { geometry = sizes; applied = p 5 ∷ p 7 ∷ []; handed = p 5 ∷ p 7 ∷ []; blocks = clean ∷ [] }
@@ -121,12 +117,8 @@ out = record dirtied { handed = p 5 ∷ p 1024 ∷ []; blocks = record { dirty =
 abbrev said : List ℕ
 said = reference_bytes (sectors_of sizes dirtied.applied [] 0)
 
-abbrev point_or_none : Option Point → ℕ
-point_or_none None = 0
-point_or_none (Some point) = point.0
-
 its_point : (n : ℕ) (first : Point) → IsDue (dirty_points_at dirtied.blocks n) first → 1024 ≤ first.0
-its_point zero first due = let same : 1024 ≡ first.0 = ap (λ (o : Option Point). point_or_none o) due.dirty in omega (arith, same)
+its_point zero first due = let same : 1024 ≡ first.0 = ap (λ (o : Option Point). number_of_point o) due.dirty in omega (arith, same)
 its_point (suc n) first due = let no : ◌≡◌ {A = Option Point} None (Some first) = due.dirty in cc
 
 handed_out_now : HandsOutBlock dirtied out [] said 0

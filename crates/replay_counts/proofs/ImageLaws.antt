@@ -13,6 +13,7 @@ use Rattle.blk_base.specs.declared.journal_entry.Update.{Update}
 use Rattle.blk_base.specs.declared.layout.DataPlace.{DataPlace}
 use Rattle.blk_base.specs.declared.place.Pbn.{Pbn}
 use Rattle.blk_base.specs.declared.point.Point.{Point}
+use Rattle.blk_base.specs.Forms.{pbn as block}
 use Rattle.byte_fields.specs.Fields.{number_at}
 use Rattle.count_updates.specs.Applied.{IsGreatest, IsOfSector}
 use Rattle.count_updates.specs.Counted.{commit_in, IsCountedAt, Leaves}
@@ -34,9 +35,6 @@ use Rattle.slab_reading.specs.Reads.{read_of, SlabsRead}
 use Rattle.slab_reading.specs.Slabs.{first_of_slab, blocks_per_slab, SlabKeeps, IsOf}
 use Rattle.replay_counts.specs.Recovered.{AreCountsRead, CountsFail, HasCounts, Holds, IsCountedFrom, IsInSector, no_points}
 use Rattle.replay_counts.specs.declared.forms.SectorPoints.{SectorPoints}
-
-abbrev block : ℕ → Pbn
-block n = record { 0 = n }
 
 -- Places.
 

@@ -7,8 +7,8 @@ use Rattle.blk_base.specs.Counters.{limit_of}
 use Rattle.blk_base.specs.Limits.{IsGeometry}
 use Rattle.blk_base.specs.declared.geometry.Geometry.{Geometry}
 use Rattle.blk_base.specs.declared.layout.DataPlace.{DataPlace}
+use Rattle.blk_base.specs.Regions.{data_blocks}
 use Rattle.count_updates.specs.Counted.{AreCounted}
-use Rattle.count_updates.specs.Numbers.{all_blocks}
 use Rattle.count_updates.specs.FoundLists.{FoundLists}
 use Rattle.image_model.specs.Counts.{count_after, count_from}
 
@@ -43,7 +43,7 @@ counted_within g found counts sizes are i d inside =
     let size = are.size in
     let n = i / g.slab_blocks in
     let place : DataPlace = record { slab = n; offset = i % g.slab_blocks } in
-    let below : i < all_blocks g = omega (arith, size, inside) in
+    let below : i < data_blocks g = omega (arith, size, inside) in
     let is = are.each place (div_below i g.slab_blocks g.slabs (omega (arith, some)) below, mod_below i g.slab_blocks (omega (arith, some))) in
     let number = div-add-mod' i g.slab_blocks in
     let within = from_within (limit_of g) _ _ is.points (slice_index counts (n * g.slab_blocks + i % g.slab_blocks)) is.counted in

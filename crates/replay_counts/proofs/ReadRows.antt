@@ -6,6 +6,7 @@ use Rattle.blk_base.specs.declared.geometry.Geometry.{Geometry}
 use Rattle.blk_base.specs.declared.geometry.Super.{Super as Superblock}
 use Rattle.blk_base.specs.declared.journal_entry.CommittedEntry.{CommittedEntry}
 use Rattle.blk_base.specs.declared.point.Point.{Point}
+use Rattle.blk_base.specs.Forms.{pbn}
 use Rattle.byte_fields.specs.Fields.{number_at}
 use Rattle.count_updates.proofs.AppliedLaws.{none_yet}
 use Rattle.count_updates.specs.FoundLists.{found_lists}
@@ -15,7 +16,7 @@ use Rattle.disk_model.specs.Seen.{Seen}
 use Rattle.image_layout.specs.declared.fault.SuperFault.TheVariants.{NotAnImage}
 use Rattle.image_model.proofs.CountLaws.{one_stored}
 use Rattle.image_model.proofs.CountRows.{kept_is, updated}
-use Rattle.image_model.proofs.Example.{pbn, small}
+use Rattle.image_model.proofs.Example.{small}
 use Rattle.image_model.specs.Counts.{Stores, commit_at}
 use Rattle.image_model.specs.Maps.{Image, image_with}
 use Rattle.image_model.specs.declared.fault.ImageFault.TheVariants.{Super, Window, Counter, Counts, Device, Unclean, Memory}
@@ -131,7 +132,7 @@ a_sector_from_none is = let size = is.paired.size in omega (arith, size)
 abbrev head : Superblock
 head = record { geometry = slabless; clean = false; start = 1 }
 
-abbrev no_entries : WindowState
+abbrev pub no_entries : WindowState
 no_entries = record { last = 0; entries = [] }
 
 window_read : (honest : Bool) → IsWindowRead false honest seen seen head no_entries

@@ -1,16 +1,13 @@
 -- For each definition a small case that it accepts, and one that it refuses.
 use Rattle.std.proofs.Common.{ℕ, ◌≡◌, ◌<◌, List, [], ◌∷◌, length, refl, ap, inl, arith}
 use Rattle.blk_base.specs.Sectors.{zero_block}
-use Rattle.blk_base.specs.declared.point.Point.{Point}
+use Rattle.blk_base.specs.Forms.{point}
 use Rattle.image_model.proofs.CountRows.{kept_is, updated}
 use Rattle.image_model.proofs.Example.{small}
 use Rattle.image_model.specs.Maps.{image_with}
 use Rattle.replay_counts.specs.Recovered.{ArePaired, ArePointsOf, HasCounts, Holds, IsInSector}
 use Rattle.replay_counts.specs.declared.forms.SectorPoints.{SectorPoints}
 use Rattle.replay_counts.proofs.ReadRows.{no_commit_there}
-
-abbrev point : ℕ → Point
-point n = record { 0 = n }
 
 abbrev pair : ℕ → ℕ → SectorPoints
 pair commit applied = record { commit = point commit; applied = point applied }

@@ -6,9 +6,10 @@ use Rattle.blk_base.specs.declared.geometry.Super.{Super as Superblock}
 use Rattle.blk_base.specs.declared.journal_entry.CommittedEntry.{CommittedEntry}
 use Rattle.blk_base.specs.declared.layout.DataPlace.{DataPlace}
 use Rattle.blk_base.specs.declared.point.Point.{Point}
+use Rattle.blk_base.specs.Regions.{data_blocks}
 use Rattle.count_updates.specs.Applied.{IsGreatest, AreApplied}
 use Rattle.count_updates.specs.Counted.{AreCounted, commit_in}
-use Rattle.count_updates.specs.Numbers.{all_blocks, all_sectors, block_number}
+use Rattle.count_updates.specs.Numbers.{all_sectors, block_number}
 use Rattle.count_updates.specs.FoundLists.{FoundLists}
 use Rattle.disk_model.specs.Log.{Blocks, block_at}
 use Rattle.disk_model.specs.Seen.{Seen}
@@ -40,7 +41,7 @@ no_points = record { commit = record { 0 = 0 }; applied = record { 0 = 0 } }
 
 -- the stored count of each data block, and the points of each sector
 pub record HasCounts (image : Image) (counts : List ℕ) (sectors : List SectorPoints) : Type 0 where
-  pub blocks : length counts ≡ all_blocks image.geometry
+  pub blocks : length counts ≡ data_blocks image.geometry
   pub stored : (place : DataPlace) → IsDataPlace image.geometry place → Stores image place (Ok (slice_index counts (block_number image.geometry place)))
   pub sizes : length sectors ≡ all_sectors image.geometry
   pub points : (slab n : ℕ) → slab < image.geometry.slabs → n < sectors_per_slab image.geometry

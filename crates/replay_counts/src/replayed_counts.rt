@@ -1,10 +1,10 @@
 ghost use Rattle.std.specs.Prelude.{◌≡◌, ◌%◌, ◌≤◌, IfOk, IfErr, All, length, reverse};
 ghost use Rattle.blk_base.specs.Counters.{limit_of};
 ghost use Rattle.blk_base.specs.Limits.{IsGeometry};
-ghost use Rattle.blk_base.specs.Regions.{needed_blocks};
+ghost use Rattle.blk_base.specs.Regions.{needed_blocks, data_blocks};
 ghost use Rattle.count_updates.specs.Counted.{IsCountRefusal};
 ghost use Rattle.count_updates.specs.Listed.{AreInOrder};
-ghost use Rattle.count_updates.specs.Numbers.{all_blocks, all_sectors};
+ghost use Rattle.count_updates.specs.Numbers.{all_sectors};
 ghost use Rattle.count_updates.specs.FoundLists.{lists_of};
 ghost use Rattle.disk_model.specs.Since.{IsUntouched};
 ghost use Rattle.replay_counts.specs.Recovered.{AreCountsRead, CountsFail, ArePaired, IsCountedFrom};
@@ -66,7 +66,7 @@ pub fn counts_with<D: Disk>(
 
 // The counts from all that was found.
 fn counted(alloc: Global, layout: &Layout, found: &Found) -> Result<RecoveredCounts, CountFault>
-    requires counters { length found.now.counters.items ≡ all_blocks layout.now.geometry }
+    requires counters { length found.now.counters.items ≡ data_blocks layout.now.geometry }
     requires commits { length found.now.commits.items ≡ all_sectors layout.now.geometry }
     requires order { AreInOrder found.now.updates.items }
     ensures counts { IfOk result (λ counts.

@@ -7,6 +7,7 @@ use Rattle.blk_base.specs.declared.place.Mapping.{Mapping}
 use Rattle.blk_base.specs.declared.place.Mapping.TheVariants.{Unmapped, Zero, At}
 use Rattle.blk_base.specs.declared.place.PageId.{PageId}
 use Rattle.blk_base.specs.declared.sizes.TheConstants.{PAGE_SLOTS}
+use Rattle.blk_base.specs.Forms.{page}
 use Rattle.replay_map.proofs.TakenLaws.{only_one}
 use Rattle.replay_map.specs.Forms.{HasForm, IsInTree, IsLinkOf, IsListed, IsRootPage, changes_in, links_in}
 use Rattle.replay_map.specs.declared.found.SlotChange.{SlotChange}
@@ -15,9 +16,6 @@ use Rattle.replay_map.specs.declared.links.Link.{Link}
 -- trees of height 3, and one slab of 64 blocks from block 85 on
 abbrev high : Geometry
 high = record { logical = 1000; slabs = 1; slab_blocks = 64; journal = 8; index = 16; slab_journal = 8; height = 3; nonce = 1 }
-
-abbrev page : ℕ → ℕ → ℕ → PageId
-page tree level index = record { tree = tree; level = level; index = index }
 
 abbrev link : PageId → ℕ → Link
 link p block = record { page = p; at = record { 0 = block } }

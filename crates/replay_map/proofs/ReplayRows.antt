@@ -11,11 +11,13 @@ use Rattle.blk_base.specs.declared.place.Mapping.TheVariants.{Zero, At}
 use Rattle.blk_base.specs.declared.place.PageId.{PageId}
 use Rattle.blk_base.specs.declared.place.Pbn.{Pbn}
 use Rattle.blk_base.specs.declared.sizes.TheConstants.{TREES}
+use Rattle.blk_base.specs.Forms.{page, pbn}
+use Rattle.blk_base.proofs.Example.{root}
 use Rattle.byte_fields.specs.Fields.{number_at}
 use Rattle.disk_model.specs.Log.{Blocks, block_at}
 use Rattle.image_model.proofs.EmptyLaws.{all_counted, blank_slot, no_tree_page, not_shared, pages_good, root_says, the_image}
-use Rattle.image_model.proofs.Example.{small, pbn}
-use Rattle.image_model.proofs.MapRows.{bad_head, image, page, remap, root, with_root}
+use Rattle.image_model.proofs.Example.{small}
+use Rattle.image_model.proofs.MapRows.{bad_head, image, remap, with_root}
 use Rattle.image_model.specs.Counts.{leads_to}
 use Rattle.image_model.specs.Empty.{empty_root}
 use Rattle.image_model.specs.Faults.{IsPageFault, IsShareFault}

@@ -9,15 +9,16 @@ use Rattle.blk_base.specs.declared.journal_entry.Entry.TheVariants.{NewPage}
 use Rattle.blk_base.specs.declared.place.Mapping.{Mapping}
 use Rattle.blk_base.specs.declared.place.Mapping.TheVariants.{Unmapped, Zero, At}
 use Rattle.blk_base.specs.declared.sizes.TheConstants.{PAGE_SLOTS}
-use Rattle.image_model.proofs.Example.{small, pbn}
-use Rattle.image_model.proofs.MapRows.{with_root, root, bad_head, page, logged}
+use Rattle.blk_base.specs.Forms.{page, pbn}
+use Rattle.blk_base.proofs.Example.{root, blank}
+use Rattle.image_model.proofs.Example.{small, head_of_root}
+use Rattle.image_model.proofs.MapRows.{with_root, bad_head, logged}
 use Rattle.image_model.specs.Maps.{or_else, says, target_of}
 use Rattle.page_codec.proofs.ReadLaws.{slots}
 use Rattle.page_codec.proofs.HeldLaws.{held_unmapped}
 use Rattle.page_codec.specs.Grammar.{HasHead, IsPage}
 use Rattle.page_codec.specs.PageBytes.{head_bytes, page_bytes}
 use Rattle.page_codec.specs.declared.fault.PageFault.TheVariants.{Header}
-use Rattle.page_codec.specs.declared.forms.PageHead.{PageHead}
 use Rattle.replay_map.proofs.LinkLaws.{leaf_leads_nowhere, more_of_slots, none_of_slots, where_above_says}
 use Rattle.replay_map.proofs.PageLaws.{read_as}
 use Rattle.replay_map.specs.Changes.{AreNewest, changed, is_slot}
@@ -121,86 +122,80 @@ newest_are_newer are =
     block_in (Some (At block)) = block.0
 
 -- Where a page stands: its sizes, its block, the window.
-abbrev head : PageHead
-head = record { geometry = small; page = root; at = pbn 9 }
+abbrev pub root_page : List ℕ
+root_page = page_bytes head_of_root blank
 
-abbrev blank : List Mapping
-blank = replicate 812 Unmapped
-
-abbrev root_page : List ℕ
-root_page = page_bytes head blank
-
-stands : Stands (with_root root_page []) head root_page []
+stands : Stands (with_root root_page []) head_of_root root_page []
 stands = record { geometry = refl; there = refl; newest = λ other slot low. refl }
 
-stands_geometry : Stands (with_root root_page []) (record head { geometry = record small { nonce = 2 } }) root_page [] → ⊥
+stands_geometry : Stands (with_root root_page []) (record head_of_root { geometry = record small { nonce = 2 } }) root_page [] → ⊥
 stands_geometry is = let same : 1 ≡ 2 = ap (λ (g : Geometry). g.nonce) is.geometry in omega (arith, same)
 
-stands_there : Stands (with_root zero_block []) head [] [] → ⊥
+stands_there : Stands (with_root zero_block []) head_of_root [] [] → ⊥
 unfolding zero_block
 stands_there is = let same : 4096 ≡ 0 = ap length is.there in omega (arith, same)
 
-stands_newest : Stands (with_root root_page (logged (NewPage (page 0 0 3) (pbn 86)) ∷ [])) head root_page [] → ⊥
+stands_newest : Stands (with_root root_page (logged (NewPage (page 0 0 3) (pbn 86)) ∷ [])) head_of_root root_page [] → ⊥
 stands_newest is = newest_are_all is.newest
 
 -- The page that is read.
-is_page : IsPage head root_page blank
+is_page : IsPage head_of_root root_page blank
 is_page = record { spelled = refl; held = held_unmapped small 1 }
 
-said_of_page : AreSaid head root_page [] PAGE_SLOTS blank
-said_of_page slot below = inr (refl, slots head root_page blank slot is_page below)
+said_of_page : AreSaid head_of_root root_page [] PAGE_SLOTS blank
+said_of_page slot below = inr (refl, slots head_of_root root_page blank slot is_page below)
 
-read_is : IsReadAs (with_root root_page []) head blank
-read_is = read_as (with_root root_page []) head root_page [] (omega arith) stands blank (slots head root_page blank 0 is_page (omega arith)).headed said_of_page
+pub read_is : IsReadAs (with_root root_page []) head_of_root blank
+read_is = read_as (with_root root_page []) head_of_root root_page [] (omega arith) stands blank (slots head_of_root root_page blank 0 is_page (omega arith)).headed said_of_page
 
-read_good : (mappings : List Mapping) → IsReadAs (with_root zero_block []) head mappings → ⊥
+read_good : (mappings : List Mapping) → IsReadAs (with_root zero_block []) head_of_root mappings → ⊥
 read_good mappings is = bad_head is.good
 
-read_each : IsReadAs (with_root root_page []) head (Zero ∷ []) → ⊥
+read_each : IsReadAs (with_root root_page []) head_of_root (Zero ∷ []) → ⊥
 read_each is =
     let same : Zero ≡ Unmapped = is.each 0 (omega arith) ∙ sym (read_is.each 0 (omega arith)) in absurd (cc same)
 
 -- One slot: what the changes put there, or else what stands in the block.
-slot_says_change : SaysSlot head zero_block (leads 86 ∷ []) 3 (At (pbn 86))
+slot_says_change : SaysSlot head_of_root zero_block (leads 86 ∷ []) 3 (At (pbn 86))
 slot_says_change = inl refl
 
-slot_says_own : SaysSlot head root_page (leads 86 ∷ []) 4 Unmapped
-slot_says_own = inr (refl, slots head root_page blank 4 is_page (omega arith))
+slot_says_own : SaysSlot head_of_root root_page (leads 86 ∷ []) 4 Unmapped
+slot_says_own = inr (refl, slots head_of_root root_page blank 4 is_page (omega arith))
 
-slot_says_changed_alone : SaysSlot head root_page (leads 86 ∷ []) 3 Unmapped → ⊥
+slot_says_changed_alone : SaysSlot head_of_root root_page (leads 86 ∷ []) 3 Unmapped → ⊥
 slot_says_changed_alone (inl same) = absurd (cc same)
 slot_says_changed_alone (inr own) = let none = own.0 in absurd (cc none)
 
-said_of_none : AreSaid head zero_block [] 0 []
+said_of_none : AreSaid head_of_root zero_block [] 0 []
 said_of_none slot below = absurd (omega (arith, below))
 
-said_of_changed : AreSaid head root_page (leads 86 ∷ []) PAGE_SLOTS blank → ⊥
+said_of_changed : AreSaid head_of_root root_page (leads 86 ∷ []) PAGE_SLOTS blank → ⊥
 said_of_changed said = slot_says_changed_alone (said 3 (omega arith))
 
 -- Refusals: a block of zeros begins otherwise, and a page that begins as it should isn't refused for that.
-zeros_unheaded : HasHead head zero_block → ⊥
+zeros_unheaded : HasHead head_of_root zero_block → ⊥
 unfolding zero_block head_bytes
 zeros_unheaded headed = let first : 0 ≡ 86 = ap (λ (bytes : List ℕ). get_or bytes 0 0) headed in omega (arith, first)
 
-slot_fault_is : HasSlotFault head zero_block [] 3 Header
+slot_fault_is : HasSlotFault head_of_root zero_block [] 3 Header
 slot_fault_is = (refl, zeros_unheaded)
 
-slot_fault_of_change : HasSlotFault head zero_block (leads 86 ∷ []) 3 Header → ⊥
+slot_fault_of_change : HasSlotFault head_of_root zero_block (leads 86 ∷ []) 3 Header → ⊥
 slot_fault_of_change has = let none = has.0 in absurd (cc none)
 
-refused_header : IsRefused head zero_block (leads 86 ∷ []) Header
+refused_header : IsRefused head_of_root zero_block (leads 86 ∷ []) Header
 refused_header = inl (refl, zeros_unheaded)
 
-refused_of_good : IsRefused head root_page [] Header → ⊥
-refused_of_good (inl other) = other.1 (slots head root_page blank 0 is_page (omega arith)).headed
-refused_of_good (inr own) = own.3.1 (slots head root_page blank 0 is_page (omega arith)).headed
+refused_of_good : IsRefused head_of_root root_page [] Header → ⊥
+refused_of_good (inl other) = other.1 (slots head_of_root root_page blank 0 is_page (omega arith)).headed
+refused_of_good (inr own) = own.3.1 (slots head_of_root root_page blank 0 is_page (omega arith)).headed
 
 -- the least slot is named: of zeros with a header that is another page's no slot before says anything
 refused_least : (slot : ℕ) → 0 < slot → slot < PAGE_SLOTS
-    → ((i : ℕ) → i < slot → (mapping : Mapping) × SaysSlot head zero_block [] i mapping) → ⊥
+    → ((i : ℕ) → i < slot → (mapping : Mapping) × SaysSlot head_of_root zero_block [] i mapping) → ⊥
 refused_least slot some inside before = says_none (before 0 (omega (arith, some))).1
   where
-    says_none : {mapping : Mapping} → SaysSlot head zero_block [] 0 mapping → ⊥
+    says_none : {mapping : Mapping} → SaysSlot head_of_root zero_block [] 0 mapping → ⊥
     says_none (inl changed) = absurd (cc changed)
     says_none (inr own) = zeros_unheaded own.1.headed
 

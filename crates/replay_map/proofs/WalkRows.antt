@@ -16,15 +16,14 @@ use Rattle.disk_model.specs.Seen.{Seen}
 use Rattle.disk_model.specs.Since.{WereRead}
 use Rattle.disk_model.specs.declared.call.Call.{Call}
 use Rattle.disk_model.specs.declared.call.Call.TheVariants.{Read}
-use Rattle.image_model.proofs.Example.{small, pbn}
-use Rattle.image_model.proofs.MapRows.{bad_head, image, logged, page, remap, root, with_root}
+use Rattle.image_model.proofs.Example.{small, head_of_root}
+use Rattle.image_model.proofs.MapRows.{bad_head, image, logged, remap, with_root}
 use Rattle.image_model.specs.Counts.{leads_to, mapped_below}
 use Rattle.image_model.specs.Maps.{Image, IsGoodPage, page_at, slot_in}
 use Rattle.image_model.specs.Pages.{IsAhead}
 use Rattle.image_model.specs.declared.fault.ImageFault.TheVariants.{Page, Counter, Device, Memory}
 use Rattle.image_model.proofs.FaultRows.{header_is}
 use Rattle.page_codec.specs.declared.fault.PageFault.TheVariants.{Header}
-use Rattle.page_codec.specs.declared.forms.PageHead.{PageHead}
 use Rattle.plain_laws.specs.Sums.{bit}
 use Rattle.replay_map.proofs.ReadLaws.{blocks_untouched}
 use Rattle.replay_map.proofs.SumLaws.{mapped_sum, sum_has, sum_more, sum_none}
@@ -32,6 +31,8 @@ use Rattle.replay_map.proofs.TakenLaws.{gained_list, mapped_more, mapped_yet, on
 use Rattle.replay_map.proofs.UnderLaws.{none_ahead_of_top, same_under, under_itself}
 use Rattle.replay_map.proofs.WalkLaws.{walked_none}
 use Rattle.blk_base.specs.Pages.{page_below, root_page}
+use Rattle.blk_base.specs.Forms.{page, pbn}
+use Rattle.blk_base.proofs.Example.{root}
 use Rattle.replay_map.specs.Reads.{AreLeading, BlocksRead, HasReads, IsPageBlock, IsShown, LeadToData, ReadFails, Reading, Shows}
 use Rattle.replay_map.specs.Replayed.{times}
 use Rattle.replay_map.specs.Shares.{IsLeastOf, has_page}
@@ -218,10 +219,6 @@ sum_is = refl
 sum_of_nothing : sum_below (λ i. i + 1) 0 ≡ 0
 unfolding sum_below
 sum_of_nothing = refl
-
-leaf_says : slot_in (image []) (page 0 0 0) 5 ≡ At (pbn 86)
-unfolding number_at
-leaf_says = refl
 
 leaf_unlinked : slot_in (image []) (page 0 0 1) 5 ≡ Unmapped
 unfolding number_at
@@ -454,9 +451,6 @@ taken_inner old new one none taken =
     omega (arith, sum, some, nothing)
 
 -- Faults.
-
-abbrev head : PageHead
-head = record { geometry = small; page = root; at = pbn 9 }
 
 first_fault : IsFirstFault (with_root zero_block []) (λ page. page ≡ root) (pbn 9) Header
 first_fault = record {

@@ -1,5 +1,5 @@
 -- For each clause of the definitions a small case that it accepts, and one that breaks it alone and is refused.
-use Rattle.std.proofs.Common.{ℕ, ◌≡◌, ◌+◌, ◌*◌, ◌^◌, List, [], ◌∷◌, length, replicate, Option, Some, None, Ok, refl, sym, ◌∙◌, ap, subst, inr, arith, length-append, zero, suc, ◌<◌, Contains, get_or, slice_index_or}
+use Rattle.std.proofs.Common.{ℕ, ◌≡◌, ◌+◌, ◌*◌, ◌^◌, List, [], ◌∷◌, length, replicate, Option, Some, None, Ok, refl, sym, ◌∙◌, ap, subst, arith, length-append, zero, suc, ◌<◌, Contains, get_or, slice_index_or}
 use Rattle.std.proofs.lemmas.List.{get_or-replicate, length-map}
 use Rattle.std.specs.BTreeMap.{get}
 use Rattle.std.specs.declared.cmp.Ordering.TheVariants.{Less, Equal}
@@ -14,25 +14,22 @@ use Rattle.blk_base.specs.declared.place.Pbn.{Pbn}
 use Rattle.blk_base.specs.Pages.{page_order, above, slot_of}
 use Rattle.blk_base.specs.declared.place.PageId.{PageId}
 use Rattle.blk_base.proofs.PageIdLaws.{same_page}
+use Rattle.blk_base.specs.Forms.{page, pbn}
+use Rattle.blk_base.proofs.Example.{root, blank}
 use Rattle.image_model.proofs.CountLaws.{is_first, none_in_nothing, one_stored}
-use Rattle.image_model.proofs.Example.{pbn, small}
-use Rattle.image_model.proofs.MapRows.{page, root, with_root}
+use Rattle.image_model.proofs.Example.{small}
+use Rattle.image_model.proofs.MapRows.{with_root}
 use Rattle.image_model.specs.Counts.{Stores, commit_at}
 use Rattle.image_model.specs.Empty.{HasNothing}
 use Rattle.image_model.specs.Maps.{Image, IsTreePage}
-use Rattle.page_codec.proofs.HeldLaws.{held_unmapped}
 use Rattle.page_codec.proofs.ReadLaws.{slots}
-use Rattle.page_codec.specs.Grammar.{IsPage}
-use Rattle.page_codec.specs.PageBytes.{page_bytes}
-use Rattle.page_codec.specs.declared.forms.PageHead.{PageHead}
-use Rattle.replay_map.proofs.PageLaws.{read_as}
-use Rattle.replay_map.specs.Pages.{IsReadAs}
 use Rattle.replay_map.specs.declared.links.Link.{Link}
 use Rattle.session_opening.proofs.PageLaws.{none_added}
 use Rattle.session_opening.proofs.PlaceLaws.{inner_more, none_placed}
 use Rattle.session_opening.specs.declared.places.Places.{Places}
 use Rattle.replay_map.specs.Links.{root_link}
 use Rattle.replay_map.specs.Forms.{IsLinkOf}
+use Rattle.replay_map.proofs.Rows.{root_page, read_is}
 use Rattle.session_opening.specs.Pages.{AreAdded, AreLinked, ArePages, roots_below}
 use Rattle.session_opening.specs.Places.{AreInner, AreLeading, ArePlaces, LeadsTo, block_by}
 use Rattle.session_opening.specs.Starts.{AreCommits, AreCounters, AreInnerPages, ArePageBlocks, IsInnerPage, IsStart, AreLedTo}
@@ -40,25 +37,8 @@ use Rattle.session_opening.proofs.ListedLaws.{in_map, of_map}
 use Rattle.block_map_tree.specs.OpenedTree.{IsLed}
 
 -- An image whose root of tree 0 has a page without mappings.
-abbrev head_of_root : PageHead
-head_of_root = record { geometry = small; page = root; at = pbn 9 }
-
-abbrev blank : List Mapping
-blank = replicate 812 Unmapped
-
-abbrev root_page : List ℕ
-root_page = page_bytes head_of_root blank
-
 abbrev rooted : Image
 rooted = with_root root_page []
-
-is_page : IsPage head_of_root root_page blank
-is_page = record { spelled = refl; held = held_unmapped small 1 }
-
-read_is : IsReadAs rooted head_of_root blank
-read_is =
-    read_as rooted head_of_root root_page [] (omega arith) (record { geometry = refl; there = refl; newest = λ other slot low. refl }) blank
-    (slots head_of_root root_page blank 0 is_page (omega arith)).headed (λ slot below. inr (refl, slots head_of_root root_page blank slot is_page below))
 
 -- A page of tree 0 by its level and index, at a block.
 abbrev link : ℕ → ℕ → ℕ → Link

@@ -12,9 +12,10 @@ use Rattle.blk_base.specs.declared.place.Pbn.{Pbn}
 use Rattle.blk_base.specs.declared.point.Point.{Point}
 use Rattle.blk_base.specs.declared.sizes.TheConstants.{PAGE_SLOTS}
 use Rattle.blk_base.specs.declared.geometry.Geometry.{Geometry}
+use Rattle.blk_base.specs.Regions.{data_blocks}
 use Rattle.block_map_tree.specs.OpenedTree.{IsLed}
 use Rattle.count_updates.specs.Counted.{commit_in}
-use Rattle.count_updates.specs.Numbers.{all_blocks, all_sectors, block_number}
+use Rattle.count_updates.specs.Numbers.{all_sectors, block_number}
 use Rattle.image_model.specs.Counts.{Stores, commit_at}
 use Rattle.image_model.specs.Maps.{Image, IsTreePage, page_at, says}
 use Rattle.image_model.specs.Sound.{IsDataPlace}
@@ -36,7 +37,7 @@ pub record AreInnerPages (image : Image) (pages : List OpenedPage) : Type 0 wher
 
 -- the stored count of each data block
 pub record AreCounters (image : Image) (counters : List ℕ) : Type 0 where
-  pub size : length counters ≡ all_blocks image.geometry
+  pub size : length counters ≡ data_blocks image.geometry
   pub each : (place : DataPlace) → IsDataPlace image.geometry place → Stores image place (Ok (slice_index counters (block_number image.geometry place)))
 
 -- the commit point of each sector that has counters

@@ -1,5 +1,5 @@
 -- Which sequences are left on the images that a run leaves.
-use Rattle.std.proofs.Common.{ℕ, ◌≡◌, ◌⊎◌, ◌+◌, ◌-◌, ◌<◌, ◌≤◌, ◌^◌, Bool, true, false, IsTrue, List, [], ◌∷◌, ◌++◌, length, Ok, refl, sym, ◌∙◌, ap, subst, inl, inr, arith}
+use Rattle.std.proofs.Common.{ℕ, ◌≡◌, ◌⊎◌, ◌+◌, ◌-◌, ◌<◌, ◌≤◌, ◌^◌, true, false, List, [], ◌∷◌, ◌++◌, length, Ok, refl, sym, ◌∙◌, ap, subst, inl, inr, arith}
 use Rattle.std.specs.List.{AllByRecursion}
 use Rattle.std.proofs.lemmas.Bool.{cases_Bool}
 use Rattle.blk_base.specs.Sectors.{sector}
@@ -56,10 +56,6 @@ next_clean head last is = rw is refl
 pub next_open : (head : Super) (last : ℕ) → head.clean ≡ false → next_by head last ≡ last + 2
 next_open head last is = rw is refl
 
-true_is : (b : Bool) → b ≡ true → IsTrue b
-true_is true is = refl
-true_is false is = absurd (cc is)
-
 pub values_alike : (blocks : Blocks) (one two : IsSound blocks) (a : ℕ) → value_of (image_in blocks two) a ≡ value_of (image_in blocks one) a
 values_alike blocks one two a =
     let same = sound_alike blocks one two in
@@ -92,7 +88,7 @@ next_run blocks entry now logical opening g most left report right late named la
 pub can_serve : (blocks : Blocks) (can : CanBegin (2 ^ 19) blocks) → can.sound.head.clean ≡ true → IsToServe blocks
 can_serve blocks can clean = record {
   sound = can.sound;
-  clean = true_is can.sound.head.clean clean;
+  clean = clean;
   late = let late = can.late in let next = next_clean can.sound.head can.sound.last clean in omega (arith, late, next);
   named = can.named;
 }

@@ -3,6 +3,7 @@
 use Rattle.std.proofs.Common.{ℕ, ◌≡◌, ◌+◌, ◌<◌, ◌^◌, true, false, IsTrue, List, [], ◌∷◌, length, Result, Ok, refl, sym, ◌∙◌, ap, subst, inl, inr, arith}
 use Rattle.blk_base.specs.declared.geometry.Super.{Super}
 use Rattle.blk_base.specs.declared.journal_entry.CommittedEntry.{CommittedEntry}
+use Rattle.blk_base.specs.Forms.{pbn}
 use Rattle.disk_model.specs.declared.call.Call.{Call}
 use Rattle.disk_model.specs.declared.call.Call.TheVariants.{Write, Flush}
 use Rattle.disk_model.specs.Images.{HasOneImage}
@@ -16,7 +17,7 @@ use Rattle.image_model.specs.Empty.{IsEmpty, empty_super}
 use Rattle.image_model.specs.Maps.{value_of}
 use Rattle.image_model.specs.Sound.{IsSound}
 use Rattle.image_model.proofs.EmptyLaws.{is_sound}
-use Rattle.image_model.proofs.Example.{small, pbn}
+use Rattle.image_model.proofs.Example.{small}
 use Rattle.image_model.specs.Looked.{looked_in}
 use Rattle.image_model.proofs.LookedLaws.{looked_low}
 use Rattle.recovery_laws.proofs.SuperLaws.{first_of_image, room_of_image}

@@ -10,6 +10,8 @@ use Rattle.blk_base.specs.declared.journal_entry.CommittedEntry.{CommittedEntry}
 use Rattle.blk_base.specs.declared.journal_entry.Entry.{Entry}
 use Rattle.blk_base.specs.declared.place.Mapping.{Mapping}
 use Rattle.blk_base.specs.declared.place.Mapping.TheVariants.{Zero, At}
+use Rattle.blk_base.specs.Forms.{pbn}
+use Rattle.blk_base.proofs.Example.{blank}
 use Rattle.byte_fields.proofs.FieldLaws.{length-records}
 use Rattle.disk_model.specs.declared.call.Call.TheVariants.{Flush}
 use Rattle.disk_model.specs.Images.{HasOneImage, IsImage}
@@ -20,7 +22,7 @@ use Rattle.image_layout.proofs.SpellingLaws.{super_size}
 use Rattle.image_layout.specs.Superblock.{super_block}
 use Rattle.image_model.specs.Empty.{IsEmpty, empty_super}
 use Rattle.image_model.specs.Maps.{Image, mapping_of}
-use Rattle.image_model.proofs.Example.{small, pbn}
+use Rattle.image_model.proofs.Example.{small, head_of_leaf, head_of_root}
 use Rattle.journal_codec.proofs.ReadLaws.{length-sector_bytes}
 use Rattle.journal_codec.specs.BlockBytes as journal
 use Rattle.journal_codec.specs.BlockBytes.{block_bytes}
@@ -39,7 +41,7 @@ use Rattle.session_stops.specs.Sessions.{ShowsSoundly}
 use Rattle.session_stops.proofs.BeginRows.{log_opened, one}
 use Rattle.session_stops.proofs.CloseLaws.{closed_one}
 use Rattle.session_stops.proofs.CloseRows.{closed}
-use Rattle.session_stops.proofs.PageRows.{empty_leaf, full_leaf, leaf_head, leaf_is_empty, leaf_is_full, linked_root, nothing, root_head, root_is, some_mapped, with_link}
+use Rattle.session_stops.proofs.PageRows.{empty_leaf, full_leaf, leaf_is_empty, leaf_is_full, linked_root, root_is, some_mapped, with_link}
 use Rattle.session_stops.proofs.SessionRows.{all_is, block, block_is, entries, g, log_committed, log_counts, log_full, log_leaf, log_root, opened_is, sizes_are, start, to, with_counts}
 use Rattle.session_stops.proofs.SoundImages.{rest_sound}
 
@@ -93,7 +95,7 @@ module _ (blocks : Blocks) (empty : IsEmpty small blocks) (whole : (b : ℕ) →
 
   one_made : HasOneImage blocks (log_leaf blocks empty whole) made_blocks
   one_made =
-      one_image-write_flush blocks (log_opened blocks empty whole) opened_blocks (pbn 85) empty_leaf (let room = wide in omega (arith, room)) (page_size leaf_head nothing leaf_is_empty.held.count) one_opened
+      one_image-write_flush blocks (log_opened blocks empty whole) opened_blocks (pbn 85) empty_leaf (let room = wide in omega (arith, room)) (page_size head_of_leaf blank leaf_is_empty.held.count) one_opened
 
   one_sealed : HasOneImage blocks (log_committed blocks empty whole) sealed_blocks
   one_sealed =
@@ -103,11 +105,11 @@ module _ (blocks : Blocks) (empty : IsEmpty small blocks) (whole : (b : ℕ) →
 
   one_full : HasOneImage blocks (log_full blocks empty whole) full_blocks
   one_full =
-      one_image-write_flush blocks (log_committed blocks empty whole) sealed_blocks (pbn 85) full_leaf (let room = wide in omega (arith, room)) (page_size leaf_head some_mapped leaf_is_full.held.count) one_sealed
+      one_image-write_flush blocks (log_committed blocks empty whole) sealed_blocks (pbn 85) full_leaf (let room = wide in omega (arith, room)) (page_size head_of_leaf some_mapped leaf_is_full.held.count) one_sealed
 
   one_linked : HasOneImage blocks (log_root blocks empty whole) linked_blocks
   one_linked =
-      one_image-write_flush blocks (log_full blocks empty whole) full_blocks (pbn 9) linked_root (let room = wide in omega (arith, room)) (page_size root_head with_link root_is.held.count) one_full
+      one_image-write_flush blocks (log_full blocks empty whole) full_blocks (pbn 9) linked_root (let room = wide in omega (arith, room)) (page_size head_of_root with_link root_is.held.count) one_full
 
   one_last : HasOneImage blocks (log_counts blocks empty whole) last_blocks
   one_last =

@@ -1,7 +1,7 @@
 -- Pages while a session goes on: for each definition a small case that it accepts, and one that it refuses. The session begins
 -- on an empty image of the default sizes and has the four entries of the example of counts: the leaf of tree 0 at block 85,
 -- addresses 5 and 6 at block 86, and zeros at address 5. It writes the leaf and its root, and lets go of its entries.
-use Rattle.std.proofs.Common.{ℕ, ◌≡◌, ◌≢◌, ◌⊎◌, ◌<◌, ◌&&◌, ◌==◌, Bool, true, false, if◌then◌else◌, List, [], ◌∷◌, length, get_or, replicate, set, All, Option, Some, None, refl, sym, ◌∙◌, ap, subst, inl, inr, arith}
+use Rattle.std.proofs.Common.{ℕ, ◌≡◌, ◌≢◌, ◌⊎◌, ◌<◌, ◌&&◌, ◌==◌, Bool, true, false, if◌then◌else◌, List, [], ◌∷◌, length, get_or, set, All, Option, Some, None, refl, sym, ◌∙◌, ap, subst, inl, inr, arith}
 use Rattle.std.proofs.lemmas.Bool.{cases_Bool}
 use Rattle.std.proofs.lemmas.Bool.Decides.{eqb_tells}
 use Rattle.std.proofs.lemmas.List.{get_or-replicate, get_or-set_same, get_or-set_other, length-replicate, length-set}
@@ -15,6 +15,8 @@ use Rattle.blk_base.specs.declared.place.Mapping.TheVariants.{Unmapped, Zero, At
 use Rattle.blk_base.specs.declared.place.PageId.{PageId}
 use Rattle.blk_base.specs.declared.place.Pbn.{Pbn}
 use Rattle.blk_base.specs.declared.sizes.TheConstants.{TREES}
+use Rattle.blk_base.specs.Forms.{at_point, pbn}
+use Rattle.blk_base.proofs.Example.{leaf as leaf_page, root, blank}
 use Rattle.disk_model.specs.declared.call.Call.{Call}
 use Rattle.disk_model.specs.declared.call.Call.TheVariants.{Read, Write, Flush}
 use Rattle.disk_model.specs.Images.{IsImage}
@@ -25,7 +27,7 @@ use Rattle.image_model.specs.Empty.{IsEmpty, empty_root, empty_super}
 use Rattle.image_model.specs.Maps.{Image, ArePagesGood, head_of, or_else, put_last, slot_in}
 use Rattle.image_model.specs.Pages.{is_page}
 use Rattle.image_model.proofs.EmptyLaws.{blank_slot, no_tree_page, pages_good, root_says, sizes_of_image}
-use Rattle.image_model.proofs.Example.{small, pbn}
+use Rattle.image_model.proofs.Example.{small, head_of_leaf, head_of_root}
 use Rattle.page_codec.proofs.HeldLaws.{held-set, held_unmapped}
 use Rattle.page_codec.proofs.ReadLaws.{slots, one_mapping}
 use Rattle.page_codec.specs.Grammar.{HasHead, IsPage, IsSlot}
@@ -37,7 +39,7 @@ use Rattle.recovery_laws.proofs.WindowFacts.{IsKnown}
 use Rattle.journal_stops.specs.Mapped.{ArePagesShown, page_after, slot_after}
 use Rattle.journal_stops.proofs.NewestLaws.{page_equal}
 use Rattle.journal_stops.proofs.OpenedLaws.{page_with_none}
-use Rattle.count_laws.proofs.Example.{at_point, data_block, four, leaf, leaf_gone, one, opened, page, remap}
+use Rattle.count_laws.proofs.Example.{data_block, four, leaf, leaf_gone, one, opened, remap}
 use Rattle.recovery_laws.specs.Kept.{PutsOnly}
 use Rattle.session_stops.specs.Pages.{ArePagesOnIt, EmptyPageStands, MissesNew, NewPagesStand, PagesStand, SaysTheRest, Settles, SlotStands}
 use Rattle.session_stops.proofs.NewPages.{AreMadeNew}
@@ -72,82 +74,67 @@ unsettled settles = let size = settles.1.0 in omega (arith, size)
 
 -- Pages: the leaf of tree 0, at block 85, empty, and with what the entries give its slots; and its root, at block 9.
 
-abbrev pub leaf_page : PageId
-leaf_page = page 0 0 0
-
-abbrev pub root : PageId
-root = page 0 1 0
-
-abbrev pub leaf_head : PageHead
-leaf_head = record { geometry = small; page = leaf_page; at = pbn 85 }
-
-abbrev pub root_head : PageHead
-root_head = record { geometry = small; page = root; at = pbn 9 }
-
-abbrev pub nothing : List Mapping
-nothing = replicate 812 Unmapped
-
 abbrev pub some_mapped : List Mapping
-some_mapped = set (set nothing 5 Zero) 6 (At (pbn 86))
+some_mapped = set (set blank 5 Zero) 6 (At (pbn 86))
 
 abbrev pub with_link : List Mapping
-with_link = set nothing 0 (At (pbn 85))
+with_link = set blank 0 (At (pbn 85))
 
 abbrev pub empty_leaf : List ℕ
-empty_leaf = page_bytes leaf_head nothing
+empty_leaf = page_bytes head_of_leaf blank
 
 abbrev pub full_leaf : List ℕ
-full_leaf = page_bytes leaf_head some_mapped
+full_leaf = page_bytes head_of_leaf some_mapped
 
 abbrev pub linked_root : List ℕ
-linked_root = page_bytes root_head with_link
+linked_root = page_bytes head_of_root with_link
 
-pub leaf_is_empty : IsPage leaf_head empty_leaf nothing
+pub leaf_is_empty : IsPage head_of_leaf empty_leaf blank
 leaf_is_empty = record { spelled = refl; held = held_unmapped small 0 }
 
-pub leaf_is_full : IsPage leaf_head full_leaf some_mapped
+pub leaf_is_full : IsPage head_of_leaf full_leaf some_mapped
 leaf_is_full = record {
   spelled = refl;
-  held = held-set small 0 6 (set nothing 5 Zero) (At (pbn 86)) (held-set small 0 5 nothing Zero (held_unmapped small 0) refl) (data_block 1 (omega arith), omega arith);
+  held = held-set small 0 6 (set blank 5 Zero) (At (pbn 86)) (held-set small 0 5 blank Zero (held_unmapped small 0) refl) (data_block 1 (omega arith), omega arith);
 }
 
-pub root_is : IsPage root_head linked_root with_link
-root_is = record { spelled = refl; held = held-set small 1 0 nothing (At (pbn 85)) (held_unmapped small 1) (data_block 0 (omega arith), omega arith) }
+pub root_is : IsPage head_of_root linked_root with_link
+root_is = record { spelled = refl; held = held-set small 1 0 blank (At (pbn 85)) (held_unmapped small 1) (data_block 0 (omega arith), omega arith) }
 
-nothing_there : (slot : ℕ) → slot < 812 → get_or nothing slot Unmapped ≡ Unmapped
+nothing_there : (slot : ℕ) → slot < 812 → get_or blank slot Unmapped ≡ Unmapped
 nothing_there slot small_slot = get_or-replicate 812 slot Unmapped Unmapped small_slot
 
-pub full_five : IsSlot leaf_head full_leaf 5 Zero
+pub full_five : IsSlot head_of_leaf full_leaf 5 Zero
 full_five =
-    subst (IsSlot leaf_head full_leaf 5)
-    (get_or-set_other (set nothing 5 Zero) 6 5 (At (pbn 86)) Unmapped (λ (same : ◌≡◌ {A = ℕ} 5 6). omega (arith, same))
-    ∙ get_or-set_same nothing 5 Zero Unmapped (let size = length-replicate 812 Unmapped in omega (arith, size)))
-    (slots leaf_head full_leaf some_mapped 5 leaf_is_full (omega arith))
+    subst (IsSlot head_of_leaf full_leaf 5)
+    (get_or-set_other (set blank 5 Zero) 6 5 (At (pbn 86)) Unmapped (λ (same : ◌≡◌ {A = ℕ} 5 6). omega (arith, same))
+    ∙ get_or-set_same blank 5 Zero Unmapped (let size = length-replicate 812 Unmapped in omega (arith, size)))
+    (slots head_of_leaf full_leaf some_mapped 5 leaf_is_full (omega arith))
 
-pub full_six : IsSlot leaf_head full_leaf 6 (At (pbn 86))
+pub full_six : IsSlot head_of_leaf full_leaf 6 (At (pbn 86))
 full_six =
-    subst (IsSlot leaf_head full_leaf 6)
-    (get_or-set_same (set nothing 5 Zero) 6 (At (pbn 86)) Unmapped (let size = length-set nothing 5 Zero ∙ length-replicate 812 Unmapped in omega (arith, size)))
-    (slots leaf_head full_leaf some_mapped 6 leaf_is_full (omega arith))
+    subst (IsSlot head_of_leaf full_leaf 6)
+    (get_or-set_same (set blank 5 Zero) 6 (At (pbn 86)) Unmapped (let size = length-set blank 5 Zero ∙ length-replicate 812 Unmapped in omega (arith, size)))
+    (slots head_of_leaf full_leaf some_mapped 6 leaf_is_full (omega arith))
 
-full_others : (slot : ℕ) → slot < 812 → slot ≢ 5 → slot ≢ 6 → IsSlot leaf_head full_leaf slot Unmapped
+full_others : (slot : ℕ) → slot < 812 → slot ≢ 5 → slot ≢ 6 → IsSlot head_of_leaf full_leaf slot Unmapped
 full_others slot small_slot not_five not_six =
-    subst (IsSlot leaf_head full_leaf slot)
-    (get_or-set_other (set nothing 5 Zero) 6 slot (At (pbn 86)) Unmapped not_six ∙ get_or-set_other nothing 5 slot Zero Unmapped not_five ∙ nothing_there slot small_slot)
-    (slots leaf_head full_leaf some_mapped slot leaf_is_full small_slot)
+    subst (IsSlot head_of_leaf full_leaf slot)
+    (get_or-set_other (set blank 5 Zero) 6 slot (At (pbn 86)) Unmapped not_six ∙ get_or-set_other blank 5 slot Zero Unmapped not_five ∙ nothing_there slot small_slot)
+    (slots head_of_leaf full_leaf some_mapped slot leaf_is_full small_slot)
 
-empty_five : IsSlot leaf_head empty_leaf 5 Unmapped
-empty_five = subst (IsSlot leaf_head empty_leaf 5) (nothing_there 5 (omega arith)) (slots leaf_head empty_leaf nothing 5 leaf_is_empty (omega arith))
+empty_five : IsSlot head_of_leaf empty_leaf 5 Unmapped
+empty_five = subst (IsSlot head_of_leaf empty_leaf 5) (nothing_there 5 (omega arith)) (slots head_of_leaf empty_leaf blank 5 leaf_is_empty (omega arith))
 
-pub root_first : IsSlot root_head linked_root 0 (At (pbn 85))
+pub root_first : IsSlot head_of_root linked_root 0 (At (pbn 85))
 root_first =
-    subst (IsSlot root_head linked_root 0) (get_or-set_same nothing 0 (At (pbn 85)) Unmapped (let size = length-replicate 812 Unmapped in omega (arith, size)))
-    (slots root_head linked_root with_link 0 root_is (omega arith))
+    subst (IsSlot head_of_root linked_root 0) (get_or-set_same blank 0 (At (pbn 85)) Unmapped (let size = length-replicate 812 Unmapped in omega (arith, size)))
+    (slots head_of_root linked_root with_link 0 root_is (omega arith))
 
-root_others : (slot : ℕ) → slot < 812 → slot ≢ 0 → IsSlot root_head linked_root slot Unmapped
+root_others : (slot : ℕ) → slot < 812 → slot ≢ 0 → IsSlot head_of_root linked_root slot Unmapped
 root_others slot small_slot other =
-    subst (IsSlot root_head linked_root slot) (get_or-set_other nothing 0 slot (At (pbn 85)) Unmapped other ∙ nothing_there slot small_slot)
-    (slots root_head linked_root with_link slot root_is small_slot)
+    subst (IsSlot head_of_root linked_root slot) (get_or-set_other blank 0 slot (At (pbn 85)) Unmapped other ∙ nothing_there slot small_slot)
+    (slots head_of_root linked_root with_link slot root_is small_slot)
 
 -- zeros are no page
 pub zeros_unheaded : (head : PageHead) → HasHead head zero_block → ⊥
@@ -156,14 +143,14 @@ zeros_unheaded head same = let first : 0 ≡ 86 = ap (λ (bytes : List ℕ). get
 
 -- A slot stands once the page was written and flushed; not before the flush, when the page may be torn, not where nothing was
 -- written, and not with another mapping.
-slot_stands : SlotStands [] (Flush true ∷ Write (pbn 85) full_leaf true ∷ []) leaf_head 6 (At (pbn 86))
+slot_stands : SlotStands [] (Flush true ∷ Write (pbn 85) full_leaf true ∷ []) head_of_leaf 6 (At (pbn 86))
 slot_stands = (full_six, tt)
 
-slot_unflushed : SlotStands [] (Write (pbn 85) full_leaf true ∷ []) leaf_head 6 (At (pbn 86)) → ⊥
-slot_unflushed stands = zeros_unheaded leaf_head stands.1.0.headed
+slot_unflushed : SlotStands [] (Write (pbn 85) full_leaf true ∷ []) head_of_leaf 6 (At (pbn 86)) → ⊥
+slot_unflushed stands = zeros_unheaded head_of_leaf stands.1.0.headed
 
-slot_says_other : SlotStands [] (Flush true ∷ Write (pbn 85) empty_leaf true ∷ []) leaf_head 5 Zero → ⊥
-slot_says_other stands = let same = one_mapping leaf_head empty_leaf 5 Unmapped Zero empty_five stands.0 in absurd (cc same)
+slot_says_other : SlotStands [] (Flush true ∷ Write (pbn 85) empty_leaf true ∷ []) head_of_leaf 5 Zero → ⊥
+slot_says_other stands = let same = one_mapping head_of_leaf empty_leaf 5 Unmapped Zero empty_five stands.0 in absurd (cc same)
 
 -- What entries put: the last one of the four put it into a slot of the leaf or of its root.
 
@@ -251,21 +238,21 @@ module _ (blocks : Blocks) (empty : IsEmpty small blocks) (whole : (b : ℕ) →
   leaf_stands : NewPagesStand blocks log_made image one
   leaf_stands = ((leaf_is_empty, tt), tt)
 
-  leaf_unflushed : (empty_there : IsPage leaf_head (block_at blocks 85) nothing → ⊥) → EmptyPageStands blocks (Write (pbn 85) empty_leaf true ∷ []) image leaf → ⊥
+  leaf_unflushed : (empty_there : IsPage head_of_leaf (block_at blocks 85) blank → ⊥) → EmptyPageStands blocks (Write (pbn 85) empty_leaf true ∷ []) image leaf → ⊥
   leaf_unflushed empty_there stands = empty_there stands.1.0
 
   leaf_full : NewPagesStand blocks (Write (pbn 85) full_leaf true ∷ []) image one → ⊥
   leaf_full stand =
-      let is : IsSlot leaf_head full_leaf 5 Unmapped =
-      subst (IsSlot leaf_head full_leaf 5) (nothing_there 5 (omega arith)) (slots leaf_head full_leaf nothing 5 stand.0.0 (omega arith)) in
-      let same = one_mapping leaf_head full_leaf 5 Unmapped Zero is full_five in absurd (cc same)
+      let is : IsSlot head_of_leaf full_leaf 5 Unmapped =
+      subst (IsSlot head_of_leaf full_leaf 5) (nothing_there 5 (omega arith)) (slots head_of_leaf full_leaf blank 5 stand.0.0 (omega arith)) in
+      let same = one_mapping head_of_leaf full_leaf 5 Unmapped Zero is full_five in absurd (cc same)
 
   -- so it doesn't while it is written with a mapping, whatever was done before
   pub leaf_full_there : (log : List Call) → NewPagesStand blocks (Write (pbn 85) full_leaf false ∷ log) image four → ⊥
   leaf_full_there log stand =
-      let is : IsSlot leaf_head full_leaf 5 Unmapped =
-      subst (IsSlot leaf_head full_leaf 5) (nothing_there 5 (omega arith)) (slots leaf_head full_leaf nothing 5 stand.1.1.1.0.0 (omega arith)) in
-      let same = one_mapping leaf_head full_leaf 5 Unmapped Zero is full_five in absurd (cc same)
+      let is : IsSlot head_of_leaf full_leaf 5 Unmapped =
+      subst (IsSlot head_of_leaf full_leaf 5) (nothing_there 5 (omega arith)) (slots head_of_leaf full_leaf blank 5 stand.1.1.1.0.0 (omega arith)) in
+      let same = one_mapping head_of_leaf full_leaf 5 Unmapped Zero is full_five in absurd (cc same)
 
   -- each of them, also the first
   leaf_full_first : NewPagesStand blocks (Write (pbn 85) full_leaf true ∷ []) image (at_point (remap 5 Unmapped Zero) 514 ∷ one) → ⊥
@@ -300,12 +287,12 @@ module _ (blocks : Blocks) (empty : IsEmpty small blocks) (whole : (b : ℕ) →
   -- not without the window: the leaf doesn't say it yet
   unwritten : PagesStand blocks log_made image four [] → ⊥
   unwritten stand =
-      let same = one_mapping leaf_head empty_leaf 5 Unmapped Zero empty_five ((stand leaf_page (pbn 85) refl).slots 5 (omega arith) refl).0 in absurd (cc same)
+      let same = one_mapping head_of_leaf empty_leaf 5 Unmapped Zero empty_five ((stand leaf_page (pbn 85) refl).slots 5 (omega arith) refl).0 in absurd (cc same)
 
   -- nor while the leaf is written, when it may be torn
   torn : PagesStand blocks (Write (pbn 85) full_leaf true ∷ log_made) image four [] → ⊥
   torn stand =
-      let same = one_mapping leaf_head empty_leaf 5 Unmapped Zero empty_five ((stand leaf_page (pbn 85) refl).slots 5 (omega arith) refl).1.0 in absurd (cc same)
+      let same = one_mapping head_of_leaf empty_leaf 5 Unmapped Zero empty_five ((stand leaf_page (pbn 85) refl).slots 5 (omega arith) refl).1.0 in absurd (cc same)
 
   -- The leaf is written with its mappings: its bytes say each slot.
   leaf_no_slot : (slot : ℕ) → slot ≢ 5 → slot ≢ 6 → slot_after image four leaf_page slot ≡ Unmapped
@@ -323,12 +310,12 @@ module _ (blocks : Blocks) (empty : IsEmpty small blocks) (whole : (b : ℕ) →
   pub leaf_says : SaysTheRest image four [] leaf_page (pbn 85) full_leaf
   leaf_says = record { headed = full_five.headed; slots = λ slot small_slot left. at slot small_slot }
     where
-      at : (slot : ℕ) → slot < 812 → IsSlot leaf_head full_leaf slot (slot_after image four leaf_page slot)
+      at : (slot : ℕ) → slot < 812 → IsSlot head_of_leaf full_leaf slot (slot_after image four leaf_page slot)
       at slot small_slot = elim (eqb_tells slot 5) [
-        | inl five ↦ subst (λ (n : ℕ). IsSlot leaf_head full_leaf n (slot_after image four leaf_page n)) (sym five.1) full_five
+        | inl five ↦ subst (λ (n : ℕ). IsSlot head_of_leaf full_leaf n (slot_after image four leaf_page n)) (sym five.1) full_five
         | inr not_five ↦ elim (eqb_tells slot 6) [
-          | inl six ↦ subst (λ (n : ℕ). IsSlot leaf_head full_leaf n (slot_after image four leaf_page n)) (sym six.1) full_six
-          | inr not_six ↦ subst (IsSlot leaf_head full_leaf slot) (sym (leaf_no_slot slot not_five.1 not_six.1)) (full_others slot small_slot not_five.1 not_six.1)
+          | inl six ↦ subst (λ (n : ℕ). IsSlot head_of_leaf full_leaf n (slot_after image four leaf_page n)) (sym six.1) full_six
+          | inr not_six ↦ subst (IsSlot head_of_leaf full_leaf slot) (sym (leaf_no_slot slot not_five.1 not_six.1)) (full_others slot small_slot not_five.1 not_six.1)
         ]
       ]
 
@@ -337,11 +324,11 @@ module _ (blocks : Blocks) (empty : IsEmpty small blocks) (whole : (b : ℕ) →
   says_with page_of at bytes window says = record { headed = says.headed; slots = λ slot small_slot left. says.slots slot small_slot refl }
 
   zeros_say : SaysTheRest image four four leaf_page (pbn 85) zero_block → ⊥
-  zeros_say says = zeros_unheaded leaf_head says.headed
+  zeros_say says = zeros_unheaded head_of_leaf says.headed
 
   -- an empty leaf says what the window leaves to it, and no more
   empty_says : SaysTheRest image four four leaf_page (pbn 85) empty_leaf → SaysTheRest image four [] leaf_page (pbn 85) empty_leaf → ⊥
-  empty_says rest all = let same = one_mapping leaf_head empty_leaf 5 Unmapped Zero empty_five (all.slots 5 (omega arith) refl) in absurd (cc same)
+  empty_says rest all = let same = one_mapping head_of_leaf empty_leaf 5 Unmapped Zero empty_five (all.slots 5 (omega arith) refl) in absurd (cc same)
 
   root_no_slot : (slot : ℕ) → slot < 812 → slot ≢ 0 → slot_after image four root slot ≡ Unmapped
   root_no_slot slot small_slot other = elim (option_cases (put_last four root slot)) [
@@ -358,10 +345,10 @@ module _ (blocks : Blocks) (empty : IsEmpty small blocks) (whole : (b : ℕ) →
   pub root_says_all : SaysTheRest image four [] root (pbn 9) linked_root
   root_says_all = record { headed = root_first.headed; slots = λ slot small_slot left. at slot small_slot }
     where
-      at : (slot : ℕ) → slot < 812 → IsSlot root_head linked_root slot (slot_after image four root slot)
+      at : (slot : ℕ) → slot < 812 → IsSlot head_of_root linked_root slot (slot_after image four root slot)
       at slot small_slot = elim (eqb_tells slot 0) [
-        | inl first ↦ subst (λ (n : ℕ). IsSlot root_head linked_root n (slot_after image four root n)) (sym first.1) root_first
-        | inr other ↦ subst (IsSlot root_head linked_root slot) (sym (root_no_slot slot small_slot other.1)) (root_others slot small_slot other.1)
+        | inl first ↦ subst (λ (n : ℕ). IsSlot head_of_root linked_root n (slot_after image four root n)) (sym first.1) root_first
+        | inr other ↦ subst (IsSlot head_of_root linked_root slot) (sym (root_no_slot slot small_slot other.1)) (root_others slot small_slot other.1)
       ]
 
   abbrev log_written : List Call
@@ -395,7 +382,7 @@ module _ (blocks : Blocks) (empty : IsEmpty small blocks) (whole : (b : ℕ) →
   at_root at linked = let it : Some (pbn 9) ≡ Some at = linked in cc it
 
   -- each slot into which they put something stands
-  pub slots_stand : (log : List Call) → SlotStands blocks log leaf_head 5 Zero → SlotStands blocks log leaf_head 6 (At (pbn 86)) → SlotStands blocks log root_head 0 (At (pbn 85))
+  pub slots_stand : (log : List Call) → SlotStands blocks log head_of_leaf 5 Zero → SlotStands blocks log head_of_leaf 6 (At (pbn 86)) → SlotStands blocks log head_of_root 0 (At (pbn 85))
       → (p : PageId) (at : Pbn) (slot : ℕ) (mapping : Mapping) → page_after image four p ≡ Some at → put_last four p slot ≡ Some mapping
       → SlotStands blocks log (head_of image p at) slot mapping
   slots_stand log five six first p at slot mapping linked put = elim (put_there p slot mapping put) [
@@ -427,12 +414,12 @@ module _ (blocks : Blocks) (empty : IsEmpty small blocks) (whole : (b : ℕ) →
       (pages_on_it image good 0 known four all_new (length blocks) (room_of_image blocks (empty_super small) empty.accepted)) risen is
 
   -- the root doesn't say so before it is written
-  root_unwritten : IsSlot root_head (block_at blocks 9) 0 (At (pbn 85)) → ⊥
+  root_unwritten : IsSlot head_of_root (block_at blocks 9) 0 (At (pbn 85)) → ⊥
   root_unwritten is =
-      let was = subst (λ (block : List ℕ). IsSlot root_head block 0 Unmapped) refl (blank_slot small blocks roots 0 0 (omega arith) (omega arith)) in
-      let same = one_mapping root_head (block_at blocks 9) 0 Unmapped (At (pbn 85)) was is in absurd (cc same)
+      let was = subst (λ (block : List ℕ). IsSlot head_of_root block 0 Unmapped) refl (blank_slot small blocks roots 0 0 (omega arith) (omega arith)) in
+      let same = one_mapping head_of_root (block_at blocks 9) 0 Unmapped (At (pbn 85)) was is in absurd (cc same)
 
-  root_unlinked : SlotStands blocks log_written root_head 0 (At (pbn 85)) → ⊥
+  root_unlinked : SlotStands blocks log_written head_of_root 0 (At (pbn 85)) → ⊥
   root_unlinked stands = root_unwritten stands.0
 
   not_risen : PagesStand blocks log_written image four [] → ⊥

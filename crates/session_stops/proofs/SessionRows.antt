@@ -15,6 +15,8 @@ use Rattle.blk_base.specs.declared.layout.DataPlace.{DataPlace}
 use Rattle.blk_base.specs.declared.place.Mapping.TheVariants.{Unmapped, Zero, At}
 use Rattle.blk_base.specs.declared.place.PageId.{PageId}
 use Rattle.blk_base.specs.declared.place.Pbn.{Pbn}
+use Rattle.blk_base.specs.Forms.{pbn}
+use Rattle.blk_base.proofs.Example.{place, leaf as leaf_page, root}
 use Rattle.byte_fields.specs.Fields.{number_at}
 use Rattle.disk_model.specs.declared.call.Call.{Call}
 use Rattle.disk_model.specs.declared.call.Call.TheVariants.{Write, Flush}
@@ -25,7 +27,7 @@ use Rattle.image_model.specs.Maps.{Image, put_last}
 use Rattle.image_model.specs.Maps as maps
 use Rattle.image_model.specs.Sound.{IsDataPlace}
 use Rattle.image_model.specs.Windows.{IsOfImage}
-use Rattle.image_model.proofs.Example.{small, pbn}
+use Rattle.image_model.proofs.Example.{small, head_of_root}
 use Rattle.image_model.specs.Looked.{looked_in}
 use Rattle.journal_codec.specs.Grammar.{HoldsEntry}
 use Rattle.journal_codec.specs.BlockBytes.{block_bytes}
@@ -39,7 +41,7 @@ use Rattle.journal_stops.proofs.StepLaws.{spelled_whole, is_written}
 use Rattle.count_laws.specs.Counters.{CountsStand, MayWrite, SurelyCounters, UpdateStands, points_at}
 use Rattle.count_laws.specs.Turns.{AreInTurn}
 use Rattle.count_laws.proofs.CounterRows.{later_commit}
-use Rattle.count_laws.proofs.Example.{data_block, four, four_turn, leaf, leaf_turn, opened, place, remap}
+use Rattle.count_laws.proofs.Example.{data_block, four, four_turn, leaf, leaf_turn, opened, remap}
 use Rattle.count_laws.proofs.TurnRows.{leaf_missing}
 use Rattle.count_laws.proofs.WriteExample.{all_counted, may_write, written}
 use Rattle.session_stops.specs.Beginnings.{IsToServe, opened_in}
@@ -47,7 +49,7 @@ use Rattle.session_stops.specs.Pages.{NewPagesStand, PagesStand, SaysTheRest, Sl
 use Rattle.session_stops.specs.Sessions.{AreFew, HasNoPage, IsBehind, IsOfCounts, MayRise, StandsAtRest, StandsUnderWay, entries_next, window_from}
 use Rattle.session_stops.proofs.BeginRows.{head_of_serve, log_opened, not_yet, one, to_serve}
 use Rattle.session_stops.proofs.CallSteps.{rest_counts, rest_data, rest_page, rest_quiet}
-use Rattle.session_stops.proofs.PageRows.{empty_leaf, full_leaf, leaf_page, leaf_says, linked_root, only_roots, root, root_says_all, says_with, slots_stand}
+use Rattle.session_stops.proofs.PageRows.{empty_leaf, full_leaf, leaf_says, linked_root, only_roots, root_says_all, says_with, slots_stand}
 use Rattle.session_stops.proofs.PageRows as pages
 use Rattle.session_stops.proofs.SessionSteps.{session_begins, session_ends, session_opens, session_rises}
 
@@ -399,7 +401,7 @@ module _ (blocks : Blocks) (empty : IsEmpty small blocks) (whole : (b : ℕ) →
   past_the_next log may = let high = may.high in omega (arith, high)
 
   -- a link that the root doesn't say yet
-  not_linked : (log : List Call) → (SlotStands blocks log pages.root_head 0 (At (pbn 85)) → ⊥) → MayRise blocks log blocks to (block ∷ []) (start + 1) → ⊥
+  not_linked : (log : List Call) → (SlotStands blocks log head_of_root 0 (At (pbn 85)) → ⊥) → MayRise blocks log blocks to (block ∷ []) (start + 1) → ⊥
   not_linked log never may =
       never
       (subst (λ (o : Image). SlotStands blocks log (maps.head_of o root (pbn 9)) 0 (At (pbn 85))) opened_is

@@ -5,6 +5,7 @@ use Rattle.byte_fields.specs.Fields.{le, number_at}
 use Rattle.byte_fields.proofs.FieldLaws.{length-le, number_behind}
 use Rattle.slab_codec.specs.declared.forms.SlabEntry.{SlabEntry}
 use Rattle.slab_codec.specs.BlockBytes.{entry_bytes, head_bytes}
+use Rattle.slab_codec.specs.Updates.{slab_entry}
 
 -- entries
 
@@ -18,14 +19,11 @@ unfolding entry_bytes
 offset_read e fits =
     number_behind 2 e.offset 8 (le 8 e.point.0) (le 1 (e.point.0 % 2) ++ le 1 0) (entry_bytes e) (simp append_assoc) (length-le 8 e.point.0) (omega (arith, fits))
 
-abbrev made : ℕ → ℕ → SlabEntry
-made point offset = record { point = record { 0 = point }; offset = offset }
-
 -- what reads its fields gives the entry
 pub entry_is : (point offset : ℕ) (bytes : List ℕ) (e : SlabEntry) → (e.point.0 < 2 ^ 64) × (e.offset < 2 ^ 16) → bytes ≡ entry_bytes e
-    → point ≡ number_at 8 0 bytes → offset ≡ number_at 2 8 bytes → made point offset ≡ e
+    → point ≡ number_at 8 0 bytes → offset ≡ number_at 2 8 bytes → slab_entry point offset ≡ e
 entry_is point offset bytes e fits same point_is offset_is =
-    ap₂ (λ (p o : ℕ). made p o) (point_is ∙ ap (number_at 8 0) same ∙ point_read e fits.0) (offset_is ∙ ap (number_at 2 8) same ∙ offset_read e fits.1)
+    ap₂ (λ (p o : ℕ). slab_entry p o) (point_is ∙ ap (number_at 8 0) same ∙ point_read e fits.0) (offset_is ∙ ap (number_at 2 8) same ∙ offset_read e fits.1)
 
 pub entry_injective : (e f : SlabEntry) → (e.point.0 < 2 ^ 64) × (e.offset < 2 ^ 16) → (f.point.0 < 2 ^ 64) × (f.offset < 2 ^ 16) → entry_bytes e ≡ entry_bytes f → e ≡ f
 entry_injective e f fits fits' same =

@@ -3,6 +3,6 @@ pub mod OperationLaws
 pub mod OpeningLaws
 pub mod AnswerLaws
 mod Rows
-mod OpeningRows
+pub mod OpeningRows
 mod OperationRows
 mod ViewRows

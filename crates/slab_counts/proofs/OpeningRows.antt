@@ -7,26 +7,19 @@ use Rattle.std.proofs.lemmas.List.{get_or_past, get_or-replicate, length-replica
 use Rattle.blk_base.specs.Limits.{IsGeometry}
 use Rattle.blk_base.specs.declared.geometry.Geometry.{Geometry}
 use Rattle.blk_base.specs.declared.place.Pbn.{Pbn}
+use Rattle.blk_base.proofs.Example.{small_with_is, small_with}
+use Rattle.blk_base.specs.Forms.{pbn as at}
 use Rattle.slab_counts.specs.Counts.{Counts, IsOfSlab, IsPage, IsOpening}
 use Rattle.slab_counts.specs.Kept.{IsWithin, NoneFreeBelow}
 
-abbrev sizes : Geometry
-sizes = record { logical = 1000; slabs = 1; slab_blocks = 16; journal = 8; index = 16; slab_journal = 4; height = 2; nonce = 1 }
+abbrev pub sizes : Geometry
+sizes = small_with 16 4
 
-abbrev none : Counts
-none = record { geometry = sizes; slab = 0; counters = replicate 16 0; claims = replicate 16 0; pages = replicate 16 false }
+abbrev pub unused : Counts
+unused = record { geometry = sizes; slab = 0; counters = replicate 16 0; claims = replicate 16 0; pages = replicate 16 false }
 
-limits : IsGeometry sizes
-limits = record {
-  height = (omega arith, omega arith);
-  nonce = omega arith;
-  logical = (omega arith, omega arith);
-  slabs = (omega arith, omega arith);
-  slab_blocks = (omega arith, omega arith);
-  journal = (omega arith, omega arith);
-  index = (omega arith, omega arith, refl);
-  slab_journal = (omega arith, omega arith);
-}
+pub limits : IsGeometry sizes
+limits = small_with_is 16 4 (omega arith) (omega arith) (omega arith) (omega arith)
 
 zero_of : (n k : ℕ) → slice_index (replicate n 0) k ≡ 0
 zero_of n k = elim (cases_lt k n) [
@@ -35,7 +28,7 @@ zero_of n k = elim (cases_lt k n) [
 ]
 
 -- IsWithin
-within : IsWithin none
+within : IsWithin unused
 within = record {
   geometry = limits;
   slab = omega arith;
@@ -45,22 +38,22 @@ within = record {
   limit = λ k. omega (arith, zero_of 16 k);
 }
 
-odd_sizes : ¬ IsWithin (record none { geometry = record sizes { nonce = 0 } })
+odd_sizes : ¬ IsWithin (record unused { geometry = record sizes { nonce = 0 } })
 odd_sizes = λ is. omega (arith, is.geometry.nonce)
 
-no_such_slab : ¬ IsWithin (record none { slab = 1 })
+no_such_slab : ¬ IsWithin (record unused { slab = 1 })
 no_such_slab = λ is. omega (arith, is.slab)
 
-a_counter_less : ¬ IsWithin (record none { counters = replicate 15 0 })
+a_counter_less : ¬ IsWithin (record unused { counters = replicate 15 0 })
 a_counter_less = λ is. let short : 15 ≡ 16 = is.counters in absurd (omega (arith, short))
 
-a_claim_more : ¬ IsWithin (record none { claims = replicate 17 0 })
+a_claim_more : ¬ IsWithin (record unused { claims = replicate 17 0 })
 a_claim_more = λ is. let long : 17 ≡ 16 = is.claims in absurd (omega (arith, long))
 
-a_page_less : ¬ IsWithin (record none { pages = replicate 15 false })
+a_page_less : ¬ IsWithin (record unused { pages = replicate 15 false })
 a_page_less = λ is. let short : 15 ≡ 16 = is.pages in absurd (omega (arith, short))
 
-too_many_claims : ¬ IsWithin (record none { counters = 200 ∷ replicate 15 0; claims = 55 ∷ replicate 15 0 })
+too_many_claims : ¬ IsWithin (record unused { counters = 200 ∷ replicate 15 0; claims = 55 ∷ replicate 15 0 })
 too_many_claims = λ is. absurd (omega (arith, is.limit 0))
 
 -- IsOpening: the sizes, the slab, its counters, no claims, its tree pages
@@ -73,9 +66,6 @@ ones = record sizes { slab_blocks = 1; slabs = 2 }
 
 abbrev second : Counts
 second = record { geometry = ones; slab = 1; counters = 8 ∷ []; claims = 0 ∷ []; pages = false ∷ [] }
-
-abbrev at : ℕ → Pbn
-at n = record { 0 = n }
 
 -- the second slab's block, behind a block of the first, a reference block and four of its journal
 only_block : (b : Pbn) → IsOfSlab second b → b.0 ≡ 91

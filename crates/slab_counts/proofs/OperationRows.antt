@@ -3,14 +3,11 @@
 use Rattle.std.specs.Prelude.{ℕ, ◌≡◌, false, [], ◌∷◌, slice_index, slice_index_or}
 use Rattle.std.proofs.Common.{ap, subst, arith, refl}
 use Rattle.std.proofs.lemmas.Bool.{false≢true}
-use Rattle.blk_base.specs.declared.place.Pbn.{Pbn}
 use Rattle.blk_base.specs.declared.point.Half.TheVariants.{Increment, Decrement}
 use Rattle.blk_base.proofs.Example.{small}
+use Rattle.blk_base.specs.Forms.{pbn as at}
 use Rattle.slab_counts.specs.Operations.{Applied, Does, Dropped, Extended, FreeClaimed, LeadTo, PageSpent, Refused, Shared, Spent, one_of}
 use Rattle.slab_counts.specs.Counts.{Counts, IsClaimed, claimed, claims_of, counter_of, mapped, offset_of, unclaimed, unmapped, with_page}
-
-abbrev at : ℕ → Pbn
-at n = record { 0 = n }
 
 -- of its blocks 85 is free, 86 mapped, and 87 claimed
 abbrev some : Counts

@@ -5,6 +5,7 @@ use Rattle.std.proofs.lemmas.Bool.{cases_eq, false≢true}
 use Rattle.blk_base.specs.declared.place.Pbn.{Pbn}
 use Rattle.blk_base.specs.declared.point.Half.TheVariants.{Increment, Decrement}
 use Rattle.blk_base.proofs.Example.{small}
+use Rattle.blk_base.specs.Forms.{pbn as at}
 use Rattle.slab_counts.specs.Counts.{Counts, IsOfSlab, IsFree, IsPage, IsClaimed, HasRoom, HasNoFree, ClaimsFree, Shares, IsRefused, Takes, IsStray, claimed, unclaimed, mapped, unmapped, with_page, used_of}
 use Rattle.slab_counts.specs.Operations.{Operation, FreeClaimed, Shared, Extended, Dropped, Spent, PageSpent, Applied, Refused, makes, drops, spends, maps, unmaps, total}
 use Rattle.slab_counts.specs.declared.refusals.Refusal.TheVariants.{NotData, NotLive, Full}
@@ -25,9 +26,6 @@ first_free = record some { counters = 0 ∷ []; claims = 0 ∷ [] }
 
 abbrev first_claimed : Counts
 first_claimed = record some { counters = 0 ∷ []; claims = 1 ∷ [] }
-
-abbrev at : ℕ → Pbn
-at n = record { 0 = n }
 
 abbrev claims_at : ℕ → Counts → ℕ
 claims_at k c = slice_index c.claims k

@@ -4,15 +4,14 @@ use Rattle.std.specs.Prelude.{ℕ, ◌≡◌, ◌≤◌, ◌^◌, List, [], ◌�
 use Rattle.std.proofs.Common.{arith, refl}
 use Rattle.std.proofs.lemmas.List.Elements.{All-cons, All-nil}
 use Rattle.blk_base.specs.Limits.{IsGeometry}
-use Rattle.blk_base.specs.declared.point.Point.{Point}
+use Rattle.blk_base.specs.Forms.{point as p}
+use Rattle.blk_base.proofs.Example.{small_with_is}
 use Rattle.slab_codec.specs.Grammar.{HoldsEntry}
 use Rattle.slab_codec.specs.declared.forms.SlabEntry.{SlabEntry}
+use Rattle.slab_codec.specs.Updates.{slab_entry as entry}
 use Rattle.slab_journal.specs.Kept.{AreOfSlab, IsBefore, IsKept, first_of}
 use Rattle.slab_journal.specs.Slab.{opening}
-use Rattle.slab_journal.proofs.UnsettledRows.{durable_one, entry, first, rising, sealed_one, sizes, third}
-
-abbrev p : ℕ → Point
-p n = record { 0 = n }
+use Rattle.slab_journal.proofs.UnsettledRows.{durable_one, first, rising, sealed_one, sizes, third}
 
 abbrev Above : ℕ → SlabEntry → Type 0
 Above point e = point ≤ e.point.0
@@ -21,16 +20,7 @@ abbrev Below : ℕ → SlabEntry → Type 0
 Below point e = e.point.0 ≤ point
 
 sizes_are : IsGeometry sizes
-sizes_are = record {
-  height = (omega arith, omega arith);
-  nonce = omega arith;
-  logical = (omega arith, omega arith);
-  slabs = (omega arith, omega arith);
-  slab_blocks = (omega arith, omega arith);
-  journal = (omega arith, omega arith);
-  index = (omega arith, omega arith, refl);
-  slab_journal = (omega arith, omega arith);
-}
+sizes_are = small_with_is 1000 2 (omega arith) (omega arith) (omega arith) (omega arith)
 
 -- first_of
 point_of_first : first_of (third ∷ first ∷ []) 700 ≡ 600

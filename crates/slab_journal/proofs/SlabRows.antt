@@ -3,14 +3,13 @@
 use Rattle.std.proofs.Common.{ℕ, zero, suc, ◌≡◌, ◌<◌, ◌≤◌, List, [], ◌∷◌, length, Any, Contains, slice_index_or, ap, subst, sym, arith, refl, inl, inr}
 use Rattle.std.proofs.lemmas.List.Elements.{All-cons, All-nil}
 use Rattle.blk_base.specs.declared.point.Point.{Point}
+use Rattle.blk_base.specs.Forms.{point as p}
 use Rattle.slab_codec.specs.declared.forms.SlabEntry.{SlabEntry}
 use Rattle.slab_codec.specs.declared.forms.SlabJournalBlock.{SlabJournalBlock}
+use Rattle.slab_codec.specs.Updates.{slab_entry as entry}
 use Rattle.slab_journal.specs.Slab.{IsCovered, IsFirst, IsHeld, IsOfSlab, IsWriting, Keeps, MayOverwrite, Seals, Slab, commit_of, entry_of, next_block, next_slot, opening}
 use Rattle.slab_journal.specs.Unsettled.{IsLeastUncovered}
-use Rattle.slab_journal.proofs.UnsettledRows.{durable_one, entry, first, sealed_one, sizes, third}
-
-abbrev p : ℕ → Point
-p n = record { 0 = n }
+use Rattle.slab_journal.proofs.UnsettledRows.{durable_one, first, sealed_one, sizes, third}
 
 abbrev place_at : ℕ → SlabEntry
 place_at offset = entry 512 offset

@@ -1,19 +1,17 @@
 -- For each clause on what isn't durable a case that it accepts, and one that breaks it alone.
-use Rattle.std.specs.Prelude.{ℕ, ◌≡◌, ◌≤◌, [], ◌∷◌}
+use Rattle.std.specs.Prelude.{◌≡◌, ◌≤◌, [], ◌∷◌}
 use Rattle.std.proofs.Common.{ap, arith, refl, inl, inr}
 use Rattle.std.proofs.lemmas.List.Elements.{All-nil, All-push, All-contains}
 use Rattle.blk_base.specs.declared.geometry.Geometry.{Geometry}
 use Rattle.blk_base.specs.declared.point.Point.{Point}
 use Rattle.slab_codec.specs.declared.forms.SlabEntry.{SlabEntry}
+use Rattle.slab_codec.specs.Updates.{slab_entry as entry}
 use Rattle.slab_journal.specs.Slab.{Slab, opening}
 use Rattle.slab_journal.specs.Unsettled.{sealed_block, IsWaiting, IsUnsettled, IsLowPoint, NoneUnsettled, IsRising}
 
 -- a slab of 1000 data blocks: two sectors of counters, and two slots
 abbrev pub sizes : Geometry
 sizes = record { logical = 1000; slabs = 1; slab_blocks = 1000; journal = 8; index = 16; slab_journal = 2; height = 2; nonce = 1 }
-
-abbrev pub entry : ℕ → ℕ → SlabEntry
-entry point offset = record { point = record { 0 = point }; offset = offset }
 
 abbrev pub first : SlabEntry
 first = entry 512 3

@@ -5,6 +5,7 @@ use Rattle.blk_base.specs.Sectors.{zero_block}
 use Rattle.blk_base.specs.declared.geometry.Geometry.{Geometry}
 use Rattle.blk_base.specs.declared.journal_entry.Update.{Update}
 use Rattle.blk_base.specs.declared.point.Point.{Point}
+use Rattle.blk_base.specs.Forms.{pbn}
 use Rattle.byte_fields.specs.Fields.{number_at}
 use Rattle.disk_model.specs.declared.call.Call.{Call}
 use Rattle.disk_model.specs.declared.call.Call.TheVariants.{Read}
@@ -12,7 +13,7 @@ use Rattle.disk_model.specs.Log.{Blocks}
 use Rattle.disk_model.specs.Seen.{Seen}
 use Rattle.image_layout.specs.declared.fault.SuperFault.TheVariants.{NotAnImage}
 use Rattle.image_model.proofs.CountLaws.{none_in_nothing}
-use Rattle.image_model.proofs.Example.{pbn, small}
+use Rattle.image_model.proofs.Example.{small}
 use Rattle.image_model.specs.declared.fault.ImageFault.TheVariants.{Super, Window, Counter, Counts, Device, Unclean, Memory}
 use Rattle.image_model.proofs.ReadExample.{seen, failed, next_failed, zeros_given}
 use Rattle.slab_codec.specs.declared.forms.SlabEntry.{SlabEntry}
@@ -22,7 +23,7 @@ use Rattle.slab_reading.specs.Slabs.{IsOf, blocks_per_slab, counter_in, first_of
 use Rattle.count_updates.specs.FoundLists.{found_lists}
 
 -- The five blocks of a slab are read.
-abbrev zero_slab : Blocks
+abbrev pub zero_slab : Blocks
 zero_slab = replicate 5 zero_block
 
 slab_read : (honest : Bool) → IsSlabRead false honest small 0 seen seen zero_slab

@@ -4,7 +4,8 @@ use Rattle.std.specs.Prelude.{ℕ, ◌≡◌, true, false, [], ◌∷◌, length
 use Rattle.std.proofs.Common.{sym, ap, subst, arith, refl}
 use Rattle.std.proofs.lemmas.Option.{none-some}
 use Rattle.blk_base.specs.declared.place.Pbn.{Pbn}
-use Rattle.blk_base.specs.declared.request.Writer.{Writer}
+use Rattle.blk_base.specs.Forms.{pbn as at}
+use Rattle.blk_base.proofs.Example.{asker}
 use Rattle.slab_counts.specs.declared.tickets.Ticket.{Ticket}
 use Rattle.slab_counts.specs.declared.tickets.Receipt.{Receipt}
 use Rattle.slab_tickets.specs.declared.forms.Waiting.{Waiting}
@@ -13,12 +14,6 @@ use Rattle.slab_tickets.specs.declared.forms.Withdrawn.TheVariants.{Block, Nothi
 use Rattle.slab_tickets.specs.Operations.{Begins, Does, Given, Issued, LeadTo, Withdrawn'}
 use Rattle.slab_tickets.specs.Numbers.{AreRising}
 use Rattle.slab_tickets.specs.Tickets.{Desk, begun, empty_desk, worth_of}
-
-abbrev asker : Writer
-asker = record { stream = 1; number = 7 }
-
-abbrev at : ℕ → Pbn
-at n = record { 0 = n }
 
 -- a ticket of this number, that asked in step 9
 abbrev one : ℕ → Option Pbn → Waiting

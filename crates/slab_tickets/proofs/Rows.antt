@@ -4,7 +4,8 @@ use Rattle.std.specs.List.{remove}
 use Rattle.std.proofs.Common.{◌≢◌, sym, ◌∙◌, ap, arith, refl, get_or, set, get_or-set_other}
 use Rattle.std.proofs.lemmas.Bool.{false≢true}
 use Rattle.blk_base.specs.declared.place.Pbn.{Pbn}
-use Rattle.blk_base.specs.declared.request.Writer.{Writer}
+use Rattle.blk_base.specs.Forms.{pbn as at}
+use Rattle.blk_base.proofs.Example.{asker}
 use Rattle.slab_counts.specs.declared.tickets.Ticket.{Ticket}
 use Rattle.slab_counts.specs.declared.tickets.Receipt.{Receipt}
 use Rattle.slab_tickets.specs.declared.forms.Waiting.{Waiting}
@@ -12,12 +13,6 @@ use Rattle.slab_tickets.specs.declared.forms.Withdrawn.{Withdrawn}
 use Rattle.slab_tickets.specs.declared.forms.Withdrawn.TheVariants.{Block, Nothing}
 use Rattle.slab_tickets.specs.Tickets.{Desk, IsNow, IsBelow, IsNext, NoneWaits, HasRoom, Issues, Gives, Withdraws, IsOutAt, is_served, begun, worth}
 use Rattle.slab_tickets.specs.Operations.{Operation, Begins, Issued, IsRight, last_free_of, step_of}
-
-abbrev asker : Writer
-asker = record { stream = 1; number = 7 }
-
-abbrev at : ℕ → Pbn
-at n = record { 0 = n }
 
 -- a ticket of this number, that asked in this step
 abbrev one : ℕ → ℕ → Option Pbn → Waiting

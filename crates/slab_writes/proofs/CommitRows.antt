@@ -5,6 +5,7 @@ use Rattle.std.proofs.lemmas.List.{length-append, length-take, length-replicate}
 use Rattle.blk_base.specs.Sectors.{sector}
 use Rattle.blk_base.specs.declared.geometry.Geometry.{Geometry}
 use Rattle.blk_base.specs.declared.point.Point.{Point}
+use Rattle.blk_base.specs.Forms.{point as p}
 use Rattle.reference_blocks.specs.References.{eight, point_at, sector_at, sectors_of}
 use Rattle.slab_codec.specs.Reference.{reference_bytes, reference_sector_bytes}
 use Rattle.slab_codec.specs.declared.forms.ReferenceSector.{ReferenceSector}
@@ -56,9 +57,6 @@ module _ (g : Geometry) (bytes : List ℕ) (n : ℕ) where
 
 abbrev sizes : Geometry
 sizes = record { logical = 1000; slabs = 1; slab_blocks = 16; journal = 8; index = 16; slab_journal = 2; height = 2; nonce = 1 }
-
-abbrev p : ℕ → Point
-p n = record { 0 = n }
 
 module _ (counters : List ℕ) where
   -- a block whose only sector has the commit point 512, and a later one with 514

@@ -1,15 +1,17 @@
 -- What a call does, which block is due, and what is true at every moment: for each clause a case that it accepts, and one
 -- that breaks it alone.
-use Rattle.std.specs.Prelude.{ℕ, zero, suc, ◌≡◌, ◌<◌, ◌-◌, ◌≤◌, List, [], ◌∷◌, ◌++◌, length, replicate, Option, None, Some}
+use Rattle.std.specs.Prelude.{ℕ, zero, suc, ◌≡◌, ◌<◌, ◌-◌, ◌≤◌, List, [], ◌∷◌, ◌++◌, length, replicate}
 use Rattle.std.proofs.Common.{ap, sym, arith, inl, inr, refl}
 use Rattle.std.proofs.lemmas.Option.{none-some}
 use Rattle.blk_base.specs.Limits.{IsGeometry}
 use Rattle.blk_base.specs.declared.geometry.Geometry.{Geometry}
 use Rattle.blk_base.specs.declared.point.Point.{Point}
+use Rattle.blk_base.specs.Forms.{point as p}
+use Rattle.blk_base.proofs.Example.{number_of_point, small_with_is}
 use Rattle.dirty_pages.specs.DirtyPoints.{IsDue, clean, dirty_points_at}
 use Rattle.reference_blocks.specs.References.{HandsOutBlock, References, point_at, sectors_of}
-use Rattle.reference_blocks.proofs.Rows.{entry}
 use Rattle.slab_codec.specs.Reference.{reference_bytes}
+use Rattle.slab_codec.specs.Updates.{slab_entry as entry}
 use Rattle.slab_journal.specs.Slab.{Seals, Slab}
 use Rattle.slab_writes.specs.Operations.{Does, JournalDurable, JournalOut, LeadTo, ReferenceDurable, ReferenceOut, Taken}
 use Rattle.slab_writes.specs.Due.{IsDue as IsBlockDue, WantsJournal}
@@ -17,7 +19,7 @@ use Rattle.slab_writes.specs.Writes.{IsKept, IsOut, Settles, SettlesReference, W
 use Rattle.slab_writes.specs.declared.forms.Need.TheVariants.{Full, Head, All}
 use Rattle.slab_writes.specs.declared.forms.SlabPart.TheVariants as part
 use Rattle.slab_writes.specs.declared.forms.SlabWork.{SlabWork}
-use Rattle.slab_writes.proofs.Rows.{block_one, first, journal_work, may, no_reference_for_what_can_be_written, one_bytes, one_waits, out, p, reference_work, sealed, settled, settles_reference, sizes, waits, writes_journal}
+use Rattle.slab_writes.proofs.Rows.{block_one, first, journal_work, may, no_reference_for_what_can_be_written, one_bytes, one_waits, out, reference_work, sealed, settled, settles_reference, sizes, waits, writes_journal}
 
 -- opening: the second slab has its own commit points
 opens_first : first.blocks ≡ record { geometry = sizes; applied = p 7 ∷ []; handed = p 7 ∷ []; blocks = clean ∷ [] }
@@ -62,13 +64,8 @@ hands_out_both is = none-some (p 512) (sym (ap (λ (w : Writes). (dirty_points_a
 abbrev bytes_of : List ℕ → List ℕ
 bytes_of counters = reference_bytes (sectors_of sizes (p 512 ∷ []) counters 0)
 
-value : Option Point → ℕ
-value None = 0
-value (Some q) = q.0
-
 from_512_on : (block : ℕ) (point : Point) → IsDue (dirty_points_at waits.blocks.blocks block) point → 512 ≤ point.0
-unfolding value
-from_512_on zero point due = omega (arith, ap value due.dirty)
+from_512_on zero point due = omega (arith, ap number_of_point due.dirty)
 from_512_on (suc block) point due = absurd (none-some point due.dirty)
 
 hands_out : (counters : List ℕ) → HandsOutBlock waits.blocks out.blocks counters (bytes_of counters) 0
@@ -207,16 +204,7 @@ another_number_settles is = let no : 2 ≡ 3 = ap (λ (w : Writes). w.journal.du
 
 -- IsKept
 sizes_are : IsGeometry sizes
-sizes_are = record {
-  height = (omega arith, omega arith);
-  nonce = omega arith;
-  logical = (omega arith, omega arith);
-  slabs = (omega arith, omega arith);
-  slab_blocks = (omega arith, omega arith);
-  journal = (omega arith, omega arith);
-  index = (omega arith, omega arith, refl);
-  slab_journal = (omega arith, omega arith);
-}
+sizes_are = small_with_is 16 2 (omega arith) (omega arith) (omega arith) (omega arith)
 
 kept : IsKept sizes 0 waits
 kept = record { sizes = sizes_are; inside = omega arith; journal = (refl, refl); commits = refl; blocks = refl; applied = refl; dirty_points = refl }

@@ -6,12 +6,13 @@ use Rattle.std.proofs.lemmas.List.{get_or_past}
 use Rattle.std.proofs.lemmas.List.Elements.{All-nil}
 use Rattle.blk_base.specs.declared.geometry.Geometry.{Geometry}
 use Rattle.blk_base.specs.declared.point.Point.{Point}
+use Rattle.blk_base.specs.Forms.{point as p}
 use Rattle.dirty_pages.specs.DirtyPoints.{clean, dirty_points_at}
 use Rattle.reference_blocks.specs.References.{References, HandsOutBlock}
-use Rattle.reference_blocks.proofs.Rows.{entry}
 use Rattle.slab_codec.specs.BlockBytes.{block_bytes}
 use Rattle.slab_codec.specs.declared.forms.SlabEntry.{SlabEntry}
 use Rattle.slab_codec.specs.declared.forms.SlabJournalBlock.{SlabJournalBlock}
+use Rattle.slab_codec.specs.Updates.{slab_entry as entry}
 use Rattle.slab_journal.specs.Slab.{Slab, IsCovered, MayOverwrite}
 use Rattle.slab_writes.specs.Writes.{Writes, IsOutAs, Raises, SettlesAs, opening, taken}
 use Rattle.slab_writes.specs.Due.{NoneDue, Wants, WantsJournal, WantsReference, WritesJournal, WritesReference}
@@ -23,9 +24,6 @@ use Rattle.slab_writes.specs.declared.forms.SlabWork.{SlabWork}
 -- a slab of 16 data blocks from block 85 on, a reference block at 101, and a journal of two slots from block 102 on
 abbrev pub sizes : Geometry
 sizes = record { logical = 1000; slabs = 1; slab_blocks = 16; journal = 8; index = 16; slab_journal = 2; height = 2; nonce = 1 }
-
-abbrev pub p : ℕ → Point
-p n = record { 0 = n }
 
 -- the image has commit point 7; nothing is to be written
 abbrev pub first : Writes

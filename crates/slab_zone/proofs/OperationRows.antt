@@ -7,6 +7,7 @@ use Rattle.blk_base.specs.declared.opened.Opened.{Opened}
 use Rattle.blk_base.specs.declared.point.Half.TheVariants.{Decrement}
 use Rattle.blk_base.specs.declared.point.Point.{Point}
 use Rattle.blk_base.specs.declared.geometry.Geometry.{Geometry}
+use Rattle.blk_base.specs.Forms.{point as p, pbn as at}
 use Rattle.slab_codec.specs.declared.forms.SlabEntry.{SlabEntry}
 use Rattle.slab_journal.specs.Unsettled.{IsLowPoint, IsUnsettled}
 use Rattle.slab_writes.specs.Operations as writes
@@ -22,7 +23,6 @@ use Rattle.slab_zone.proofs.Rows.{
   after,
   are_opened,
   as_opened,
-  at,
   both,
   commits,
   does_not_rise,
@@ -32,7 +32,6 @@ use Rattle.slab_zone.proofs.Rows.{
   of_zone_one,
   opened,
   out,
-  p,
   rises,
   sizes,
   slab,

@@ -6,9 +6,9 @@ use Rattle.std.proofs.lemmas.List.{length-replicate}
 use Rattle.blk_base.specs.declared.geometry.Geometry.{Geometry}
 use Rattle.blk_base.specs.declared.journal_entry.Update.{Update}
 use Rattle.blk_base.specs.declared.opened.Opened.{Opened}
-use Rattle.blk_base.specs.declared.place.Pbn.{Pbn}
 use Rattle.blk_base.specs.declared.point.Half.TheVariants.{Decrement}
 use Rattle.blk_base.specs.declared.point.Point.{Point}
+use Rattle.blk_base.specs.Forms.{point as p, pbn as at}
 use Rattle.slab_codec.specs.declared.forms.SlabEntry.{SlabEntry}
 use Rattle.slab_counts.specs.Counts.{Counts}
 use Rattle.slab_journal.specs.Unsettled.{IsLowPoint, IsUnsettled}
@@ -29,12 +29,6 @@ use Rattle.slab_zone.specs.Operations.{Operation, Counted, Taken, Written, Takes
 -- four slabs of 16 data blocks each, which begin at 85, 104, 123 and 142; the second of two zones has 104 and 142
 abbrev pub sizes : Geometry
 sizes = record { logical = 1000; slabs = 4; slab_blocks = 16; journal = 8; index = 16; slab_journal = 2; height = 2; nonce = 1 }
-
-abbrev pub p : ℕ → Point
-p n = record { 0 = n }
-
-abbrev pub at : ℕ → Pbn
-at n = record { 0 = n }
 
 -- the image has commit point 7 for each slab
 abbrev pub commits : List Point

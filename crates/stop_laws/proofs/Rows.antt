@@ -2,7 +2,7 @@
 use Rattle.std.specs.Prelude.{ℕ, ◌≡◌, true, false, [], ◌∷◌, length, refl}
 use Rattle.std.proofs.Common.{arith}
 use Rattle.blk_base.specs.declared.geometry.Geometry.{Geometry}
-use Rattle.blk_base.specs.declared.place.Pbn.{Pbn}
+use Rattle.blk_base.specs.Forms.{pbn as at}
 use Rattle.disk_model.specs.declared.call.Call.TheVariants.{Read, Write, Flush}
 use Rattle.disk_model.specs.Log.{Blocks}
 use Rattle.vdo_model.specs.declared.report.HistoryEntry.{HistoryEntry}
@@ -40,9 +40,6 @@ none_lasts = refl
 -- each content has it: what was there, and what was written since the last flush
 abbrev there : Blocks
 there = (7 ∷ []) ∷ []
-
-abbrev at : ℕ → Pbn
-at number = record { 0 = number }
 
 both_have_it : Surely there (Write (at 0) (8 ∷ []) true ∷ []) 0 (λ content. length content ≡ 1)
 both_have_it = (refl, (refl, tt))

@@ -5,12 +5,13 @@ use Rattle.std.proofs.Common.{Bor, sym, ◌∙◌, ap, subst, arith, inl, inr}
 use Rattle.std.proofs.lemmas.Bool.{cases_Bool}
 use Rattle.std.proofs.lemmas.Bool.Decides.{eqb_tells, nat_tests}
 use Rattle.std.proofs.lemmas.List.{append_assoc, append-nil, length-replicate, take_all, take-replicate}
+use Rattle.blk_base.specs.Sectors.{filled_block}
 use Rattle.hex.specs.Hex.{decode_sized}
 use Rattle.stream_text.specs.Runs.{Run}
 use Rattle.stream_text.specs.LineFaults.{rank, first_of, both}
 use Rattle.stream_text.specs.LineWords.{block_of_bytes, first_byte, run_number, run_of, run_of_pieces, run_of_part, run_before, bytes_of_parts}
 use Rattle.stream_text.specs.PlainRuns.{BeginsWith}
-use Rattle.stream_text.specs.RunParts.{behind, block_of_byte, bytes_of_run, HoldsBytes, IsOfByte, run_said}
+use Rattle.stream_text.specs.RunParts.{behind, bytes_of_run, HoldsBytes, IsOfByte, run_said}
 use Rattle.stream_text.specs.declared.blocks.PlainRun.{PlainRun}
 use Rattle.stream_text.specs.declared.refusal.LineFault.{LineFault}
 use Rattle.stream_text.specs.declared.refusal.LineFault.TheVariants.{Word}
@@ -116,11 +117,11 @@ filled-last all rest part filled now block after run so parts is steps =
     subst (λ (bytes : Result (List ℕ) LineFault). HoldsBytes bytes now after) (sym same) (steps so.before so.held)
 
 -- the bytes of the first run, which stand in a block of its byte
-part_of_byte : (n byte : ℕ) → n ≤ 4096 → take n (block_of_byte byte) ≡ replicate n byte
-unfolding block_of_byte
+part_of_byte : (n byte : ℕ) → n ≤ 4096 → take n (filled_block byte) ≡ replicate n byte
+unfolding filled_block
 part_of_byte n byte small = take-replicate n 4096 byte small
 
-first_held : (run : Run) (filled : ℕ) (block : List ℕ) → filled ≡ min run.count 4097 → block ≡ block_of_byte run.byte → HoldsBytes (bytes_of_run (Ok run)) (Ok filled) block
+first_held : (run : Run) (filled : ℕ) (block : List ℕ) → filled ≡ min run.count 4097 → block ≡ filled_block run.byte → HoldsBytes (bytes_of_run (Ok run)) (Ok filled) block
 first_held run filled block count made = (
   count ∙ ap (λ (n : ℕ). min n 4097) (sym (length-replicate run.count run.byte)),
   λ small. let all : filled ≡ run.count = omega (arith, count, small) in

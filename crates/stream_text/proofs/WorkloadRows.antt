@@ -1,8 +1,9 @@
 -- The requests of a seed: for each rule a number or a request that it gives.
 use Rattle.std.specs.Prelude.{◌≡◌, false, [], ◌∷◌, replicate, refl}
 use Rattle.blk_base.specs.declared.request.Request.TheVariants.{Read, Write, Discard, Flush}
+use Rattle.blk_base.specs.Sectors.{filled_block}
 use Rattle.disk_model.specs.Numbers.{next_state, number_in}
-use Rattle.stream_text.specs.Workloads.{filled_block, drawn_write, drawn_kind, drawn_block, drawn_request, state_before, workload_of}
+use Rattle.stream_text.specs.Workloads.{drawn_write, drawn_kind, drawn_block, drawn_request, state_before, workload_of}
 
 -- the block's byte is below 32
 pub write_drawn : drawn_write 9 0 ≡ record { state = 1442695040888963407; request = Write (record { 0 = 9 }) (filled_block 31) false }

@@ -1,5 +1,6 @@
 -- The bytes of a block that is filled run by run.
 use Rattle.std.specs.Prelude.{ℕ, ◌≡◌, ◌≤◌, List, ◌++◌, length, take, replicate, min, Result, Ok, Err}
+use Rattle.blk_base.specs.Sectors.{filled_block}
 use Rattle.stream_text.specs.LineFaults.{first_of}
 use Rattle.stream_text.specs.Runs.{Run}
 use Rattle.stream_text.specs.declared.refusal.LineFault.{LineFault}
@@ -29,11 +30,7 @@ HoldsBytes (Err fault) (Err named) block = fault ≡ named
 HoldsBytes (Ok bytes) (Err named) block = ⊥
 HoldsBytes (Err fault) (Ok filled) block = ⊥
 
--- a block of this byte alone
-unfoldable pub block_of_byte : ℕ → List ℕ
-block_of_byte byte = replicate 4096 byte
-
 -- one of the byte of this run; where the run has a fault, any block
 abbrev pub IsOfByte : Result PlainRun LineFault → List ℕ → Type 0
-IsOfByte (Ok run) block = block ≡ block_of_byte run.byte
+IsOfByte (Ok run) block = block ≡ filled_block run.byte
 IsOfByte (Err fault) block = Unit {0}

@@ -5,12 +5,12 @@ use Rattle.blk_base.specs.declared.request.Request.TheVariants.{Read, Write, Dis
 use Rattle.blk_base.specs.declared.request.Answer.{Answer as Reply}
 use Rattle.blk_base.specs.declared.request.Answer.TheVariants.{Ok, Bytes, Range, NoSpace, Full, ReadFault, Stopped, Damaged}
 use Rattle.blk_base.specs.declared.request.Writer.{Writer}
+pub use Rattle.blk_base.specs.Forms.{writer}
 use Rattle.vdo_model.specs.declared.report.DeskLine.{DeskLine}
 use Rattle.vdo_model.specs.declared.report.Placed.{Placed}
 use Rattle.vdo_model.specs.Scripts.{Script, stream_of}
 use Rattle.vdo_model.specs.DeskLog.{answer_of}
 use Rattle.vdo_model.specs.Places.{place_of}
-pub use Rattle.answer_notes.specs.Notes.{writer}
 use Rattle.stream_text.specs.Runs.{runs_of, runs_text}
 
 -- what was asked for

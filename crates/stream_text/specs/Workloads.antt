@@ -1,14 +1,11 @@
 -- The requests of a seed, made of the row of numbers that begins with it.
-use Rattle.std.specs.Prelude.{ℕ, zero, suc, ◌%◌, ◌==◌, ◌&&◌, nat_lt, false, List, [], ◌∷◌, replicate, if◌then◌else◌}
+use Rattle.std.specs.Prelude.{ℕ, zero, suc, ◌%◌, ◌==◌, ◌&&◌, nat_lt, false, [], ◌∷◌, if◌then◌else◌}
 use Rattle.blk_base.specs.declared.request.Request.TheVariants.{Read, Write, Discard, Flush}
+use Rattle.blk_base.specs.Sectors.{filled_block}
 use Rattle.disk_model.specs.Numbers.{next_state, number_in}
 use Rattle.vdo_model.specs.Scripts.{Script}
 use Rattle.stream_text.specs.declared.random_requests.Drawn.{Drawn}
 use Rattle.stream_text.specs.StreamRequests.{no_requests, with_requests}
-
--- the block that a byte fills
-unfoldable pub filled_block : ℕ → List ℕ
-filled_block byte = replicate 4096 byte
 
 -- a write of a block of one byte, which is drawn last
 abbrev pub drawn_write : ℕ → ℕ → Drawn

@@ -1,11 +1,12 @@
 ghost use Rattle.std.specs.Prelude.{ℕ, ◌≡◌, ◌<◌, ◌≤◌, ◌+◌, ◌==◌, ◌++◌, ◌∷◌, [], List, Result, IfOk, IfSome, MatchOption, length, take, replicate, min};
 ghost use Rattle.std.specs.Bool.{OnFalse, OnTrue};
 ghost use Rattle.std.specs.List.{slice_split};
+ghost use Rattle.blk_base.specs.Sectors.{filled_block};
 ghost use Rattle.stream_text.specs.declared.refusal.LineFault.{LineFault as Fault};
 ghost use Rattle.hex.specs.Hex.{decode_sized};
 ghost use Rattle.stream_text.specs.LineWords.{first_byte, run_of_pieces, run_of_part, block_of_bytes, bytes_of_parts, block_of_word};
 ghost use Rattle.stream_text.specs.PlainRuns.{BeginsPlainly, BeginsWith, EndsPlainly, IsNoSign};
-ghost use Rattle.stream_text.specs.RunParts.{run_said, behind, block_of_byte, bytes_of_run, HoldsBytes, IsOfByte};
+ghost use Rattle.stream_text.specs.RunParts.{run_said, behind, bytes_of_run, HoldsBytes, IsOfByte};
 
 use crate::cuts::cut_near;
 use crate::numbers::{both, number_within};
@@ -171,9 +172,9 @@ fn fill(block: &mut [u8], filled: Result<usize, LineFault>, word: &[u8]) -> Resu
 }
 
 // A block of this byte alone.
-#[tactic(auto, unfolding(crate::specs::RunParts::block_of_byte))]
+#[tactic(auto, unfolding(blk_base::specs::Sectors::filled_block))]
 fn of_byte(byte: u8) -> Block
-    ensures { result ≡ block_of_byte byte }
+    ensures { result ≡ filled_block byte }
 {
     Block {
         bytes: [byte; 4096],

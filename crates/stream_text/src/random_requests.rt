@@ -1,5 +1,6 @@
 ghost use Rattle.std.specs.Prelude.{◌≡◌, ◌<◌, ◌≤◌, IfOk};
-ghost use Rattle.stream_text.specs.Workloads.{filled_block, drawn_block, drawn_kind, drawn_request, workload_of};
+ghost use Rattle.blk_base.specs.Sectors.{filled_block};
+ghost use Rattle.stream_text.specs.Workloads.{drawn_block, drawn_kind, drawn_request, workload_of};
 
 use crate::streams::Streams;
 use blk_base::{Block, BoxedBlock, Lba, Request};
@@ -15,7 +16,7 @@ pub struct Drawn {
 }
 
 // The block that a byte fills.
-#[tactic(auto, unfolding(crate::specs::Workloads::filled_block))]
+#[tactic(auto, unfolding(blk_base::specs::Sectors::filled_block))]
 fn filled(byte: u8) -> Block
     ensures { result ≡ filled_block byte }
 {

@@ -1,9 +1,10 @@
 -- For each clause on names, records and chapters, a case that it accepts, and one that breaks it alone.
-use Rattle.std.specs.Prelude.{ℕ, zero, suc, ◌≡◌, ◌≢◌, ◌<◌, ◌≤◌, Bool, false, List, [], ◌∷◌, length, Option, Some, None, refl}
+use Rattle.std.specs.Prelude.{ℕ, zero, suc, ◌≡◌, ◌≢◌, ◌<◌, ◌≤◌, Bool, false, List, [], ◌∷◌, length, Some, None, refl}
 use Rattle.std.proofs.Common.{ap, arith, get_or, length-take, length-drop, Less, Equal}
 use Rattle.std.proofs.lemmas.List.Elements.{All-cons}
 use Rattle.std.proofs.lemmas.List.Kept.{AllPairs-cons}
-use Rattle.blk_base.specs.declared.place.Pbn.{Pbn}
+use Rattle.blk_base.specs.Forms.{pbn as at}
+use Rattle.blk_base.proofs.Example.{number_of_block}
 use Rattle.uds_chapters.specs.declared.entry.Record.{Record}
 use Rattle.uds_chapters.specs.declared.added.Added.TheVariants.{New, Replaced, Full}
 use Rattle.uds_chapters.specs.declared.found.PageFind.TheVariants.{At, Before, After, Absent, NotAPage}
@@ -14,14 +15,7 @@ use Rattle.uds_chapters.specs.Places.{IsPlaceOf, IsGapFor}
 use Rattle.uds_chapters.proofs.RecordLaws.{any_at}
 use Rattle.uds_chapters.proofs.PageRows.{unequal}
 
--- a block, and a record of a name of one byte
-abbrev at : ℕ → Pbn
-at block = record { 0 = block }
-
-abbrev block_in : Option Pbn → ℕ
-block_in None = 0
-block_in (Some place) = place.0
-
+-- a record of a name of one byte
 abbrev one : ℕ → ℕ → Record
 one byte block = record { name = byte ∷ []; at = at block }
 
@@ -109,7 +103,7 @@ not_replaced_where_it_isn't : ¬ Adds two (one 3 87 ∷ one 5 90 ∷ one 7 88 �
 not_replaced_where_it_isn't = λ adds. let there = adds.0 in cc
 
 older_not_kept : ¬ Adds two two (one 3 90) Replaced
-older_not_kept = λ adds. unequal 87 90 (ap (λ records. block_in (location_of (3 ∷ []) records)) adds.1) (omega arith)
+older_not_kept = λ adds. unequal 87 90 (ap (λ records. number_of_block (location_of (3 ∷ []) records)) adds.1) (omega arith)
 
 -- adding one to a full chapter
 full : (old : List Record) → location_of (5 ∷ []) old ≡ None → length old ≡ 680 → Adds old old (one 5 90) Full
@@ -142,7 +136,7 @@ says_at : Says two (7 ∷ []) (At (at 88))
 says_at = refl
 
 not_at_another : ¬ Says two (7 ∷ []) (At (at 87))
-not_at_another = λ says. unequal 88 87 (ap block_in says) (omega arith)
+not_at_another = λ says. unequal 88 87 (ap number_of_block says) (omega arith)
 
 says_before : Says two (1 ∷ []) Before
 says_before = All-cons (IsOver (1 ∷ [])) (one 3 87) (one 7 88 ∷ []) refl (All-cons (IsOver (1 ∷ [])) (one 7 88) [] refl (λ k d inside. absurd (omega arith)))

@@ -6,6 +6,7 @@ use Rattle.std.proofs.lemmas.List.Elements.{All-cons, All-contains, All-nil, All
 use Rattle.std.proofs.lemmas.List.{get_or-replicate, length-replicate}
 use Rattle.std.proofs.lemmas.Option.{none-some}
 use Rattle.blk_base.specs.declared.place.Pbn.{Pbn}
+use Rattle.blk_base.specs.Forms.{pbn as at}
 use Rattle.byte_fields.specs.Fields.{number_at}
 use Rattle.uds_chapters.specs.declared.entry.Record.{Record}
 use Rattle.uds_chapters.specs.Chapters.{Numbered}
@@ -19,7 +20,7 @@ use Rattle.uds_index.specs.Places.{IsKept}
 use Rattle.uds_index.specs.Rooms.{FewAtPlaces, place_of_chapter, place_of_page}
 use Rattle.uds_index.proofs.AskRows.{nothing_known, region}
 use Rattle.uds_index.proofs.RoomLaws.{count_few}
-use Rattle.uds_index.proofs.LookRows.{asked_for, at, book_with, chapter, given_with, index_with, learnt_book, name, page}
+use Rattle.uds_index.proofs.LookRows.{asked_for, book_with, chapter, given_with, index_with, learnt_book, name, page}
 
 -- a chapter of one name, which has a location; the tags of `name` and `other_name` are 7 and 8
 abbrev chapter_with : List ℕ → ℕ → Numbered

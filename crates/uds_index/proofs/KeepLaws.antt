@@ -6,16 +6,13 @@ use Rattle.std.proofs.lemmas.Bool.{false≢true, eqb-true, eqb-false, eq-eqb, ne
 use Rattle.std.proofs.lemmas.List.Elements.{All-head, All-tail, All-cons}
 use Rattle.std.proofs.lemmas.List.Folds.{list_any_none}
 use Rattle.std.proofs.lemmas.List.Kept.{AllPairs-cons}
+use Rattle.std.proofs.Math.Bool.{or-true}
 use Rattle.uds_chapters.specs.declared.entry.Record.{Record}
 use Rattle.uds_chapters.specs.Chapters.{Numbered}
 use Rattle.index_advice.specs.Orders.{IsNewer}
 use Rattle.uds_index.specs.Rooms.{count_at, place_of_chapter}
 use Rattle.uds_index.specs.Loads.{has_chapter}
 use Rattle.uds_index.specs.Held.{records_of, with_chapter, IsPlaceAmong, IsSmall, HasRecordsAt, IsJoined, KeepsPage}
-
-pub or-true : (b : Bool) → (b || true) ≡ true
-or-true true = refl
-or-true false = refl
 
 pub newer_head : (one : Numbered) (ones : List Numbered) → AllPairs IsNewer (one ∷ ones) → All (IsNewer one) ones
 newer_head one ones pairs = λ k d inside. pairs 0 (suc k) d (omega arith) (omega arith)

@@ -7,6 +7,7 @@ use Rattle.std.proofs.lemmas.Nat.{mod_below}
 use Rattle.std.proofs.lemmas.List.{append-nil}
 use Rattle.std.proofs.lemmas.List.Elements.{All-head, All-tail, All-cons, All-append, filter-append}
 use Rattle.std.proofs.lemmas.List.Folds.{list_any-append, list_any_none}
+use Rattle.std.proofs.Math.Bool.{or-true}
 use Rattle.blk_base.specs.declared.place.Pbn.{Pbn}
 use Rattle.blk_base.specs.declared.geometry.Geometry.{Geometry}
 use Rattle.blk_base.specs.Regions.{first_index_of}
@@ -26,7 +27,7 @@ use Rattle.uds_index.specs.declared.loader.LoadedPage.{LoadedPage}
 use Rattle.uds_index.specs.Held.{loaded_page, IsPageRead, records_of, with_chapter, IsJoined, KeepsPage, IsSmall, IsLoading}
 use Rattle.uds_index.proofs.RoomLaws.{few_in_all, one_at_most}
 use Rattle.uds_index.proofs.AddLaws.{or_none, or_assoc}
-use Rattle.uds_index.proofs.KeepLaws.{or-true, all_with, newest_with, count_with, has_with, has_new, none_there, small_records}
+use Rattle.uds_index.proofs.KeepLaws.{all_with, newest_with, count_with, has_with, has_new, none_there, small_records}
 
 -- what is found on pages
 

@@ -2,7 +2,7 @@
 use Rattle.std.specs.Prelude.{ℕ, ◌≡◌, Bool, true, false, List, [], ◌∷◌, length, Contains, slice_index_or, Option, None, Some, refl}
 use Rattle.std.proofs.Common.{sym, ap, subst, arith, inl, inr}
 use Rattle.std.proofs.lemmas.Bool.{false≢true}
-use Rattle.blk_base.specs.declared.place.Pbn.{Pbn}
+use Rattle.blk_base.specs.Forms.{pbn as at}
 use Rattle.uds_chapters.specs.Chapters.{Numbered}
 use Rattle.index_advice.specs.Books.{Book, DuePage}
 use Rattle.index_advice.specs.declared.look.Look.TheVariants.{Known, Nothing, Read}
@@ -70,9 +70,6 @@ too_many_pages : (first : ℕ) (kept : List Numbered) → ¬ IsKept (book_with f
 too_many_pages first kept = λ is. let few = is.pages 0 in omega (arith, few)
 
 -- what a look answers
-
-abbrev pub at : ℕ → Pbn
-at block = record { 0 = block }
 
 abbrev pub name : List ℕ
 name = 7 ∷ 0 ∷ 0 ∷ 0 ∷ []

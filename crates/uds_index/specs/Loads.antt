@@ -14,9 +14,8 @@ use Rattle.index_advice.specs.Books.{Book}
 use Rattle.index_advice.specs.Orders.{IsNewer, IsChapter}
 
 -- a page that was loaded: its chapter's number, and its records
-pub record Loaded : Type 0 where
-  pub number : ℕ
-  pub records : List Record
+abbrev pub Loaded : Type 0
+Loaded = Numbered
 
 -- the block is a page of a chapter, and stands where the numbers of both say, as the index block with this number
 pub record Holds (nonce places block : ℕ) (bytes : List ℕ) (page : Loaded) : Type 0 where

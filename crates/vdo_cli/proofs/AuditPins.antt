@@ -5,10 +5,12 @@ use Rattle.audit.specs.Audits.{AuditFails, IsAudited}
 use Rattle.audit.specs.declared.forms.Report.{Report}
 use Rattle.blk_base.specs.declared.place.Pbn.{Pbn}
 use Rattle.blk_base.specs.declared.point.Point.{Point}
+use Rattle.blk_base.specs.Forms.{pbn as at}
 use Rattle.disk_model.specs.declared.call.Call.{Call}
 use Rattle.disk_model.specs.declared.call.Call.TheVariants.{Read, Write, Flush}
 use Rattle.disk_model.specs.Seen.{Seen}
 use Rattle.disk_model.specs.Since.{IsUntouched, OnlyReads}
+use Rattle.disk_model.proofs.StreamPins.{sink}
 use Rattle.image_layout.specs.declared.fault.SuperFault.TheVariants.{NotAnImage}
 use Rattle.image_model.specs.declared.fault.ImageFault.{ImageFault}
 use Rattle.image_model.specs.declared.fault.ImageFault.TheVariants as image
@@ -22,7 +24,7 @@ use Rattle.vdo_cli.specs.Outsides.{Outside, no_report, outcome, outside, trust}
 use Rattle.vdo_cli.specs.Results.{TellsResult}
 use Rattle.vdo_cli.specs.Texts.{fault_text}
 use Rattle.vdo_cli.proofs.CommandPins.{audit_words}
-use Rattle.vdo_cli.proofs.PlayPins.{device, at, bare, begins, no_image, source, sink, status_in}
+use Rattle.vdo_cli.proofs.PlayPins.{device, bare, begins, no_image, source, status_in}
 use Rattle.vdo_cli.proofs.ResultPins as pins
 use Rattle.vdo_cli.proofs.ResultPins.{Parts}
 use Rattle.vdo_cli.proofs.RunPins.{Ends, some_report}

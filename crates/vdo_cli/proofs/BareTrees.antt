@@ -11,6 +11,7 @@ use Rattle.blk_base.specs.declared.place.Mapping.{Mapping}
 use Rattle.blk_base.specs.declared.place.Mapping.TheVariants.{Unmapped}
 use Rattle.blk_base.specs.declared.place.PageId.{PageId}
 use Rattle.blk_base.specs.declared.place.Pbn.{Pbn}
+use Rattle.blk_base.proofs.Example.{blank}
 use Rattle.page_codec.specs.Grammar.{AreHeld}
 use Rattle.page_codec.proofs.HeldLaws.{held_unmapped}
 use Rattle.dirty_pages.specs.DirtyPoints.{HasPoint, clean}
@@ -19,21 +20,15 @@ use Rattle.dirty_pages.proofs.PageLists.{replicate_at}
 use Rattle.block_map_tree.proofs.PageLaws.{in_row, root_or_lower, row_lower, row_root}
 use Rattle.block_map_tree.specs.Pages.{IsForest, IsOnPath}
 use Rattle.block_map_tree.specs.Tree.{Tree, most_rows, row_of, trees_of}
-use Rattle.block_map_tree.specs.declared.forms.Forest.{Forest}
+use Rattle.block_map_tree.specs.OpenedTree.{all_trees}
 use Rattle.core_model.specs.PageLinks.{block_in}
 use Rattle.core_model.specs.PageTrees.{IsMapTree}
 
-abbrev forest : Geometry → Forest
-forest g = record { geometry = g; zone = 0; zones = 1 }
-
-abbrev blank : List Mapping
-blank = replicate 812 Unmapped
-
 abbrev count : Geometry → ℕ
-count g = most_rows g.height * trees_of (forest g)
+count g = most_rows g.height * trees_of (all_trees g)
 
 unfoldable pub bare : Geometry → Tree
-bare g = record { forest = forest g; pages = replicate (count g) blank; dirty_points = replicate (count g) clean }
+bare g = record { forest = all_trees g; pages = replicate (count g) blank; dirty_points = replicate (count g) clean }
 
 blank_slot : (n place slot : ℕ) → slice_index_or (slice_index_or (replicate n blank) place []) slot Unmapped ≡ Unmapped
 blank_slot n place slot = elim (leb_tells n place) [
@@ -42,13 +37,13 @@ blank_slot n place slot = elim (leb_tells n place) [
   | inr inside ↦ ap (λ (r : List Mapping). slice_index_or r slot Unmapped) (get_or-replicate n place blank [] inside.1) ∙ replicate_at 812 slot Unmapped
 ]
 
-few_rows : (g : Geometry) (page : PageId) → IsForest (forest g) → IsOnPath (forest g) page → 1 ≤ page.level → row_of (forest g) page < most_rows g.height
+few_rows : (g : Geometry) (page : PageId) → IsForest (all_trees g) → IsOnPath (all_trees g) page → 1 ≤ page.level → row_of (all_trees g) page < most_rows g.height
 few_rows g page is_forest on level =
     let heights = is_forest.sizes.height in
-    elim (root_or_lower (forest g) page is_forest on) [
-      | inl root ↦ let row = row_root (forest g) page root in omega (arith, row)
+    elim (root_or_lower (all_trees g) page is_forest on) [
+      | inl root ↦ let row = row_root (all_trees g) page root in omega (arith, row)
       | inr lower ↦
-          let row = row_lower (forest g) page lower in
+          let row = row_lower (all_trees g) page lower in
           let low = lower.level in
           let three : g.height ≡ 3 = omega (arith, level, low, heights) in
           let wide : page.index < 812 ^ 1 = subst (λ (n : ℕ). page.index < 812 ^ n) (let e : g.height - 1 - page.level ≡ 1 = omega (arith, level, low, three) in e) lower.index in
@@ -60,14 +55,14 @@ pub bare_is : (g : Geometry) (links : PageId → Option Pbn) → IsGeometry g �
 unfolding bare
 bare_is g links sizes unlinked =
     let n = count g in
-    let is_forest : IsForest (forest g) = record { sizes = sizes; zone = omega arith; zones = omega arith } in
+    let is_forest : IsForest (all_trees g) = record { sizes = sizes; zone = omega arith; zones = omega arith } in
     let wide : length (replicate n blank) ≡ n = length-replicate n blank in
     let marked : length (replicate n clean) ≡ n = length-replicate n clean in
     record {
       forest_is = refl;
       form = record {
         forest = is_forest;
-        room = λ page on level. let place = in_row (forest g) page (most_rows g.height) is_forest on.tree (few_rows g page is_forest on level) in omega (arith, place, wide);
+        room = λ page on level. let place = in_row (all_trees g) page (most_rows g.height) is_forest on.tree (few_rows g page is_forest on level) in omega (arith, place, wide);
         most = omega (arith, wide);
         held = All-replicate (AreHeld g 1) n blank (held_unmapped g 1);
         dirty_points = marked ∙ sym wide;

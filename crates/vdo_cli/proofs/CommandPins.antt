@@ -1,6 +1,6 @@
 -- Rows that pin which words are served, and as what, computed.
 use Rattle.std.proofs.Common.{ℕ, ◌≡◌, true, false, List, [], ◌∷◌, Some, None, codes, refl, arith}
-use Rattle.blk_base.specs.declared.geometry.Geometry.{Geometry}
+use Rattle.blk_base.proofs.Example.{small as default_sizes}
 use Rattle.vdo_words.specs.declared.commands.Command.TheVariants.{Crash as CrashCommand, Run}
 use Rattle.vdo_words.specs.declared.commands.Command.TheVariants.{Workload as WorkloadCommand}
 use Rattle.vdo_words.specs.declared.commands.CrashOptions.{CrashOptions}
@@ -8,15 +8,11 @@ use Rattle.vdo_words.specs.declared.commands.Command.TheVariants.{Audit as Audit
 use Rattle.vdo_words.specs.declared.commands.Command.TheVariants.{Format as FormatCommand}
 use Rattle.vdo_words.specs.declared.commands.FormatOptions.{FormatOptions}
 use Rattle.vdo_words.specs.declared.commands.GrowOptions.{GrowOptions}
-use Rattle.vdo_words.specs.declared.commands.CoreOptions.{CoreOptions}
 use Rattle.vdo_words.specs.declared.commands.WorkloadOptions.{WorkloadOptions}
 use Rattle.vdo_words.specs.declared.commands.Drive.TheVariants.{Schedule, Threads}
+use Rattle.vdo_words.proofs.CommandRows.{core}
 use Rattle.vdo_cli.specs.declared.words.Served.TheVariants.{Audit, Crash, ForceRebuild, Format, Grow, Recover, Script, Status, Workload}
 use Rattle.vdo_cli.specs.Commands.{IsServedWithin, IsWorkload, are_default, number_of, served_in, served_of, sizes_of}
-
--- the options of a core that has none
-abbrev core : CoreOptions
-core = record { depth = 1; logical_zones = 1; physical_zones = 1; hash_zones = 1; cache = 16 }
 
 -- are_default: each option counts
 default_core : are_default core ≡ true
@@ -124,9 +120,6 @@ run_by_8 = refl
 -- the default sizes where none is given, else those that are
 abbrev pub format_words : List (List ℕ)
 format_words = codes "format" ∷ []
-
-abbrev pub default_sizes : Geometry
-default_sizes = record { logical = 1000; slabs = 1; slab_blocks = 64; journal = 8; index = 16; slab_journal = 4; height = 2; nonce = 1 }
 
 pub format_by_default : served_of format_words ≡ Some (Format default_sizes)
 format_by_default = refl

@@ -1,6 +1,7 @@
 -- Rows that pin what a run does in which nothing failed (`NoneRose`, `NeedsNoFault`, `IsComplete`): for each some that it accepts, and
 -- some that break one part alone.
 use Rattle.std.proofs.Common.{◌≡◌, [], ◌∷◌, length, Some, None, refl, ap, inl, inr, arith}
+use Rattle.disk_model.proofs.StreamPins.{sink}
 use Rattle.blk_base.specs.declared.request.Answer.{Answer as Reply}
 use Rattle.blk_base.specs.declared.request.Answer.TheVariants as reply
 use Rattle.blk_base.specs.declared.request.Request.TheVariants as request
@@ -12,7 +13,7 @@ use Rattle.vdo_model.proofs.Example.{of_a}
 use Rattle.vdo_cli.specs.declared.fault.Fault.TheVariants as fault
 use Rattle.vdo_cli.specs.Complete.{IsComplete, NeedsNoFault, NoneRose}
 use Rattle.vdo_cli.specs.Outsides.{no_report, outcome, outside}
-use Rattle.vdo_cli.proofs.PlayPins.{device, sink, source}
+use Rattle.vdo_cli.proofs.PlayPins.{device, source}
 
 -- no count rose where all are as they were; each of the three is asked
 none-rose : NoneRose (outside (device [] [] 3 0) (source [] 2) (sink [] 1)) (outside (device [] [] 3 0) (source [] 2) (sink [] 1))

@@ -7,6 +7,7 @@ use Rattle.crash_images.specs.declared.shown.Shown.{Shown}
 use Rattle.disk_model.specs.Memory.{Memory}
 use Rattle.disk_model.specs.Seen.{Seen}
 use Rattle.disk_model.specs.Since.{IsUntouched}
+use Rattle.disk_model.proofs.StreamPins.{sink}
 use Rattle.image_layout.specs.declared.fault.LayoutFault.TheVariants.{TooLargeToCrash}
 use Rattle.image_layout.specs.declared.fault.SuperFault.TheVariants.{NotAnImage}
 use Rattle.image_model.specs.declared.fault.ImageFault.TheVariants as image
@@ -20,7 +21,7 @@ use Rattle.vdo_cli.specs.Outsides.{Outside, input_setting_of, inputs, no_report,
 use Rattle.vdo_cli.specs.Runs.{EndsSo}
 use Rattle.vdo_cli.specs.Texts.{fault_status, fault_text}
 use Rattle.vdo_cli.proofs.CommandPins.{crash_of, crash_words}
-use Rattle.vdo_cli.proofs.PlayPins.{sink, source, bare, begins, no_image}
+use Rattle.vdo_cli.proofs.PlayPins.{source, bare, begins, no_image}
 use Rattle.vdo_cli.proofs.ResultPins.{untouched}
 use Rattle.vdo_cli.proofs.RunPins.{Ends, telling}
 

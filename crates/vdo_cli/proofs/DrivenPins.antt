@@ -9,6 +9,7 @@ use Rattle.blk_base.specs.declared.request.Answer.{Answer as Reply}
 use Rattle.blk_base.specs.declared.request.Answer.TheVariants as reply
 use Rattle.blk_base.specs.declared.request.Request.TheVariants as request
 use Rattle.blk_base.specs.declared.request.Writer.{Writer}
+use Rattle.blk_base.specs.Forms.{lba as address}
 use Rattle.disk_model.specs.declared.call.Call.{Call}
 use Rattle.disk_model.specs.declared.call.Call.TheVariants.{Write, Flush}
 use Rattle.disk_model.specs.Log.{Blocks}
@@ -39,7 +40,7 @@ use Rattle.vdo_model.specs.declared.report.Damage.TheVariants.{Page, Stray}
 use Rattle.vdo_model.specs.declared.report.DeskLine.{DeskLine}
 use Rattle.vdo_model.specs.declared.report.DeskLine.TheVariants.{Begin, Answer}
 use Rattle.vdo_model.specs.declared.report.RunReport.{RunReport}
-use Rattle.vdo_model.proofs.Example.{address, of_a}
+use Rattle.vdo_model.proofs.Example.{of_a}
 use Rattle.zone_counts.specs.Zone.{Zone as Counters}
 use Rattle.vdo_cli.specs.Openings.{IsReady}
 use Rattle.vdo_cli.specs.Outsides.{trust}

@@ -1,6 +1,5 @@
 -- A run ends by what its fault says.
-use Rattle.std.proofs.Common.{ℕ, ◌≡◌, Bool, List, [], Option, Some, None, Result, Ok, Err, IfErr, inl, inr}
-use Rattle.std.specs.Result.{IsErrAnd}
+use Rattle.std.proofs.Common.{ℕ, ◌≡◌, Bool, List, [], Option, Some, None, Result, Ok, Err, inl, inr}
 use Rattle.blk_base.specs.declared.geometry.Geometry.{Geometry}
 use Rattle.disk_model.specs.Seen.{Seen}
 use Rattle.disk_model.specs.Streams.{Puts, SinkSeen}
@@ -91,8 +90,3 @@ pub tells_clean : (tells : Bool) (report : Report) (status : ℕ) (ended : Optio
 tells_clean tells report status None before after none told = (none, told)
 tells_clean tells report status (Some (fault.Differs count)) before after none told = absurd told
 tells_clean tells report status (Some other) before after none told = (none, told)
-
--- what holds of an error holds of it where it is passed on
-pub passed_on : {T E : Type 0} (result : Result T E) (P : E → Type 0) (why : E) → IsErrAnd result (λ e. e ≡ why) → P why → IfErr result P
-passed_on (Ok x) P why is holds = tt
-passed_on (Err e) P why is holds = rw is holds

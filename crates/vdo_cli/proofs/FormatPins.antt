@@ -1,11 +1,13 @@
 -- Rows that pin how the making of an image ends (`EndsSo` of the words `format`, its parts `MakesImage`, `IsMade`, `IsNotMade`): for
 -- each part some that it accepts, and some that break this part alone.
 use Rattle.std.proofs.Common.{ℕ, ◌≡◌, true, false, IsTrue, List, [], ◌∷◌, length, take, Option, Some, None, Result, Ok, Err, codes, refl, sym, ◌∙◌, ap, inl, inr, arith, length-append}
+use Rattle.blk_base.proofs.Example.{small as default_sizes}
 use Rattle.disk_model.specs.declared.call.Call.TheVariants.{Flush}
 use Rattle.disk_model.specs.Images.{HasOneImage}
 use Rattle.disk_model.specs.Log.{Blocks}
 use Rattle.disk_model.specs.Seen.{Seen, Stays}
 use Rattle.disk_model.specs.Streams.{SourceSeen}
+use Rattle.disk_model.proofs.StreamPins.{sink}
 use Rattle.image_format.specs.Formats.{LeavesEmpty, StopsAreRight}
 use Rattle.image_layout.specs.PossibleSizes.{plan_of}
 use Rattle.image_layout.specs.Superblock as superblock
@@ -18,8 +20,8 @@ use Rattle.vdo_cli.specs.declared.fault.Fault.TheVariants as fault
 use Rattle.vdo_cli.specs.NewImages.{MakingFails}
 use Rattle.vdo_cli.specs.Outsides.{Outside, no_report, outside}
 use Rattle.vdo_cli.specs.Texts.{fault_text}
-use Rattle.vdo_cli.proofs.CommandPins.{default_sizes, format_words}
-use Rattle.vdo_cli.proofs.PlayPins.{device, source, sink}
+use Rattle.vdo_cli.proofs.CommandPins.{format_words}
+use Rattle.vdo_cli.proofs.PlayPins.{device, source}
 use Rattle.vdo_cli.proofs.RunPins.{Ends, begins, some_report, with}
 
 -- the device of one block is too small

@@ -1,10 +1,10 @@
 -- Worked devices, sources, sinks and faults of the rows beside this file.
 use Rattle.std.proofs.Common.{ℕ, List, [], ◌∷◌, length, Option, Some, None}
-use Rattle.blk_base.specs.declared.place.Pbn.{Pbn}
 use Rattle.disk_model.specs.declared.call.Call.{Call}
 use Rattle.disk_model.specs.Log.{Blocks}
 use Rattle.disk_model.specs.Seen.{Seen}
-use Rattle.disk_model.specs.Streams.{SinkSeen, SourceSeen}
+use Rattle.disk_model.specs.Streams.{SourceSeen}
+use Rattle.disk_model.proofs.StreamPins.{sink}
 use Rattle.image_layout.specs.declared.fault.SuperFault.TheVariants.{NotAnImage}
 use Rattle.image_model.specs.declared.fault.ImageFault.TheVariants as image
 use Rattle.vdo_cli.specs.declared.fault.Fault.{Fault}
@@ -16,15 +16,9 @@ use Rattle.vdo_cli.specs.Texts.{fault_status}
 abbrev pub device : Blocks → List Call → ℕ → ℕ → Seen
 device opening log faults unkept = record { opening = opening; size = length opening; log = log; faults = faults; unkept = unkept }
 
-abbrev pub at : ℕ → Pbn
-at b = record { 0 = b }
-
 -- a source with these bytes left, and a sink with these bytes, that failed so often
 abbrev pub source : List ℕ → ℕ → SourceSeen
 source left faults = record { left = left; faults = faults }
-
-abbrev pub sink : List ℕ → ℕ → SinkSeen
-sink held faults = record { held = held; faults = faults }
 
 -- a device without blocks, a source with one byte left, and a sink that holds these bytes
 abbrev pub bare : List Call → List ℕ → List ℕ → ℕ → Outside

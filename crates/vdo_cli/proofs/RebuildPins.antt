@@ -1,9 +1,11 @@
 -- Rows that pin how a forced rebuild ends (`EndsSo` of the word `force-rebuild`): for each part some that it accepts, and some that
 -- break this part alone. What no command's work decides is in `ResultPins`.
 use Rattle.std.proofs.Common.{ℕ, ◌≡◌, ◌⊎◌, true, false, List, [], ◌∷◌, take, Option, Some, None, Ok, Err, codes, refl, ap, inl, inr, arith}
+use Rattle.blk_base.specs.Forms.{pbn as at}
 use Rattle.disk_model.specs.declared.call.Call.TheVariants.{Read, Flush}
 use Rattle.disk_model.specs.Seen.{Seen}
 use Rattle.disk_model.specs.Since.{IsUntouched}
+use Rattle.disk_model.proofs.StreamPins.{sink}
 use Rattle.image_layout.specs.declared.fault.SuperFault.TheVariants.{NotAnImage}
 use Rattle.image_model.specs.declared.fault.ImageFault.{ImageFault}
 use Rattle.image_model.specs.declared.fault.ImageFault.TheVariants as image
@@ -19,7 +21,7 @@ use Rattle.vdo_cli.specs.Outsides.{Outside, Tells, no_report, outcome, outside}
 use Rattle.vdo_cli.specs.Results.{TellsResult}
 use Rattle.vdo_cli.specs.Texts.{fault_text}
 use Rattle.vdo_cli.proofs.CommandPins.{rebuild_words}
-use Rattle.vdo_cli.proofs.PlayPins.{at, bare, begins, first_of, no_image, source, sink}
+use Rattle.vdo_cli.proofs.PlayPins.{bare, begins, first_of, no_image, source}
 use Rattle.vdo_cli.proofs.ResultPins as pins
 use Rattle.vdo_cli.proofs.ResultPins.{failed, flushed, went_on}
 use Rattle.vdo_cli.proofs.RunPins.{Ends, some_report}

@@ -1,6 +1,7 @@
 -- Rows that pin how a command ends by its result (`EndsBy`, `TellsResult`), whatever its work, its text and its faults are: for each
 -- part some that it accepts, and some that break this part alone. The rows of the commands cite them.
 use Rattle.std.proofs.Common.{ℕ, ◌≡◌, ◌≤◌, ◌⊎◌, ◌++◌, true, false, List, [], ◌∷◌, length, take, Option, Some, None, Result, Ok, Err, refl, ◌∙◌, ap, inl, inr, arith}
+use Rattle.blk_base.specs.Forms.{pbn as at}
 use Rattle.disk_model.specs.declared.call.Call.{Call}
 use Rattle.disk_model.specs.declared.call.Call.TheVariants.{Read, Write, Flush}
 use Rattle.disk_model.specs.Causes.{Rose}
@@ -8,6 +9,7 @@ use Rattle.disk_model.specs.Seen.{Seen}
 use Rattle.disk_model.specs.Since.{IsUntouched, NextFailed, OnlyReads}
 use Rattle.disk_model.specs.Streams.{SinkSeen, SourceSeen}
 use Rattle.disk_model.specs.LogSteps.{FailedInLog}
+use Rattle.disk_model.proofs.StreamPins.{sink}
 use Rattle.image_format.specs.Formats.{IsFailed}
 use Rattle.image_model.specs.declared.fault.ImageFault.{ImageFault}
 use Rattle.image_model.specs.declared.fault.ImageFault.TheVariants as image
@@ -18,7 +20,7 @@ use Rattle.vdo_cli.specs.Inspections.{told_as}
 use Rattle.vdo_cli.specs.Outsides.{Outcome, Outside, Tells, no_report, outcome, outside}
 use Rattle.vdo_cli.specs.Results.{EndsBy, IsFaultTold, IsFoundTold, TellsResult}
 use Rattle.vdo_cli.specs.Texts.{fault_status, fault_text}
-use Rattle.vdo_cli.proofs.PlayPins.{at, bare, begins, device, no_image, source, sink, status_in}
+use Rattle.vdo_cli.proofs.PlayPins.{bare, begins, device, no_image, source, status_in}
 use Rattle.vdo_cli.proofs.RunPins.{some_report}
 
 -- Worked devices.

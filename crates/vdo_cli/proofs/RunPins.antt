@@ -1,9 +1,11 @@
 -- Rows that pin how a run ends (`EndsSo`): for each part some that it accepts, and some that break this part alone.
 use Rattle.std.proofs.Common.{ℕ, zero, suc, ◌≡◌, ◌++◌, true, false, List, [], ◌∷◌, length, take, Option, Some, None, codes, refl, ap, inl, inr, arith, length-append}
+use Rattle.blk_base.specs.Forms.{pbn as at}
 use Rattle.disk_model.specs.declared.call.Call.{Call}
 use Rattle.disk_model.specs.declared.call.Call.TheVariants.{Read, Flush}
 use Rattle.disk_model.specs.Seen.{Seen}
 use Rattle.disk_model.specs.Streams.{SourceSeen}
+use Rattle.disk_model.proofs.StreamPins.{sink}
 use Rattle.rebuild.specs.declared.forms.Recovered.{Recovered}
 use Rattle.vdo_model.specs.declared.report.RunReport.{RunReport}
 use Rattle.image_model.specs.declared.fault.ImageFault.{ImageFault}
@@ -19,7 +21,7 @@ use Rattle.vdo_cli.specs.Runs.{EndsSo}
 use Rattle.vdo_cli.specs.Texts.{served_status, session_text, struck_status}
 use Rattle.vdo_cli.specs.Openings.{recovered_of}
 use Rattle.vdo_cli.proofs.CommandPins.{run_words}
-use Rattle.vdo_cli.proofs.PlayPins.{device, at, source, sink}
+use Rattle.vdo_cli.proofs.PlayPins.{device, source}
 
 -- all of the outside tells
 abbrev pub telling : Setting

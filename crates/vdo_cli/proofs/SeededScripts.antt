@@ -1,23 +1,19 @@
 -- The requests of a seed are a whole script.
 use Rattle.std.proofs.Common.{ℕ, zero, suc, ◌≡◌, ◌%◌, ◌<◌, ◌≤◌, ◌==◌, ◌&&◌, Bool, true, false, nat_lt, [], ◌∷◌, length, if◌then◌else◌, refl, ◌∙◌, arith}
 use Rattle.std.proofs.Math.Nat.{mod-lt}
-use Rattle.std.proofs.lemmas.List.{length-replicate}
 use Rattle.blk_base.specs.declared.request.Request.TheVariants.{Read, Discard, Flush}
+use Rattle.blk_base.proofs.SectorLaws.{filled_size}
 use Rattle.disk_model.specs.Numbers.{next_state, number_in}
 use Rattle.stream_text.proofs.StreamLaws.{count-more, rows-kept}
 use Rattle.stream_text.proofs.WholeBlockLaws.{rows-with}
 use Rattle.stream_text.specs.ReadingBytes.{EachRequest, IsWholeScript}
 use Rattle.stream_text.specs.StreamRequests.{count_of}
-use Rattle.stream_text.specs.Workloads.{drawn_block, drawn_kind, drawn_request, drawn_write, filled_block, state_before, workload_of}
+use Rattle.stream_text.specs.Workloads.{drawn_block, drawn_kind, drawn_request, drawn_write, state_before, workload_of}
 use Rattle.stream_text.specs.declared.random_requests.Drawn.{Drawn}
 use Rattle.vdo_model.specs.Scripts.{Script, IsServed}
 use Rattle.vdo_words.specs.declared.commands.WorkloadOptions.{WorkloadOptions}
 use Rattle.vdo_cli.specs.Commands.{IsWorkload}
 use Rattle.vdo_cli.specs.Workloads.{requests_for}
-
-filled_long : (byte : ℕ) → length (filled_block byte) ≡ 4096
-unfolding filled_block
-filled_long byte = length-replicate 4096 byte
 
 -- a request that was drawn has a whole block where it writes
 abbrev IsWhole : Drawn → Type 0
@@ -29,7 +25,7 @@ either false x y first second = second
 
 kind_whole : (kind address x : ℕ) → IsWhole (drawn_kind kind address x)
 kind_whole kind address x =
-    either (nat_lt kind 4) (drawn_write address x) _ (filled_long _, refl)
+    either (nat_lt kind 4) (drawn_write address x) _ (filled_size _, refl)
     (either (nat_lt kind 7) (record { state = x; request = Read (record { 0 = address }) }) (record { state = x; request = Discard (record { 0 = address }) }) tt tt)
 
 request_whole : (logical i x : ℕ) → IsWhole (drawn_request logical i x)

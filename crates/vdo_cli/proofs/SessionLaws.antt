@@ -186,10 +186,6 @@ answered_told s (Passes e ∷ t) w r a right asked is = answered_told s t w r a 
 answered_told s (Aborts e ∷ t) w r a right asked is = answered_told s t w r a right.2 asked is
 answered_told s (Calls c ∷ t) w r a right asked is = answered_told s t w r a right.2 asked is
 
-true_is : (b : Bool) → b ≡ true → IsTrue b
-true_is true is = refl
-true_is false is = absurd (cc is)
-
 rose : (n before now : ℕ) → 1 ≤ n → RoseBy n before now → Rose before now
 rose n before now some by = omega (arith, some, by)
 
@@ -371,7 +367,7 @@ module _ (tells honest : Bool) (start : Opened) (script : Script) (first last : 
     abbrev to_serve : sound.head.clean ≡ true → sound.head.start + 2 ^ 19 ≤ 2 ^ 54 → IsToServe image
     to_serve clean late = record {
       sound = sound;
-      clean = true_is sound.head.clean clean;
+      clean = clean;
       late = late;
       named = subst (λ (h : Super). h.geometry.nonce < 2 ^ 64) (sym own_head) named;
     }

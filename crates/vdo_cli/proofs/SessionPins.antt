@@ -3,6 +3,7 @@
 use Rattle.std.proofs.Common.{ℕ, ◌≡◌, true, false, List, [], ◌∷◌, length, take, Some, None, Ok, codes, refl, ap, arith}
 use Rattle.blk_base.specs.declared.request.Answer.TheVariants as reply
 use Rattle.disk_model.specs.Seen.{Seen}
+use Rattle.disk_model.proofs.StreamPins.{sink}
 use Rattle.page_codec.specs.declared.fault.PageFault.TheVariants.{Header}
 use Rattle.rebuild.specs.Recoveries.{IsRecovery}
 use Rattle.rebuild.specs.declared.forms.Recovered.{Recovered}
@@ -20,7 +21,7 @@ use Rattle.vdo_cli.specs.Openings.{recovered_of}
 use Rattle.vdo_cli.specs.Texts.{session_text, struck_status}
 use Rattle.vdo_cli.proofs.CommandPins.{run_words}
 use Rattle.vdo_cli.proofs.EmptyScript.{empty_report}
-use Rattle.vdo_cli.proofs.PlayPins.{device, source, sink}
+use Rattle.vdo_cli.proofs.PlayPins.{device, source}
 use Rattle.vdo_cli.proofs.RunPins.{Ends, begins, with}
 
 -- a report with an answer that only a failed call of the device explains

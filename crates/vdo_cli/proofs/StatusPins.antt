@@ -4,6 +4,7 @@ use Rattle.std.proofs.Common.{ℕ, true, false, List, [], ◌∷◌, take, Optio
 use Rattle.disk_model.specs.declared.call.Call.TheVariants.{Flush}
 use Rattle.disk_model.specs.Seen.{Seen}
 use Rattle.disk_model.specs.Since.{IsUntouched}
+use Rattle.disk_model.proofs.StreamPins.{sink}
 use Rattle.image_layout.specs.declared.fault.SuperFault.TheVariants.{NotAnImage}
 use Rattle.image_model.specs.declared.fault.ImageFault.TheVariants as image
 use Rattle.image_status.specs.Statuses.{IsStatusRead}
@@ -17,7 +18,7 @@ use Rattle.vdo_cli.specs.Outsides.{Outside, Tells, no_report, outcome, outside, 
 use Rattle.vdo_cli.specs.Results.{TellsResult}
 use Rattle.vdo_cli.specs.Texts.{fault_text}
 use Rattle.vdo_cli.proofs.CommandPins.{status_words}
-use Rattle.vdo_cli.proofs.PlayPins.{bare, begins, no_image, source, sink}
+use Rattle.vdo_cli.proofs.PlayPins.{bare, begins, no_image, source}
 use Rattle.vdo_cli.proofs.ResultPins as pins
 use Rattle.vdo_cli.proofs.RunPins.{Ends, some_report}
 use Rattle.image_model.specs.declared.fault.ImageFault.{ImageFault}

@@ -8,12 +8,15 @@ use Rattle.core_model.specs.Reports.{IsMappedIn}
 use Rattle.blk_base.specs.declared.place.PageId.{PageId}
 use Rattle.blk_base.specs.declared.request.Answer.TheVariants as reply
 use Rattle.blk_base.specs.declared.request.Request.TheVariants as request
+use Rattle.blk_base.specs.Sectors.{filled_block as block}
+use Rattle.blk_base.specs.Forms.{lba as address}
 use Rattle.core_model.specs.PageLinks.{opened_page}
 use Rattle.core_model.specs.Trace.{calls}
 use Rattle.disk_model.specs.declared.call.Call.{Call}
 use Rattle.disk_model.specs.Images.{IsImage}
 use Rattle.disk_model.specs.Log.{Blocks}
 use Rattle.disk_model.specs.Seen.{Seen}
+use Rattle.disk_model.proofs.StreamPins.{sink}
 use Rattle.image_layout.specs.Opened.{super_of_image}
 use Rattle.image_layout.specs.declared.fault.SuperFault.{SuperFault}
 use Rattle.image_model.specs.Maps.{value_of}
@@ -33,14 +36,15 @@ use Rattle.vdo_model.specs.declared.report.DeskLine.TheVariants.{Begin, Answer}
 use Rattle.vdo_model.specs.declared.report.HistoryEntry.{HistoryEntry}
 use Rattle.vdo_model.specs.declared.report.Mark.TheVariants.{Settled}
 use Rattle.vdo_model.specs.declared.report.RunReport.{RunReport}
-use Rattle.vdo_model.proofs.Example.{address, of_a, placed, entry, block, blocks_tell}
+use Rattle.vdo_model.proofs.Example.{of_a, entry, blocks_tell}
+use Rattle.vdo_model.specs.Places.{placed}
 use Rattle.zone_counts.specs.Zone.{Zone as Counters}
 use Rattle.vdo_cli.specs.Openings.{HasSequencesLeft, IsReady, recovered_of}
 use Rattle.vdo_cli.specs.Outsides.{Outside, outcome, outside, setting, trust}
 use Rattle.vdo_cli.specs.Runs.{EndsSo}
 use Rattle.vdo_cli.specs.Texts.{session_text}
 use Rattle.vdo_cli.proofs.CommandPins.{run_words}
-use Rattle.vdo_cli.proofs.PlayPins.{source, sink}
+use Rattle.vdo_cli.proofs.PlayPins.{source}
 use Rattle.vdo_cli.proofs.EmptyScript.{AreFirst, empty_plays, empty_report, still_report}
 
 -- A run of a session that was served, over a source with these bytes left, where all of the outside tells and the device

@@ -4,14 +4,15 @@ use Rattle.std.proofs.Common.{ℕ, ◌≡◌, ◌≢◌, true, false, List, [], 
 use Rattle.blk_base.specs.declared.opened.Opened.{Opened}
 use Rattle.blk_base.specs.declared.request.Answer.TheVariants as reply
 use Rattle.blk_base.specs.declared.request.Request.TheVariants as request
+use Rattle.blk_base.specs.Sectors.{filled_block}
 use Rattle.command_text.specs.Workloads.{summary_text}
 use Rattle.disk_model.specs.Numbers.{next_state, number_in}
 use Rattle.disk_model.specs.Seen.{Seen}
 use Rattle.disk_model.specs.Streams.{SourceSeen}
+use Rattle.disk_model.proofs.StreamPins.{sink}
 use Rattle.image_model.specs.declared.fault.ImageFault.TheVariants as image
 use Rattle.image_layout.specs.declared.fault.SuperFault.TheVariants.{NotAnImage}
 use Rattle.rebuild.specs.declared.forms.Recovered.{Recovered}
-use Rattle.stream_text.specs.Workloads.{filled_block}
 use Rattle.vdo_model.specs.Scripts.{Script, stream_of}
 use Rattle.vdo_model.specs.declared.report.DeskLine.TheVariants.{Answer, Begin}
 use Rattle.vdo_model.specs.declared.report.RunReport.{RunReport}
@@ -27,7 +28,7 @@ use Rattle.vdo_cli.specs.Texts.{fault_text, served_status, struck_status}
 use Rattle.vdo_cli.specs.Workloads.{ServesWorkload, WorkloadFails, requests_for, summary_of}
 use Rattle.vdo_cli.proofs.CommandPins.{draws, workload_words}
 use Rattle.vdo_cli.proofs.EmptyScript.{empty_report}
-use Rattle.vdo_cli.proofs.PlayPins.{device, sink, source, bare, begins, no_image}
+use Rattle.vdo_cli.proofs.PlayPins.{device, source, bare, begins, no_image}
 use Rattle.vdo_cli.proofs.RecoveryPins.{refused}
 use Rattle.vdo_cli.proofs.RunPins.{Ends, some_report, status_by}
 

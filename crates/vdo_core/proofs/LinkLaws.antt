@@ -2,13 +2,11 @@
 use Rattle.std.proofs.Common.{ℕ, zero, suc, ◌≡◌, ◌+◌, ◌<◌, nat_lt, true, None, Some, IsSome, List, [], ◌∷◌, length, slice_index_or, Contains, refl, ap, sym, ◌∙◌, subst, inl, inr, arith}
 use Rattle.std.proofs.lemmas.Bool.{cases_Bool, lt-ltb, ltb-true}
 use Rattle.std.proofs.lemmas.List.Elements.{All-contains}
-use Rattle.std.proofs.lemmas.Option.{same_Some}
 use Rattle.blk_base.specs.Pages.{above, slot_of}
 use Rattle.blk_base.specs.Regions.{IsDataBlock}
 use Rattle.blk_base.specs.declared.geometry.Geometry.{Geometry}
 use Rattle.blk_base.specs.declared.opened.OpenedPage.{OpenedPage}
-use Rattle.blk_base.specs.declared.place.Mapping.{Mapping}
-use Rattle.blk_base.specs.declared.place.Mapping.TheVariants.{Unmapped, Zero, At}
+use Rattle.blk_base.specs.declared.place.Mapping.TheVariants.{Unmapped, At}
 use Rattle.blk_base.specs.declared.place.PageId.{PageId}
 use Rattle.blk_base.specs.declared.place.Pbn.{Pbn}
 use Rattle.blk_base.specs.declared.sizes.TheConstants.{TREES}
@@ -17,13 +15,8 @@ use Rattle.block_map_tree.specs.Pages.{IsTreeOf}
 use Rattle.page_codec.specs.Grammar.{AreHeld, HoldsMapping}
 use Rattle.image_model.specs.Pages.{is_page}
 use Rattle.plain_laws.proofs.OptionLaws.{some_of}
-use Rattle.core_model.proofs.TreeLinks.{page_is, page_itself}
+use Rattle.core_model.proofs.TreeLinks.{page_is, page_itself, at_block}
 use Rattle.core_model.specs.PageLinks.{IsThere, block_in, led_by, opened_page}
-
-at_block : (m : Mapping) (b : Pbn) → block_in m ≡ Some b → m ≡ At b
-at_block (At x) b is = ap At (same_Some x b is)
-at_block Unmapped b is = absurd cc
-at_block Zero b is = absurd cc
 
 -- the page above, which leads there
 record LedBy (pages : List OpenedPage) (page : PageId) (x : Pbn) : Type 0 where

@@ -5,6 +5,7 @@ use Rattle.std.proofs.lemmas.Option.{same_Some}
 use Rattle.blk_base.specs.Sectors.{zero_block}
 use Rattle.blk_base.specs.declared.place.ZoneId.TheVariants as id
 use Rattle.blk_base.specs.declared.request.Request.TheVariants as request
+use Rattle.blk_base.specs.Forms.{writer}
 use Rattle.disk_model.specs.Seen.{Seen}
 use Rattle.vdo_model.specs.DeskLog.{IsNextLine}
 use Rattle.vdo_model.specs.Scripts.{Script, request_at}
@@ -24,7 +25,7 @@ use Rattle.core_model.specs.SessionLimits.{requests_in}
 use Rattle.core_model.specs.Steps.{Act, ZoneStep, begins, step_limit}
 use Rattle.core_model.specs.Trace.{Says, Seals, Trace}
 use Rattle.data_vio.specs.Vios.{Post, begun_vio, turned}
-use Rattle.core_model.proofs.rows.WorkedTraces.{sizes, writer}
+use Rattle.core_model.proofs.rows.WorkedTraces.{sizes}
 use Rattle.step_parts.specs.DeviceLog.{HasCalled}
 use Rattle.step_parts.proofs.SilentLaws.{none_called}
 use Rattle.vdo_core.specs.Done.{IsDone}

@@ -1,7 +1,8 @@
 -- The zones of a core at its start, one after another.
-use Rattle.std.proofs.Common.{◌≡◌, ℕ, zero, suc, ◌+◌, replicate, List, [], ◌∷◌, ◌++◌, length, sym, ap, subst, ◌∙◌, length-append, refl}
+use Rattle.std.proofs.Common.{◌≡◌, ℕ, ◌+◌, replicate, List, [], ◌∷◌, ◌++◌, length, sym, ap, subst, ◌∙◌, length-append, refl}
 use Rattle.std.proofs.lemmas.List.{length-replicate}
 use Rattle.std.specs.List.{AllByRecursion}
+use Rattle.core_laws.proofs.kept.FirstCore.{all_empty}
 use Rattle.data_vio.specs.declared.items.Item.{Item}
 use Rattle.data_vio.specs.declared.sizes.Sizes.{Sizes}
 use Rattle.core_model.specs.declared.zones.ZoneData.{ZoneData}
@@ -27,10 +28,6 @@ one_more s old new zone number is count first each =
 
 pub one_longer : (old new : List Zone) (zone : Zone) → new ≡ old ++ zone ∷ [] → length new ≡ length old + 1
 one_longer old new zone is = ap length is ∙ length-append old (zone ∷ [])
-
-all_empty : (n : ℕ) → AllByRecursion (λ (lane : List Item). lane ≡ []) (replicate n [])
-all_empty zero = tt
-all_empty (suc n) = (refl, all_empty n)
 
 -- a zone with empty lanes and the data that it begins with
 pub empty_first : (s : Session) (sizes : Sizes) (number count : ℕ) (keeps : ZoneData) (ports : Ports)

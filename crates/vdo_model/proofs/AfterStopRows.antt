@@ -1,7 +1,8 @@
 -- Right after stops: a small device whose stops show what is right, and for each part of the definition one that doesn't.
-use Rattle.std.proofs.Common.{None, ℕ, ◌≡◌, ◌⊎◌, ◌+◌, ◌<◌, ◌≤◌, ◌++◌, true, zero, suc, List, [], ◌∷◌, length, refl, subst, inl, inr, arith, if◌then◌else◌, ◌==◌}
+use Rattle.std.proofs.Common.{None, ℕ, ◌≡◌, ◌⊎◌, ◌<◌, ◌≤◌, ◌++◌, true, zero, suc, List, [], ◌∷◌, length, refl, subst, inl, inr, arith, if◌then◌else◌, ◌==◌}
 use Rattle.std.specs.List.{AllByRecursion}
-use Rattle.blk_base.specs.Sectors.{sector}
+use Rattle.blk_base.specs.Sectors.{sector, filled_block as block}
+use Rattle.blk_base.proofs.SectorLaws.{filled_size, sectors_tell}
 use Rattle.disk_model.specs.declared.call.Call.{Call}
 use Rattle.disk_model.specs.declared.call.Call.TheVariants.{Flush}
 use Rattle.disk_model.specs.Images.{OneOf, IsMixOf, IsImage}
@@ -12,18 +13,15 @@ use Rattle.vdo_model.specs.declared.report.Mark.{Mark}
 use Rattle.vdo_model.specs.declared.report.Mark.TheVariants.{Settled, Refused}
 use Rattle.vdo_model.specs.declared.report.RunReport.{RunReport}
 use Rattle.vdo_model.specs.Stops.{length_at, covered, MayLast, last_value, MayShow, ShowsRight, RightAfterStops}
-use Rattle.vdo_model.proofs.Example.{of_a, block, block_length, sectors_tell, script, first_lines, first_places, entry, writes}
+use Rattle.vdo_model.proofs.Example.{of_a, script, first_lines, first_places, entry, writes, openings, mark}
 
 -- The device has one block, and the first sector of it says which value address 1 has; address 0 was never written.
 -- The run is that of the first lines: a writes block 1 to address 1, and flushes.
 
-abbrev openings : ℕ → List ℕ
-openings a = block (a + 10)
-
-abbrev device : Blocks
+abbrev pub device : Blocks
 device = block 11 ∷ []
 
-abbrev HasValues : Blocks → (ℕ → List ℕ) → Type 0
+abbrev pub HasValues : Blocks → (ℕ → List ℕ) → Type 0
 HasValues image values = (values 0 ≡ block 10) × (sector 0 (block_at image 0) ≡ sector 0 (values 1))
 
 abbrev report : List FlushMark → Mark → RunReport
@@ -40,10 +38,6 @@ IsRightAt marks last calls size image = (values : ℕ → List ℕ) × HasValues
 -- what address 1 may show
 abbrev May : List FlushMark → Mark → List Call → ℕ → List ℕ → Type 0
 May marks last calls size value = MayShow script first_lines marks calls size (entry 1 (of_a 0) last ∷ []) (block 11) value
-
--- the mark of a, when so many calls had succeeded
-abbrev mark : ℕ → FlushMark
-mark n = record { request = of_a 1; calls = n }
 
 -- address 1 may show block 1 whenever a stop comes, and the opening value before the mark
 may_first : (n : ℕ) (calls : List Call) (size : ℕ) → May (mark n ∷ []) Settled calls size (block 1)
@@ -69,7 +63,7 @@ may_opening n calls size before = record {
 }
 
 -- the values where address 1 has this one
-abbrev values : List ℕ → ℕ → List ℕ
+abbrev pub values : List ℕ → ℕ → List ℕ
 values one a = if a == 1 then one else openings a
 
 -- so they are right where address 1 may show it, since address 0 has its opening value
@@ -84,11 +78,11 @@ right_with n calls size byte image may same = (values (block byte), (refl, same)
     shows (suc (suc a)) below = absurd (omega (arith, below))
 
 -- an image with this block, where each sector is one that a stop may leave
-image_of : (log : List Call) (byte : ℕ) → ((i : ℕ) → OneOf (λ content. sector i (block byte) ≡ sector i content) (contents device log 0)) → IsImage device log (block byte ∷ [])
+pub image_of : (log : List Call) (byte : ℕ) → ((i : ℕ) → OneOf (λ content. sector i (block byte) ≡ sector i content) (contents device log 0)) → IsImage device log (block byte ∷ [])
 image_of log byte each = record { size = refl; whole = whole; sectors = sectors }
   where
     whole : (b : ℕ) → b < 1 → length (block_at (block byte ∷ []) b) ≡ 4096
-    whole zero below = block_length byte
+    whole zero below = filled_size byte
     whole (suc b) below = absurd (omega (arith, below))
 
     sectors : (b : ℕ) → b < 1 → IsMixOf (contents device log b) (block_at (block byte ∷ []) b)
@@ -123,7 +117,7 @@ which marks last calls size byte right =
 
 -- The run is right: before the write, between write and flush, and behind the flush.
 
-abbrev run : List Call
+abbrev pub run : List Call
 run = Flush true ∷ writes 0 (block 1) ∷ []
 
 -- the first sector of this image is that of one of these
@@ -150,7 +144,7 @@ behind_flush image begins = elim begins [
 ]
 
 -- these are all the prefixes of the run
-each_prefix : (P : List Call → Type 0) → P [] → P (writes 0 (block 1) ∷ []) → P run → (later prefix : List Call) → run ≡ later ++ prefix → P prefix
+pub each_prefix : (P : List Call → Type 0) → P [] → P (writes 0 (block 1) ∷ []) → P run → (later prefix : List Call) → run ≡ later ++ prefix → P prefix
 each_prefix P start written flushed [] prefix at = subst P at flushed
 each_prefix P start written flushed (c ∷ []) prefix at = let rest : writes 0 (block 1) ∷ [] ≡ prefix = cc in subst P rest written
 each_prefix P start written flushed (c ∷ c' ∷ []) prefix at = let rest : [] ≡ prefix = cc in subst P rest start
@@ -166,7 +160,7 @@ run_is_right = each_prefix (λ prefix. (image : Blocks) → IsImage device (pref
 abbrev older_device : Blocks
 older_device = block 9 ∷ []
 
-abbrev earlier : List Call
+abbrev pub earlier : List Call
 earlier = Flush true ∷ writes 0 (block 11) ∷ []
 
 second_run_is_right : RightAfterStops HasValues older_device earlier 2 openings (report (mark 2 ∷ []) Settled) run

@@ -1,10 +1,11 @@
 -- The desk log: for each clause a line or a log that it accepts, and one that it refuses.
 use Rattle.std.proofs.Common.{◌≡◌, ◌+◌, ◌<◌, [], ◌∷◌, Some, None, IsSome, IsNone, refl, arith, rules}
 use Rattle.blk_base.specs.declared.request.Answer.TheVariants as reply
+use Rattle.blk_base.specs.Sectors.{filled_block as block}
 use Rattle.vdo_model.specs.declared.report.DeskLine.TheVariants.{Begin, Answer}
 use Rattle.vdo_model.specs.Scripts.{request_at}
 use Rattle.vdo_model.specs.DeskLog.{begun, answered, answer_of, before_begin, IsNextLine, IsDeskLog, AllAnswered}
-use Rattle.vdo_model.proofs.Example.{of_a, of_b, block, script, first_lines, unfinished, desk, each_request}
+use Rattle.vdo_model.proofs.Example.{of_a, of_b, script, first_lines, unfinished, desk, each_request}
 
 -- begun, answered: of the first six lines two requests of each stream are begun, and two of a are answered
 begun_of_a : begun 0 first_lines ≡ 2

@@ -1,11 +1,11 @@
 -- A small run of two streams over two logical zones: the rows beside this file speak of it, and change it in one point.
-use Rattle.std.proofs.Common.{ℕ, ◌≡◌, true, false, zero, suc, List, [], ◌∷◌, ◌++◌, IsSome, length, get_or, replicate, ap, arith}
-use Rattle.std.proofs.lemmas.List.{length-replicate}
-use Rattle.blk_base.specs.Sectors.{sector}
-use Rattle.blk_base.specs.declared.place.Lba.{Lba}
+use Rattle.std.proofs.Common.{ℕ, ◌≡◌, ◌+◌, true, false, zero, suc, List, [], ◌∷◌, ◌++◌, IsSome, ap, arith}
+use Rattle.blk_base.specs.Sectors.{sector, filled_block as block}
 use Rattle.blk_base.specs.declared.request.Answer.TheVariants as reply
 use Rattle.blk_base.specs.declared.request.Request.TheVariants as request
 use Rattle.blk_base.specs.declared.request.Writer.{Writer}
+use Rattle.blk_base.proofs.SectorLaws.{filled_size, sectors_tell}
+use Rattle.blk_base.specs.Forms.{lba as address}
 use Rattle.disk_model.specs.declared.call.Call.{Call}
 use Rattle.disk_model.specs.declared.call.Call.TheVariants.{Write, Flush}
 use Rattle.vdo_model.specs.declared.report.DeskLine.{DeskLine}
@@ -17,11 +17,9 @@ use Rattle.vdo_model.specs.declared.report.Mark.TheVariants.{Settled}
 use Rattle.vdo_model.specs.declared.report.Placed.{Placed}
 use Rattle.vdo_model.specs.FlushMarks.{Moment, Desk, Device}
 use Rattle.vdo_model.specs.Scripts.{Script, request_at}
+use Rattle.vdo_model.specs.Places.{placed}
 
 -- Short names.
-
-abbrev pub address : ℕ → Lba
-address a = record { 0 = a }
 
 -- the requests of stream 0 are those of a, and the requests of stream 1 those of b
 abbrev pub of_a : ℕ → Writer
@@ -30,9 +28,13 @@ of_a n = record { stream = 0; number = n }
 abbrev pub of_b : ℕ → Writer
 of_b n = record { stream = 1; number = n }
 
--- a block filled with one byte
-unfoldable pub block : ℕ → List ℕ
-block byte = replicate 4096 byte
+-- what an address has before the run
+abbrev pub openings : ℕ → List ℕ
+openings a = block (a + 10)
+
+-- the mark of a's flush, when so many calls had succeeded
+abbrev pub mark : ℕ → FlushMark
+mark n = record { request = of_a 1; calls = n }
 
 -- The script: a writes address 1, flushes, and writes it again; b writes address 812, reads address 1, and flushes.
 abbrev pub script : Script
@@ -69,9 +71,6 @@ abbrev pub full_lines : List DeskLine
 full_lines = Answer (of_a 2) reply.Full ∷ Begin (of_a 2) ∷ first_lines
 
 -- The places: address 1 is in zone 0, address 812 in zone 1.
-abbrev pub placed : Writer → ℕ → ℕ → Placed
-placed w zone place = record { request = w; zone = zone; place = place }
-
 abbrev pub first_places : List Placed
 first_places = placed (of_b 0) 1 0 ∷ placed (of_a 0) 0 0 ∷ []
 
@@ -132,14 +131,6 @@ abbrev pub marks : List FlushMark
 marks = mark_b ∷ mark_a ∷ []
 
 -- Blocks of different bytes differ, already in their first sectors.
-
-pub block_length : (byte : ℕ) → length (block byte) ≡ 4096
-unfolding block
-block_length byte = length-replicate 4096 byte
-
-pub sectors_tell : (a b : ℕ) → sector 0 (block a) ≡ sector 0 (block b) → a ≡ b
-unfolding block
-sectors_tell a b same = ap (λ (bytes : List ℕ). get_or bytes 0 0) same
 
 pub blocks_tell : (a b : ℕ) → block a ≡ block b → a ≡ b
 blocks_tell a b same = sectors_tell a b (ap (sector 0) same)

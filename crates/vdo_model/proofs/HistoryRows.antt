@@ -2,11 +2,13 @@
 use Rattle.std.proofs.Common.{◌≡◌, ◌&&◌, Bool, true, false, [], ◌∷◌, Some, None, refl}
 use Rattle.blk_base.specs.declared.request.Answer.TheVariants as reply
 use Rattle.blk_base.specs.declared.request.Request.TheVariants.{Read, Write, Discard, Flush}
+use Rattle.blk_base.specs.Sectors.{filled_block as block}
+use Rattle.blk_base.specs.Forms.{lba as address}
 use Rattle.vdo_model.specs.declared.report.Mark.{Mark}
 use Rattle.vdo_model.specs.declared.report.Mark.TheVariants.{Settled, Unsettled, Refused}
 use Rattle.vdo_model.specs.Scripts.{same_writer}
 use Rattle.vdo_model.specs.Histories.{Progress, mark_of, entry_of, histories_of, history_of, is_settled}
-use Rattle.vdo_model.proofs.Example.{address, of_a, of_b, block, script, first_lines, full_lines, desk, first_places, places, entry, histories}
+use Rattle.vdo_model.proofs.Example.{of_a, of_b, script, first_lines, full_lines, desk, first_places, places, entry, histories}
 
 -- mark_of, with an answer: Ok settles it, whatever is known of its slot and its entry
 ok_settles : (is_set is_handed : Bool) → mark_of (Some reply.Ok) is_set is_handed ≡ Settled

@@ -1,17 +1,18 @@
 -- Flush marks: for each clause a mark or marks that it accepts, and one that it refuses.
-use Rattle.std.proofs.Common.{ℕ, ◌≡◌, ◌+◌, ◌<◌, ◌++◌, true, false, List, [], ◌∷◌, Some, None, IsSome, IsNone, refl, arith}
+use Rattle.std.proofs.Common.{◌≡◌, ◌+◌, ◌<◌, ◌++◌, true, false, List, [], ◌∷◌, Some, None, IsSome, IsNone, refl, arith}
 use Rattle.std.specs.List.{AllByRecursion}
 use Rattle.blk_base.specs.declared.request.Answer.{Answer as Reply}
 use Rattle.blk_base.specs.declared.request.Answer.TheVariants as reply
 use Rattle.blk_base.specs.declared.request.Request.TheVariants as request
 use Rattle.blk_base.specs.declared.request.Writer.{Writer}
+use Rattle.blk_base.specs.Sectors.{filled_block as block}
 use Rattle.disk_model.specs.declared.call.Call.TheVariants.{Read, Write, Flush}
 use Rattle.vdo_model.specs.declared.report.DeskLine.TheVariants.{Begin, Answer}
 use Rattle.vdo_model.specs.declared.report.FlushMark.{FlushMark}
 use Rattle.vdo_model.specs.Scripts.{request_at}
 use Rattle.vdo_model.specs.DeskLog.{begun, answer_of}
 use Rattle.vdo_model.specs.FlushMarks.{successes, Moment, Desk, Device, lines_of, calls_of, IsMark, mark_of_flush, AreApart, AreFlushMarks}
-use Rattle.vdo_model.proofs.Example.{of_a, of_b, block, script, desk, writes, before_flush, first_moments, later_moments, moments, calls, mark_a, mark_b, marks, each_request}
+use Rattle.vdo_model.proofs.Example.{of_a, of_b, script, desk, writes, before_flush, first_moments, later_moments, moments, calls, mark_a, mark_b, marks, each_request, mark}
 
 -- successes: each call that succeeded, and none that failed
 all_succeed : successes calls ≡ 5
@@ -84,16 +85,13 @@ at_alone : (2 ≡ successes (calls_of before_flush) + 1) × (1 < begun 0 (lines_
 at_alone = (refl, omega arith, refl)
 
 -- calls: the flush itself counts, and nothing later
-abbrev counts : ℕ → FlushMark
-counts n = record { request = of_a 1; calls = n }
+one_too_few : IsMark first_moments (mark 1) → ⊥
+one_too_few is = none_before _ (not_this _ _ (mark 1) (λ flush counted by_then none. omega (arith, counted)) is)
 
-one_too_few : IsMark first_moments (counts 1) → ⊥
-one_too_few is = none_before _ (not_this _ _ (counts 1) (λ flush counted by_then none. omega (arith, counted)) is)
-
-one_too_many : IsMark (Device (writes 1 (block 3)) ∷ first_moments) (counts 3) → ⊥
+one_too_many : IsMark (Device (writes 1 (block 3)) ∷ first_moments) (mark 3) → ⊥
 one_too_many is =
-    none_before _ (not_this _ _ (counts 3) (λ flush counted by_then none. omega (arith, counted))
-    (not_this _ _ (counts 3) (λ flush counted by_then none. absurd cc) is))
+    none_before _ (not_this _ _ (mark 3) (λ flush counted by_then none. omega (arith, counted))
+    (not_this _ _ (mark 3) (λ flush counted by_then none. absurd cc) is))
 
 calls_alone : (first_moments ≡ [] ++ (Device (Flush true) ∷ before_flush)) × (1 < begun 0 (lines_of before_flush)) × IsNone (answer_of (lines_of before_flush) (of_a 1))
 calls_alone = (refl, omega arith, refl)
@@ -190,11 +188,11 @@ a_has_mark = record {
 }
 
 -- each: a mark that counts a call too few
-wrong_mark : AreFlushMarks script (answered reply.Ok) (counts 1 ∷ []) → ⊥
-wrong_mark are = one_too_few (not_this _ _ (counts 1) (λ flush counted by_then none. absurd cc) are.each.0)
+wrong_mark : AreFlushMarks script (answered reply.Ok) (mark 1 ∷ []) → ⊥
+wrong_mark are = one_too_few (not_this _ _ (mark 1) (λ flush counted by_then none. absurd cc) are.each.0)
 
-wrong_mark_alone : AreApart (counts 1 ∷ []) × ((w : Writer) → HasMark (answered reply.Ok) (counts 1 ∷ []) w) × IsOnly (answered reply.Ok) (counts 1 ∷ [])
-wrong_mark_alone = ((refl, tt), all_have (answered reply.Ok) (counts 1 ∷ []) (λ is ok. refl) (λ is ok. absurd cc), ((refl, refl), tt))
+wrong_mark_alone : AreApart (mark 1 ∷ []) × ((w : Writer) → HasMark (answered reply.Ok) (mark 1 ∷ []) w) × IsOnly (answered reply.Ok) (mark 1 ∷ [])
+wrong_mark_alone = ((refl, tt), all_have (answered reply.Ok) (mark 1 ∷ []) (λ is ok. refl) (λ is ok. absurd cc), ((refl, refl), tt))
 
 -- each, all of them: beside a right mark one of the flush of b, which hadn't begun when the device flushed
 abbrev mark_too_early : FlushMark

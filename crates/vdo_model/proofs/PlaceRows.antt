@@ -6,13 +6,15 @@ use Rattle.blk_base.specs.declared.request.Answer.TheVariants as reply
 use Rattle.blk_base.specs.declared.request.Request.{Request}
 use Rattle.blk_base.specs.declared.request.Request.TheVariants as request
 use Rattle.blk_base.specs.declared.request.Writer.{Writer}
+use Rattle.blk_base.specs.Sectors.{filled_block as block}
+use Rattle.blk_base.specs.Forms.{lba as address}
 use Rattle.vdo_model.specs.declared.report.DeskLine.{DeskLine}
 use Rattle.vdo_model.specs.declared.report.DeskLine.TheVariants.{Begin, Answer}
 use Rattle.vdo_model.specs.declared.report.Placed.{Placed}
 use Rattle.vdo_model.specs.Scripts.{request_at, address_of}
 use Rattle.vdo_model.specs.DeskLog.{answer_of, before_begin}
-use Rattle.vdo_model.specs.Places.{zone_of, drawn, place_of, IsOfZone, Follows, IsNextPlace, AreDrawn, IsAnsweredAtOnce, ArePlaces}
-use Rattle.vdo_model.proofs.Example.{address, of_a, of_b, block, script, desk, placed, first_places, places, b_is_not_a, each_request}
+use Rattle.vdo_model.specs.Places.{zone_of, drawn, place_of, IsOfZone, Follows, IsNextPlace, AreDrawn, IsAnsweredAtOnce, ArePlaces, placed}
+use Rattle.vdo_model.proofs.Example.{of_a, of_b, script, desk, first_places, places, b_is_not_a, each_request}
 
 -- zone_of: the leaf of 812 addresses, its tree among 60, and the tree's zone
 first_leaf : zone_of 7 811 ≡ 0

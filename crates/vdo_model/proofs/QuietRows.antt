@@ -6,6 +6,7 @@ use Rattle.blk_base.specs.declared.geometry.Geometry.{Geometry}
 use Rattle.blk_base.specs.declared.place.Pbn.{Pbn}
 use Rattle.blk_base.specs.declared.request.Answer.TheVariants as reply
 use Rattle.blk_base.specs.declared.request.Writer.{Writer}
+use Rattle.blk_base.specs.Forms.{pbn as block}
 use Rattle.disk_model.specs.Images.{IsImage}
 use Rattle.disk_model.specs.Log.{Blocks}
 use Rattle.disk_model.specs.declared.call.Call.{Call}
@@ -22,9 +23,6 @@ use Rattle.vdo_model.specs.declared.report.RunReport.{RunReport}
 -- One slab of 64 data blocks, of which 79 and 80 are the first; trees of two levels.
 abbrev small : Geometry
 small = record { logical = 1000; slabs = 1; slab_blocks = 64; journal = 2; index = 16; slab_journal = 4; height = 2; nonce = 1 }
-
-abbrev block : ℕ → Pbn
-block x = record { 0 = x }
 
 first_is_data : IsDataBlock small 79
 first_is_data = record { slab = 0; offset = 0; inside = (omega arith, omega arith); stands = refl }

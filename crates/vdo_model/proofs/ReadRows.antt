@@ -1,10 +1,11 @@
 -- Right reads: which entry of a history a read sees, and reads that are right and wrong.
-use Rattle.std.proofs.Common.{ℕ, ◌≡◌, ◌+◌, true, false, List, [], ◌∷◌, Some, None, refl, arith}
-use Rattle.blk_base.specs.Sectors.{zero_block}
+use Rattle.std.proofs.Common.{ℕ, ◌≡◌, true, false, List, [], ◌∷◌, Some, None, refl, arith}
+use Rattle.blk_base.specs.Sectors.{zero_block, filled_block as block}
 use Rattle.blk_base.specs.declared.place.Lba.{Lba}
 use Rattle.blk_base.specs.declared.request.Answer.TheVariants as reply
 use Rattle.blk_base.specs.declared.request.Request.TheVariants.{Read, Discard}
 use Rattle.blk_base.specs.declared.request.Writer.{Writer}
+use Rattle.blk_base.specs.Forms.{lba as address}
 use Rattle.vdo_model.specs.declared.report.DeskLine.{DeskLine}
 use Rattle.vdo_model.specs.declared.report.DeskLine.TheVariants.{Answer}
 use Rattle.vdo_model.specs.declared.report.Mark.{Mark}
@@ -12,10 +13,10 @@ use Rattle.vdo_model.specs.declared.report.Mark.TheVariants.{Settled, Unsettled,
 use Rattle.vdo_model.specs.declared.report.Placed.{Placed}
 use Rattle.vdo_model.specs.Scripts.{request_at}
 use Rattle.vdo_model.specs.DeskLog.{answer_of}
-use Rattle.vdo_model.specs.Places.{place_of}
+use Rattle.vdo_model.specs.Places.{place_of, placed}
 use Rattle.vdo_model.specs.Histories.{history_of}
 use Rattle.vdo_model.specs.RightReads.{is_below, value_below, ReadsRight}
-use Rattle.vdo_model.proofs.Example.{address, of_a, of_b, block, blocks_tell, script, first_lines, desk, placed, first_places, places, entry, histories, each_request}
+use Rattle.vdo_model.proofs.Example.{of_a, of_b, blocks_tell, script, first_lines, desk, first_places, places, entry, histories, each_request, openings}
 
 -- is_below: a lower place, not the same one, and not where there is none
 lower : is_below (Some (placed (of_a 2) 0 2)) 3 ≡ true
@@ -96,9 +97,6 @@ reads_other_address opening right =
     let same = blocks_tell 3 1 (right (of_b 1) (address 1) (block 3) (placed (of_b 1) 0 1) refl refl refl) in omega (arith, same)
 
 -- Before the first write it gives what the address had before the run, and not what another address had.
-abbrev openings : ℕ → List ℕ
-openings a = block (a + 10)
-
 abbrev read_first : List Placed
 read_first = placed (of_a 0) 0 1 ∷ placed (of_b 1) 0 0 ∷ []
 

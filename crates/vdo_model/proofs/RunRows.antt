@@ -5,10 +5,10 @@ use Rattle.vdo_model.specs.declared.report.HistoryEntry.{HistoryEntry}
 use Rattle.vdo_model.specs.declared.report.Mark.TheVariants.{Settled, Unsettled}
 use Rattle.vdo_model.specs.declared.report.Placed.{Placed}
 use Rattle.vdo_model.specs.DeskLog.{IsDeskLog, AllAnswered}
-use Rattle.vdo_model.specs.Places.{ArePlaces}
+use Rattle.vdo_model.specs.Places.{ArePlaces, placed}
 use Rattle.vdo_model.specs.Histories.{Progress, histories_of}
 use Rattle.vdo_model.specs.RightRuns.{RunRight}
-use Rattle.vdo_model.proofs.Example.{of_a, of_b, script, desk, placed, first_places, places, entry, histories}
+use Rattle.vdo_model.proofs.Example.{of_a, of_b, script, desk, first_places, places, entry, histories}
 use Rattle.vdo_model.proofs.DeskLogRows.{run_is_desk_log, run_all_answered}
 use Rattle.vdo_model.proofs.PlaceRows.{run_has_places, not_answered_yet}
 

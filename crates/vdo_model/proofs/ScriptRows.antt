@@ -1,11 +1,12 @@
 -- Scripts, computed at rows.
 use Rattle.std.proofs.Common.{ℕ, ◌≡◌, true, false, Some, None, replicate, refl, arith}
 use Rattle.std.proofs.lemmas.List.{length-replicate}
-use Rattle.blk_base.specs.Sectors.{zero_block}
+use Rattle.blk_base.specs.Sectors.{zero_block, filled_block as block}
 use Rattle.blk_base.specs.declared.request.Request.{Request}
 use Rattle.blk_base.specs.declared.request.Request.TheVariants.{Read, Write, Discard, Flush}
+use Rattle.blk_base.specs.Forms.{lba as address}
 use Rattle.vdo_model.specs.Scripts.{IsServed, request_at, address_of, value_written, same_writer}
-use Rattle.vdo_model.proofs.Example.{address, of_a, of_b, block, script}
+use Rattle.vdo_model.proofs.Example.{of_a, of_b, script}
 
 -- request_at: by stream and number
 a_writes_first : request_at script (of_a 0) ≡ Some (Write (address 1) (block 1) false)

@@ -1,7 +1,8 @@
 -- What a stop may show: for each clause a value that an address may have, and one that it may not.
-use Rattle.std.proofs.Common.{ℕ, ◌≡◌, ◌⊎◌, ◌+◌, ◌≤◌, ◌++◌, true, false, zero, suc, List, [], ◌∷◌, length, Some, None, refl, sym, ap, inl, inr, arith, if◌then◌else◌, ◌==◌}
+use Rattle.std.proofs.Common.{ℕ, ◌≡◌, ◌⊎◌, ◌≤◌, ◌++◌, true, false, zero, suc, List, [], ◌∷◌, length, Some, None, refl, sym, ap, inl, inr, arith, if◌then◌else◌, ◌==◌}
 use Rattle.std.specs.List.{AllByRecursion}
 use Rattle.blk_base.specs.declared.request.Answer.TheVariants as reply
+use Rattle.blk_base.specs.Sectors.{filled_block as block}
 use Rattle.disk_model.specs.declared.call.Call.{Call}
 use Rattle.disk_model.specs.declared.call.Call.TheVariants.{Flush}
 use Rattle.vdo_model.specs.declared.report.DeskLine.{DeskLine}
@@ -13,7 +14,7 @@ use Rattle.vdo_model.specs.declared.report.Mark.TheVariants.{Settled, Unsettled,
 use Rattle.vdo_model.specs.declared.report.RunReport.{RunReport}
 use Rattle.vdo_model.specs.Histories.{history_of}
 use Rattle.vdo_model.specs.Stops.{length_at, is_answered, is_covered, covered, before_answer, MayLast, last_value, IsBegunBefore, MayShow, ShowsRight}
-use Rattle.vdo_model.proofs.Example.{of_a, of_b, block, blocks_tell, script, first_lines, desk, places, entry, histories, calls, mark_a, mark_b, marks}
+use Rattle.vdo_model.proofs.Example.{of_a, of_b, blocks_tell, script, first_lines, desk, places, entry, histories, calls, mark_a, mark_b, marks, openings}
 
 -- length_at: the flush of a is the second call of the device, that of b the fifth
 first_flush : length_at calls 2 ≡ 2
@@ -323,9 +324,6 @@ written_elsewhere_alone =
 
 abbrev report : RunReport
 report = record { requests = script; desk = desk; marks = marks; receipts = []; places = places; histories = histories; damage = None; used = 0; total = 0 }
-
-abbrev openings : ℕ → List ℕ
-openings a = block (a + 10)
 
 -- addresses 1 and 2 have these values, and each other one its opening value
 abbrev values : List ℕ → List ℕ → ℕ → List ℕ

@@ -3,7 +3,8 @@ use Rattle.std.proofs.Common.{ℕ, ◌≡◌, ◌==◌, false, zero, suc, List, 
 use Rattle.std.proofs.lemmas.Bool.Decides.{eqb_tells}
 use Rattle.vdo_model.specs.declared.report.Placed.{Placed}
 use Rattle.vdo_model.specs.ZoneOrder.{places_in, by_zone, HaveSameZones}
-use Rattle.vdo_model.proofs.Example.{of_a, of_b, placed, places}
+use Rattle.vdo_model.proofs.Example.{of_a, of_b, places}
+use Rattle.vdo_model.specs.Places.{placed}
 
 -- places_in: those of the zone, in their order, and none of another
 in_zone : places_in 0 places ≡ placed (of_a 2) 0 2 ∷ placed (of_b 1) 0 1 ∷ placed (of_a 0) 0 0 ∷ []

@@ -21,6 +21,10 @@ abbrev pub drawn : ℕ → List Placed → ℕ
 drawn zone [] = 0
 drawn zone (p ∷ older) = if p.zone == zone then drawn zone older + 1 else drawn zone older
 
+-- the place of a request in a zone
+abbrev pub placed : Writer → ℕ → ℕ → Placed
+placed w zone place = record { request = w; zone = zone; place = place }
+
 -- the place of a request, where it has one
 abbrev pub place_of : List Placed → Writer → Option Placed
 place_of [] w = None

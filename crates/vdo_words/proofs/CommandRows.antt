@@ -5,7 +5,8 @@ use Rattle.vdo_words.specs.declared.commands.CoreOptions.{CoreOptions}
 use Rattle.vdo_words.specs.declared.commands.Drive.TheVariants as drive
 use Rattle.vdo_words.specs.declared.commands.Command.TheVariants.{Format, Run, Recover, ForceRebuild, Grow, Audit, Status, Crash, Workload}
 
-abbrev core : CoreOptions
+-- the options of a core that has none
+abbrev pub core : CoreOptions
 core = record { depth = 1; logical_zones = 1; physical_zones = 1; hash_zones = 1; cache = 16 }
 
 -- `format`

@@ -2,6 +2,7 @@
 use Rattle.std.specs.Prelude.{ℕ, ◌≡◌, List, [], ◌∷◌, None, Some}
 use Rattle.std.proofs.Common.{ap, arith, refl}
 use Rattle.blk_base.specs.declared.place.Pbn.{Pbn}
+use Rattle.blk_base.specs.Forms.{pbn as at}
 use Rattle.verify_share.specs.declared.verdict.Verdict.TheVariants.{Same, Different}
 use Rattle.verify_share.specs.declared.judged.Judged.TheVariants.{Shared, Stored}
 use Rattle.verify_share.specs.Comparison.{IsVerdict, Decides}
@@ -15,9 +16,6 @@ long = 1 ∷ 2 ∷ 3 ∷ []
 
 abbrev other : List ℕ
 other = 1 ∷ 2 ∷ 4 ∷ []
-
-abbrev at : ℕ → Pbn
-at n = record { 0 = n }
 
 abbrev block_of : Pbn → ℕ
 block_of place = place.0

@@ -5,6 +5,7 @@ use Rattle.std.proofs.Common.{refl, ap, ◌∙◌, subst, arith, inl, inr}
 use Rattle.std.proofs.lemmas.Bool.{cases_eq, false≢true}
 use Rattle.std.proofs.lemmas.List.{get_or_default}
 use Rattle.std.proofs.lemmas.List.Quantifiers.{position-Some}
+use Rattle.lane_kernels.specs.Kernels.{IsFreeAt}
 use Rattle.blk_base.specs.Regions.{slab_start_of}
 use Rattle.blk_base.specs.declared.place.Pbn.{Pbn}
 use Rattle.blk_base.specs.declared.request.Writer.{Writer}
@@ -17,10 +18,6 @@ use Rattle.zone_counts.specs.Zone.{Zone, BeginsStep, Changes, ClaimsLowest, None
 use Rattle.zone_counts.specs.ZoneAnswers.{Asks, WithdrawsFrom}
 use Rattle.zone_counts.specs.declared.forms.Asked.{Asked}
 use Rattle.zone_counts.specs.declared.forms.Asked.TheVariants as asked
-
--- nothing is mapped to the block at a place, and nobody has a claim on it
-abbrev IsFreeAt : List ℕ → List ℕ → ℕ → Type 0
-IsFreeAt counters claims k = (slice_index counters k ≡ 0) × (slice_index claims k ≡ 0)
 
 -- of so many places one is free, and none before it; or none is
 free_below : (counters claims : List ℕ) (n : ℕ)

@@ -1,9 +1,10 @@
 -- An opened zone has the counters of the image, and no claims.
-use Rattle.std.specs.Prelude.{ℕ, ◌≡◌, ◌+◌, ◌-◌, ◌*◌, ◌/◌, ◌<◌, Bool, true, false, not, ◌&&◌, cond, nat_lt, List, take, drop, replicate, slice_index, None}
+use Rattle.std.specs.Prelude.{ℕ, ◌≡◌, ◌+◌, ◌-◌, ◌*◌, ◌/◌, ◌<◌, Bool, true, false, not, ◌&&◌, cond, nat_lt, List, take, drop, slice_index, None}
 use Rattle.std.proofs.Common.{refl, ap, sym, ◌∙◌, subst, arith, inl, inr}
 use Rattle.std.proofs.lemmas.Bool.{cases_lt, lt-ltb, le-ltb}
-use Rattle.std.proofs.lemmas.List.{get_or-take, get_or-drop, get_or-replicate, get_or_past, length-replicate}
+use Rattle.std.proofs.lemmas.List.{get_or-take, get_or-drop}
 use Rattle.std.proofs.lemmas.Nat.{div-add-mod'}
+use Rattle.plain_laws.proofs.ListLaws.{zero_at}
 use Rattle.blk_base.specs.Regions.{IsDataBlock, slab_start_of}
 use Rattle.blk_base.specs.declared.geometry.Geometry.{Geometry}
 use Rattle.blk_base.specs.declared.opened.Opened.{Opened}
@@ -58,9 +59,6 @@ opened_some g counters x d = elim (tells_data g x) [
       = omega (arith, ap (λ (n : ℕ). n * g.slab_blocks) slab, ap (slab_start_of g) slab, d.stands) in
       ap (λ (b : Bool). cond b (slice_index counters (slab_number g x * g.slab_blocks + offset_in g x)) 0) yes_it ∙ ap (λ (k : ℕ). slice_index counters k) place
 ]
-
-zero_at : (n k : ℕ) → slice_index (replicate n 0) k ≡ 0
-zero_at n k = elim (cases_lt k n) [ inl low ↦ get_or-replicate n k 0 0 low | inr past ↦ get_or_past (replicate n 0) k 0 (omega (arith, past, length-replicate {A = ℕ} n 0)) ]
 
 -- what an opened slab says of a block
 module _ (o : Opened) (x : Pbn) (n : ℕ) (c : Counts) (is : IsOpening o.head.geometry n o.counters.items o.tree_pages.items c) where

@@ -2,18 +2,19 @@
 -- and one that breaks it alone.
 use Rattle.std.specs.Prelude.{ℕ, zero, suc, ◌≡◌, ◌+◌, ◌*◌, ◌<◌, ◌≤◌, Bool, true, false, List, [], ◌∷◌, replicate, slice_index, slice_index_or, slice_set, Option, None, Some}
 use Rattle.std.proofs.Common.{ap, sym, subst, ◌∙◌, arith, inl, inr, refl}
-use Rattle.std.proofs.lemmas.Bool.{cases_lt, false≢true}
-use Rattle.std.proofs.lemmas.List.{get_or-replicate, get_or_past}
+use Rattle.std.proofs.lemmas.Bool.{false≢true}
 use Rattle.std.proofs.lemmas.Option.{none-some}
-use Rattle.blk_base.specs.Limits.{IsGeometry}
+use Rattle.plain_laws.proofs.ListLaws.{zero_at}
 use Rattle.blk_base.specs.declared.geometry.Geometry.{Geometry}
 use Rattle.blk_base.specs.declared.place.Pbn.{Pbn}
 use Rattle.blk_base.specs.declared.point.Half.TheVariants.{Decrement}
-use Rattle.blk_base.specs.declared.request.Writer.{Writer}
+use Rattle.blk_base.proofs.Example.{asker}
+use Rattle.blk_base.specs.Forms.{pbn as at}
 use Rattle.slab_counts.specs.Counts.{Counts, HasNoFree, IsFree, IsOfSlab}
 use Rattle.slab_counts.specs.Kept.{IsWithin}
 use Rattle.slab_counts.specs.declared.tickets.Receipt.{Receipt}
 use Rattle.slab_counts.specs.declared.tickets.Ticket.{Ticket}
+use Rattle.slab_counts.proofs.OpeningRows.{sizes, unused, limits}
 use Rattle.slab_tickets.specs.Operations as tickets
 use Rattle.slab_tickets.specs.Tickets.{Desk}
 use Rattle.slab_tickets.specs.declared.forms.Waiting.{Waiting}
@@ -29,14 +30,8 @@ use Rattle.zone_counts.specs.declared.forms.Asked.TheVariants as asked
 abbrev ones : Geometry
 ones = record { logical = 1000; slabs = 2; slab_blocks = 1; journal = 8; index = 16; slab_journal = 4; height = 2; nonce = 1 }
 
-abbrev at : ℕ → Pbn
-at n = record { 0 = n }
-
 abbrev slab : ℕ → ℕ → ℕ → Counts
 slab number count claims = record { geometry = ones; slab = number; counters = count ∷ []; claims = claims ∷ []; pages = false ∷ [] }
-
-abbrev asker : Writer
-asker = record { stream = 1; number = 7 }
 
 abbrev one : Option Pbn → Waiting
 one block = record { number = 5; asked = 9; writer = asker; block = block }
@@ -232,32 +227,11 @@ changes_the_number_of_zones : Changes asked_for (record given_on { zones = 2 }) 
 changes_the_number_of_zones is = let no : 2 ≡ 1 = ap (λ (z : Zone). z.zones) is.same in omega (arith, no)
 
 -- AreSlabs: one slab of 16 blocks, none of which is used
-abbrev sizes : Geometry
-sizes = record ones { slabs = 1; slab_blocks = 16 }
-
-abbrev unused : Counts
-unused = record { geometry = sizes; slab = 0; counters = replicate 16 0; claims = replicate 16 0; pages = replicate 16 false }
-
-sizes_are : IsGeometry sizes
-sizes_are = record {
-  height = (omega arith, omega arith);
-  nonce = omega arith;
-  logical = (omega arith, omega arith);
-  slabs = (omega arith, omega arith);
-  slab_blocks = (omega arith, omega arith);
-  journal = (omega arith, omega arith);
-  index = (omega arith, omega arith, refl);
-  slab_journal = (omega arith, omega arith);
-}
-
-zero_at : (k : ℕ) → slice_index (replicate 16 0) k ≡ 0
-zero_at k = elim (cases_lt k 16) [ inl inside ↦ get_or-replicate 16 k 0 0 inside | inr past ↦ get_or_past (replicate 16 0) k 0 past ]
-
 within : IsWithin unused
-within = record { geometry = sizes_are; slab = omega arith; counters = refl; claims = refl; pages = refl; limit = λ k. (let none = zero_at k in omega (arith, none)) }
+within = record { geometry = limits; slab = omega arith; counters = refl; claims = refl; pages = refl; limit = λ k. (let none = zero_at 16 k in omega (arith, none)) }
 
 are_slabs : AreSlabs sizes 0 1 (unused ∷ [])
-are_slabs = record { sizes = sizes_are; number = omega arith; all = λ n below own. omega (arith, below); each = each }
+are_slabs = record { sizes = limits; number = omega arith; all = λ n below own. omega (arith, below); each = each }
   where
     each : (k : ℕ) → k < 1 → ((slab_at (unused ∷ []) k).slab ≡ k * 1 + 0) × ((slab_at (unused ∷ []) k).geometry ≡ sizes) × IsWithin (slab_at (unused ∷ []) k)
     each zero inside = (refl, refl, within)

@@ -4,7 +4,6 @@ use Rattle.std.proofs.Common.{sym, ◌∙◌, ap, subst, arith, inl, inr, refl, 
 use Rattle.std.proofs.lemmas.Bool.{cases_eq, false≢true}
 use Rattle.blk_base.specs.declared.geometry.Geometry.{Geometry}
 use Rattle.blk_base.specs.declared.place.Pbn.{Pbn}
-use Rattle.blk_base.specs.declared.request.Writer.{Writer}
 use Rattle.slab_counts.specs.Counts.{Counts, IsOfSlab, IsFree, HasNoFree, ClaimsFree, claimed}
 use Rattle.slab_counts.specs.declared.refusals.Refusal.TheVariants.{NotData, NotLive}
 use Rattle.slab_counts.specs.declared.tickets.Ticket.{Ticket}
@@ -12,6 +11,8 @@ use Rattle.slab_tickets.specs.Tickets.{Desk, empty_desk}
 use Rattle.zone_counts.specs.Zone.{Zone, BeginsBehind, IsOf, IsClaimedIn, NoneFree, ClaimsLowest, Serves, IsSettled, slab_at, slabs_of_zone, AreOpened, IsOpeningZone}
 use Rattle.blk_base.specs.declared.point.Half.TheVariants.{Increment, Decrement}
 use Rattle.blk_base.specs.declared.opened.Opened.{Opened}
+use Rattle.blk_base.proofs.Example.{asker}
+use Rattle.blk_base.specs.Forms.{pbn as at}
 use Rattle.slab_tickets.specs.declared.forms.Withdrawn.TheVariants.{Block, Nothing}
 use Rattle.zone_counts.specs.ByBlock.{has_block, counter_in, claims_in, out_with, makes, drops, maps, unmaps, withdraws, served_block, served_ticket}
 use Rattle.zone_counts.specs.Openings.{opened_count}
@@ -23,14 +24,8 @@ use Rattle.zone_counts.specs.ZoneAnswers.{GivesBlock, GivesTicket, IsRefusedIn}
 abbrev ones : Geometry
 ones = record { logical = 1000; slabs = 2; slab_blocks = 1; journal = 8; index = 16; slab_journal = 4; height = 2; nonce = 1 }
 
-abbrev at : ℕ → Pbn
-at n = record { 0 = n }
-
 abbrev slab : ℕ → ℕ → ℕ → Counts
 slab number count claims = record { geometry = ones; slab = number; counters = count ∷ []; claims = claims ∷ []; pages = false ∷ [] }
-
-abbrev asker : Writer
-asker = record { stream = 1; number = 7 }
 
 -- a ticket waits, or none does
 abbrev waiting : Desk

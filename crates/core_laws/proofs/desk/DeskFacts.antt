@@ -1,5 +1,6 @@
 -- What the acts of the desk owe.
-use Rattle.std.proofs.Common.{◌≡◌, ℕ, ◌+◌, ◌<◌, ◌≤◌, if◌then◌else◌, Bool, true, false, nat_lt, Option, None, Some, IsNone, List, [], ◌∷◌, refl, ap, sym, ◌∙◌, subst, inl, inr, arith, ◌||◌, not}
+use Rattle.std.proofs.Common.{◌≡◌, ℕ, ◌+◌, ◌<◌, ◌≤◌, if◌then◌else◌, Bool, true, false, nat_lt, Option, None, Some, IsNone, List, [], ◌∷◌, refl, ap, sym, ◌∙◌, subst, inl, inr, arith, not}
+use Rattle.std.proofs.Math.Bool.{or-true}
 use Rattle.core_laws.proofs.Common.{AllByRecursion, Answer as Reply, Asks, Desk, DeskLine, Flushes, FlushMark, HasAddress, HasCause, IsEarned, IsNextLine, IsOpen, IsSession, KeptOk, Lba, MayAnswer, MayReply, Phase, Post, Request, RightTrace, Says, Session, Sizes, Trace, Vio, Writer, answer_of, asked, begun, begun_vio, cases_Bool, desk_number, done, eqb_tells, every-append, fair_before, has_stopped, lines, logged_of, ltb-false, ltb-true, moments, none_is, notified_zones, option_cases, request_at, request_of, same_Some, same_tells, zone_at, zone_of, IsForBlock, Fails, Harms, Hears, is_harmed, is_read}
 use Rattle.blk_base.specs.Sectors.{zero_block}
 use Rattle.blk_base.specs.declared.place.ZoneId.TheVariants as id
@@ -235,15 +236,11 @@ desk_begins {s} {t} {n} {old} known new made posts (DeskBegins.sends w r v next_
     (begins_post s t w known.session known.right next (is_notified s.sizes old) r v served asked none, tt))
 
 -- a leaf that doesn't decode stops the session
-either : (b : Bool) → (b || true) ≡ true
-either true = refl
-either false = refl
-
 harm_stops : (t : Trace) (w : Writer) → is_harmed t w ≡ true → has_stopped t ≡ true
 harm_stops [] w harmed = absurd cc
 harm_stops (Harms v x bytes fault ∷ t) w harmed = refl
 harm_stops (Hears damage ∷ t) w harmed = refl
-harm_stops (Fails v c kept ∷ t) w harmed = rw (harm_stops t w harmed) (either (not (is_read c)))
+harm_stops (Fails v c kept ∷ t) w harmed = rw (harm_stops t w harmed) (or-true (not (is_read c)))
 harm_stops (other ∷ t) w harmed = harm_stops t w harmed
 
 -- A request that comes back is answered, or waits.

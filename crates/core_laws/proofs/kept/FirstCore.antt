@@ -1,7 +1,8 @@
 -- One session that can be served, over a new image, and the core at its start: so that there is a legal core, and a fair
 -- session.
-use Rattle.std.proofs.Common.{◌≡◌, ℕ, zero, suc, ◌+◌, ◌-◌, ◌*◌, ◌<◌, false, None, List, [], ◌∷◌, replicate, slice_index, refl, sym, subst, ◌∙◌, inl, inr, arith}
-use Rattle.core_laws.proofs.Common.{AllByRecursion, Desk, DeviceZone, Each, IsFair, IsSession, Item, JournalZone, LogicalZone, Pbn, PhysicalZone, Request, Session, Sizes, Zone, ZoneData, cases_lt, get_or-replicate, get_or_past, length-replicate, same_Some, zone_count}
+use Rattle.std.proofs.Common.{◌≡◌, ℕ, zero, suc, ◌+◌, ◌-◌, ◌*◌, ◌<◌, false, None, List, [], ◌∷◌, replicate, refl, sym, subst, ◌∙◌, inl, inr, arith}
+use Rattle.plain_laws.proofs.ListLaws.{zero_at}
+use Rattle.core_laws.proofs.Common.{AllByRecursion, Desk, DeviceZone, Each, IsFair, IsSession, Item, JournalZone, LogicalZone, Pbn, PhysicalZone, Request, Session, Sizes, Zone, ZoneData, same_Some, zone_count}
 use Rattle.blk_base.specs.Sectors.{zero_block}
 use Rattle.blk_base.specs.declared.request.Request.TheVariants as request
 use Rattle.image_model.proofs.Example.{small, small_is}
@@ -37,9 +38,6 @@ script = (request.Write (record { 0 = 5 }) zero_block false ∷ request.Read (re
 abbrev pub small_session : Session
 small_session = record { sizes = sizes; script = script; links = λ page. None; counters = replicate 64 0; blocks = empty_image; before = []; image = empty_image }
 
-zero_at : (n k : ℕ) → slice_index (replicate n 0) k ≡ 0
-zero_at n k = elim (cases_lt k n) [ inl low ↦ get_or-replicate n k 0 0 low | inr past ↦ get_or_past (replicate n 0) k 0 (omega (arith, past, length-replicate {A = ℕ} n 0)) ]
-
 pub small_served : IsSession small_session
 small_served = record {
   sizes = small_is;
@@ -66,7 +64,7 @@ small_fair = new_fair small_session small_served small_new
 abbrev no_lanes : List (List Item)
 no_lanes = replicate (zone_count sizes) []
 
-all_empty : (n : ℕ) → AllByRecursion (λ (lane : List Item). lane ≡ []) (replicate n [])
+pub all_empty : (n : ℕ) → AllByRecursion (λ (lane : List Item). lane ≡ []) (replicate n [])
 all_empty zero = tt
 all_empty (suc n) = (refl, all_empty n)
 

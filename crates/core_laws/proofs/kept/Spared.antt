@@ -16,6 +16,7 @@ use Rattle.slab_counts.specs.declared.tickets.Receipt.{Receipt}
 use Rattle.slab_counts.specs.declared.tickets.Ticket.{Ticket}
 use Rattle.slab_tickets.specs.declared.forms.Waiting.{Waiting}
 use Rattle.std.proofs.lemmas.List.Elements.{All-weaker}
+use Rattle.std.proofs.Math.Bool.{or-true}
 use Rattle.vdo_model.specs.declared.report.Damage.{Damage}
 use Rattle.core_model.specs.PageLinks.{IsThere, page_in}
 
@@ -273,22 +274,18 @@ mark_kept (Harms w x bytes fault) t m k = mark_later (Device (Read x bytes true)
 mark_kept other t m k = k
 
 -- What was there once is there from then on: a stop, a read that failed, an abort, blocks that are taken.
-either : (b : Bool) → (b || true) ≡ true
-either true = refl
-either false = refl
-
 pub stop_kept : (h : Happening) (t : Trace) → has_stopped t ≡ true → has_stopped (h ∷ t) ≡ true
-stop_kept (Fails w c kept) t is = rw is (either (not (is_read c)))
+stop_kept (Fails w c kept) t is = rw is (or-true (not (is_read c)))
 stop_kept (Harms w x bytes fault) t is = refl
 stop_kept (Hears damage) t is = refl
 stop_kept other t is = is
 
 pub fault_kept : (h : Happening) (t : Trace) (w : Writer) → has_read_fault t w ≡ true → has_read_fault (h ∷ t) w ≡ true
-fault_kept (Fails v c kept) t w is = rw is (either (is_read c && same_writer v w))
+fault_kept (Fails v c kept) t w is = rw is (or-true (is_read c && same_writer v w))
 fault_kept other t w is = is
 
 pub harm_kept : (h : Happening) (t : Trace) (w : Writer) → is_harmed t w ≡ true → is_harmed (h ∷ t) w ≡ true
-harm_kept (Harms v x bytes fault) t w is = rw is (either (same_writer v w))
+harm_kept (Harms v x bytes fault) t w is = rw is (or-true (same_writer v w))
 harm_kept other t w is = is
 
 pub abort_kept : (h : Happening) (t : Trace) (a place : ℕ) → HasBelow a place (aborted t) → HasBelow a place (aborted (h ∷ t))

@@ -121,22 +121,18 @@ module _ (sizes : Sizes) (zone n : ℕ) where
   still_counted (p ∷ ps) h = silent p ps (ap (λ (us : List CountUpdate). own us) h.0) ∙ still_counted ps h.1
 
 -- A committed entry sends its updates to the physical zone, its increment first.
-abbrev increment : Logged → Mapping → List CountUpdate
-increment e (At x) = Increment e ∷ []
-increment e other = []
-
 abbrev decrement : Option PageId → Remapping → Mapping → List CountUpdate
 decrement None e (At x) = Decrement e ∷ []
 decrement page e other = []
 
 entry_updates : (v : Vio) (o : Option PageId) (m k : Mapping) → v.page ≡ o → v.new ≡ m → v.old ≡ k → ((page : PageId) → o ≡ Some page → IsToBlock m)
-    → updates_by (logged v) ≡ increment (logged v) m ++ decrement o (remapping v) k
-entry_updates v None m k bare to from fresh = subst (λ (e : Logged). updates_by e ≡ increment e m ++ decrement None (remapping v) k) (sym own) (both v.new v.old ∙ ap (λ (n : Mapping). increment (Remaps (remapping v)) n ++ decrement None (remapping v) v.old) to ∙ ap (λ (n : Mapping). increment (Remaps (remapping v)) m ++ decrement None (remapping v) n) from)
+    → updates_by (logged v) ≡ increment_of (logged v) m ++ decrement o (remapping v) k
+entry_updates v None m k bare to from fresh = subst (λ (e : Logged). updates_by e ≡ increment_of e m ++ decrement None (remapping v) k) (sym own) (both v.new v.old ∙ ap (λ (n : Mapping). increment_of (Remaps (remapping v)) n ++ decrement None (remapping v) v.old) to ∙ ap (λ (n : Mapping). increment_of (Remaps (remapping v)) m ++ decrement None (remapping v) n) from)
   where
     own : logged v ≡ Remaps (remapping v)
     own = ap (λ (o : Option PageId). logged_for v o v.new) bare
 
-    both : (m k : Mapping) → increment_of (Remaps (remapping v)) m ++ decrement_of (remapping v) k ≡ increment (Remaps (remapping v)) m ++ decrement None (remapping v) k
+    both : (m k : Mapping) → increment_of (Remaps (remapping v)) m ++ decrement_of (remapping v) k ≡ increment_of (Remaps (remapping v)) m ++ decrement None (remapping v) k
     both (At x) (At y) = refl
     both (At x) Unmapped = refl
     both (At x) Zero = refl
@@ -176,7 +172,7 @@ module _ (sizes : Sizes) (zone : ℕ) where
   to_zone ps = come_to sizes zone (physical_number sizes zone) ps
 
   hands_counted : (v : Vio) (m : Mapping) (ps : List Post) → v.new ≡ m → v.claim ≡ block_in m → new_of (logged v) ≡ m
-      → to_zone (journal.hands_to sizes v m ∷ ps) ≡ updates_in sizes zone (increment (logged v) m) ++ to_zone ps
+      → to_zone (journal.hands_to sizes v m ∷ ps) ≡ updates_in sizes zone (increment_of (logged v) m) ++ to_zone ps
   hands_counted v (At x) ps is claim leads =
       comes sizes zone (physical_number sizes zone) (journal.hands_to sizes v (At x)) ps
       (elim (sent_home sizes zone x (Increment (logged v)) leads) [
@@ -225,15 +221,15 @@ pub data Course (s : Session) (t : Trace) (old : ZoneData) (front : List Item) (
 module _ (s : Session) (t : Trace) where
   -- what a committed entry sends to a zone is what of its updates is counted there
   both_sent : (zone : ℕ) (v : Vio) (b : SealedBlock) → v.claim ≡ block_in v.new → new_of (logged v) ≡ v.new
-      → updates_in s.sizes zone (increment (logged v) v.new ++ decrement v.page (remapping v) v.old) ≡ to_zone s.sizes zone (journal.hands_out s.sizes v ++ (id.Journal, item.Block b) ∷ [])
+      → updates_in s.sizes zone (increment_of (logged v) v.new ++ decrement v.page (remapping v) v.old) ≡ to_zone s.sizes zone (journal.hands_out s.sizes v ++ (id.Journal, item.Block b) ∷ [])
   both_sent zone v b claim leads =
       let behind : List Post = (id.Journal, item.Block b) ∷ [] in
       let first = hands_counted s.sizes zone v v.new (journal.decrement_for s.sizes v.page (remapping v) v.old ++ behind) refl claim leads in
       let second = decrement_counted s.sizes zone v.page (remapping v) v.old behind refl in
       let none : to_zone s.sizes zone behind ≡ [] = silent s.sizes zone (physical_number s.sizes zone) (id.Journal, item.Block b) [] refl in
-      let added = updates_in s.sizes zone (increment (logged v) v.new) in
+      let added = updates_in s.sizes zone (increment_of (logged v) v.new) in
       let taken = updates_in s.sizes zone (decrement v.page (remapping v) v.old) in
-      updates_both s.sizes zone (increment (logged v) v.new) (decrement v.page (remapping v) v.old)
+      updates_both s.sizes zone (increment_of (logged v) v.new) (decrement v.page (remapping v) v.old)
       ∙ sym (first ∙ ap (λ (us : List CountUpdate). added ++ us) (second ∙ ap (λ (us : List CountUpdate). taken ++ us) none ∙ append-nil taken))
 
   logical_course : (old : LogicalZone) (v : Vio) (new : LogicalZone) (made : Trace) (posts : List Post) → KeptIn (at.Logical old) → LogicalServes s.sizes old v new made posts → Course s t (at.Logical old) (item.Request v ∷ []) made posts
@@ -313,7 +309,7 @@ module _ (s : Session) (t : Trace) where
       let claim : v.claim ≡ block_in v.new = (claim_at s v phase.Pending here.2 here.3).claim_is in
       sends old refl (rw m refl) (λ zone. rw (m, q) (
       ap (λ (us : List CountUpdate). updates_in s.sizes zone (updates_of (durable t) ++ us)) entry
-      ∙ updates_both s.sizes zone (updates_of (durable t)) (increment (logged v) v.new ++ decrement v.page (remapping v) v.old)
+      ∙ updates_both s.sizes zone (updates_of (durable t)) (increment_of (logged v) v.new ++ decrement v.page (remapping v) v.old)
       ∙ ap (λ (us : List CountUpdate). updates_in s.sizes zone (updates_of (durable t)) ++ us) (both_sent zone v (record b { vios = vs }) claim (leads_new v v.page v.new refl refl fresh))
       ))
   end_course old b new made posts kept vios (journal.seals v vs c f g d n m q) = still refl (rw q (refl, again_still old.waiting kept.1)) (rw m refl) (rw m refl)

@@ -1,7 +1,6 @@
 -- Lists of items, of desk lines, of journal entries, and of locks.
 use Rattle.std.proofs.Common.{◌≡◌, ℕ, zero, suc, ◌+◌, ◌<◌, List, [], ◌∷◌, length, refl, ap, arith, ◌≤◌, true, Option, Some, None, IsSome, IsNone, ◌++◌, sym, ◌∙◌, subst, inl, inr, ◌==◌, ◌≢◌, ◌||◌, Bool, false}
-use Rattle.core_laws.proofs.Common.{newest, AllByRecursion, Answer as Reply, DeskLine, IsDeskLog, Item, Lock, Remapping, Pbn, Rises, Script, Vio, Writer, answer_of, before_begin, begun, cases_Bool, eqb_tells, every-append, lock_weight, logged_of, none_of, of_address, same_Some, same_tells, total, total-append}
-use Rattle.blk_base.specs.declared.place.Mapping.TheVariants.{At}
+use Rattle.core_laws.proofs.Common.{newest, AllByRecursion, Answer as Reply, DeskLine, IsDeskLog, Item, Lock, Remapping, Rises, Script, Vio, Writer, answer_of, before_begin, begun, cases_Bool, eqb_tells, every-append, lock_weight, logged_of, none_of, of_address, same_Some, same_tells, total, total-append}
 use Rattle.core_model.specs.Steps.{posted}
 use Rattle.vdo_model.specs.declared.report.DeskLine.TheVariants.{Begin, Answer}
 use Rattle.vdo_model.specs.Stops.{is_answered, before_answer}
@@ -10,10 +9,6 @@ use Rattle.core_model.specs.Reports.{is_there}
 use Rattle.core_laws.proofs.trace.AnswersOfTrace.{there_some}
 use Rattle.core_laws.proofs.trace.DeskOfTrace.{AreApart}
 use Rattle.core_model.specs.LogicalRules.{is_held, without, first_for, but_first_for, all_for, none_for}
-
--- a mapping names one block
-pub same_block : (x y : Pbn) → At x ≡ At y → x ≡ y
-same_block x y is = cc
 
 -- Lists of lists of items, after an item was posted to one of them.
 

@@ -11,6 +11,7 @@ use Rattle.blk_base.specs.declared.geometry.Geometry.{Geometry}
 use Rattle.blk_base.specs.declared.place.Mapping.{Mapping}
 use Rattle.blk_base.specs.declared.place.Mapping.TheVariants.{Unmapped}
 use Rattle.blk_base.specs.declared.place.PageId.{PageId}
+use Rattle.blk_base.proofs.Example.{blank}
 use Rattle.page_codec.specs.Grammar.{AreHeld}
 use Rattle.page_codec.proofs.HeldLaws.{held_unmapped}
 use Rattle.dirty_pages.specs.DirtyPoints.{HasPoint, clean}
@@ -25,9 +26,6 @@ use Rattle.core_model.specs.PageTrees.{IsMapTree}
 
 abbrev forest : Geometry → ℕ → ℕ → Forest
 forest g zone zones = record { geometry = g; zone = zone; zones = zones }
-
-abbrev blank : List Mapping
-blank = replicate 812 Unmapped
 
 -- the roots alone
 unfoldable pub bare : Geometry → ℕ → ℕ → Tree

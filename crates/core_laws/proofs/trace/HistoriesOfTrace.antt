@@ -8,10 +8,11 @@ use Rattle.core_laws.proofs.lists.Changes.{change_address, maps_change}
 use Rattle.core_laws.proofs.trace.DeskOfTrace.{each_of_address, are_of_address, entered_writes, done_writes}
 use Rattle.core_laws.proofs.trace.PlacesOfTrace.{places_drawn}
 use Rattle.core_laws.proofs.trace.TurnsOfTrace.{entered_falling, done_falling}
-use Rattle.core_laws.proofs.trace.Walks.{Walks, IsPut, Fits, places_walk, progress, placed, drawn_more, drawn_one}
+use Rattle.core_laws.proofs.trace.Walks.{Walks, IsPut, Fits, places_walk, progress, drawn_more, drawn_one}
 use Rattle.core_laws.proofs.trace.AnswersOfTrace.{set_is_handed, histories_are}
 use Rattle.blk_base.specs.declared.request.Request.TheVariants as request
 use Rattle.vdo_model.specs.Histories as model
+use Rattle.vdo_model.specs.Places.{placed}
 
 -- The histories of a right trace: the history of an address walks the entries of the address that were handed in, and
 -- those whose slots were set.

@@ -6,6 +6,7 @@ use Rattle.blk_base.specs.declared.journal_entry.Update.{Update}
 use Rattle.blk_base.specs.declared.place.Mapping.{Mapping}
 use Rattle.blk_base.specs.declared.place.Mapping.TheVariants.{Unmapped, Zero, At}
 use Rattle.blk_base.specs.declared.place.Pbn.{Pbn}
+use Rattle.blk_base.proofs.PageIdLaws.{same_block}
 use Rattle.core_laws.proofs.Common.{Adds, IsFair, IsSession, Logged, Makes, Remapping, Remaps, Removes, RightTrace, Session, Strays, Trace, cases_Bool, durable, entry_of, eqb_tells, fair_before, opened_image, total}
 use Rattle.core_laws.proofs.kept.MapCounts.{durable_running}
 use Rattle.core_laws.proofs.lists.CountedIn.{counted_by, counted_here, leads_not, total_part}
@@ -162,9 +163,6 @@ own_takes s zone x here us = total_part (takes_by x) (λ u. is_counted_in s.size
     none (Increment e) out = refl
     none (Decrement e) out = leads_not s.sizes zone e.old x here out
 
-same_At : (x y : Pbn) → At x ≡ At y → x ≡ y
-same_At x y is = cc
-
 -- an update that takes away needs one
 no_zero : (limit : ℕ) (u : Update) → u.point.0 % 2 ≡ 1 → FitsCounter limit 0 u → ⊥
 no_zero limit u odd fits = let one = fits.takes odd in omega (arith, one)
@@ -182,7 +180,7 @@ no_strays s (Strays e ∷ t) session right fair =
     let place = cut taken (Decrement e) stray.next.rest (those_of (is_own s zone) (points.updates_of entries)) (subst (λ (us : List CountUpdate). Pairs us (those_of (is_own s zone) (points.updates_of entries))) stray.next.next all) in
     let x : Pbn = place.here.at in
     let here : physical_zone_of s.sizes x ≡ zone = counted_by s.sizes zone x (sym (ap (is_counted_in s.sizes zone) place.is_one.0) ∙ stray.next.own) in
-    let block : stray.block ≡ x = same_At stray.block x (sym stray.old_is ∙ place.is_one.0) in
+    let block : stray.block ≡ x = same_block stray.block x (sym stray.old_is ∙ place.is_one.0) in
     let none_counted : opened_uses s x + total (is_entry x) (added t) ≡ total (is_old x) (removed t) = subst (λ (y : Pbn). opened_uses s y + total (is_entry y) (added t) ≡ total (is_old y) (removed t)) block stray.none_counted in
     let sums = pair_sums x taken place.before place.taken_pair in
     let adds = own_adds s zone x here (updates_taken t) in

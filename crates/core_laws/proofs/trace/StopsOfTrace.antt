@@ -1,5 +1,6 @@
 -- A stop before or after any call of a right trace is right.
 use Rattle.std.proofs.Common.{ℕ, ◌+◌, ◌-◌, ◌≡◌, ◌⊎◌, ◌≢◌, ◌<◌, IsTrue, false, List, [], ◌∷◌, ◌++◌, length, refl, ◌∙◌, ap, map, inl, inr, arith, ◌≤◌, Bool, true, sym, subst, append_assoc, IsSome}
+use Rattle.std.proofs.lemmas.Bool.{false_from_ne_true}
 use Rattle.core_laws.proofs.Common.{all_of, AllByRecursion, answer_of, append-nil, AreAllThere, AtRest, begun, Call, calls, Calls, ComesLast, committed, DeskLine, done, each_both, entered, every-append, every-front, every-map, fair_part, filled, FlushMark, HistoryEntry, IsFair, IsSession, IsWrite, lines, log, Logged, Remapping, Mapping, MapStands, Mark, marks, newest, NewStands, of_address, OnBlock, OnItsWay, PagesStand, places, request_at, RightTrace, RunReport, same_self, sealed, Session, Shown, Stands, Trace, value_from, value_written, Writer, content_of, new_of, journaled, durable, remappings, passed, superblock_bytes, superblock_stage, SuperblockStage, mapping_by, entry_of}
 use Rattle.core_laws.proofs.trace.PassesOfTrace.{entered_at_both, entered_once, has_either, value_past}
 use Rattle.blk_base.specs.declared.place.Mapping.TheVariants.{Unmapped, Zero, At}
@@ -312,11 +313,6 @@ none_covered desk f (entry ∷ newer) shown all = rw all.0 (none_covered desk f 
 
 -- A stop before or after any call of a right trace is right.
 
--- whatever isn't true is false
-not_true : (b : Bool) → (b ≡ true → ⊥) → b ≡ false
-not_true true never = absurd (never refl)
-not_true false never = refl
-
 module _ (s : Session) (t : Trace) (session : IsSession s) (right : RightTrace s t) (prefix : List Call) (c : Cut t prefix)
     (es more fewer : List Remapping) (of_entered : entered c.older ≡ more ++ es) (has_committed : es ≡ fewer ++ committed c.older) where
   -- what was handed in later than what is shown
@@ -391,7 +387,7 @@ module _ (s : Session) (t : Trace) (session : IsSession s) (right : RightTrace s
             subst (λ (h : List HistoryEntry). length (covered (lines t) f h) ≤ length parts.shown) (sym parts.part)
             (none_covered (lines t) f parts.newer parts.shown
             (every-map {Q = λ x. is_covered (lines t) f x ≡ false} (λ x fact.
-            not_true (is_covered (lines t) f x) (not_covered s t right prefix c newer_es es fewer in_one has_committed f has by_then a below x fact.0 fact.1)) parts.newer facts))) (marks t) (all_marks s t session right);
+            false_from_ne_true (is_covered (lines t) f x) (not_covered s t right prefix c newer_es es fewer in_one has_committed f has by_then a below x fact.0 fact.1)) parts.newer facts))) (marks t) (all_marks s t session right);
         begun = every-map {P = HasMark t} (λ f has since.
             stands_begun (lines t) f parts.shown (of_address a es) parts.stands
             (each_of_address (IsBegunBy (before_answer (lines t) f.request)) a es (begun_before f has since))) (marks t) (all_marks s t session right);

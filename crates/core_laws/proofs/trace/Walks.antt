@@ -8,6 +8,7 @@ use Rattle.core_laws.proofs.lists.Changes.{change_address}
 use Rattle.core_laws.proofs.trace.TurnsOfTrace.{IsFalling}
 use Rattle.blk_base.specs.declared.request.Request.TheVariants as request
 use Rattle.vdo_model.specs.Histories as model
+use Rattle.vdo_model.specs.Places.{placed}
 
 -- A history walks the entries of its address: each entry that passes a test stands for the next of them, the others for
 -- none.
@@ -105,10 +106,6 @@ walks_split test (h ∷ hs) (e ∷ newer) es walks = elim walks [
     there_too e es w is = elim (same_tells e.request w) [ inl same ↦ rw same.0 refl | inr other ↦ rw other.0 is ]
 
 -- The history of an address, made of drawn places and marks, walks a list of entries that fall in place.
-
--- a place in this zone
-abbrev pub placed : Writer → ℕ → ℕ → Placed
-placed w zone place = record { request = w; zone = zone; place = place }
 
 -- an entry is of a write or a discard of this address that has its place
 pub record IsPut (script : Script) (ps : List Placed) (zone a : ℕ) (e : Remapping) : Type 0 where

@@ -7,6 +7,7 @@ use Rattle.blk_base.specs.declared.request.Answer.TheVariants.{Ok, Bytes, Range,
 use Rattle.blk_base.specs.declared.request.Request.TheVariants as request
 use Rattle.blk_base.specs.declared.request.Writer.{Writer}
 use Rattle.blk_base.specs.declared.request.Request.{Request}
+use Rattle.blk_base.specs.Forms.{lba as address, pbn as block}
 use Rattle.disk_model.specs.declared.call.Call.TheVariants.{Read, Flush}
 use Rattle.vdo_model.specs.declared.report.DeskLine.TheVariants.{Begin}
 use Rattle.data_vio.specs.declared.logged.Logged.TheVariants.{Remaps}
@@ -18,7 +19,7 @@ use Rattle.plain_laws.specs.Sums.{bit, total}
 use Rattle.vdo_model.specs.Places.{place_of}
 use Rattle.core_model.specs.Trace.{Gift, Happening, Says, Gives, Takes, Asks, Withdraws, Drops, Aborts, Fails, Harms, Trace, places}
 use Rattle.core_model.proofs.rows.TicketTraces.{all_but_one, are_before, asks_in, before_last, crowded, crowded_two, each_is_mapped, each_of_two_is_mapped, ends_in, ends_with, has_asked, has_ended, none_but_claimed, none_is_free, one_asked, ticket}
-use Rattle.core_model.proofs.rows.WorkedTraces.{address, block, x, y, first, reader, second, other, late, flush, session, begun, drawn, took, handed_in, lasting, set, stopped, entry, of_first, of_other, given, in_block}
+use Rattle.core_model.proofs.rows.WorkedTraces.{x, y, first, reader, second, other, late, flush, session, begun, drawn, took, handed_in, lasting, set, stopped, entry, of_first, of_other, given, in_block}
 
 -- a read of an address, and a write of it
 abbrev Reads : Trace → Writer → ℕ → Answer → Type 0

@@ -12,6 +12,7 @@ use Rattle.core_model.specs.declared.zones.PhysicalZone.{PhysicalZone}
 use Rattle.slab_tickets.specs.declared.forms.Waiting.{Waiting}
 use Rattle.zone_counts.specs.Zone.{IsOfZone, IsZone}
 use Rattle.blk_base.specs.declared.place.ZoneId.TheVariants as id
+use Rattle.blk_base.specs.Forms.{lba as address, pbn as block}
 use Rattle.data_vio.specs.declared.logged.Logged.TheVariants.{Remaps}
 use Rattle.data_vio.specs.declared.items.Asks.TheVariants as asks
 use Rattle.data_vio.specs.declared.items.Item.{Item}
@@ -30,7 +31,7 @@ use Rattle.core_model.specs.declared.zones.ZoneData.TheVariants as at
 use Rattle.plain_laws.specs.Sums.{Each}
 use Rattle.core_model.proofs.rows.PhaseRows.{device, has_block, nothing, one, physical, seven, slab_with, stepped, vio, waiting, writes, zone_with}
 use Rattle.core_model.proofs.rows.TicketTraces.{has_asked, one_asked, one_has, ticket}
-use Rattle.core_model.proofs.rows.WorkedTraces.{sizes, address, block, given, of_first, of_second, leafy, other, second, session, took, two_not_zeros, y}
+use Rattle.core_model.proofs.rows.WorkedTraces.{sizes, given, of_first, of_second, leafy, other, second, session, took, two_not_zeros, y}
 
 -- the physical zone with these counters and claims
 abbrev physical_of : List ℕ → List ℕ → PhysicalZone

@@ -21,11 +21,12 @@ use Rattle.core_model.specs.Steps.{Core}
 use Rattle.core_model.specs.Trace.{Calls, Happening, Harms, Trace, all_of, durable, has_stopped, sealed}
 use Rattle.data_vio.specs.Vios.{all_logged}
 use Rattle.core_model.proofs.FairLaws.{fair_before, fair_on}
-use Rattle.core_model.proofs.rows.WorkedTraces.{block, leafy, session, sizes}
+use Rattle.core_model.proofs.rows.WorkedTraces.{leafy, session, sizes}
 use Rattle.blk_base.specs.declared.request.Writer.{Writer}
 use Rattle.image_model.specs.Counts.{HasMappings}
 use Rattle.image_model.specs.Maps.{ArePagesGood, IsTreePage, mapping_of, page_at}
 use Rattle.blk_base.specs.Counters.{limit_of}
+use Rattle.blk_base.specs.Forms.{pbn as block}
 use Rattle.journal_stops.specs.Rings.{IsAtRest}
 use Rattle.page_codec.specs.declared.fault.PageFault.{PageFault}
 use Rattle.image_model.specs.Looked.{is_looked_at}

@@ -15,6 +15,9 @@ use Rattle.vdo_model.specs.declared.report.DeskLine.TheVariants.{Begin, Answer}
 use Rattle.blk_base.specs.declared.place.Lba.{Lba}
 use Rattle.blk_base.specs.declared.place.PageId.{PageId}
 use Rattle.blk_base.specs.declared.place.Pbn.{Pbn}
+use Rattle.blk_base.specs.Forms.{writer, lba as address, pbn as block}
+use Rattle.blk_base.proofs.Example.{leaf}
+use Rattle.blk_base.proofs.PageIdLaws.{same_block}
 use Rattle.plain_laws.proofs.OptionLaws.{some_of}
 use Rattle.data_vio.specs.declared.logged.Logged.TheVariants.{Remaps, Makes}
 use Rattle.data_vio.specs.declared.items.Asks.{Asks}
@@ -34,7 +37,7 @@ use Rattle.data_vio.specs.declared.logged.Logged.{Logged}
 use Rattle.data_vio.specs.declared.logged.Remapping.{Remapping}
 use Rattle.data_vio.specs.declared.logged.NewPage.{NewPage}
 use Rattle.core_model.specs.Trace.{applied, filled, new_of, Says, Flushes, Draws, Enters, Seals, Commits, Sets, Gives, Takes, Drops, Adds, Removes, Strays, Hears, Aborts, Calls, Fails, Trace, Happening}
-use Rattle.core_model.proofs.rows.WorkedTraces.{in_first_zone, address, block, leafy, writer, x, y, first, reader, second, other, late, flush, sizes, begun, drawn, took, handed_in, in_block, lasting, counted, set, stopped, place, entry, of_first, of_second, of_other, given, one_not_zeros, two_not_zeros}
+use Rattle.core_model.proofs.rows.WorkedTraces.{in_first_zone, leafy, x, y, first, reader, second, other, late, flush, sizes, begun, drawn, took, handed_in, in_block, lasting, counted, set, stopped, place, entry, of_first, of_second, of_other, given, one_not_zeros, two_not_zeros}
 
 -- the session, with a journal that takes two blocks; and without leaves
 abbrev pub roomy : Session
@@ -161,9 +164,6 @@ takes_none_for_zeros may =
     absurd (may.asked.3.not_zeros (sym (ap bytes_in asked)))
 
 -- or for a page that it lacks, while the one above it is there, and no entry puts it anywhere
-abbrev leaf : PageId
-leaf = record { tree = 0; level = 0; index = 0 }
-
 abbrev made : Logged
 made = Makes (record { request = first; page = leaf; at = block 85 })
 
@@ -263,9 +263,6 @@ removes = record {
   old_is = refl;
   loss = record { is_data = record { slab = 0; offset = 5; inside = (omega arith, omega arith); stands = refl }; some = omega arith; passes = λ free number waits. cc };
 }
-
-pub same_block : (x y : Pbn) → At x ≡ At y → x ≡ y
-same_block x y is = cc
 
 abbrev second_kind : List CountUpdate → ℕ
 second_kind (u ∷ Increment e ∷ us) = 0

@@ -9,6 +9,7 @@ use Rattle.blk_base.specs.declared.place.Pbn.{Pbn}
 use Rattle.blk_base.specs.declared.request.Request.{Request}
 use Rattle.blk_base.specs.declared.request.Answer.TheVariants.{Stopped}
 use Rattle.blk_base.specs.declared.request.Request.TheVariants as request
+use Rattle.blk_base.specs.Forms.{lba as address, pbn as block}
 use Rattle.disk_model.specs.declared.call.Call.TheVariants.{Read, Flush}
 use Rattle.page_codec.proofs.SpellingLaws.{length-head}
 use Rattle.page_codec.specs.Grammar.{IsPageFault}
@@ -27,7 +28,7 @@ use Rattle.core_model.specs.RightTraces.{IsBlockFor, IsLeafFor, IsLinkedAt, MayF
 use Rattle.core_model.specs.Sessions.{IsFair, Session, mapping_by}
 use Rattle.core_model.specs.Trace.{Calls, Enters, Fails, Harms, Happening, Says, Sets, Trace, applied, calls, damage_in, first_of, has_read_fault, has_stopped, is_harmed, moments}
 use Rattle.core_model.proofs.rows.FollowRows.{its_address}
-use Rattle.core_model.proofs.rows.WorkedTraces.{address, block, drawn, first, leafy, of_first, reader, second, session, script, set, took, x, y}
+use Rattle.core_model.proofs.rows.WorkedTraces.{drawn, first, leafy, of_first, reader, second, session, script, set, took, x, y}
 
 -- IsLinkedAt: the opened image links it there, or an entry that is set does
 linked_by_the_image : IsLinkedAt leafy [] (leaf_of 0) (block 79)

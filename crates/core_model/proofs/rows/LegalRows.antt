@@ -18,14 +18,15 @@ use Rattle.core_model.specs.Steps.{Core}
 use Rattle.core_model.specs.Trace.{Says, Trace}
 use Rattle.blk_base.specs.declared.place.PageId.{PageId}
 use Rattle.blk_base.specs.declared.place.Pbn.{Pbn}
+use Rattle.blk_base.proofs.Example.{leaf}
+use Rattle.blk_base.specs.Forms.{pbn as block}
 use Rattle.core_model.specs.CountUpdates.{CountUpdate}
 use Rattle.core_model.specs.RightTraces.{GivesRight}
 use Rattle.core_model.specs.Sessions.{IsFair}
 use Rattle.core_model.specs.declared.zones.ZoneData.TheVariants as at
-use Rattle.core_model.proofs.rows.PageActRows.{leaf}
 use Rattle.core_model.proofs.rows.PhaseRows.{leafy, device, desk, empty_log, has_block, journal, nothing, one, seven, lock, log_with, logical, of_write, physical, slab_with, stepped, vio, waiting, zone_with}
 use Rattle.core_model.proofs.rows.TicketTraces.{ticket}
-use Rattle.core_model.proofs.rows.WorkedTraces.{lasting, begun, block, first, of_first, of_second, place, reader, second, session}
+use Rattle.core_model.proofs.rows.WorkedTraces.{lasting, begun, first, of_first, of_second, place, reader, second, session}
 use Rattle.recovery_journal.specs.Log.{placed}
 
 -- its six zones, with nothing in their lanes, and only some of them

@@ -4,6 +4,8 @@ use Rattle.blk_base.specs.declared.place.Mapping.TheVariants.{Unmapped, At}
 use Rattle.blk_base.specs.declared.place.PageId.{PageId}
 use Rattle.blk_base.specs.declared.place.ZoneId.TheVariants as id
 use Rattle.blk_base.specs.declared.request.Answer.TheVariants as reply
+use Rattle.blk_base.proofs.Example.{leaf}
+use Rattle.blk_base.specs.Forms.{pbn as block}
 use Rattle.block_map_tree.specs.Tree.{Tree, Links}
 use Rattle.disk_model.specs.declared.call.Call.TheVariants.{Write}
 use Rattle.data_vio.specs.declared.items.Asks.TheVariants as asks
@@ -23,13 +25,9 @@ use Rattle.core_model.specs.PhysicalRules.{PhysicalServes}
 use Rattle.core_model.specs.Steps.{serves, takes, calls}
 use Rattle.core_model.specs.Trace.{Aborts, Adds, Calls, Sets, Takes}
 use Rattle.core_model.proofs.rows.PhaseRows.{Acts, answered, claimed_85, device, gives_85, has_path, lock, nothing, one, physical, seven, six, slab_with, tree_with, vio, with_page_at, zone_with}
-use Rattle.core_model.proofs.rows.WorkedTraces.{block, first, second, sizes}
+use Rattle.core_model.proofs.rows.WorkedTraces.{first, second, sizes}
 
--- the leaf of address 0, and a logical zone over these trees, with these locks, the pages that are made, who waits, and those that
--- are never linked
-abbrev pub leaf : PageId
-leaf = record { tree = 0; level = 0; index = 0 }
-
+-- a logical zone over these trees, with these locks, the pages that are made, who waits, and those that are never linked
 abbrev zone_over : Tree → List Lock → List PageId → List Vio → List PageId → ZoneData
 zone_over tree held making lacking unlinkable = at.Logical (record {
   zone = 0;

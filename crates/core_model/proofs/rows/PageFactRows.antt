@@ -1,11 +1,13 @@
 -- What is known of a page that is being made: for each clause a case that it accepts, and one that breaks it alone.
-use Rattle.std.proofs.Common.{◌≡◌, ◌≤◌, Bool, true, false, not, ◌&&◌, ◌||◌, None, Some, List, [], ◌∷◌, refl, ap, arith, inl, inr}
+use Rattle.std.proofs.Common.{◌≡◌, Bool, true, false, not, ◌&&◌, ◌||◌, None, Some, List, [], ◌∷◌, refl, ap, arith, inl, inr}
 use Rattle.image_model.specs.Pages.{is_page}
-use Rattle.plain_laws.specs.Sums.{bit}
+use Rattle.plain_laws.proofs.ListLaws.{bit_most}
 use Rattle.blk_base.specs.declared.place.PageId.{PageId}
 use Rattle.block_map_tree.specs.Pages.{IsRoot}
 use Rattle.block_map_tree.specs.Tree.{Tree, IsLinkable}
 use Rattle.blk_base.specs.declared.place.Mapping.TheVariants.{At}
+use Rattle.blk_base.proofs.Example.{leaf, root}
+use Rattle.blk_base.specs.Forms.{lba as address, pbn as block}
 use Rattle.data_vio.specs.declared.items.Phase.{Phase}
 use Rattle.data_vio.specs.declared.items.Phase.TheVariants as phase
 use Rattle.data_vio.specs.declared.items.Vio.{Vio}
@@ -18,17 +20,14 @@ use Rattle.core_model.specs.Facts.{AreUnmade, Awaits, Carries, HasPageEntry, Has
 use Rattle.core_model.specs.PageTrees.{link_at}
 use Rattle.core_model.specs.Sessions.{Session}
 use Rattle.core_model.specs.Trace.{Aborts, Asks as AsksIn, Enters, Sets, Takes, Trace}
-use Rattle.core_model.proofs.rows.PageActRows.{leaf, looker}
+use Rattle.core_model.proofs.rows.PageActRows.{looker}
 use Rattle.core_model.proofs.rows.PhaseRows.{leafy, tree_with, vio}
 use Rattle.core_model.proofs.rows.TicketTraces.{ticket}
-use Rattle.core_model.proofs.rows.WorkedTraces.{address, block, drawn, first, session, sizes, took, x}
+use Rattle.core_model.proofs.rows.WorkedTraces.{drawn, first, session, sizes, took, x}
 
 -- another leaf, the root above the first, and trees of three levels
 abbrev other_leaf : PageId
 other_leaf = record { tree = 1; level = 0; index = 0 }
-
-abbrev root : PageId
-root = record { tree = 0; level = 1; index = 0 }
 
 abbrev tall : Session
 tall = record session { sizes = record sizes { geometry = record sizes.geometry { height = 3 } } }
@@ -145,10 +144,6 @@ awaits_what_it_lacks = λ is. let no = is.lacked in absurd cc
 
 awaits_what_is_made : ¬ Awaits (tree_with []) [] looker
 awaits_what_is_made = λ is. let no = is.is_made in absurd cc
-
-bit_most : (b : Bool) → bit b ≤ 1
-bit_most true = omega arith
-bit_most false = omega arith
 
 -- PagesOk: each page may be linked, and is made once; who waits lacks one of these, at home
 made_once : IsLinkable (tree_with []) leaf → PagesOk 0 (tree_with []) (leaf ∷ []) (looker ∷ [])

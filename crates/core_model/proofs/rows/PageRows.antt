@@ -11,6 +11,8 @@ use Rattle.blk_base.specs.declared.place.Mapping.TheVariants.{Unmapped, Zero, At
 use Rattle.blk_base.specs.declared.place.PageId.{PageId}
 use Rattle.blk_base.specs.declared.request.Answer.TheVariants.{Stopped}
 use Rattle.blk_base.specs.declared.request.Request.TheVariants as request
+use Rattle.blk_base.proofs.Example.{leaf, root}
+use Rattle.blk_base.specs.Forms.{lba as address, pbn as block}
 use Rattle.vdo_model.specs.declared.report.DeskLine.TheVariants.{Answer}
 use Rattle.data_vio.specs.declared.logged.Logged.TheVariants.{Remaps, Makes}
 use Rattle.data_vio.specs.declared.logged.NewPage.{NewPage}
@@ -20,17 +22,11 @@ use Rattle.core_model.specs.Sessions.{IsFair, Session}
 use Rattle.core_model.specs.Trace.{Adds, Aborts, Commits, Enters, Gives, Happening, Passes, Says, Seals, Sets, Trace}
 use Rattle.data_vio.specs.declared.logged.Remapping.{Remapping}
 use Rattle.vdo_model.specs.declared.report.Placed.{Placed}
-use Rattle.core_model.proofs.rows.WorkedTraces.{address, begun, block, drawn, first, given, leaves, of_first, reader, second, session, sizes, stopped, took, x}
+use Rattle.core_model.proofs.rows.WorkedTraces.{begun, drawn, first, given, leaves, of_first, reader, second, session, sizes, stopped, took, x}
 
--- the leaf of address 0, that of address 812, and the root above the first; at height 3 the page between these
-abbrev leaf : PageId
-leaf = record { tree = 0; level = 0; index = 0 }
-
+-- the leaf of address 812, and the root above it
 abbrev other_leaf : PageId
 other_leaf = record { tree = 1; level = 0; index = 0 }
-
-abbrev root : PageId
-root = record { tree = 0; level = 1; index = 0 }
 
 abbrev other_root : PageId
 other_root = record { tree = 1; level = 1; index = 0 }

@@ -46,6 +46,7 @@ use Rattle.core_model.specs.declared.zones.SuperblockStage.{SuperblockStage}
 use Rattle.core_model.specs.declared.zones.SuperblockStage.TheVariants.{AsOpened, Written, Durable}
 use Rattle.core_model.specs.PhysicalRules.{PhysicalServes, PhysicalTakes}
 use Rattle.blk_base.specs.declared.point.Half.TheVariants as half
+use Rattle.blk_base.specs.Forms.{lba as address, pbn as block}
 use Rattle.slab_counts.specs.Counts.{Counts, ClaimsFree, HasNoFree, Takes as Fits}
 use Rattle.slab_tickets.specs.Tickets.{empty_desk}
 use Rattle.slab_tickets.specs.declared.forms.Waiting.{Waiting}
@@ -71,7 +72,7 @@ use Rattle.data_vio.specs.Vios.{Post, logged}
 use Rattle.recovery_journal.specs.Log.{Log, placed, point_at}
 use Rattle.core_model.proofs.rows.BeginRows.{one_busy, two_busy, past_one, past_two}
 use Rattle.core_model.proofs.rows.TicketTraces.{ticket}
-use Rattle.core_model.proofs.rows.WorkedTraces.{address, block, x, y, script, first, reader, other, flush, sizes, place, of_first, of_second, given}
+use Rattle.core_model.proofs.rows.WorkedTraces.{x, y, script, first, reader, other, flush, sizes, place, of_first, of_second, given}
 
 abbrev pub Acts : ZoneData → List Item → ZoneData → Trace → List Post → Type 0
 Acts = Act sizes

@@ -1,6 +1,7 @@
 -- How far the superblock of a session has come, which writes are its own, and what an image says that nothing else was written
 -- to: cases that are accepted, and for each clause one that it alone refuses.
 use Rattle.std.proofs.Common.{◌≡◌, true, false, [], ◌∷◌, refl, arith}
+use Rattle.blk_base.specs.Forms.{pbn as block}
 use Rattle.disk_model.specs.declared.call.Call.TheVariants.{Read, Write, Flush}
 use Rattle.core_model.specs.Reports.{IsStillOpened}
 use Rattle.core_model.specs.Sessions.{Session}
@@ -8,7 +9,7 @@ use Rattle.core_model.specs.Superblocks.{WritesNoOther, WritesSuperblock, superb
 use Rattle.core_model.specs.Trace.{Calls, Fails}
 use Rattle.core_model.specs.declared.zones.SuperblockStage.TheVariants.{AsOpened, Written, Durable}
 use Rattle.core_model.proofs.rows.FollowRows.{announced, no_superblock, roomy, superblock}
-use Rattle.core_model.proofs.rows.WorkedTraces.{block, first, x, y}
+use Rattle.core_model.proofs.rows.WorkedTraces.{first, x, y}
 
 -- The write of block 0 and a flush behind it; not a flush before it, one that fails, or the write of another block.
 written : superblock_stage (superblock ∷ []) ≡ Written

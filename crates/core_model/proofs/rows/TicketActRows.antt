@@ -11,6 +11,7 @@ use Rattle.blk_base.specs.declared.place.Pbn.{Pbn}
 use Rattle.blk_base.specs.declared.place.ZoneId.{ZoneId}
 use Rattle.blk_base.specs.declared.place.ZoneId.TheVariants as id
 use Rattle.blk_base.specs.declared.request.Answer.TheVariants as reply
+use Rattle.blk_base.specs.Forms.{pbn as block}
 use Rattle.data_vio.specs.declared.items.Asks.TheVariants as asks
 use Rattle.data_vio.specs.declared.items.Item.TheVariants.{Report, Request}
 use Rattle.data_vio.specs.declared.items.Phase.{Phase}
@@ -33,7 +34,7 @@ use Rattle.core_model.specs.Trace.{Asks as AsksIn, Drops, Removes, Takes, Trace,
 use Rattle.core_model.specs.declared.zones.PhysicalZone.{PhysicalZone}
 use Rattle.core_model.proofs.rows.PhaseRows.{all, none_free, nothing, one, slab_with, stepped, vio, waiting, zone_with}
 use Rattle.core_model.proofs.rows.TicketTraces.{ticket, two}
-use Rattle.core_model.proofs.rows.WorkedTraces.{block, first, of_second, other, second}
+use Rattle.core_model.proofs.rows.WorkedTraces.{first, of_second, other, second}
 
 -- a zone with these counts
 abbrev zone : Zone → PhysicalZone

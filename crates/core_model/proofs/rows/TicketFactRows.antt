@@ -3,6 +3,7 @@
 use Rattle.std.proofs.Common.{ℕ, zero, suc, ◌≡◌, ◌⊎◌, ◌<◌, Option, None, Some, List, [], ◌∷◌, ◌++◌, refl, ap, arith, inl, inr}
 use Rattle.std.specs.Prelude.{Contains}
 use Rattle.blk_base.specs.declared.request.Writer.{Writer}
+use Rattle.blk_base.specs.Forms.{pbn as block}
 use Rattle.data_vio.specs.declared.sizes.Sizes.{Sizes}
 use Rattle.plain_laws.specs.Sums.{bit, total}
 use Rattle.slab_counts.specs.declared.tickets.Ticket.{Ticket}
@@ -12,7 +13,7 @@ use Rattle.core_model.specs.RightTraces.{WasRefused}
 use Rattle.core_model.specs.Sessions.{Session}
 use Rattle.core_model.specs.Trace.{Asks, Takes, Trace, Withdraws, places}
 use Rattle.core_model.proofs.rows.TicketTraces.{are_before, asks_in, before_last, begins_with, crowded, crowded_two, ends_in, ends_with, has_asked, has_ended, one_asked, one_has, ticket}
-use Rattle.core_model.proofs.rows.WorkedTraces.{block, drawn, second, sizes, took}
+use Rattle.core_model.proofs.rows.WorkedTraces.{drawn, second, sizes, took}
 
 -- AreInTurn: each of the next zone, from that of the turn on
 abbrev three : Sizes

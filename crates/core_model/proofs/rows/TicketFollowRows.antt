@@ -11,12 +11,14 @@ use Rattle.core_model.specs.PageLinks.{MayLack}
 use Rattle.blk_base.specs.declared.place.PageId.{PageId}
 use Rattle.blk_base.specs.declared.request.Request.{Request}
 use Rattle.blk_base.specs.declared.request.Request.TheVariants as request
+use Rattle.blk_base.proofs.PageIdLaws.{same_block}
+use Rattle.blk_base.specs.Forms.{lba as address, pbn as block}
 use Rattle.core_model.specs.Sessions.{Session}
 use Rattle.core_model.specs.Uses.{Waits}
 use Rattle.core_model.specs.Trace.{Says, Takes, Asks as AsksIn, Withdraws, Drops, Removes, Trace}
 use Rattle.core_model.proofs.rows.TicketTraces.{crowded, each_is_mapped, half_full, has_asked, none_is_free, none_of_first, one_asked, one_has, ticket, two, two_asked}
-use Rattle.core_model.proofs.rows.WorkedTraces.{address, block, first, reader, second, session, other, begun, drawn, took, two_not_zeros, of_second, y}
-use Rattle.core_model.proofs.rows.FollowRows.{May, both, roomy, same_block}
+use Rattle.core_model.proofs.rows.WorkedTraces.{first, reader, second, session, other, begun, drawn, took, two_not_zeros, of_second, y}
+use Rattle.core_model.proofs.rows.FollowRows.{May, both, roomy}
 
 -- One that has its place asks a physical zone in which no data block is free, and is given the next ticket there.
 asks_where_none_is_free : MayFollow crowded (AsksIn second (ticket 0 0)) drawn

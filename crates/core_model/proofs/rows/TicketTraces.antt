@@ -7,6 +7,7 @@ use Rattle.std.proofs.lemmas.List.{get_or-replicate, get_or_append_left}
 use Rattle.blk_base.specs.Regions.{IsDataBlock}
 use Rattle.blk_base.specs.declared.place.Pbn.{Pbn}
 use Rattle.blk_base.specs.declared.request.Writer.{Writer}
+use Rattle.blk_base.specs.Forms.{pbn as block}
 use Rattle.data_vio.specs.declared.sizes.Sizes.{Sizes}
 use Rattle.plain_laws.specs.Sums.{bit, total}
 use Rattle.slab_counts.specs.declared.tickets.Ticket.{Ticket}
@@ -19,7 +20,7 @@ use Rattle.core_model.specs.Sessions.{Session, opened_uses}
 use Rattle.core_model.specs.Tokens.{is_block, is_old}
 use Rattle.core_model.specs.Trace.{Happening, Trace, Asks, Withdraws, Drops, claimed, removed, unclaimed}
 use Rattle.core_model.specs.Uses.{NoneFree, NoneFreeIn}
-use Rattle.core_model.proofs.rows.WorkedTraces.{block, first, other, second, session, sizes}
+use Rattle.core_model.proofs.rows.WorkedTraces.{first, other, second, session, sizes}
 
 -- two physical zones, and a slab for each
 abbrev pub two : Sizes

@@ -2,7 +2,6 @@
 -- and at one that hasn't.
 use Rattle.std.proofs.Common.{ℕ, ◌≡◌, ◌+◌, ◌==◌, true, false, Option, None, Some, List, [], ◌∷◌, replicate, refl, arith, length, length-append, ap, sym, subst}
 use Rattle.blk_base.specs.declared.place.Mapping.TheVariants.{Unmapped, Zero, At}
-use Rattle.blk_base.specs.declared.place.PageId.{PageId}
 use Rattle.blk_base.specs.declared.place.Pbn.{Pbn}
 use Rattle.data_vio.specs.declared.items.Item.TheVariants.{Request, Decrement, Report, Damage, StopNotice}
 use Rattle.data_vio.specs.declared.items.Phase.TheVariants as phase
@@ -13,22 +12,21 @@ use Rattle.core_model.specs.CountUpdates as update
 use Rattle.core_model.specs.Facts.{AwaitsReport}
 use Rattle.core_model.specs.Tokens.{Token, block_token, claim_token, damage_token, report_token, ticket_token, ticket_weight, waiter_token}
 use Rattle.core_model.specs.Trace.{Adds, Asks, Commits, Drops, Hears, Removes, Strays, Withdraws, Trace, added, claimed, damage_in, has_stopped, passed_on, removed, strayed, unclaimed}
-use Rattle.core_model.specs.Uses.{IsFreeAt, NoneFree, NoneFreeIn, Waits, counted, data_blocks, gained, is_used, issued, lost, sum_below, ticket_at, uncounted, used_at, used_of_slab}
+use Rattle.core_model.specs.Uses.{IsFreeAt, NoneFree, NoneFreeIn, Waits, counted, gained, is_used, issued, lost, sum_below, ticket_at, uncounted, used_at, used_of_slab}
 use Rattle.core_model.specs.declared.zones.ZoneData.{ZoneData}
 use Rattle.core_model.specs.declared.zones.ZoneData.TheVariants as at
 use Rattle.vdo_model.specs.declared.report.Damage.TheVariants.{Stray}
 use Rattle.core_model.proofs.rows.PhaseRows.{empty_log, has_block, journal, logical, nothing, one, physical, seven, slab_with, stepped, waiting, writes, zone_with}
 use Rattle.core_model.proofs.rows.TicketTraces.{one_asked, one_has, ticket, two, two_asked}
-use Rattle.core_model.proofs.rows.WorkedTraces.{block, first, of_first, of_second, other, second, session, sizes, took}
-use Rattle.blk_base.specs.Regions.{first_slab_of, slab_stride_of}
+use Rattle.core_model.proofs.rows.WorkedTraces.{first, of_first, of_second, other, second, session, sizes, took}
+use Rattle.blk_base.specs.Regions.{first_slab_of, slab_stride_of, data_blocks}
+use Rattle.blk_base.proofs.Example.{leaf}
+use Rattle.blk_base.specs.Forms.{pbn as block}
 use Rattle.data_vio.specs.declared.items.Vio.{Vio}
 use Rattle.slab_tickets.specs.declared.forms.Waiting.{Waiting}
 use Rattle.std.proofs.Math.Nat.{mod-one}
 use Rattle.std.proofs.lemmas.Bool.{eqb-true}
 use Rattle.zone_counts.specs.Zone.{slab_number}
-
-abbrev leaf : PageId
-leaf = record { tree = 0; level = 0; index = 0 }
 
 -- a page that the first write made; and an entry that maps an address of block 85 to nothing
 abbrev made : ℕ → Trace → Trace

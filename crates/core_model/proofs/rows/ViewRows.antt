@@ -10,7 +10,7 @@ abbrev Lanes : Type 0
 Lanes = List (List (List Item))
 
 -- one item, and two
-abbrev one : List Item
+abbrev pub one : List Item
 one = StopNotice ∷ []
 
 abbrev two : List Item

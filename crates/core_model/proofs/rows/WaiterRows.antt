@@ -2,6 +2,7 @@
 use Rattle.std.proofs.Common.{ℕ, ◌≡◌, false, true, [], ◌∷◌, refl, ap, subst, inl, inr, arith}
 use Rattle.std.proofs.lemmas.Bool.Decides.{eqb_tells}
 use Rattle.blk_base.specs.declared.place.Lba.{Lba}
+use Rattle.blk_base.specs.Forms.{lba as address}
 use Rattle.logical_locks.specs.declared.waiter.Waiter.{Waiter}
 use Rattle.core_model.specs.LogicalData.{Lock}
 use Rattle.core_model.specs.LogicalRules.{is_among}
@@ -9,7 +10,6 @@ use Rattle.core_model.specs.Waiters.{AreFree, AreOwn, IsFree, vios}
 use Rattle.data_vio.specs.declared.items.Phase.TheVariants as phase
 use Rattle.data_vio.specs.declared.items.Vio.{Vio}
 use Rattle.core_model.proofs.rows.PhaseRows.{writes}
-use Rattle.core_model.proofs.rows.WorkedTraces.{address}
 
 -- a write of address 0 with place 0, as one that waits for an address with a place
 abbrev waits : (a n : ℕ) → Waiter Vio

@@ -5,13 +5,13 @@ use Rattle.std.proofs.lemmas.List.{length-replicate}
 use Rattle.image_model.specs.Pages.{is_page}
 use Rattle.blk_base.specs.Pages.{leaf_of}
 use Rattle.blk_base.specs.Sectors.{zero_block}
-use Rattle.blk_base.specs.declared.place.Lba.{Lba}
 use Rattle.blk_base.specs.declared.place.Mapping.{Mapping}
 use Rattle.blk_base.specs.declared.place.Mapping.TheVariants.{Unmapped, At}
 use Rattle.blk_base.specs.declared.place.PageId.{PageId}
 use Rattle.blk_base.specs.declared.place.Pbn.{Pbn}
 use Rattle.blk_base.specs.declared.request.Request.TheVariants as request
 use Rattle.blk_base.specs.declared.request.Writer.{Writer}
+use Rattle.blk_base.specs.Forms.{writer, lba as address, pbn as block}
 use Rattle.disk_model.specs.declared.call.Call.TheVariants.{Flush}
 use Rattle.vdo_model.specs.declared.report.DeskLine.TheVariants.{Begin}
 use Rattle.vdo_model.specs.declared.report.Placed.{Placed}
@@ -25,15 +25,6 @@ use Rattle.data_vio.specs.Zones.{physical_zone_of}
 use Rattle.data_vio.specs.declared.logged.Logged.{Logged}
 use Rattle.std.proofs.lemmas.Bool.{eqb-true}
 use Rattle.core_model.specs.Trace.{Gift, Says, Draws, Enters, Seals, Commits, Adds, Sets, Takes, Fails, Trace}
-
-abbrev pub address : ℕ → Lba
-address a = record { 0 = a }
-
-abbrev pub block : ℕ → Pbn
-block x = record { 0 = x }
-
-abbrev pub writer : ℕ → ℕ → Writer
-writer stream number = record { stream = stream; number = number }
 
 -- two values
 abbrev pub x : List ℕ

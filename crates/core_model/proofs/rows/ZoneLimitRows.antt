@@ -7,7 +7,8 @@ use Rattle.data_vio.specs.declared.items.Item.{Item}
 use Rattle.data_vio.specs.declared.items.Item.TheVariants.{StopNotice}
 use Rattle.data_vio.specs.declared.items.Phase.TheVariants as phase
 use Rattle.data_vio.specs.declared.items.Vio.{Vio}
-use Rattle.blk_base.specs.declared.place.PageId.{PageId}
+use Rattle.blk_base.proofs.Example.{leaf}
+use Rattle.blk_base.specs.Forms.{lba as address}
 use Rattle.block_map_tree.specs.Tree.{Tree}
 use Rattle.core_model.specs.declared.zones.SuperblockStage.TheVariants.{AsOpened}
 use Rattle.core_model.specs.declared.zones.DeviceZone.{DeviceZone}
@@ -19,7 +20,7 @@ use Rattle.core_model.specs.Limits.{IsJournalWithin, IsLogicalWithin, IsPhysical
 use Rattle.core_model.specs.PhysicalRules.{next_step}
 use Rattle.core_model.specs.declared.zones.PhysicalZone.{PhysicalZone}
 use Rattle.core_model.proofs.rows.PhaseRows.{empty_log, slab_with, stepped, waiting, writes, zone_with}
-use Rattle.core_model.proofs.rows.WorkedTraces.{address, first, of_first, place, sizes}
+use Rattle.core_model.proofs.rows.WorkedTraces.{first, of_first, place, sizes}
 
 abbrev waits : Vio
 waits = writes phase.Wait
@@ -29,9 +30,6 @@ lock = record { at = address 0; place = 0 }
 
 abbrev drawn : Placed
 drawn = place first 0 0
-
-abbrev leaf : PageId
-leaf = record { tree = 0; level = 0; index = 0 }
 
 abbrev no_tree : Tree
 no_tree = record { forest = record { geometry = sizes.geometry; zone = 0; zones = 1 }; pages = []; dirty_points = [] }

@@ -18,12 +18,13 @@ use Rattle.core_model.specs.Steps.{ZoneStep, IsIdle, takes_notice}
 use Rattle.core_model.specs.Tokens.{holds, owes, has_entry, kept_items}
 use Rattle.blk_base.specs.Regions.{first_slab_of, slab_stride_of}
 use Rattle.blk_base.specs.declared.place.Pbn.{Pbn}
+use Rattle.blk_base.specs.Forms.{pbn as block}
 use Rattle.data_vio.specs.Vios.{counts_of, ticket_zone}
 use Rattle.data_vio.specs.Zones.{IsZone, counts_in, physical_zone_of, zone_number, zone_count, notified, notified_zones}
 use Rattle.data_vio.specs.declared.items.Vio.{Vio}
 use Rattle.core_model.proofs.rows.PhaseRows.{writes, reads, desk, empty_log, logical, nothing, one, physical, slab_with, zone_with, journal, device}
 use Rattle.core_model.proofs.rows.TicketTraces.{ticket, two}
-use Rattle.core_model.proofs.rows.WorkedTraces.{block, first, sizes}
+use Rattle.core_model.proofs.rows.WorkedTraces.{first, sizes}
 
 -- the desk, two logical zones, one physical zone, the journal and the device are there, and have the numbers from 0 to 5
 are_zones : IsZone sizes id.Desk × IsZone sizes (id.Logical 0) × IsZone sizes (id.Logical 1) × IsZone sizes (id.Physical 0) × IsZone sizes id.Journal × IsZone sizes id.Device

@@ -1,10 +1,10 @@
 use Rattle.std.proofs.Common.{◌∙◌, sym, ap}
-use Rattle.count_updates.specs.Numbers.{all_blocks}
+use Rattle.blk_base.specs.Regions.{data_blocks}
 use Rattle.audit.proofs.AuditLaws.{audited}
 use Rattle.audit.proofs.auditor.audit_with.Goals as goal
 
 pub report_of-requires : goal.report_of-requires
-report_of-requires g c = let are = c.in_ok-contents.ensures.contents in are.blocks ∙ ap all_blocks (sym c.of-layout.ensures)
+report_of-requires g c = let are = c.in_ok-contents.ensures.contents in are.blocks ∙ ap data_blocks (sym c.of-layout.ensures)
 
 pub returns-clause-report : goal.returns-clause-report
 returns-clause-report g c =

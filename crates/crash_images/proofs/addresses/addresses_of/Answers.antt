@@ -1,5 +1,6 @@
 use Rattle.std.proofs.Common.{ℕ, List, map, subst, sym, ◌∙◌, ap}
-use Rattle.crash_images.specs.Addresses.{AreAddresses, lba}
+use Rattle.blk_base.specs.Forms.{lba}
+use Rattle.crash_images.specs.Addresses.{AreAddresses}
 use Rattle.crash_images.proofs.AddressLaws.{addresses_are}
 use Rattle.crash_images.proofs.addresses.addresses_of.Goals as goal
 

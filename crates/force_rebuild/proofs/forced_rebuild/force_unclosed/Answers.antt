@@ -1,6 +1,6 @@
 use Rattle.std.proofs.Common.{List, inl, inr, sym, ◌∙◌, ap, subst}
-use Rattle.count_updates.specs.Numbers.{all_blocks}
 use Rattle.blk_base.specs.declared.journal_entry.CommittedEntry.{CommittedEntry}
+use Rattle.blk_base.specs.Regions.{data_blocks}
 use Rattle.disk_model.proofs.SinceLaws.{untouched_on}
 use Rattle.replay_map.specs.Changes.{AreNewest}
 use Rattle.force_rebuild.proofs.ForceLaws.{forced_as, passed_as, read_refused, write_failed_as}
@@ -35,5 +35,5 @@ returns g c =
     forced_as _ _ _ _ (g.D.Disk.seen c.read_window.new.device) (g.D.Disk.seen c.count_map.new.device) _ c.in_ok-window.window c.in-Ok.changes c.in_ok-counted.counted.map c.in_ok-counted.counted.counters.items
     c.in_ok-window.ensures.window c.in_ok-counted.ensures.map c.count_map.ensures.untouched
     (subst (λ (entries : List CommittedEntry). AreNewest entries c.in-Ok.changes) (sym c.entries.ensures) c.in-Ok.ensures) c.in_ok-counted.ensures.counters c.requires.room
-    c.of-layout.result.geometry c.last.result _ c.of-layout.ensures c.last.ensures (rw c.deref-2.ensures.value at c.count_used.ensures) (c.data_blocks.ensures ∙ ap all_blocks c.of-layout.ensures)
+    c.of-layout.result.geometry c.last.result _ c.of-layout.ensures c.last.ensures (rw c.deref-2.ensures.value at c.count_used.ensures) (c.data_blocks.ensures ∙ ap data_blocks c.of-layout.ensures)
     (rw c.deref.ensures.value at c.in-Ok-write_image.ensures)

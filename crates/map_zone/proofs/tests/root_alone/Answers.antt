@@ -12,17 +12,15 @@ use Rattle.page_codec.proofs.HeldLaws.{held_unmapped}
 use Rattle.block_map_tree.specs.declared.forms.Forest.{Forest}
 use Rattle.block_map_tree.specs.Pages.{IsInner, IsRoot, IsTreeOf}
 use Rattle.block_map_tree.specs.OpenedTree.{IsLed, IsOpened, IsPlaced}
+use Rattle.block_map_tree.proofs.TreeRows.{first_zone, own}
 use Rattle.map_zone.specs.declared.tests.TheConstants.{GEOMETRY, ROOT}
 use Rattle.map_zone.proofs.tests.root_alone.Goals as goal
 
 abbrev forest : Forest
-forest = record { geometry = GEOMETRY; zone = 0; zones = 60 }
-
-own : IsTreeOf forest 0
-own = record { inside = omega arith; own = refl }
+forest = first_zone GEOMETRY
 
 root : IsRoot forest ROOT
-root = record { tree = own; level = refl; index = refl }
+root = record { tree = own GEOMETRY; level = refl; index = refl }
 
 alone : (page : OpenedPage) → page.page ≡ ROOT → page.at.0 ≡ 9 → page.mappings ≡ replicate 812 Unmapped → IsOpened forest (page ∷ [])
 alone page named at leads = record {
