@@ -17,7 +17,13 @@ pub use Rattle.blk_base.specs.declared.request.Answer.{Answer}
 pub use Rattle.blk_base.specs.declared.request.Request.{Request}
 pub use Rattle.blk_base.specs.declared.request.Writer.{Writer}
 pub use Rattle.core_model.proofs.FairLaws.{fair_before, fair_part}
-pub use Rattle.core_model.specs.Facts.{Answers, BlockOk, Carries, ClaimOk, DataOk, HasAddress, HasEarned, HasLists, HasPendingEntry, Holds, InLine, IsChange, IsDecrement, IsEarned, IsEntered, IsForBlock, IsInTurn, IsLogOf, IsPlaced, IsReport, IsSealed, IsToBlock, IsToData, IsToInside, IsUndrawn, ItemOk, JournalLists, KeptEach, KeptOk, LockOk, LocksOk, Looks, MapOk, MayReply, RestsAt, Rises, StandsAt, VioOk, WaitsOk, WasTold, ZoneOk, arrival, arriving, made_by, name_of, zone_at, zone_of_stage}
+pub use Rattle.core_model.specs.DeskFacts.{HasEarned, IsEarned, MayReply}
+pub use Rattle.core_model.specs.DeviceFacts.{IsToInside}
+pub use Rattle.core_model.specs.Facts.{Answers, BlockOk, Carries, DataOk, HasLists, ItemOk, KeptEach, KeptOk, WasTold, ZoneOk, arrival, arriving, made_by, name_of}
+pub use Rattle.core_model.specs.JournalFacts.{HasPendingEntry, IsEntered, IsLogOf, IsSealed, JournalLists, RestsAt, StandsAt}
+pub use Rattle.core_model.specs.LogicalFacts.{Holds, InLine, IsInTurn, IsPlaced, IsReport, IsUndrawn, LockOk, LocksOk, Looks, MapOk, Rises, WaitsOk}
+pub use Rattle.core_model.specs.PhysicalFacts.{IsDecrement}
+pub use Rattle.core_model.specs.RequestFacts.{ClaimOk, HasAddress, IsChange, IsForBlock, IsToBlock, IsToData, VioOk, zone_at, zone_of_stage}
 pub use Rattle.core_model.specs.RightTraces.{AllBelow, CommitMayFollow, EntryMayFollow, FailureMayFollow, GiftMayFollow, GivesRight, HadNoFree, HasBelow, HasCause, HasFullJournal, HasPlace, IsCommitted, IsHeldBack, IsMadeFor, IsOpen, IsPending, IsReported, IsStoppedAtOnce, IsUnused, IsWrite, MapsTo, MayAnswer, MayFollow, NeedsBlock, PageMayFollow, PassMayFollow, PlaceMayFollow, Quiet, RightTrace, SealMayFollow, SlotMayFollow, StopsAtFailure, TakeMayFollow}
 pub use Rattle.core_model.specs.Sessions.{AreAllThere, AtRest, ComesLast, HasBlocks, HasHonestReads, IsAsOpened, IsFair, IsHonestRead, IsSession, KeptStands, MapStands, NewReads, NewStands, OnBlock, OnItsWay, PagesStand, ReadsAs, ReadsBlock, Session, Shown, Stands, bytes_of, content_of, log, mapped_or, mapping_by, opened_at, opened_image, opened_uses, value_at, value_from}
 pub use Rattle.core_model.specs.Tokens.{AtMost, Balanced, Token, answers_of, as_items, begins_of, block_token, claim_token, claim_weight, damage_token, ended_at, entered_at, entry_token, given, has_entry, has_old, heard_at, held_at, holder_token, holder_weight, holds, idle_at, in_log, is_answer, is_begin, is_block, is_committed, is_entry, is_old, is_sealed, is_word, journal_token, kept_by, leads_to, lease_token, lock_weight, locks_at, notice_token, notified_by, of_vio, one_journal, owes, queued, report_token, request_token, room_token, waiter_token, waiter_weight, weight}

@@ -6,7 +6,7 @@ use Rattle.core_laws.proofs.Common.{bit, journaled, Logged, remappings, DataOk, 
 use Rattle.data_vio.specs.declared.items.Item.TheVariants as item
 use Rattle.core_model.specs.declared.zones.ZoneData.TheVariants as at
 use Rattle.core_model.specs.Legal.{Legal, share}
-use Rattle.core_model.specs.Limits.{most_entries, most_requests, requests_in}
+use Rattle.core_model.specs.SessionLimits.{most_entries, most_requests, requests_in}
 use Rattle.core_model.specs.Steps.{Core}
 use Rattle.core_model.specs.Tokens.{kept_items, page_entry_token, pages_entered_at, unlinkable_at}
 use Rattle.core_laws.proofs.kept.FirstState.{total_at_most}

@@ -2,8 +2,7 @@
 use Rattle.std.proofs.Common.{◌≡◌, ℕ, zero, suc, true, ◌+◌, ◌*◌, ◌-◌, ◌<◌, ◌≤◌, IsNone, Some, List, [], ◌∷◌, length, get_or, refl, ap, inl, inr, arith}
 use Rattle.core_laws.proofs.Common.{AllByRecursion, DeskLine, Fails, Flushes, IsDeskLog, IsNextLine, Says, Script, Trace, Writer, answer_of, answered, begun, eqb_tells, is_answer, is_begin, lines, marks, same_tells, total}
 use Rattle.vdo_model.specs.declared.report.DeskLine.TheVariants.{Begin, Answer}
-use Rattle.core_model.specs.Limits.{requests_in}
-use Rattle.core_model.specs.SessionLimits.{most_depth, most_of_stream, most_under_way_in}
+use Rattle.core_model.specs.SessionLimits.{most_depth, most_of_stream, most_under_way_in, requests_in}
 use Rattle.core_limits.proofs.StreamSums.{Apart, Inside, named, names_few, over, over_le, over_more, over_none, over_script, over_streams, stream_there}
 use Rattle.core_limits.proofs.Rooms.{all_answered, all_begun, stream_bound, under_way}
 use Rattle.std.proofs.Math.Nat.{le-min}

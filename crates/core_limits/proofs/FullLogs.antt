@@ -4,7 +4,7 @@ use Rattle.std.proofs.lemmas.Option.{slice_get_cases}
 use Rattle.blk_base.specs.Forms.{writer}
 use Rattle.core_laws.proofs.Common.{AllAnswered, AllByRecursion, DeskLine, IsDeskLog, Request, Script, Writer, answer_of, eqb_tells, is_answer, none_is, option_cases, request_at, same_tells, some_is, total}
 use Rattle.vdo_model.specs.declared.report.DeskLine.TheVariants.{Begin, Answer}
-use Rattle.core_model.specs.Limits.{requests_in}
+use Rattle.core_model.specs.SessionLimits.{requests_in}
 use Rattle.core_limits.proofs.StreamSums.{Apart, Inside, more_of, named, names_few, of_stream, over, over_le, over_more, over_none, over_script}
 use Rattle.core_limits.proofs.DeskLimits.{answered_apart, answered_inside, answered_names, answers_few, as_many, asked_inside, begins_few, begun_few, itself, lines_are, log_few, none_named, requests_of}
 

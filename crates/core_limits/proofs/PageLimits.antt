@@ -4,7 +4,7 @@ use Rattle.core_laws.proofs.Common.{AllByRecursion, Enters, IsSession, Logged, P
 use Rattle.blk_base.specs.Pages.{page_above}
 use Rattle.blk_base.specs.declared.request.Request.{Request}
 use Rattle.blk_base.specs.declared.request.Request.TheVariants as request
-use Rattle.core_model.specs.Limits.{requests_in}
+use Rattle.core_model.specs.SessionLimits.{requests_in}
 use Rattle.blk_base.specs.declared.place.PageId.{PageId}
 use Rattle.core_model.specs.PageLinks.{MayLack, page_in}
 use Rattle.core_model.proofs.TreeLinks.{page_itself}

@@ -1,7 +1,7 @@
 -- How many places are drawn: each request of the script has one at most.
 use Rattle.std.proofs.Common.{◌≡◌, ℕ, ◌≤◌, IsNone, Some, List, [], ◌∷◌, length, refl, inl, inr, arith}
 use Rattle.core_laws.proofs.Common.{AllByRecursion, AreDrawn, DeskLine, Placed, Script, Writer, eqb_tells, place_of, same_tells, some_is}
-use Rattle.core_model.specs.Limits.{requests_in}
+use Rattle.core_model.specs.SessionLimits.{requests_in}
 use Rattle.vdo_model.specs.ZoneOrder.{places_in}
 use Rattle.core_limits.proofs.DeskLimits.{asked_inside, requests_of}
 use Rattle.core_limits.proofs.StreamSums.{Apart, Inside, named, names_few, over_script}

@@ -11,7 +11,7 @@ use Rattle.core_limits.proofs.StreamSums.{over, over_more, over_none, stream_the
 use Rattle.core_limits.proofs.UpdateSums.{IsKnown, all_known, damages_few, entries_few, kept_reports, known_by, reports_wait, updates_in, updates_weigh}
 pub use Rattle.core_limits.proofs.UpdateSums.{carried, split_sum}
 use Rattle.core_laws.proofs.Common.{AllByRecursion, ItemOk, LogicalZone, Writer, every-map}
-use Rattle.core_model.specs.Facts.{ReportOk}
+use Rattle.core_model.specs.LogicalFacts.{ReportOk}
 use Rattle.core_model.specs.Tokens.{damage_token, decrement_weight, is_damage, report_token}
 use Rattle.core_laws.proofs.tokens.Lift.{items_total}
 use Rattle.core_laws.proofs.trace.DeskOfTrace.{desk_log_right}

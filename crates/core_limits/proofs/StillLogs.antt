@@ -4,7 +4,7 @@ use Rattle.std.proofs.lemmas.Bool.{cases_lt}
 use Rattle.blk_base.specs.Forms.{writer}
 use Rattle.core_laws.proofs.Common.{DeskLine, IsDeskLog, IsNextLine, Script, Writer, answered, begun, bit, eqb_tells, is_answer, is_begin, same_self, same_writer, total}
 use Rattle.vdo_model.specs.declared.report.DeskLine.TheVariants.{Begin, Answer}
-use Rattle.core_model.specs.Limits.{requests_in}
+use Rattle.core_model.specs.SessionLimits.{requests_in}
 use Rattle.core_laws.proofs.trace.Growth.{begun_more}
 use Rattle.core_limits.proofs.DeskLimits.{all_counted, answered_apart, answered_names, begun_few, itself, requests_of}
 use Rattle.core_limits.proofs.FullLogs.{asked_there}

@@ -11,12 +11,12 @@ use Rattle.blk_base.specs.declared.place.Mapping.TheVariants.{Unmapped, Zero, At
 use Rattle.core_laws.proofs.Common.{IsEntered, IsToBlock, Remapping, same_self, same_tells, zone_number, zone_of}
 use Rattle.core_laws.proofs.logical.ReportFacts.{own_report}
 use Rattle.core_limits.proofs.UpdateSums.{kept_reports, reports_wait}
-use Rattle.core_model.specs.Facts.{AwaitsReport, CarriesFor, ReportOk}
+use Rattle.core_model.specs.Facts.{CarriesFor, CarriesPage}
+use Rattle.core_model.specs.LogicalFacts.{AwaitsReport, ReportOk, Awaits}
 use Rattle.core_model.specs.LogicalRules.{is_reported}
 use Rattle.core_model.specs.PageLinks.{block_in}
 use Rattle.core_model.specs.Tokens.{decrement_weight, has_old, report_token, waiter_token, waiter_weight}
 use Rattle.blk_base.specs.declared.place.PageId.{PageId}
-use Rattle.core_model.specs.Facts.{Awaits, CarriesPage}
 use Rattle.core_model.specs.LogicalRules.{is_held}
 use Rattle.core_model.specs.Steps.{Core, IsStill, MayBegin}
 use Rattle.core_model.specs.Tokens.{is_same, making_at, making_token, one_journal}

@@ -6,15 +6,17 @@ use Rattle.core_laws.proofs.Common.{AllByRecursion, Carries, DataOk, Each, IsSes
 use Rattle.data_vio.specs.declared.items.Item.TheVariants as item
 use Rattle.data_vio.specs.declared.items.Phase.TheVariants as phase
 use Rattle.data_vio.specs.Phases.{phase_rule}
-use Rattle.core_model.specs.Facts.{AreInTurn, CarriesFor, ClaimOk, IsAsking, IsWithdrawing}
+use Rattle.core_model.specs.Facts.{CarriesFor}
+use Rattle.core_model.specs.PhysicalFacts.{AreInTurn, IsAsking, IsWithdrawing}
+use Rattle.core_model.specs.RequestFacts.{ClaimOk}
 use Rattle.core_model.specs.Legal.{Legal}
-use Rattle.core_model.specs.Limits.{most_streams}
+use Rattle.core_model.specs.PhysicalLimits.{IsPhysicalWithin}
+use Rattle.core_model.specs.SessionLimits.{most_streams, most_requests}
 use Rattle.core_model.specs.Steps.{Core}
 use Rattle.core_model.specs.Tokens.{Token, ticket_token, ticket_weight}
 use Rattle.core_model.specs.declared.zones.ZoneData.TheVariants as at
 use Rattle.slab_counts.specs.declared.tickets.Ticket.{Ticket}
 use Rattle.slab_tickets.specs.declared.forms.Waiting.{Waiting}
-use Rattle.core_model.specs.Limits.{IsPhysicalWithin, most_requests}
 use Rattle.core_laws.proofs.kept.FirstState.{total_at_most}
 use Rattle.core_limits.proofs.Rooms.{all_requests, carried, split_sum}
 use Rattle.core_limits.proofs.Stillness.{both_items}

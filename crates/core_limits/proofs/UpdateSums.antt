@@ -6,7 +6,7 @@ use Rattle.core_laws.proofs.logical.ReportFacts.{each_logged}
 use Rattle.core_laws.proofs.tokens.Known.{Replaces}
 use Rattle.core_laws.proofs.trace.DeskOfTrace.{committed_writes}
 use Rattle.core_limits.proofs.StreamSums.{Inside, all_named, asked_inside, requests_of, named, over, over_le, over_none}
-use Rattle.core_model.specs.Facts.{IsDecrement}
+use Rattle.core_model.specs.PhysicalFacts.{IsDecrement}
 use Rattle.core_model.specs.Legal.{Legal}
 use Rattle.core_model.specs.PageLinks.{block_in}
 use Rattle.core_model.specs.Steps.{Core}

@@ -4,7 +4,8 @@ use Rattle.std.proofs.lemmas.Nat.{mul-le}
 use Rattle.core_laws.proofs.Common.{AllByRecursion, DataOk, Desk, IsSession, Item, LogicalZone, Placed, Script, Session, Zone, ZoneData, heard_at, kept_by, lines, notice_token, places, total-get, weight}
 use Rattle.core_model.specs.declared.zones.ZoneData.TheVariants as at
 use Rattle.core_model.specs.Legal.{Legal, share}
-use Rattle.core_model.specs.Limits.{IsDeskWithin, IsShort, most_depth, most_items, most_notices, most_requests, most_streams, reads_in, requests_in}
+use Rattle.core_model.specs.DeskLimits.{IsDeskWithin}
+use Rattle.core_model.specs.SessionLimits.{IsShort, most_depth, most_items, most_notices, most_requests, most_streams, reads_in, requests_in}
 use Rattle.core_model.specs.DeskLines.{is_bytes}
 use Rattle.plain_laws.specs.Sums.{total}
 use Rattle.vdo_model.specs.declared.report.DeskLine.{DeskLine}

@@ -16,7 +16,7 @@ use Rattle.block_map_tree.specs.Tree.{Tree}
 use Rattle.core_model.specs.LogicalData.{Lock, LogicalZone}
 use Rattle.core_model.specs.LogicalRules.{but_first_for, first_for, is_among, drawn_by, is_held, lock_of, passed_to, place_of_vio, placed, released, without}
 use Rattle.core_model.specs.Waiters.{AreFree, AreOwn, IsFree, vios}
-use Rattle.core_model.specs.Limits.{IsLogicalWithin}
+use Rattle.core_model.specs.LogicalLimits.{IsLogicalWithin}
 use Rattle.core_model.specs.SessionLimits.{most_items}
 use Rattle.data_vio.specs.Vios.{turned}
 use Rattle.data_vio.specs.declared.items.Phase.TheVariants as phase

@@ -65,3 +65,7 @@ pub record IsLimited (sizes : Sizes) (script : Script) : Type 0 where
   pub requests : requests_in script ≤ most_requests
   pub zones : sizes.zones ≤ most_zones
   pub physical : sizes.physical ≤ most_physical
+
+-- a list of items, or of requests, is no longer than as many as are under way
+abbrev pub IsShort : {T : Type 0} → List T → Type 0
+IsShort items = length items ≤ most_items

@@ -7,7 +7,7 @@ ghost use Rattle.vdo_model.specs.Scripts.{request_at, stream_of, value_written};
 ghost use Rattle.data_vio.specs.Beginnings.{under_way};
 ghost use Rattle.core_model.specs.DeskCounts.{AreBegunFrom};
 ghost use Rattle.core_model.specs.DeskRules.{mark_of_vio, receipt_of_vio, receipt_step};
-ghost use Rattle.core_model.specs.Limits.{HasRoomToBegin};
+ghost use Rattle.core_model.specs.DeskLimits.{HasRoomToBegin};
 ghost use Rattle.core_model.specs.SessionLimits.{most_requests, most_streams, reads_in, requests_in};
 ghost use Rattle.core_model.specs.DeskLines.{is_bytes};
 ghost use Rattle.plain_laws.specs.Sums.{total};

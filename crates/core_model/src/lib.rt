@@ -6,7 +6,8 @@
 //!
 //! `Phases` of `data_vio` and the files `..Rules` are the rules; `Trace`, `RightTraces` what happens and may happen; `Tokens`,
 //! `Facts`, `Legal` the invariant; `Sessions`, `Start`, `Limits` what a session is; `Views`, `Streams` what threads
-//! know of zones.
+//! know of zones. What is of one zone stands in the files that begin with its name: `LogicalData`, `LogicalRules`,
+//! `LogicalFacts`, `LogicalLimits`; `RequestFacts` has what a request carries in whichever zone it is.
 //!
 //! No rows yet: but through the definitions that use them: `Carries` in most phases; `IsSession` and `Shown`;
 //! `GivesValues` and `report_of`; `first_log`; the tokens. A legal core is in the rows of `core_laws`.

@@ -1,6 +1,6 @@
 ghost use Rattle.std.specs.Prelude.{◌↔◌, IsTrue, ◌≡◌, ◌+◌, ◌-◌, ◌^◌, ◌<◌, ◌≤◌, [], ◌∷◌, ◌++◌, IfOk, IfSome, IfNone, None, true, false, length, position, reverse};
 ghost use Rattle.logical_locks.specs.Holders.{HasRoom};
-ghost use Rattle.core_model.specs.Limits.{IsLogicalWithin};
+ghost use Rattle.core_model.specs.LogicalLimits.{IsLogicalWithin};
 ghost use Rattle.core_model.specs.LogicalRules as rules;
 ghost use Rattle.core_model.specs.PageTrees.{HasPath, MayLink, but_page, is_listed, leaf_at, missing_at};
 ghost use Rattle.core_model.specs.SessionLimits.{most_entries, most_items, most_requests};

@@ -1,7 +1,7 @@
 ghost use Rattle.std.specs.Prelude.{◌≡◌, ◌+◌, ◌<◌, ◌≤◌, ◌↔◌, List, [], ◌∷◌, ◌++◌, Some, IfOk, IfSome, IfNone, IsTrue, false, length, replicate, slice_get, slice_index_or, slice_set};
 ghost use Rattle.std.specs.List.{AllByRecursion};
 ghost use Rattle.data_vio.specs.declared.items.Item.{Item};
-ghost use Rattle.core_model.specs.Limits.{IsShort};
+ghost use Rattle.core_model.specs.SessionLimits.{IsShort};
 ghost use Rattle.core_model.specs.PortsData.{IsSetOfPosts, items_of};
 ghost use Rattle.core_model.specs.Steps.{posted};
 

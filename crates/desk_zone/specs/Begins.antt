@@ -4,7 +4,7 @@ use Rattle.std.specs.List.{AllByRecursion}
 use Rattle.data_vio.specs.declared.sizes.Sizes.{Sizes}
 use Rattle.core_model.specs.declared.zones.ZoneData.TheVariants as at
 use Rattle.core_model.specs.DeskData.{Desk}
-use Rattle.core_model.specs.Limits.{HasRoomToBegin, IsDeskWithin}
+use Rattle.core_model.specs.DeskLimits.{HasRoomToBegin, IsDeskWithin}
 use Rattle.core_model.specs.SessionLimits.{IsLimited}
 use Rattle.vdo_model.specs.Scripts.{IsServed}
 use Rattle.core_model.specs.Steps.{MayBegin}

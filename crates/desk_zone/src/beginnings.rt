@@ -4,7 +4,7 @@ ghost use Rattle.vdo_model.specs.declared.report.DeskLine.TheVariants as line;
 ghost use Rattle.data_vio.specs.declared.items.Item.TheVariants as item;
 ghost use Rattle.core_model.specs.declared.zones.ZoneData.TheVariants as at;
 ghost use Rattle.core_model.specs.DeskRules as rules;
-ghost use Rattle.core_model.specs.Limits.{HasRoomToBegin};
+ghost use Rattle.core_model.specs.DeskLimits.{HasRoomToBegin};
 ghost use Rattle.core_model.specs.Steps.{MayBegin};
 ghost use Rattle.core_model.specs.Trace.{Trace};
 ghost use Rattle.data_vio.specs.Beginnings.{under_way};

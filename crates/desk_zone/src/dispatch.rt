@@ -1,6 +1,6 @@
 ghost use Rattle.std.specs.Prelude.{◌≡◌, [], ◌∷◌};
 ghost use Rattle.core_model.specs.declared.zones.ZoneData.TheVariants as at;
-ghost use Rattle.core_model.specs.Limits.{IsDeskWithin};
+ghost use Rattle.core_model.specs.DeskLimits.{IsDeskWithin};
 ghost use Rattle.core_model.specs.Steps.{HasAct};
 ghost use Rattle.step_parts.specs.Acts.{ActsAlone};
 

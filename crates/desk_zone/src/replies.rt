@@ -4,7 +4,7 @@ ghost use Rattle.blk_base.specs.declared.request.Answer.TheVariants.{NoSpace, Ok
 ghost use Rattle.data_vio.specs.declared.items.Asks.TheVariants.{Flush};
 ghost use Rattle.data_vio.specs.declared.items.Phase.TheVariants.{Reply};
 ghost use Rattle.core_model.specs.DeskRules as rules;
-ghost use Rattle.core_model.specs.Limits.{IsDeskWithin};
+ghost use Rattle.core_model.specs.DeskLimits.{IsDeskWithin};
 ghost use Rattle.core_model.specs.Trace.{Trace};
 
 use blk_base::{Answer, ZoneId};

@@ -3,7 +3,7 @@ ghost use Rattle.blk_base.specs.declared.place.ZoneId.TheVariants as id;
 ghost use Rattle.blk_base.specs.declared.request.Answer.TheVariants.{Stopped};
 ghost use Rattle.core_model.specs.JournalRules as rules;
 ghost use Rattle.core_model.specs.JournalRules.{HasNext, IsSealable, JournalEnds};
-ghost use Rattle.core_model.specs.Limits.{IsJournalWithin};
+ghost use Rattle.core_model.specs.JournalLimits.{IsJournalWithin};
 ghost use Rattle.core_model.specs.Trace.{Trace};
 ghost use Rattle.data_vio.specs.declared.items.Item.TheVariants.{Block, StopNotice};
 ghost use Rattle.data_vio.specs.declared.items.Stage.TheVariants.{Commit, Cover, Fail};

@@ -2,7 +2,7 @@ ghost use Rattle.std.specs.Prelude.{◌≡◌, [], ◌∷◌, true, false};
 ghost use Rattle.blk_base.specs.declared.place.ZoneId.TheVariants as id;
 ghost use Rattle.core_model.specs.JournalRules as rules;
 ghost use Rattle.core_model.specs.JournalRules.{JournalServes};
-ghost use Rattle.core_model.specs.Limits.{IsJournalWithin};
+ghost use Rattle.core_model.specs.JournalLimits.{IsJournalWithin};
 ghost use Rattle.core_model.specs.Trace.{Trace};
 ghost use Rattle.data_vio.specs.declared.items.Item.TheVariants.{Block};
 ghost use Rattle.data_vio.specs.declared.items.Phase.TheVariants.{Enter};

@@ -1,6 +1,6 @@
 ghost use Rattle.std.specs.Prelude.{◌≡◌, ◌-◌, ◌^◌, [], ◌∷◌};
 ghost use Rattle.core_model.specs.declared.zones.ZoneData.TheVariants as at;
-ghost use Rattle.core_model.specs.Limits.{IsLogicalWithin};
+ghost use Rattle.core_model.specs.LogicalLimits.{IsLogicalWithin};
 ghost use Rattle.core_model.specs.Steps.{HasAct};
 ghost use Rattle.step_parts.specs.Acts.{ActsAlone};
 ghost use Rattle.step_parts.specs.ZoneSizes.{HasPhysical};

@@ -1,7 +1,7 @@
 ghost use Rattle.std.specs.Prelude.{◌≡◌, ◌+◌, ◌-◌, ◌≤◌, ◌^◌, List, [], ◌∷◌, ◌++◌, Some, length};
 ghost use Rattle.blk_base.specs.declared.place.Mapping.TheVariants.{At};
 ghost use Rattle.data_vio.specs.declared.items.Phase.TheVariants as phase;
-ghost use Rattle.core_model.specs.Limits.{IsLogicalWithin};
+ghost use Rattle.core_model.specs.LogicalLimits.{IsLogicalWithin};
 ghost use Rattle.core_model.specs.LogicalRules as rules;
 ghost use Rattle.core_model.specs.PageTrees.{HasPath};
 ghost use Rattle.core_model.specs.Trace.{Aborts, Sets};

@@ -1,5 +1,5 @@
 ghost use Rattle.std.specs.Prelude.{◌≡◌, ◌-◌, ◌^◌, []};
-ghost use Rattle.core_model.specs.Limits.{IsLogicalWithin};
+ghost use Rattle.core_model.specs.LogicalLimits.{IsLogicalWithin};
 ghost use Rattle.core_model.specs.LogicalRules as rules;
 ghost use Rattle.core_model.specs.Trace.{Trace};
 

@@ -1,6 +1,7 @@
 ghost use Rattle.std.specs.Prelude.{◌≡◌, ◌-◌, ◌≤◌, ◌^◌, [], length};
 ghost use Rattle.data_vio.specs.declared.items.Phase.TheVariants as phase;
-ghost use Rattle.core_model.specs.Limits.{IsLogicalWithin, most_requests};
+ghost use Rattle.core_model.specs.LogicalLimits.{IsLogicalWithin};
+ghost use Rattle.core_model.specs.SessionLimits.{most_requests};
 ghost use Rattle.core_model.specs.LogicalRules as rules;
 ghost use Rattle.core_model.specs.Trace.{Trace};
 ghost use Rattle.logical_zone.specs.Served.{CanServe};

@@ -1,6 +1,6 @@
 ghost use Rattle.std.specs.Prelude.{◌≡◌, ◌-◌, ◌^◌, ◌≤◌, Some, None, [], ◌∷◌};
 ghost use Rattle.blk_base.specs.declared.place.Pbn.{Pbn};
-ghost use Rattle.core_model.specs.Limits.{IsPhysicalWithin};
+ghost use Rattle.core_model.specs.PhysicalLimits.{IsPhysicalWithin};
 ghost use Rattle.core_model.specs.PhysicalRules.{BeginsNext, PhysicalServes, asks_on, next_step, served};
 ghost use Rattle.core_model.specs.Trace.{Trace};
 ghost use Rattle.data_vio.specs.Vios.{claiming, ticket_zone};

@@ -1,6 +1,6 @@
 ghost use Rattle.std.specs.Prelude.{◌≡◌, ◌-◌, ◌^◌, [], ◌∷◌, true};
 ghost use Rattle.blk_base.specs.declared.place.ZoneId.TheVariants as id;
-ghost use Rattle.core_model.specs.Limits.{IsPhysicalWithin};
+ghost use Rattle.core_model.specs.PhysicalLimits.{IsPhysicalWithin};
 ghost use Rattle.core_model.specs.PhysicalRules.{PhysicalServes, spent_for};
 ghost use Rattle.core_model.specs.Trace.{Trace};
 ghost use Rattle.data_vio.specs.Vios as vios;

@@ -1,5 +1,5 @@
 ghost use Rattle.std.specs.Prelude.{◌≡◌, ◌-◌, ◌^◌, ◌<◌, [], ◌∷◌, ◌++◌, length};
-ghost use Rattle.core_model.specs.Limits.{IsPhysicalWithin};
+ghost use Rattle.core_model.specs.PhysicalLimits.{IsPhysicalWithin};
 ghost use Rattle.core_model.specs.PhysicalRules.{PhysicalTakes, tells};
 ghost use Rattle.core_model.specs.Trace.{Trace};
 ghost use Rattle.step_parts.specs.Rules.{Applies};

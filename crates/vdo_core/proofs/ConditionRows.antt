@@ -16,7 +16,7 @@ use Rattle.core_model.specs.declared.zones.ZoneData.{ZoneData}
 use Rattle.core_model.specs.declared.zones.ZoneData.TheVariants as at
 use Rattle.core_model.proofs.rows.PhaseRows.{nothing, slab_with, zone_with}
 use Rattle.core_model.specs.PhysicalRules.PhysicalServes.{asks, claims, counts, drops, drops_block, drops_none, has_none, spends, takes_block}
-use Rattle.core_model.specs.Limits.{HasRoomToBegin}
+use Rattle.core_model.specs.DeskLimits.{HasRoomToBegin}
 use Rattle.core_model.specs.Steps.{Act, HasAct, MayBegin, takes, takes_notice}
 use Rattle.core_model.specs.Trace.{Trace}
 use Rattle.data_vio.specs.Vios.{Post}

@@ -6,7 +6,8 @@ use Rattle.data_vio.specs.declared.sizes.Sizes.{Sizes}
 use Rattle.core_model.specs.declared.zones.Zone.{Zone}
 use Rattle.core_model.specs.PortsData.{Ports}
 use Rattle.core_model.specs.declared.zones.ZoneData.{ZoneData}
-use Rattle.core_model.specs.Limits.{IsShort, IsWithin}
+use Rattle.core_model.specs.Limits.{IsWithin}
+use Rattle.core_model.specs.SessionLimits.{IsShort}
 use Rattle.core_model.specs.Steps.{posted, sent_to}
 use Rattle.data_vio.specs.Vios.{Post}
 use Rattle.data_vio.specs.Zones.{zone_number}

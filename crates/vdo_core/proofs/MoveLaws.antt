@@ -5,7 +5,7 @@ use Rattle.std.proofs.lemmas.Option.{same_Some, slice_get-get_or}
 use Rattle.std.specs.List.{AllByRecursion}
 use Rattle.data_vio.specs.declared.items.Item.{Item}
 use Rattle.core_model.specs.declared.zones.Zone.{Zone}
-use Rattle.core_model.specs.Limits.{IsShort}
+use Rattle.core_model.specs.SessionLimits.{IsShort}
 use Rattle.core_model.specs.PortsData.{Ports}
 use Rattle.core_model.specs.Steps.{with_inbox, with_outboxes}
 use Rattle.vdo_core.specs.Moves.{MovesNothing, MovesSome, has_items}

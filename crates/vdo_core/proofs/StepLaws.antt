@@ -13,8 +13,9 @@ use Rattle.core_model.specs.declared.zones.ZoneData.{ZoneData}
 use Rattle.core_model.specs.declared.zones.ZoneData.TheVariants as at
 use Rattle.core_model.specs.Facts.{DataOk}
 use Rattle.core_model.specs.Legal.{Legal}
-use Rattle.core_model.specs.Limits.{HasRoomToBegin, IsDataWithin, IsDeskWithin, IsShort}
-use Rattle.core_model.specs.SessionLimits.{IsLimited}
+use Rattle.core_model.specs.DeskLimits.{HasRoomToBegin, IsDeskWithin}
+use Rattle.core_model.specs.Limits.{IsDataWithin}
+use Rattle.core_model.specs.SessionLimits.{IsLimited, IsShort}
 use Rattle.core_model.specs.Sessions.{IsSession, Session}
 use Rattle.core_model.specs.Steps.{Core, MayBegin}
 use Rattle.core_model.specs.Trace.{Trace, lines}

@@ -1,7 +1,8 @@
 ghost use Rattle.std.specs.Prelude.{◌≡◌, ◌≢◌, ◌<◌, ◌≤◌, Some, IsTrue, List, false, length, slice_get};
 ghost use Rattle.data_vio.specs.declared.items.Item.{Item};
 ghost use Rattle.core_model.specs.declared.zones.Zone.{Zone};
-ghost use Rattle.core_model.specs.Limits.{IsShort, IsWithin};
+ghost use Rattle.core_model.specs.Limits.{IsWithin};
+ghost use Rattle.core_model.specs.SessionLimits.{IsShort};
 ghost use Rattle.plain_laws.specs.Sums.{Each};
 ghost use Rattle.vdo_core.specs.Moves.{MovesNothing, MovesSome, has_items};
 ghost use Rattle.vdo_core.specs.Plays.{ComesTo, MovesAll};

@@ -17,7 +17,7 @@ use Rattle.core_laws.proofs.kept.ActKept.{Known, unborn, ActKept, PostOk, act_no
 use Rattle.core_laws.proofs.trace.DeskOfTrace.{desk_log_right, answered_begun, shown_of}
 use Rattle.core_laws.proofs.physical.PhysicalFacts.{zone_below}
 use Rattle.core_laws.proofs.kept.Carried.{earned_by}
-use Rattle.core_model.specs.Facts.{HasReceipt}
+use Rattle.core_model.specs.DeskFacts.{HasReceipt}
 use Rattle.core_model.specs.Trace.{asked_step, last_asked, receipts}
 use Rattle.vdo_model.specs.declared.report.NoSpaceReceipt.{NoSpaceReceipt}
 

@@ -7,6 +7,7 @@ use Rattle.blk_base.specs.Pages.{leaf_of, slot_of_address}
 use Rattle.blk_base.specs.declared.place.PageId.{PageId}
 use Rattle.image_model.specs.Pages.{IsBelowRoot}
 use Rattle.core_model.specs.Facts.{CarriesFor, CarriesOwn}
+use Rattle.core_model.specs.RequestFacts.{HasClaim}
 use Rattle.core_model.specs.PageLinks.{MayLack, leaf_head}
 use Rattle.core_model.specs.RightTraces.{HarmMayFollow, IsLeafFor, IsLinkedAt}
 use Rattle.core_model.specs.Trace.{first_of}
@@ -25,7 +26,6 @@ use Rattle.core_model.specs.Trace.{Hears}
 use Rattle.vdo_model.specs.declared.report.Damage.{Damage}
 use Rattle.core_laws.proofs.kept.Keys.{OfBlock, Clears, OfJournal}
 use Rattle.core_model.specs.RightTraces.{IsUnused}
-use Rattle.core_model.specs.Facts.{HasClaim}
 use Rattle.data_vio.specs.Phases.{phase_rule}
 use Rattle.core_laws.proofs.device.DeviceCalls.{CanStand, can_data, call_clears, data_misses, quiet_call, quiet_journal, read_value, slot_misses, slot_reads, slot_shown, slot_way, spelled_sealed, store_call, store_reads, call_filled, data_not_first, first_journal, first_spares}
 use Rattle.core_laws.proofs.journal.SealedBlocks.{blocks_length, entries_in_order, every_logged, logged_length}

@@ -18,7 +18,11 @@ use Rattle.core_laws.proofs.kept.StandsOn.{journal_kept, left_kept, mapped_all, 
 use Rattle.core_laws.proofs.kept.Carried.{logged_request, pending_over}
 use Rattle.blk_base.specs.declared.place.Mapping.TheVariants.{At, Unmapped, Zero}
 use Rattle.blk_base.specs.declared.place.PageId.{PageId}
-use Rattle.core_model.specs.Facts.{CarriesFor, CarriesOwn, CarriesPage, MakesPage, HasReceipt}
+use Rattle.core_model.specs.DeskFacts.{HasReceipt}
+use Rattle.core_model.specs.Facts.{CarriesFor, CarriesOwn, CarriesPage}
+use Rattle.core_model.specs.JournalFacts.{IsEntered}
+use Rattle.core_model.specs.LogicalFacts.{MakesPage}
+use Rattle.core_model.specs.RequestFacts.{HasClaim}
 use Rattle.core_laws.proofs.journal.LoggedEntries.{block_at, logged_makes, logged_own, on_address, on_page}
 use Rattle.core_laws.proofs.journal.PageEntries.{page_pending, page_right}
 use Rattle.blk_base.specs.declared.request.Answer.TheVariants as reply
@@ -31,7 +35,6 @@ use Rattle.core_model.specs.JournalRules as journal
 use Rattle.blk_base.specs.Regions.{IsDataBlock}
 use Rattle.core_model.specs.RightTraces.{HadNoFree, IsLeafy, IsUnused}
 use Rattle.core_model.specs.PageLinks.{block_in}
-use Rattle.core_model.specs.Facts.{HasClaim, IsEntered}
 use Rattle.core_model.specs.JournalRules.{decrement_for, hands_to}
 use Rattle.recovery_journal.specs.Log.{head_of}
 use Rattle.core_laws.proofs.lists.CountedIn.{block_within, counts_within}

@@ -6,7 +6,10 @@ use Rattle.blk_base.specs.declared.place.PageId.{PageId}
 use Rattle.data_vio.specs.declared.items.Phase.TheVariants as phase
 use Rattle.blk_base.specs.Regions.{IsDataBlock}
 use Rattle.core_model.specs.RightTraces.{IsUnused}
-use Rattle.core_model.specs.Facts.{CarriesPage, HasClaim, HasPageEntry, MakesPage}
+use Rattle.core_model.specs.Facts.{CarriesPage}
+use Rattle.core_model.specs.JournalFacts.{HasPageEntry}
+use Rattle.core_model.specs.LogicalFacts.{MakesPage}
+use Rattle.core_model.specs.RequestFacts.{HasClaim}
 use Rattle.core_model.specs.PageLinks.{empty_page}
 use Rattle.core_model.specs.DeviceRules.{page_at}
 use Rattle.core_laws.proofs.journal.LoggedEntries.{logged_makes}

@@ -8,7 +8,9 @@ use Rattle.core_model.specs.declared.zones.ZoneData.TheVariants as at
 use Rattle.blk_base.specs.declared.place.PageId.{PageId}
 use Rattle.blk_base.specs.Regions.{IsDataBlock}
 use Rattle.data_vio.specs.Phases.{phase_rule}
-use Rattle.core_model.specs.Facts.{CarriesFor, CarriesOwn, CarriesPage, ClaimFor, ClaimOk, claim_of, TookNone}
+use Rattle.core_model.specs.Facts.{CarriesFor, CarriesOwn, CarriesPage}
+use Rattle.core_model.specs.LogicalFacts.{TookNone}
+use Rattle.core_model.specs.RequestFacts.{ClaimFor, ClaimOk, claim_of}
 use Rattle.core_model.specs.Legal.{ComesAfter}
 use Rattle.core_model.specs.Sessions.{SuperblockStands}
 use Rattle.core_laws.proofs.trace.DeskOfTrace.{logged_has, entered_writes, done_is_entered}

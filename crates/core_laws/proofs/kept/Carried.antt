@@ -16,7 +16,12 @@ use Rattle.core_model.specs.Trace.{last_asked}
 use Rattle.blk_base.specs.Regions.{IsDataBlock}
 use Rattle.data_vio.specs.Phases.{phase_rule}
 use Rattle.data_vio.specs.declared.logged.Logged.TheVariants.{Remaps}
-use Rattle.core_model.specs.Facts.{CarriesFor, CarriesOwn, CarriesPage, ClaimOk, IsDecrement, ReportOk, claim_of, HasLeaf, HasPageEntry, IsUnmade, MakesPage, NeedsLeaf}
+use Rattle.core_model.specs.DeviceFacts.{NeedsLeaf}
+use Rattle.core_model.specs.Facts.{CarriesFor, CarriesOwn, CarriesPage}
+use Rattle.core_model.specs.JournalFacts.{HasPageEntry}
+use Rattle.core_model.specs.LogicalFacts.{ReportOk, HasLeaf, IsUnmade, MakesPage}
+use Rattle.core_model.specs.PhysicalFacts.{IsDecrement}
+use Rattle.core_model.specs.RequestFacts.{ClaimOk, claim_of}
 use Rattle.core_laws.proofs.kept.Keys.{Key, OfRequest, OfAddress, OfBlock, OfJournal, OfPage, token_of, Spares, own_name, holder_one, claim_one, maker_one}
 use Rattle.core_laws.proofs.kept.Spared.{applied_at, SparesRequest, SparesAddress, SparesPage, open_kept, durable_has, leafy_kept, journaled_has, link_same, put_same, there_kept, undropped_kept, place_same, entry_same, slot_same, abort_same, gift_same, take_same, stop_kept, fault_kept, harm_kept, linked_at_kept, abort_kept, needs_kept, journal_full_kept, mapping_same, quiet_kept, committed_kept, below_kept, pending_kept, mark_kept, value_same, added_has, hearing_kept, no_free_kept, asking_kept, withdrawing_kept, reported_kept, spent_kept, ask_same, receipt_kept}
 use Rattle.core_laws.proofs.kept.StandsOn.{SparesBlock, SparesJournal, SparesJournaled, SparesMap, SparesSealed, block_reads_kept, comes_stands, last_spared, new_kept, new_reads_kept, on_each, reads_kept, rest_spared, rests_kept, way_kept}

@@ -19,7 +19,8 @@ use Rattle.zone_counts.proofs.OpenedCounts.{is_data, is_none, opened_none, tells
 use Rattle.zone_counts.specs.ByBlock.{counter_in}
 use Rattle.zone_counts.specs.Zone.{IsOf, IsOfZone, slab_number}
 use Rattle.core_model.specs.Tokens.{block_token, claim_token, damage_token, has_old, is_entry, is_old, report_token, waiter_token}
-use Rattle.core_model.specs.Facts.{ReportOk, WasIssued}
+use Rattle.core_model.specs.LogicalFacts.{ReportOk, PagesOk}
+use Rattle.core_model.specs.PhysicalFacts.{WasIssued}
 use Rattle.blk_base.specs.declared.place.Mapping.TheVariants.{Unmapped, Zero, At}
 use Rattle.journal_stops.proofs.StepLaws.{opened}
 use Rattle.core_model.specs.declared.zones.ZoneData.TheVariants as at
@@ -27,7 +28,6 @@ use Rattle.blk_base.specs.declared.place.PageId.{PageId}
 use Rattle.block_map_tree.specs.Tree.{Tree}
 use Rattle.core_model.specs.UpdateStream.{updates_at}
 use Rattle.core_model.specs.Arrivals.{arrivals_at}
-use Rattle.core_model.specs.Facts.{PagesOk}
 use Rattle.core_model.specs.Tokens.{making_at, making_token, page_entry_token}
 use Rattle.core_model.specs.Legal.{Legal}
 use Rattle.core_model.specs.Sessions.{IsSuperblock}

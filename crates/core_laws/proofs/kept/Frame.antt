@@ -1,7 +1,8 @@
 -- A zone that weighs nothing for what a happening is about keeps all its facts. Paid once for all kinds of zone and item.
 use Rattle.std.proofs.Common.{◌≡◌, ◌≢◌, ◌⊎◌, ℕ, ◌≤◌, ◌==◌, Bool, true, false, Option, None, Some, is_some, nat_eq, List, [], ◌∷◌, ◌++◌, slice_get, refl, ap, sym, ◌∙◌, subst, inl, inr, arith, ◌<◌}
 use Rattle.core_model.specs.CountUpdates.{replaced_in}
-use Rattle.core_model.specs.Facts.{IsSound, ReportOk}
+use Rattle.core_model.specs.Facts.{IsSound}
+use Rattle.core_model.specs.LogicalFacts.{ReportOk}
 use Rattle.core_model.specs.Tokens.{leads_to}
 use Rattle.data_vio.specs.Zones.{counts_in, physical_zone_of}
 use Rattle.core_model.specs.PageLinks.{block_in}

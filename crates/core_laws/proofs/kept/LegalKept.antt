@@ -1,7 +1,9 @@
 -- Each step and each move keeps a core legal, and so does each list of events.
 use Rattle.std.proofs.Common.{◌≡◌, ℕ, zero, suc, ◌+◌, ◌<◌, ◌≤◌, Bool, true, false, not, is_some, Option, None, Some, List, [], ◌∷◌, ◌++◌, length, nat_eq, slice_get, slice_set, refl, ap, sym, ◌∙◌, subst, inl, inr, arith}
 use Rattle.core_laws.proofs.Common.{AllByRecursion, Balanced, Carries, DataOk, KeptOk, Mapping, Remapping, bit, remapping, remappings, Each, Each-put_other, GivesRight, IsFair, IsSession, Item, ItemOk, Post, RightTrace, Session, Token, Trace, Vio, Writer, Zone, ZoneData, ZoneOk, entry_token, eq-eqb, eqb-true, every-append, every-map, holder_token, idle_at, is_sealed, journal_token, lease_token, length-put, made_by, notice_token, request_token, room_token, same_Some, total, zone_number, Phase}
-use Rattle.core_model.specs.Facts.{zone_at}
+use Rattle.core_model.specs.Facts.{CarriesFor}
+use Rattle.core_model.specs.LogicalFacts.{AwaitsReport, IsReport, ReportOk}
+use Rattle.core_model.specs.RequestFacts.{zone_at, IsToBlock, claim_of}
 use Rattle.core_model.specs.Tokens.{ticket_token}
 use Rattle.data_vio.specs.Vios.{ticket_zone}
 use Rattle.slab_counts.specs.declared.tickets.Ticket.{Ticket}
@@ -9,7 +11,6 @@ use Rattle.core_model.specs.Sessions.{opened_uses}
 use Rattle.core_model.specs.Tokens.{block_token, claim_token, damage_token, report_token, waiter_token}
 use Rattle.core_model.specs.Arrivals.{arrivals_at}
 use Rattle.core_model.specs.CountUpdates.{CountUpdate}
-use Rattle.core_model.specs.Facts.{AwaitsReport, CarriesFor, IsReport, IsToBlock, ReportOk, claim_of}
 use Rattle.core_model.specs.PageLinks.{block_in}
 use Rattle.core_model.specs.UpdateStream.{updates_at}
 use Rattle.core_model.specs.declared.zones.ZoneData.TheVariants as at

@@ -12,7 +12,9 @@ use Rattle.data_vio.specs.declared.items.Asks.TheVariants.{Read, Write, Discard,
 use Rattle.data_vio.specs.declared.items.Item.TheVariants as item
 use Rattle.data_vio.specs.declared.items.Phase.TheVariants as phase
 use Rattle.data_vio.specs.declared.items.Stage.TheVariants as stage
-use Rattle.core_model.specs.Facts.{AreInTurn, IsWithdrawing}
+use Rattle.core_model.specs.Facts.{CarriesFor, CarriesOwn, CarriesPage}
+use Rattle.core_model.specs.PhysicalFacts.{AreInTurn, IsWithdrawing}
+use Rattle.core_model.specs.RequestFacts.{ClaimFor, ClaimOk, HasClaim, claim_of}
 use Rattle.core_model.specs.PhysicalRules.{BeginsNext, next_step}
 use Rattle.core_model.specs.Tokens.{out_in, ticket_token, ticket_weight}
 use Rattle.data_vio.specs.Vios.{ticket_zone}
@@ -42,7 +44,6 @@ use Rattle.core_laws.proofs.device.LeafReads.{each_of}
 use Rattle.core_laws.proofs.kept.Keys.{claim_one}
 use Rattle.core_laws.proofs.kept.SoleWriter.{held_counted_there}
 use Rattle.core_laws.proofs.trace.DeskOfTrace.{HasBlock, journaled_data}
-use Rattle.core_model.specs.Facts.{ClaimFor, ClaimOk, HasClaim, claim_of}
 use Rattle.slab_counts.specs.Counts.{Counts, Takes, unclaimed}
 use Rattle.zone_counts.proofs.BlockLaws.{moved, withdraws_out, worth_block}
 use Rattle.zone_counts.proofs.OperationLaws.{calls_keep}
@@ -56,7 +57,6 @@ use Rattle.core_model.specs.Legal.{Legal}
 use Rattle.core_model.specs.LogicalRules.{LogicalHears, LogicalServes, awaits_report, settling_of, is_among, is_held, known_at, known_by, lacks, latest_at, looked, next_for, goes_on, passes_by}
 use Rattle.core_model.specs.PageTrees.{leaf_at}
 use Rattle.blk_base.specs.declared.place.PageId.{PageId}
-use Rattle.core_model.specs.Facts.{CarriesFor, CarriesOwn, CarriesPage}
 use Rattle.core_model.specs.PageTrees.{HasPath, but_page, is_listed}
 use Rattle.core_laws.proofs.journal.LoggedEntries.{block_at, logged_new}
 use Rattle.core_laws.proofs.logical.PageFacts.{has_path, lacked_path, link_made, linked_tree, may_link}

@@ -11,7 +11,10 @@ use Rattle.blk_base.specs.declared.place.PageId.{PageId}
 use Rattle.image_model.specs.Pages.{is_page}
 use Rattle.core_model.specs.RightTraces.{HadNoFree, HearingMayFollow, WasRefused, IsLeafy, IsLinkedAt, IsReported}
 use Rattle.core_model.specs.Trace.{Asks, Withdraws, added, removed, strayed, is_for, last_asked}
-use Rattle.core_model.specs.Facts.{HasClaim, IsAsking, IsWithdrawing, LacksBlock, HasSpent, IsMade, TookNone, HasReceipt, WasIssued}
+use Rattle.core_model.specs.DeskFacts.{HasReceipt}
+use Rattle.core_model.specs.LogicalFacts.{HasSpent, IsMade, TookNone}
+use Rattle.core_model.specs.PhysicalFacts.{IsAsking, IsWithdrawing, LacksBlock, WasIssued}
+use Rattle.core_model.specs.RequestFacts.{HasClaim}
 use Rattle.slab_counts.specs.declared.tickets.Receipt.{Receipt}
 use Rattle.slab_counts.specs.declared.tickets.Ticket.{Ticket}
 use Rattle.slab_tickets.specs.declared.forms.Waiting.{Waiting}

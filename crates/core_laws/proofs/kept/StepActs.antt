@@ -34,7 +34,7 @@ use Rattle.core_laws.proofs.kept.ZoneKinds.{stood, desk_sits}
 use Rattle.core_laws.proofs.logical.HearingFacts.{logical_hears}
 use Rattle.core_laws.proofs.tokens.ActSums.{settling_has, settling_taken}
 use Rattle.core_laws.proofs.tokens.Known.{SettlingLeased}
-use Rattle.core_model.specs.Facts.{AwaitsReport}
+use Rattle.core_model.specs.LogicalFacts.{AwaitsReport}
 use Rattle.core_laws.proofs.logical.LogicalActs.{logical_serves, logical_notified}
 use Rattle.core_laws.proofs.physical.PhysicalFacts.{physical_serves, physical_updates, physical_notified}
 use Rattle.core_laws.proofs.tokens.Owners.{leased_front, leased_kept}

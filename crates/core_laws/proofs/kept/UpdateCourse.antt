@@ -35,7 +35,8 @@ use Rattle.data_vio.specs.Vios as vios
 use Rattle.slab_counts.specs.declared.tickets.Ticket.{Ticket}
 use Rattle.data_vio.specs.Zones.{counts_in, physical_zone_of}
 use Rattle.core_model.specs.CountUpdates.{CountUpdate, Decrement, Increment, decrement_of, increment_of, is_counted_in, mapping_of, updates_by, updates_in, updates_of, updates_taken}
-use Rattle.core_model.specs.Facts.{CarriesFor, IsToBlock, claim_of}
+use Rattle.core_model.specs.Facts.{CarriesFor}
+use Rattle.core_model.specs.RequestFacts.{IsToBlock, claim_of}
 use Rattle.core_model.specs.UpdateStream.{counting, updates_at, updating}
 use Rattle.data_vio.specs.Vios.{logged_for}
 

@@ -8,7 +8,7 @@ use Rattle.blk_base.specs.Regions.{IsDataBlock}
 use Rattle.blk_base.specs.declared.place.ZoneId.TheVariants as id
 use Rattle.data_vio.specs.Vios.{counts_for, counts_of}
 use Rattle.core_model.specs.CountUpdates.{CountUpdate, is_counted_in, mapping_of, updates_in}
-use Rattle.core_model.specs.Facts.{IsSoundPhysical}
+use Rattle.core_model.specs.PhysicalFacts.{IsSoundPhysical}
 use Rattle.core_model.specs.Streams.{counted}
 use Rattle.core_model.specs.Tokens.{leads_to}
 use Rattle.core_model.specs.UpdateStream.{updating}

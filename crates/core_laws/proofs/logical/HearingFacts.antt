@@ -8,7 +8,8 @@ use Rattle.data_vio.specs.declared.items.Item.TheVariants as item
 use Rattle.data_vio.specs.declared.items.Phase.TheVariants as phase
 use Rattle.core_model.specs.declared.zones.ZoneData.TheVariants as at
 use Rattle.core_model.specs.DeskRules.{mark_of_vio}
-use Rattle.core_model.specs.Facts.{AwaitsReport, CarriesFor, IsReport, ReportOk}
+use Rattle.core_model.specs.Facts.{CarriesFor}
+use Rattle.core_model.specs.LogicalFacts.{AwaitsReport, IsReport, ReportOk}
 use Rattle.core_model.specs.LogicalRules.{LogicalHears, is_reported, settled, settled_posts, settling_of, with_slot, without_settling}
 use Rattle.core_model.specs.RightTraces.{IsLeafy, IsReported}
 use Rattle.core_model.specs.Trace.{added}

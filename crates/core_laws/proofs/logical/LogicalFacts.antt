@@ -15,7 +15,9 @@ use Rattle.data_vio.specs.Phases.{phase_rule}
 use Rattle.core_laws.proofs.lists.CoreLists.{newest_has, or_none}
 use Rattle.core_laws.proofs.logical.Releases.{below_more, has_below_more, goes_ok, looks_ok, stopped_ok, release_ok, retire_ok, drawn_before}
 use Rattle.core_model.specs.PageTrees.{HasPath, leaf_at, missing_at}
-use Rattle.core_model.specs.Facts.{NeedsLeaf, HasSpent}
+use Rattle.core_model.specs.DeviceFacts.{NeedsLeaf}
+use Rattle.core_model.specs.LogicalFacts.{HasSpent, AwaitsReport}
+use Rattle.core_model.specs.RequestFacts.{IsToBlock}
 use Rattle.data_vio.specs.Vios.{reads_leaf}
 use Rattle.core_laws.proofs.device.LeafReads.{stands_at_data}
 use Rattle.core_laws.proofs.journal.JournalFacts.{home_within}
@@ -33,7 +35,6 @@ use Rattle.core_model.specs.Trace.{added}
 use Rattle.core_laws.proofs.kept.Frame.{reports_on}
 use Rattle.core_laws.proofs.logical.ReportFacts.{came, left_ok, waits_still}
 use Rattle.core_model.specs.LogicalRules.{awaits_report, is_reported, reports_left, settled, settled_posts}
-use Rattle.core_model.specs.Facts.{AwaitsReport, IsToBlock}
 use Rattle.core_model.specs.PageLinks.{block_in}
 use Rattle.blk_base.specs.declared.place.Mapping.TheVariants.{Zero}
 use Rattle.blk_base.specs.declared.place.Mapping.TheVariants.{Unmapped, Zero, At}

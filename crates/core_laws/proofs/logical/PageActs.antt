@@ -18,7 +18,9 @@ use Rattle.data_vio.specs.declared.items.Phase.TheVariants as phase
 use Rattle.data_vio.specs.Vios as vios
 use Rattle.data_vio.specs.Vios.{gives_up, makes}
 use Rattle.core_model.specs.declared.zones.ZoneData.TheVariants as at
-use Rattle.core_model.specs.Facts.{Awaits, HasPageEntry, HasSpent, IsMade, IsUnmade, MakesPage, PagesOk, HasClaim}
+use Rattle.core_model.specs.JournalFacts.{HasPageEntry}
+use Rattle.core_model.specs.LogicalFacts.{Awaits, HasSpent, IsMade, IsUnmade, MakesPage, PagesOk}
+use Rattle.core_model.specs.RequestFacts.{HasClaim}
 use Rattle.core_model.specs.PageLinks.{page_in}
 use Rattle.core_laws.proofs.trace.PagesOfTrace.{put_there}
 use Rattle.slab_counts.specs.declared.tickets.Ticket.{Ticket}

@@ -13,7 +13,9 @@ use Rattle.data_vio.specs.declared.items.Phase.TheVariants as phase
 use Rattle.core_model.specs.declared.zones.ZoneData.TheVariants as at
 use Rattle.blk_base.specs.Regions.{IsDataBlock}
 use Rattle.core_model.specs.PageLinks.{block_in}
-use Rattle.core_model.specs.Facts.{CarriesOwn, HasClaim, IsChange, HasSpent}
+use Rattle.core_model.specs.Facts.{CarriesOwn}
+use Rattle.core_model.specs.LogicalFacts.{HasSpent}
+use Rattle.core_model.specs.RequestFacts.{HasClaim, IsChange}
 use Rattle.core_model.specs.RightTraces.{IsLeafy}
 use Rattle.core_model.specs.LogicalRules.{are_zeros, is_among, is_held, without, first_for, all_for, none_for, looks_up, passes_on, read_next, goes_on, passed_to, released, granted, retire, all_stopped}
 use Rattle.core_laws.proofs.kept.Spared.{asks_none, may_ask, none_spent}

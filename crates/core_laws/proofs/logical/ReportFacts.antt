@@ -6,7 +6,7 @@ use Rattle.blk_base.specs.declared.place.Mapping.TheVariants.{Unmapped, Zero, At
 use Rattle.core_laws.proofs.Common.{AllByRecursion, IsEntered, Logged, Makes, Mapping, OnBlock, Remapping, Remaps, RightTrace, Session, Trace, Vio, Writer, entered, logged_of, remapping, remappings, same_Some, same_tells, same_writer}
 use Rattle.core_laws.proofs.kept.Spared.{contains_cut}
 use Rattle.core_laws.proofs.trace.DeskOfTrace.{IsKnown, committed_entered}
-use Rattle.core_model.specs.Facts.{AwaitsReport, ReportOk}
+use Rattle.core_model.specs.LogicalFacts.{AwaitsReport, ReportOk}
 use Rattle.core_model.specs.LogicalRules.{is_reported, reports_left, without_report}
 use Rattle.core_model.specs.PageLinks.{block_in}
 use Rattle.core_model.specs.RightTraces.{IsReported}

@@ -12,7 +12,11 @@ use Rattle.data_vio.specs.declared.items.Item.TheVariants as item
 use Rattle.data_vio.specs.declared.items.Phase.TheVariants as phase
 use Rattle.data_vio.specs.declared.items.Phase.{Phase}
 use Rattle.core_model.specs.declared.zones.ZoneData.TheVariants as at
-use Rattle.core_model.specs.Facts.{AreFirstClaims, AreInTurn, CarriesFor, ClaimFor, IsAsking, IsUnmade, IsWithdrawing, LacksBlock, MakesPage, zone_at, HasSpent, HasReceipt, newest_ticket, WasIssued}
+use Rattle.core_model.specs.DeskFacts.{HasReceipt}
+use Rattle.core_model.specs.Facts.{CarriesFor}
+use Rattle.core_model.specs.LogicalFacts.{IsUnmade, MakesPage, HasSpent}
+use Rattle.core_model.specs.PhysicalFacts.{AreFirstClaims, AreInTurn, IsAsking, IsWithdrawing, LacksBlock, newest_ticket, WasIssued}
+use Rattle.core_model.specs.RequestFacts.{ClaimFor, zone_at}
 use Rattle.core_model.specs.PageLinks.{block_in}
 use Rattle.core_model.specs.PhysicalRules.{BeginsNext, asks_on, goes_on, served, with_counts}
 use Rattle.core_model.specs.RightTraces.{HadNoFree, IsLeafy, NeedsFor, WasRefused}

@@ -3,7 +3,7 @@ use Rattle.std.proofs.Common.{◌≡◌, ℕ, zero, suc, ◌+◌, ◌-◌, ◌*�
 use Rattle.std.proofs.Math.Nat.{add-mul-mod_self_right, mod-eq_of_lt, mod-lt}
 use Rattle.std.proofs.lemmas.Nat.{div-add-mod'}
 use Rattle.core_laws.proofs.Common.{Sizes, cases_lt}
-use Rattle.core_model.specs.Facts.{AreInTurn}
+use Rattle.core_model.specs.PhysicalFacts.{AreInTurn}
 use Rattle.slab_counts.specs.declared.tickets.Ticket.{Ticket}
 
 -- some turn comes to each zone

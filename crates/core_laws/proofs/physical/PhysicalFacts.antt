@@ -18,7 +18,9 @@ use Rattle.data_vio.specs.declared.logged.Logged.TheVariants.{Remaps}
 use Rattle.core_model.specs.declared.zones.ZoneData.TheVariants as at
 use Rattle.core_model.specs.CountUpdates.{CountUpdate, Increment, IsNextUpdate, is_counted_in, replaced_in, updates_in, updates_of, updates_taken}
 use Rattle.core_model.specs.CountUpdates as update
-use Rattle.core_model.specs.Facts.{AreFirstClaims, CarriesFor, HasClaim, IsDecrement, claim_of}
+use Rattle.core_model.specs.Facts.{CarriesFor}
+use Rattle.core_model.specs.PhysicalFacts.{AreFirstClaims, IsDecrement}
+use Rattle.core_model.specs.RequestFacts.{HasClaim, claim_of}
 use Rattle.core_model.specs.PhysicalRules.{PhysicalServes, PhysicalTakes, spent_for, tells, with_counts}
 use Rattle.core_model.specs.RightTraces.{IsOpen, IsReported}
 use Rattle.core_model.specs.Tokens.{is_entry, is_old, leads_to}

@@ -4,7 +4,7 @@ use Rattle.core_laws.proofs.Common.{DataOk, Drops, Happening, Mapping, Pbn, Phys
 use Rattle.blk_base.specs.Regions.{IsDataBlock}
 use Rattle.blk_base.specs.declared.place.Mapping.TheVariants.{At}
 use Rattle.core_model.specs.CountUpdates.{replaced_in}
-use Rattle.core_model.specs.Facts.{AreFirstClaims, WasIssued}
+use Rattle.core_model.specs.PhysicalFacts.{AreFirstClaims, WasIssued}
 use Rattle.core_model.specs.PhysicalRules.{spent_for, with_counts}
 use Rattle.blk_base.specs.declared.place.PageId.{PageId}
 use Rattle.slab_tickets.specs.Tickets.{Desk}

@@ -4,7 +4,8 @@ use Rattle.std.proofs.Common.{◌≡◌, ◌⊎◌, ℕ, Bool, true, false, not,
 use Rattle.core_laws.proofs.Common.{AllByRecursion, Carries, IsToBlock, Item, JournalZone, LogicalZone, Mapping, Phase, PhysicalZone, Remapping, SealedBlock, Vio, ZoneData, KeptEach, KeptOk, Session, Trace, bit, every-map, holds, lock_weight, logged, remapping, remappings, total}
 use Rattle.blk_base.specs.declared.place.Mapping.TheVariants.{Unmapped, Zero, At}
 use Rattle.blk_base.specs.declared.place.PageId.{PageId}
-use Rattle.core_model.specs.Facts.{CarriesFor, claim_of}
+use Rattle.core_model.specs.Facts.{CarriesFor}
+use Rattle.core_model.specs.RequestFacts.{claim_of}
 use Rattle.core_model.specs.LogicalRules.{settling_of}
 use Rattle.core_model.specs.PageLinks.{block_in}
 use Rattle.data_vio.specs.Phases.{phase_rule}

@@ -8,7 +8,8 @@ use Rattle.data_vio.specs.declared.items.Item.TheVariants as item
 use Rattle.data_vio.specs.declared.items.Phase.TheVariants as phase
 use Rattle.core_model.proofs.TreeLinks.{page_itself}
 use Rattle.core_model.specs.declared.zones.ZoneData.TheVariants as at
-use Rattle.core_model.specs.Facts.{CarriesFor, CarriesPage, MakesPage}
+use Rattle.core_model.specs.Facts.{CarriesFor, CarriesPage}
+use Rattle.core_model.specs.LogicalFacts.{MakesPage}
 use Rattle.core_model.specs.Tokens.{is_same, making_at, making_token}
 use Rattle.core_laws.proofs.logical.PageFacts.{lacked_path, tree_home}
 use Rattle.core_laws.proofs.tokens.Known.{MadeIn}

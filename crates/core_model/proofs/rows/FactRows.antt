@@ -21,7 +21,10 @@ use Rattle.data_vio.specs.declared.items.Phase.TheVariants as phase
 use Rattle.data_vio.specs.declared.items.Vio.{Vio}
 use Rattle.core_model.specs.declared.zones.Zone.{Zone}
 use Rattle.core_model.specs.CountUpdates.{replaced_in}
-use Rattle.core_model.specs.Facts.{AreFirstClaims, Carries, ClaimOk, DataOk, IsDecrement, IsInTurn, IsSoundPhysical, ItemOk, PhysicalLists, VioOk, WasIssued, ZoneOk, made_by}
+use Rattle.core_model.specs.Facts.{Carries, DataOk, ItemOk, ZoneOk, made_by}
+use Rattle.core_model.specs.LogicalFacts.{IsInTurn}
+use Rattle.core_model.specs.PhysicalFacts.{AreFirstClaims, IsDecrement, IsSoundPhysical, PhysicalLists, WasIssued}
+use Rattle.core_model.specs.RequestFacts.{ClaimOk, VioOk}
 use Rattle.core_model.specs.PhysicalRules.{HasTicketRoom}
 use Rattle.core_model.specs.Sessions.{IsFair}
 use Rattle.core_model.specs.Trace.{Asks, Commits, Enters, Gives, Removes, Sets, Takes, Trace, Withdraws, strayed, Happening}

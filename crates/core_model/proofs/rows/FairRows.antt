@@ -13,7 +13,9 @@ use Rattle.disk_model.specs.declared.call.Call.TheVariants.{Read, Write, Flush}
 use Rattle.data_vio.specs.declared.items.Phase.TheVariants as phase
 use Rattle.data_vio.specs.declared.items.Stage.TheVariants as stage
 use Rattle.data_vio.specs.declared.items.Vio.{Vio}
-use Rattle.core_model.specs.Facts.{CarriesOwn, Holds, IsSealed, Looks, RestsAt, StandsAt}
+use Rattle.core_model.specs.Facts.{CarriesOwn}
+use Rattle.core_model.specs.JournalFacts.{IsSealed, RestsAt, StandsAt}
+use Rattle.core_model.specs.LogicalFacts.{Holds, Looks}
 use Rattle.core_model.specs.Legal.{Legal}
 use Rattle.core_model.specs.RightTraces.{IsLeafy, GivesRight, MapsTo, MayFollow, RightTrace}
 use Rattle.core_model.specs.Sessions.{AtRest, IsAsOpened, IsFair, IsKept, IsSession, KeptStands, NewReads, NewStands, OnBlock, OnItsWay, ReadsAs, ReadsBlock, Session, Shown, Stands, opened_image, opened_uses, value_at}

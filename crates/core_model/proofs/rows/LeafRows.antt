@@ -22,7 +22,8 @@ use Rattle.vdo_model.specs.declared.report.DeskLine.TheVariants.{Answer}
 use Rattle.data_vio.specs.declared.items.Asks.TheVariants as asks
 use Rattle.data_vio.specs.declared.logged.Logged.TheVariants.{Makes}
 use Rattle.data_vio.specs.declared.logged.Logged.{Logged}
-use Rattle.core_model.specs.Facts.{HasLeaf, HasTurn, MapOk, NeedsLeaf}
+use Rattle.core_model.specs.DeviceFacts.{NeedsLeaf}
+use Rattle.core_model.specs.LogicalFacts.{HasLeaf, HasTurn, MapOk}
 use Rattle.core_model.specs.PageLinks.{leaf_head}
 use Rattle.core_model.specs.RightTraces.{IsBlockFor, IsLeafFor, IsLinkedAt, MayFollow, StopsAtFailure}
 use Rattle.core_model.specs.Sessions.{IsFair, Session, mapping_by}

@@ -13,8 +13,8 @@ use Rattle.data_vio.specs.declared.items.Phase.TheVariants as phase
 use Rattle.data_vio.specs.declared.items.Vio.{Vio}
 use Rattle.data_vio.specs.declared.sizes.Sizes.{Sizes}
 use Rattle.core_model.specs.DeskData.{Desk}
-use Rattle.core_model.specs.Limits.{IsDeskWithin, IsLimited, requests_in}
-use Rattle.core_model.specs.SessionLimits.{asks_read, most_under_way_in, reads_in}
+use Rattle.core_model.specs.DeskLimits.{IsDeskWithin}
+use Rattle.core_model.specs.SessionLimits.{asks_read, most_under_way_in, reads_in, IsLimited, requests_in}
 use Rattle.core_model.specs.DeskLines.{is_bytes}
 use Rattle.core_model.proofs.rows.PhaseRows.{writes}
 use Rattle.core_model.proofs.rows.WorkedTraces.{first, flush, script, sizes}

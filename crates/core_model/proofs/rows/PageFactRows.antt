@@ -16,7 +16,9 @@ use Rattle.data_vio.specs.declared.items.Asks.{Asks}
 use Rattle.data_vio.specs.declared.items.Asks.TheVariants as asks
 use Rattle.data_vio.specs.declared.logged.Logged.{Logged}
 use Rattle.data_vio.specs.declared.logged.Logged.TheVariants.{Makes}
-use Rattle.core_model.specs.Facts.{AreUnmade, Awaits, Carries, HasPageEntry, HasSpent, HasTurn, IsMaking, PagesOk}
+use Rattle.core_model.specs.Facts.{Carries}
+use Rattle.core_model.specs.JournalFacts.{HasPageEntry}
+use Rattle.core_model.specs.LogicalFacts.{AreUnmade, Awaits, HasSpent, HasTurn, IsMaking, PagesOk}
 use Rattle.core_model.specs.PageTrees.{link_at}
 use Rattle.core_model.specs.Sessions.{Session}
 use Rattle.core_model.specs.Trace.{Aborts, Asks as AsksIn, Enters, Sets, Takes, Trace}

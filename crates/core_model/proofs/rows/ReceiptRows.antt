@@ -11,7 +11,8 @@ use Rattle.slab_counts.specs.declared.tickets.Receipt.{Receipt}
 use Rattle.slab_counts.specs.declared.tickets.Ticket.{Ticket}
 use Rattle.core_model.specs.DeskData.{Desk}
 use Rattle.core_model.specs.DeskRules.{DeskServes, receipt_of_vio}
-use Rattle.core_model.specs.Facts.{DeskLists, HasReceipt, newest_ticket, MayReply}
+use Rattle.core_model.specs.DeskFacts.{DeskLists, HasReceipt, MayReply}
+use Rattle.core_model.specs.PhysicalFacts.{newest_ticket}
 use Rattle.core_model.specs.Trace.{Asks, Says, Trace, asked_step, last_asked, lines, receipts}
 use Rattle.core_model.proofs.rows.PhaseRows.{answered, writes, vio}
 use Rattle.core_model.proofs.rows.WorkedTraces.{drawn, first, script, second, sizes, session}

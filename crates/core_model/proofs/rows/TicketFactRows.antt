@@ -8,7 +8,7 @@ use Rattle.data_vio.specs.declared.sizes.Sizes.{Sizes}
 use Rattle.plain_laws.specs.Sums.{bit, total}
 use Rattle.slab_counts.specs.declared.tickets.Ticket.{Ticket}
 use Rattle.vdo_model.specs.Places.{place_of}
-use Rattle.core_model.specs.Facts.{AreInTurn, IsAsking, IsWithdrawing, LacksBlock}
+use Rattle.core_model.specs.PhysicalFacts.{AreInTurn, IsAsking, IsWithdrawing, LacksBlock}
 use Rattle.core_model.specs.RightTraces.{WasRefused}
 use Rattle.core_model.specs.Sessions.{Session}
 use Rattle.core_model.specs.Trace.{Asks, Takes, Trace, Withdraws, places}

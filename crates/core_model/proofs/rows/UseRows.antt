@@ -9,7 +9,7 @@ use Rattle.data_vio.specs.declared.logged.Logged.TheVariants.{Remaps, Makes}
 use Rattle.data_vio.specs.declared.logged.Remapping.{Remapping}
 use Rattle.core_model.specs.CountUpdates.{IsNextUpdate, is_counted_in, replaced_in, updates_by, updates_in, updates_of, updates_taken}
 use Rattle.core_model.specs.CountUpdates as update
-use Rattle.core_model.specs.Facts.{AwaitsReport}
+use Rattle.core_model.specs.LogicalFacts.{AwaitsReport}
 use Rattle.core_model.specs.Tokens.{Token, block_token, claim_token, damage_token, report_token, ticket_token, ticket_weight, waiter_token}
 use Rattle.core_model.specs.Trace.{Adds, Asks, Commits, Drops, Hears, Removes, Strays, Withdraws, Trace, added, claimed, damage_in, has_stopped, passed_on, removed, strayed, unclaimed}
 use Rattle.core_model.specs.Uses.{IsFreeAt, NoneFree, NoneFreeIn, Waits, counted, gained, is_used, issued, lost, sum_below, ticket_at, uncounted, used_at, used_of_slab}

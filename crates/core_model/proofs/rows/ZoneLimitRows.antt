@@ -16,7 +16,10 @@ use Rattle.core_model.specs.JournalData.{JournalZone}
 use Rattle.core_model.specs.LogicalData.{Lock, LogicalZone}
 use Rattle.core_model.specs.declared.zones.Zone.{Zone}
 use Rattle.core_model.specs.declared.zones.ZoneData.TheVariants as at
-use Rattle.core_model.specs.Limits.{IsJournalWithin, IsLogicalWithin, IsPhysicalWithin, IsWithin}
+use Rattle.core_model.specs.JournalLimits.{IsJournalWithin}
+use Rattle.core_model.specs.Limits.{IsWithin}
+use Rattle.core_model.specs.LogicalLimits.{IsLogicalWithin}
+use Rattle.core_model.specs.PhysicalLimits.{IsPhysicalWithin}
 use Rattle.core_model.specs.PhysicalRules.{next_step}
 use Rattle.core_model.specs.declared.zones.PhysicalZone.{PhysicalZone}
 use Rattle.core_model.proofs.rows.PhaseRows.{empty_log, slab_with, stepped, waiting, writes, zone_with}

@@ -12,7 +12,8 @@ use Rattle.data_vio.specs.declared.items.Stage.TheVariants as stage
 use Rattle.core_model.specs.declared.zones.Zone.{Zone}
 use Rattle.core_model.specs.declared.zones.ZoneData.{ZoneData}
 use Rattle.core_model.specs.declared.zones.ZoneData.TheVariants as at
-use Rattle.core_model.specs.Facts.{zone_at, zone_of_stage, arriving}
+use Rattle.core_model.specs.Facts.{arriving}
+use Rattle.core_model.specs.RequestFacts.{zone_at, zone_of_stage}
 use Rattle.data_vio.specs.Phases.{AtDesk, AtDevice, AtHome, AtJournal, AtPhysical, AtTicket, InNoLane, Where, number_at, phase_rule, stage_rule}
 use Rattle.core_model.specs.Steps.{ZoneStep, IsIdle, takes_notice}
 use Rattle.core_model.specs.Tokens.{holds, owes, has_entry, kept_items}
