@@ -1,8 +1,8 @@
 -- Entries in the order of their pages: where one stands, and that the order stays.
-use Rattle.std.specs.Prelude.{ℕ, zero, suc, ◌≡◌, ◌<◌, ◌≤◌, ◌+◌, ◌-◌, ◌⊎◌, List, ◌∷◌, ◌++◌, length, Contains, refl}
+use Rattle.std.specs.Prelude.{ℕ, zero, suc, ◌≡◌, ◌<◌, ◌≤◌, ◌+◌, ◌-◌, ◌⊎◌, List, ◌∷◌, ◌++◌, length, Contains, HoldsAt, refl}
 use Rattle.std.proofs.Common.{ap, ap₂, take, drop, drop-cons, ◌∙◌, sym, subst, arith, get_or, inl, inr, Result, Ok, Err, IfOk, IfErr, Ordering, Less, Equal, Greater}
 use Rattle.std.specs.List.{insert, remove}
-use Rattle.std.specs.List.Sorted.{IsSearchInRange, IsBinarySearchResult}
+use Rattle.std.specs.List.Sorted.{IsSearchInRange, IsBinarySearchResult, IsPartitionPoint}
 use Rattle.std.specs.Ordering.{ordering_reverse, ordering_then, is_lt, nat_cmp}
 use Rattle.std.specs.Cmp.{IsTotalOrder}
 use Rattle.std.proofs.lemmas.Bool.{cases_eq, cases_lt}
@@ -15,7 +15,7 @@ use Rattle.blk_base.specs.declared.place.PageId.{PageId}
 use Rattle.blk_base.proofs.PageIdLaws.{same_page}
 use Rattle.blk_base.specs.Pages.{page_order}
 use Rattle.map_page_cache.specs.declared.index.IndexEntry.{IndexEntry}
-use Rattle.map_page_cache.specs.Index.{Index, HasSlot, Adds, Removes, AreInOrder, IsPlaceOf, IsGapFor}
+use Rattle.map_page_cache.specs.Index.{Index, HasSlot, Adds, Removes, AreInOrder, IsBefore, IsBehind}
 
 page_total : IsTotalOrder page_order
 page_total = then_total (on_total (λ (p : PageId). p.tree) nat_cmp_total) (then_total (on_total (λ (p : PageId). p.level) nat_cmp_total) (on_total (λ (p : PageId). p.index) nat_cmp_total))
@@ -47,39 +47,34 @@ equal_pages p q equal =
 -- what a search by pages finds: the page's place, or its gap
 pub searched : (entries : List IndexEntry) (page : PageId) (r : Result ℕ ℕ) → AreInOrder entries → IsSearchInRange r (length entries)
     → IsBinarySearchResult (λ e. page_order e.page page) entries r
-    → record { found : IfOk r (IsPlaceOf entries page); gap : IfErr r (IsGapFor entries page) }
-searched entries page (Ok place) order inside equal = record { found = record { inside = inside; named = λ d. equal_pages _ page (equal d) }; gap = tt }
+    → record { bound : IsSearchInRange r (length entries); found : IfOk r (HoldsAt (λ e. e.page ≡ page) entries); gap : IfErr r (IsPartitionPoint (IsBefore page) (IsBehind page) entries) }
+searched entries page (Ok place) order inside equal = record { bound = inside; found = λ d. equal_pages _ page (equal d); gap = tt }
 searched entries page (Err place) order inside parted =
     let sorted = searchable_from_sorted page_total (λ (e : IndexEntry). e.page) entries page (λ k d from within.
     ap is_lt (page_total.antisymm (get_or entries (k + 1) d).page (get_or entries k d).page ∙ ap ordering_reverse (order k (k + 1) d (omega arith) within))) in
-    record {
-      found = tt;
-      gap = record {
-        inside = inside;
-        parted = parted sorted;
-      };
-    }
+    record { bound = inside; found = tt; gap = parted sorted }
 
 -- an entry at the place of the page is the page's
-pub slot_at : (index : Index) (page : PageId) (place slot : ℕ) (d : IndexEntry) → IsPlaceOf index.entries page place
+pub slot_at : (index : Index) (page : PageId) (place slot : ℕ) (d : IndexEntry) → place < length index.entries → HoldsAt (λ e. e.page ≡ page) index.entries place
     → slot ≡ (get_or index.entries place d).slot → HasSlot index page slot
-slot_at index page place slot d found is =
+slot_at index page place slot d inside found is =
     let entry : IndexEntry = record { page = page; slot = slot } in
-    let same = get_or_default index.entries place d entry found.inside in (
+    let same = get_or_default index.entries place d entry inside in (
       place,
-      found.inside,
-      ap (λ (p : PageId). record { page = p; slot = (get_or index.entries place entry).slot }) (found.named entry)
+      inside,
+      ap (λ (p : PageId). record { page = p; slot = (get_or index.entries place entry).slot }) (found entry)
           ∙ ap (λ (s : ℕ). record { page = page; slot = s }) (sym (is ∙ ap (λ (e : IndexEntry). e.slot) same)),
     )
 
 -- a page that has a gap has no entry
-pub no_slot : (index : Index) (page : PageId) (place : ℕ) → IsGapFor index.entries page place → (slot : ℕ) → HasSlot index page slot → ⊥
+pub no_slot : (index : Index) (page : PageId) (place : ℕ) → IsPartitionPoint (IsBefore page) (IsBehind page) index.entries place
+    → (slot : ℕ) → HasSlot index page slot → ⊥
 no_slot index page place gap = λ slot has.
     let entry : IndexEntry = record { page = page; slot = slot } in
     let same : (get_or index.entries has.0 entry).page ≡ page = ap (λ (e : IndexEntry). e.page) has.2 in
     elim (cases_lt has.0 place) [
-      | inl first ↦ apart _ _ (gap.parted.0 has.0 entry (omega arith) first) same
-      | inr last ↦ apart _ _ (greater_less (get_or index.entries has.0 entry).page page (gap.parted.1 has.0 entry last has.1)) (sym same)
+      | inl first ↦ apart _ _ (gap.0 has.0 entry (omega arith) first) same
+      | inr last ↦ apart _ _ (greater_less (get_or index.entries has.0 entry).page page (gap.1 has.0 entry last has.1)) (sym same)
     ]
 
 -- an element of a list with one more in it is that one, or an element without it
@@ -111,24 +106,24 @@ moved a a' b b' left right less =
     ap (λ (e : IndexEntry). page_order e.page b'.page) left ∙ ap (λ (e : IndexEntry). page_order a.page e.page) right ∙ less
 
 -- in a gap the order stays
-pub order-insert : (entries : List IndexEntry) (place : ℕ) (entry : IndexEntry) → AreInOrder entries → IsGapFor entries entry.page place
-    → AreInOrder (insert entries place entry)
-order-insert entries place entry order gap = λ i j d rising inside.
-    let size = length-insert entries place entry gap.inside in
+pub order-insert : (entries : List IndexEntry) (place : ℕ) (entry : IndexEntry) → AreInOrder entries → place ≤ length entries
+    → IsPartitionPoint (IsBefore entry.page) (IsBehind entry.page) entries place → AreInOrder (insert entries place entry)
+order-insert entries place entry order within gap = λ i j d rising inside.
+    let size = length-insert entries place entry within in
     let here : (k : ℕ) → k ≡ place → get_or (insert entries place entry) k d ≡ entry
-    = λ k is. ap (λ (n : ℕ). get_or (insert entries place entry) n d) is ∙ get_or-insert_at entries place entry d gap.inside in
+    = λ k is. ap (λ (n : ℕ). get_or (insert entries place entry) n d) is ∙ get_or-insert_at entries place entry d within in
     let below : (k : ℕ) → k < place → get_or (insert entries place entry) k d ≡ get_or entries k d
-    = λ k h. get_or-insert_below entries place entry d k h gap.inside in
+    = λ k h. get_or-insert_below entries place entry d k h within in
     let above : (k : ℕ) → place < k → get_or (insert entries place entry) k d ≡ get_or entries (k - 1) d
-    = λ k h. behind_gap entries place entry d (k - 1) k gap.inside (omega arith) (omega arith) in
+    = λ k h. behind_gap entries place entry d (k - 1) k within (omega arith) (omega arith) in
     elim (cases_lt j place) [
       | inl first ↦ moved _ _ _ _ (below i (omega arith)) (below j first) (order i j d rising (omega arith))
       | inr from ↦ elim (cases_eq j place) [
-        | inl at ↦ moved _ _ _ _ (below i (omega arith)) (here j at) (gap.parted.0 i d (omega arith) (omega arith))
+        | inl at ↦ moved _ _ _ _ (below i (omega arith)) (here j at) (gap.0 i d (omega arith) (omega arith))
         | inr past ↦ elim (cases_lt i place) [
           | inl first ↦ moved _ _ _ _ (below i first) (above j (omega arith)) (order i (j - 1) d (omega arith) (omega arith))
           | inr behind ↦ elim (cases_eq i place) [
-            | inl at ↦ moved _ _ _ _ (here i at) (above j (omega arith)) (greater_less (get_or entries (j - 1) d).page entry.page (gap.parted.1 (j - 1) d (omega arith) (omega arith)))
+            | inl at ↦ moved _ _ _ _ (here i at) (above j (omega arith)) (greater_less (get_or entries (j - 1) d).page entry.page (gap.1 (j - 1) d (omega arith) (omega arith)))
             | inr beyond ↦ moved _ _ _ _ (above i (omega arith)) (above j (omega arith)) (order (i - 1) (j - 1) d (omega arith) (omega arith))
           ]
         ]
@@ -137,16 +132,16 @@ order-insert entries place entry order gap = λ i j d rising inside.
 
 -- an entry in its gap: its page has the slot, and all others keep theirs
 pub adds : (room place slot : ℕ) (entries : List IndexEntry) (page : PageId) (index : Index) → record { room = room; entries = entries } ≡ index
-    → IsGapFor entries page place
+    → place ≤ length entries → IsPartitionPoint (IsBefore page) (IsBehind page) entries place
     → Adds index (record { room = room; entries = insert entries place (record { page = page; slot = slot }) }) page slot
-adds room place slot entries page index is gap =
+adds room place slot entries page index is inside gap =
     let entry : IndexEntry = record { page = page; slot = slot } in
     let before = take place entries in
     let behind = drop place entries in
     let whole = take-append-drop place entries in
     rw (← is) (record {
       room = refl;
-      count = length-insert entries place entry gap.inside;
+      count = length-insert entries place entry inside;
       added = Contains-append_right before (entry ∷ behind) entry (0, omega arith, refl);
       kept = λ other s has. still_there before behind entry _ (subst (λ (es : List IndexEntry). Contains es (record { page = other; slot = s })) (sym whole) has);
       only = λ other s has. elim (new_or_old before behind entry _ has) [
@@ -171,29 +166,26 @@ order-remove entries place order inside = λ i j d rising within.
 
 -- without its entry: the page has no slot, and all others keep theirs
 pub removes : (room place : ℕ) (entries : List IndexEntry) (page : PageId) (index : Index) → record { room = room; entries = entries } ≡ index
-    → AreInOrder entries → IsPlaceOf entries page place
+    → AreInOrder entries → place < length entries → HoldsAt (λ e. e.page ≡ page) entries place
     → Removes index (record { room = room; entries = remove entries place }) page
-removes room place entries page index is order found =
-    let size = length-remove entries place found.inside in
+removes room place entries page index is order inside found =
+    let size = length-remove entries place inside in
     let d : IndexEntry = record { page = page; slot = 0 } in
     let before = take place entries in
     let behind = drop (suc place) entries in
-    let whole : before ++ get_or entries place d ∷ behind ≡ entries = ap (λ (es : List IndexEntry). before ++ es) (sym (drop-cons entries place d found.inside)) ∙ take-append-drop place entries in
-    let gap : IsGapFor (remove entries place) page place = record {
-      inside = let inside = found.inside in omega arith;
-      parted = (
-        (λ k e from below. ap₂ (λ (i : IndexEntry) (p : PageId). page_order i.page p) (get_or-remove_below entries place e k below found.inside) (sym (found.named e))
-            ∙ order k place e below found.inside),
-        (λ k e from within. ap₂ (λ (i : IndexEntry) (p : PageId). page_order i.page p) (get_or-remove_above entries place e k from found.inside) (sym (found.named e))
-            ∙ less_greater (get_or entries place e).page (get_or entries (k + 1) e).page (order place (k + 1) e (omega arith) (omega arith))),
-      );
-    } in
+    let whole : before ++ get_or entries place d ∷ behind ≡ entries = ap (λ (es : List IndexEntry). before ++ es) (sym (drop-cons entries place d inside)) ∙ take-append-drop place entries in
+    let gap : IsPartitionPoint (IsBefore page) (IsBehind page) (remove entries place) place = (
+      (λ k e from below. ap₂ (λ (i : IndexEntry) (p : PageId). page_order i.page p) (get_or-remove_below entries place e k below inside) (sym (found e))
+          ∙ order k place e below inside),
+      (λ k e from within. ap₂ (λ (i : IndexEntry) (p : PageId). page_order i.page p) (get_or-remove_above entries place e k from inside) (sym (found e))
+          ∙ less_greater (get_or entries place e).page (get_or entries (k + 1) e).page (order place (k + 1) e (omega arith) (omega arith))),
+    ) in
     rw (← is) (record {
       room = refl;
       count = size;
       gone = no_slot (record { room = room; entries = remove entries place }) page place gap;
       kept = λ other s apart has. elim (new_or_old before behind (get_or entries place d) _ (subst (λ (es : List IndexEntry). Contains es (record { page = other; slot = s })) (sym whole) has)) [
-        | inl same ↦ absurd (apart (sym (ap (λ (i : IndexEntry). i.page) same) ∙ found.named d))
+        | inl same ↦ absurd (apart (sym (ap (λ (i : IndexEntry). i.page) same) ∙ found d))
         | inr old ↦ old
       ];
       only = λ other s has. subst (λ (es : List IndexEntry). Contains es (record { page = other; slot = s })) whole (still_there before behind (get_or entries place d) _ has);

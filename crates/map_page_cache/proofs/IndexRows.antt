@@ -2,13 +2,11 @@
 -- one clause alone and is refused.
 use Rattle.std.proofs.Common.{ℕ, zero, suc, ◌≡◌, ◌<◌, ◌≤◌, ◌⊎◌, true, false, List, [], ◌∷◌, slice_index_or, refl, ap, ap₂, sym, inl, inr, arith}
 use Rattle.std.specs.declared.cmp.Ordering.TheVariants.{Equal, Greater, Less}
-use Rattle.std.specs.List.{AllWithin}
-use Rattle.blk_base.specs.Pages.{page_order}
 use Rattle.blk_base.specs.declared.place.PageId.{PageId}
 use Rattle.dirty_pages.specs.DirtyPoints.{clean, dirty_points_at, clean_of}
 use Rattle.page_codec.specs.declared.forms.MapPage.{MapPage}
 use Rattle.map_page_cache.specs.Frames.{AreFlags, Follows, IsAt}
-use Rattle.map_page_cache.specs.Index.{Adds, AreInOrder, HasSlot, Index, IsGapFor, IsPlaceOf, Removes, no_entries}
+use Rattle.map_page_cache.specs.Index.{Adds, AreInOrder, HasSlot, Index, IsBefore, IsBehind, Removes, no_entries}
 use Rattle.map_page_cache.specs.declared.index.IndexEntry.{IndexEntry}
 use Rattle.map_page_cache.proofs.OperationRows.{dirty, leaf, page}
 
@@ -144,44 +142,25 @@ out_of_order are = let first : Greater ≡ Less = are 0 1 (entry 0 0) (omega ari
 twice_in_order : AreInOrder (entry 0 5 ∷ entry 0 6 ∷ []) → ⊥
 twice_in_order are = let first : Equal ≡ Less = are 0 1 (entry 0 0) (omega arith) (omega arith) in absurd (cc first)
 
--- IsPlaceOf, IsGapFor: a page that has an entry, and one that has none. That the place is within the list follows from the rest.
+-- IsBefore, IsBehind: which entries are of the pages before one, and behind it
 
-place_is : IsPlaceOf (entry 0 6 ∷ entry 2 5 ∷ []) (page 2) 1
-place_is = record { inside = omega arith; named = λ d. refl }
+before_it : IsBefore (page 1) (entry 0 6)
+before_it = refl
 
-place_of_another : IsPlaceOf (entry 0 6 ∷ entry 2 5 ∷ []) (page 2) 0 → ⊥
-place_of_another is = omega (arith, ap (λ (q : PageId). q.index) (is.named (entry 0 0)))
+not_before_itself : IsBefore (page 1) (entry 1 6) → ⊥
+not_before_itself is = let own : Equal ≡ Less = is in absurd (cc own)
 
-gap_is : IsGapFor (entry 0 6 ∷ entry 2 5 ∷ []) (page 1) 1
-gap_is = record { inside = omega arith; parted = (before, behind) }
-  where
-    before : AllWithin (λ (e : IndexEntry). page_order e.page (page 1) ≡ Less) (entry 0 6 ∷ entry 2 5 ∷ []) 0 1
-    before zero d from below = refl
-    before (suc k) d from below = absurd (omega (arith, below))
+not_before_an_earlier_one : IsBefore (page 1) (entry 2 5) → ⊥
+not_before_an_earlier_one is = let later : Greater ≡ Less = is in absurd (cc later)
 
-    behind : AllWithin (λ (e : IndexEntry). page_order e.page (page 1) ≡ Greater) (entry 0 6 ∷ entry 2 5 ∷ []) 1 2
-    behind zero d from below = absurd (omega (arith, from))
-    behind (suc zero) d from below = refl
-    behind (suc (suc k)) d from below = absurd (omega (arith, below))
+behind_it : IsBehind (page 1) (entry 2 5)
+behind_it = refl
 
--- it may be behind the last entry
-gap_at_the_end : IsGapFor (entry 0 6 ∷ []) (page 1) 1
-gap_at_the_end = record { inside = omega arith; parted = (before, λ k d from below. absurd (omega (arith, from, below))) }
-  where
-    before : AllWithin (λ (e : IndexEntry). page_order e.page (page 1) ≡ Less) (entry 0 6 ∷ []) 0 1
-    before zero d from below = refl
-    before (suc k) d from below = absurd (omega (arith, below))
+not_behind_itself : IsBehind (page 1) (entry 1 6) → ⊥
+not_behind_itself is = let own : Equal ≡ Greater = is in absurd (cc own)
 
--- an entry of a page before it stands in front of it, and none of one behind it, nor its own
-gap_too_early : IsGapFor (entry 0 6 ∷ entry 2 5 ∷ []) (page 1) 0 → ⊥
-gap_too_early is = let first : Less ≡ Greater = is.parted.1 0 (entry 0 0) (omega arith) (omega arith) in absurd (cc first)
-
-gap_too_late : IsGapFor (entry 0 6 ∷ entry 2 5 ∷ []) (page 1) 2 → ⊥
-gap_too_late is = let last : Greater ≡ Less = is.parted.0 1 (entry 0 0) (omega arith) (omega arith) in absurd (cc last)
-
-no_gap : (place : ℕ) → IsGapFor (entry 1 6 ∷ []) (page 1) place → ⊥
-no_gap zero is = let first : Equal ≡ Greater = is.parted.1 0 (entry 0 0) (omega arith) (omega arith) in absurd (cc first)
-no_gap (suc place) is = let first : Equal ≡ Less = is.parted.0 0 (entry 0 0) (omega arith) (omega arith) in absurd (cc first)
+not_behind_a_later_one : IsBehind (page 1) (entry 0 6) → ⊥
+not_behind_a_later_one is = let earlier : Less ≡ Greater = is in absurd (cc earlier)
 
 -- IsAt: the page is in this frame
 

@@ -1,6 +1,5 @@
 -- Which slot each page has.
-use Rattle.std.specs.Prelude.{ℕ, ◌≡◌, ◌≢◌, ◌<◌, ◌≤◌, ◌+◌, ◌⊎◌, List, [], length, Contains, HoldsAt, AllPairs}
-use Rattle.std.specs.List.Sorted.{IsPartitionPoint}
+use Rattle.std.specs.Prelude.{ℕ, ◌≡◌, ◌≢◌, ◌+◌, ◌⊎◌, List, [], length, Contains, AllPairs}
 use Rattle.std.specs.declared.cmp.Ordering.TheVariants.{Less, Greater}
 use Rattle.blk_base.specs.declared.place.PageId.{PageId}
 use Rattle.blk_base.specs.Pages.{page_order}
@@ -39,12 +38,9 @@ pub record Removes (old new : Index) (page : PageId) : Type 0 where
 abbrev pub AreInOrder : List IndexEntry → Type 0
 AreInOrder entries = AllPairs (λ one other. page_order one.page other.page ≡ Less) entries
 
--- the entry of the page stands here
-pub record IsPlaceOf (entries : List IndexEntry) (page : PageId) (place : ℕ) : Type 0 where
-  pub inside : place < length entries
-  pub named : HoldsAt (λ entry. entry.page ≡ page) entries place
+-- the entries of the pages before this one, and those of the pages behind it
+abbrev pub IsBefore : PageId → IndexEntry → Type 0
+IsBefore page entry = page_order entry.page page ≡ Less
 
--- an entry of the page would stand here, and there is none
-pub record IsGapFor (entries : List IndexEntry) (page : PageId) (place : ℕ) : Type 0 where
-  pub inside : place ≤ length entries
-  pub parted : IsPartitionPoint (λ entry. page_order entry.page page ≡ Less) (λ entry. page_order entry.page page ≡ Greater) entries place
+abbrev pub IsBehind : PageId → IndexEntry → Type 0
+IsBehind page entry = page_order entry.page page ≡ Greater

@@ -1,6 +1,7 @@
-ghost use Rattle.std.specs.Prelude.{◌≡◌, ◌<◌, ℕ, length, IfOk, IfErr, IfSome, IfNone};
+ghost use Rattle.std.specs.Prelude.{◌≡◌, ◌<◌, ℕ, length, HoldsAt, IfOk, IfErr, IfSome, IfNone};
+ghost use Rattle.std.specs.List.Sorted.{IsPartitionPoint, IsSearchInRange};
 ghost use Rattle.blk_base.specs.declared.place.PageId.{PageId};
-ghost use Rattle.map_page_cache.specs.Index.{no_entries, HasSlot, Adds, Removes, AreInOrder, IsPlaceOf, IsGapFor};
+ghost use Rattle.map_page_cache.specs.Index.{no_entries, HasSlot, Adds, Removes, AreInOrder, IsBefore, IsBehind};
 
 use blk_base::PageId;
 use std::alloc::{AllocError, Global};
@@ -91,8 +92,9 @@ impl PageIndex {
 // Where the page's entry stands, or would stand.
 fn index_of(entries: &[IndexEntry], page: PageId) -> Result<usize, usize>
     requires { AreInOrder entries.now }
-    ensures found { IfOk result (IsPlaceOf entries.now page) }
-    ensures gap { IfErr result (IsGapFor entries.now page) }
+    ensures bound { IsSearchInRange result (length entries.now) }
+    ensures found { IfOk result (HoldsAt (λ entry. entry.page ≡ page) entries.now) }
+    ensures gap { IfErr result (IsPartitionPoint (IsBefore page) (IsBehind page) entries.now) }
 {
     entries.binary_search_by_key(&page, |entry| entry.page)
 }

@@ -1,6 +1,7 @@
 -- For each clause on names, records and chapters, a case that it accepts, and one that breaks it alone.
 use Rattle.std.specs.Prelude.{ℕ, zero, suc, ◌≡◌, ◌≢◌, ◌<◌, ◌≤◌, Bool, false, List, [], ◌∷◌, length, Some, None, refl}
 use Rattle.std.proofs.Common.{ap, arith, get_or, length-take, length-drop, Less, Equal}
+use Rattle.std.specs.List.Sorted.{IsPartitionPoint}
 use Rattle.std.proofs.lemmas.List.Elements.{All-cons}
 use Rattle.std.proofs.lemmas.List.Kept.{AllPairs-cons}
 use Rattle.blk_base.specs.Forms.{pbn as at}
@@ -11,7 +12,6 @@ use Rattle.uds_chapters.specs.declared.found.PageFind.TheVariants.{At, Before, A
 use Rattle.uds_chapters.specs.Names.{name_cmp, IsBelow, AreRising, IsName, AreSorted}
 use Rattle.uds_chapters.specs.Chapters.{location_of, with_record, Adds, records_in}
 use Rattle.uds_chapters.specs.Finds.{IsUnder, IsOver, Says, location_in}
-use Rattle.uds_chapters.specs.Places.{IsPlaceOf, IsGapFor}
 use Rattle.uds_chapters.proofs.RecordLaws.{any_at}
 use Rattle.uds_chapters.proofs.PageRows.{unequal}
 
@@ -171,22 +171,9 @@ location_of_an_answer = refl
 no_location_of_an_answer : location_in Absent ≡ None
 no_location_of_an_answer = refl
 
--- where a record stands, and where it would
-place : IsPlaceOf two (7 ∷ []) 1
-place = record { inside = omega arith; named = λ d. refl }
-
-not_its_place : ¬ IsPlaceOf two (7 ∷ []) 0
-not_its_place = λ is. let names = is.named (one 0 0) in by names
-  where
-    first : List ℕ → ℕ
-    first [] = 0
-    first (byte ∷ rest) = byte
-
-    by : ◌≡◌ {A = List ℕ} (3 ∷ []) (7 ∷ []) → ⊥
-    by same = unequal 3 7 (ap first same) (omega arith)
-
-gap : IsGapFor two (5 ∷ []) 1
-gap = record { inside = omega arith; parted = (first, last) }
+-- where a record would stand: behind those whose names are below, and in front of those whose names are above
+gap : IsPartitionPoint (IsUnder (5 ∷ [])) (IsOver (5 ∷ [])) two 1
+gap = (first, last)
   where
     first : (k : ℕ) (d : Record) → 0 ≤ k → k < 1 → IsUnder (5 ∷ []) (get_or two k d)
     first zero d from below = refl
@@ -197,11 +184,11 @@ gap = record { inside = omega arith; parted = (first, last) }
     last (suc zero) d from within = refl
     last (suc (suc k)) d from within = absurd (omega arith)
 
-not_the_gap_in_front : ¬ IsGapFor two (5 ∷ []) 0
-not_the_gap_in_front = λ is. let over = is.parted.1 0 (one 0 0) (omega arith) (omega arith) in cc
+not_the_gap_in_front : ¬ IsPartitionPoint (IsUnder (5 ∷ [])) (IsOver (5 ∷ [])) two 0
+not_the_gap_in_front = λ is. let over = is.1 0 (one 0 0) (omega arith) (omega arith) in cc
 
-not_the_gap_behind : ¬ IsGapFor two (5 ∷ []) 2
-not_the_gap_behind = λ is. let under = is.parted.0 1 (one 0 0) (omega arith) (omega arith) in cc
+not_the_gap_behind : ¬ IsPartitionPoint (IsUnder (5 ∷ [])) (IsOver (5 ∷ [])) two 2
+not_the_gap_behind = λ is. let under = is.0 1 (one 0 0) (omega arith) (omega arith) in cc
 
 -- a name, and records with names that rise
 

@@ -1,9 +1,9 @@
 -- The order of names is total, and records that rise.
-use Rattle.std.specs.Prelude.{ℕ, zero, suc, ◌≡◌, ◌≢◌, ◌<◌, ◌+◌, Bool, true, false, List, ◌∷◌, length, All, refl}
+use Rattle.std.specs.Prelude.{ℕ, zero, suc, ◌≡◌, ◌≢◌, ◌<◌, ◌+◌, Bool, true, false, List, ◌∷◌, length, All, HoldsAt, refl}
 use Rattle.std.proofs.Common.{sym, ◌∙◌, ap, arith, get_or, subst, inl, inr, Result, Ok, Err, IfOk, IfErr, Less, Equal, Greater}
 use Rattle.std.specs.Cmp.{IsTotalOrder}
 use Rattle.std.specs.FinMap.{slice_cmp-IsAntisymmetric, nat_cmp-IsAntisymmetric}
-use Rattle.std.specs.List.Sorted.{IsSearchInRange, IsBinarySearchResult}
+use Rattle.std.specs.List.Sorted.{IsSearchInRange, IsBinarySearchResult, IsPartitionPoint}
 use Rattle.std.specs.Ordering.{is_lt, ordering_reverse}
 use Rattle.std.specs.Str.{bytes_eq}
 use Rattle.std.proofs.lemmas.Bool.{cases_eq}
@@ -12,7 +12,7 @@ use Rattle.std.proofs.lemmas.List.Sorted.{searchable_from_sorted}
 use Rattle.std.proofs.lemmas.Slice.Eq.{bytes_eq-Decides}
 use Rattle.uds_chapters.specs.declared.entry.Record.{Record}
 use Rattle.uds_chapters.specs.Names.{name_cmp, IsBelow, AreRising}
-use Rattle.uds_chapters.specs.Places.{IsPlaceOf, IsGapFor}
+use Rattle.uds_chapters.specs.Finds.{IsUnder, IsOver}
 
 pub name_total : IsTotalOrder name_cmp
 name_total = nat_list_cmp_total
@@ -47,18 +47,12 @@ other_test a b apart = by (bytes_eq a b) refl
 -- what a search by names finds: the name's place, or its gap
 pub searched : (records : List Record) (name : List ℕ) (r : Result ℕ ℕ) → AreRising records → IsSearchInRange r (length records)
     → IsBinarySearchResult (λ e. name_cmp e.name name) records r
-    → record { found : IfOk r (IsPlaceOf records name); gap : IfErr r (IsGapFor records name) }
-searched records name (Ok place) rising inside equal = record { found = record { inside = inside; named = λ d. equal_names _ name (equal d) }; gap = tt }
+    → record { bound : IsSearchInRange r (length records); found : IfOk r (HoldsAt (λ e. e.name ≡ name) records); gap : IfErr r (IsPartitionPoint (IsUnder name) (IsOver name) records) }
+searched records name (Ok place) rising inside equal = record { bound = inside; found = λ d. equal_names _ name (equal d); gap = tt }
 searched records name (Err place) rising inside parted =
     let sorted = searchable_from_sorted name_total (λ (e : Record). e.name) records name (λ k d from within.
     ap is_lt (name_total.antisymm (get_or records (k + 1) d).name (get_or records k d).name ∙ ap ordering_reverse (rising k (k + 1) d (omega arith) within))) in
-    record {
-      found = tt;
-      gap = record {
-        inside = inside;
-        parted = parted sorted;
-      };
-    }
+    record { bound = inside; found = tt; gap = parted sorted }
 
 -- the first record is below all others, and these rise
 pub rising-head : (one : Record) (records : List Record) → AreRising (one ∷ records) → All (IsBelow one) records

@@ -1,7 +1,8 @@
 -- What records say of a name, and what adding one does to that.
-use Rattle.std.specs.Prelude.{ℕ, zero, suc, ◌≡◌, ◌≢◌, ◌<◌, ◌≤◌, ◌+◌, ◌*◌, List, [], ◌∷◌, ◌++◌, length, take, drop, All, Any, Option, None, Some, if◌then◌else◌, slice_index, slice_set, refl}
+use Rattle.std.specs.Prelude.{ℕ, zero, suc, ◌≡◌, ◌≢◌, ◌<◌, ◌≤◌, ◌+◌, ◌*◌, List, [], ◌∷◌, ◌++◌, length, take, drop, All, Any, HoldsAt, Option, None, Some, if◌then◌else◌, slice_index, slice_set, refl}
 use Rattle.std.proofs.Common.{sym, ◌∙◌, ap, subst, arith, get_or, length-drop, Ordering, Less, Equal, Greater}
 use Rattle.std.specs.List.{insert, refill}
+use Rattle.std.specs.List.Sorted.{IsPartitionPoint}
 use Rattle.std.specs.Ordering.{match_ordering}
 use Rattle.std.specs.Str.{bytes_eq}
 use Rattle.std.proofs.lemmas.List.{take-append-drop, drop-drop, drop_all, append-nil, take_at, length-set, get_or_default, length-take, get_or-take, get_or-drop}
@@ -11,7 +12,7 @@ use Rattle.blk_base.specs.declared.place.Pbn.{Pbn}
 use Rattle.uds_chapters.specs.declared.entry.Record.{Record}
 use Rattle.uds_chapters.specs.Names.{name_cmp, IsBelow, AreRising, IsName, AreSorted}
 use Rattle.uds_chapters.specs.Chapters.{location_of, with_record, records_in}
-use Rattle.uds_chapters.specs.Places.{IsPlaceOf, IsGapFor}
+use Rattle.uds_chapters.specs.Finds.{IsUnder, IsOver}
 use Rattle.uds_chapters.proofs.NameLaws.{name_total, equal_names, own_name, below_apart, above_apart, turned, same_test, other_test, rising-head, rising-tail}
 
 -- one step of looking a name up
@@ -101,58 +102,52 @@ named name bytes same size below = subst IsName same (record { size = size; byte
 
 -- where the record of a name stands, and where it would
 
-gap-tail : (name : List ℕ) (one : Record) (records : List Record) (place : ℕ) → IsGapFor (one ∷ records) name (suc place) → IsGapFor records name place
-gap-tail name one records place gap = let inside = gap.inside in record {
-  inside = omega arith;
-  parted = (
-    (λ k d from below. gap.parted.0 (suc k) d (omega arith) (omega arith)),
-    (λ k d from within. gap.parted.1 (suc k) d (omega arith) (omega arith)),
-  );
-}
+gap-tail : (name : List ℕ) (one : Record) (records : List Record) (place : ℕ) → IsPartitionPoint (IsUnder name) (IsOver name) (one ∷ records) (suc place)
+    → IsPartitionPoint (IsUnder name) (IsOver name) records place
+gap-tail name one records place gap = (
+  (λ k d from below. gap.0 (suc k) d (omega arith) (omega arith)),
+  (λ k d from within. gap.1 (suc k) d (omega arith) (omega arith)),
+)
 
-place-tail : (name : List ℕ) (one : Record) (records : List Record) (place : ℕ) → IsPlaceOf (one ∷ records) name (suc place) → IsPlaceOf records name place
-place-tail name one records place at = let inside = at.inside in record { inside = omega arith; named = λ d. at.named d }
+below_place : (name : List ℕ) (one : Record) (records : List Record) (place : ℕ) → AreRising (one ∷ records) → suc place < length (one ∷ records)
+    → HoldsAt (λ e. e.name ≡ name) (one ∷ records) (suc place) → name_cmp one.name name ≡ Less
+below_place name one records place rising inside at = ap (λ (n : List ℕ). name_cmp one.name n) (sym (at one)) ∙ rising 0 (suc place) one (omega arith) inside
 
-below_place : (name : List ℕ) (one : Record) (records : List Record) (place : ℕ) → AreRising (one ∷ records) → IsPlaceOf (one ∷ records) name (suc place)
-    → name_cmp one.name name ≡ Less
-below_place name one records place rising at =
-    let inside = at.inside in
-    ap (λ (n : List ℕ). name_cmp one.name n) (sym (at.named one)) ∙ rising 0 (suc place) one (omega arith) inside
-
-pub with_record-gap : (new : Record) (records : List Record) (place : ℕ) → IsGapFor records new.name place → insert records place new ≡ with_record new records
-with_record-gap new [] zero gap = refl
-with_record-gap new [] (suc place) gap = let inside = gap.inside in absurd (omega arith)
-with_record-gap new (one ∷ records) zero gap =
-    let above = gap.parted.1 0 one (omega arith) (omega arith) in
+pub with_record-gap : (new : Record) (records : List Record) (place : ℕ) → place ≤ length records
+    → IsPartitionPoint (IsUnder new.name) (IsOver new.name) records place → insert records place new ≡ with_record new records
+with_record-gap new [] zero inside gap = refl
+with_record-gap new [] (suc place) inside gap = absurd (omega (arith, inside))
+with_record-gap new (one ∷ records) zero inside gap =
+    let above = gap.1 0 one (omega arith) (omega arith) in
     rw above refl
-with_record-gap new (one ∷ records) (suc place) gap =
-    let below = gap.parted.0 0 one (omega arith) (omega arith) in
-    rw below (ap (λ rest. one ∷ rest) (with_record-gap new records place (gap-tail new.name one records place gap)))
+with_record-gap new (one ∷ records) (suc place) inside gap =
+    let below = gap.0 0 one (omega arith) (omega arith) in
+    rw below (ap (λ rest. one ∷ rest) (with_record-gap new records place (omega (arith, inside)) (gap-tail new.name one records place gap)))
 
-pub with_record-place : (new : Record) (records : List Record) (place : ℕ) → AreRising records → IsPlaceOf records new.name place
-    → slice_set records place new ≡ with_record new records
-with_record-place new [] place rising at = let inside = at.inside in absurd (omega arith)
-with_record-place new (one ∷ records) zero rising at =
-    let same = own_name one.name new.name (at.named one) in
+pub with_record-place : (new : Record) (records : List Record) (place : ℕ) → AreRising records → place < length records
+    → HoldsAt (λ e. e.name ≡ new.name) records place → slice_set records place new ≡ with_record new records
+with_record-place new [] place rising inside at = absurd (omega (arith, inside))
+with_record-place new (one ∷ records) zero rising inside at =
+    let same = own_name one.name new.name (at one) in
     rw same refl
-with_record-place new (one ∷ records) (suc place) rising at =
-    let below = below_place new.name one records place rising at in
-    rw below (ap (λ rest. one ∷ rest) (with_record-place new records place (rising-tail one records rising) (place-tail new.name one records place at)))
+with_record-place new (one ∷ records) (suc place) rising inside at =
+    let below = below_place new.name one records place rising inside at in
+    rw below (ap (λ rest. one ∷ rest) (with_record-place new records place (rising-tail one records rising) (omega (arith, inside)) at))
 
-pub location-place : (name : List ℕ) (records : List Record) (place : ℕ) (d : Record) → AreRising records → IsPlaceOf records name place
-    → location_of name records ≡ Some (get_or records place d).at
-location-place name [] place d rising at = let inside = at.inside in absurd (omega arith)
-location-place name (one ∷ records) zero d rising at = here name one records (at.named one)
-location-place name (one ∷ records) (suc place) d rising at =
-    further name one records (below_apart one.name name (below_place name one records place rising at))
-    ∙ location-place name records place d (rising-tail one records rising) (place-tail name one records place at)
+pub location-place : (name : List ℕ) (records : List Record) (place : ℕ) (d : Record) → AreRising records → place < length records
+    → HoldsAt (λ e. e.name ≡ name) records place → location_of name records ≡ Some (get_or records place d).at
+location-place name [] place d rising inside at = absurd (omega (arith, inside))
+location-place name (one ∷ records) zero d rising inside at = here name one records (at one)
+location-place name (one ∷ records) (suc place) d rising inside at =
+    further name one records (below_apart one.name name (below_place name one records place rising inside at))
+    ∙ location-place name records place d (rising-tail one records rising) (omega (arith, inside)) at
 
-pub location-gap : (name : List ℕ) (records : List Record) (place : ℕ) → IsGapFor records name place → location_of name records ≡ None
+pub location-gap : (name : List ℕ) (records : List Record) (place : ℕ) → IsPartitionPoint (IsUnder name) (IsOver name) records place → location_of name records ≡ None
 location-gap name [] place gap = refl
 location-gap name (one ∷ records) zero gap =
-    no_location name (one ∷ records) (λ k d inside. above_apart _ name (gap.parted.1 k d (omega arith) inside))
+    no_location name (one ∷ records) (λ k d inside. above_apart _ name (gap.1 k d (omega arith) inside))
 location-gap name (one ∷ records) (suc place) gap =
-    further name one records (below_apart one.name name (gap.parted.0 0 one (omega arith) (omega arith)))
+    further name one records (below_apart one.name name (gap.0 0 one (omega arith) (omega arith)))
     ∙ location-gap name records place (gap-tail name one records place gap)
 
 -- the pages of a chapter

@@ -2,4 +2,3 @@ pub mod Names
 pub mod Chapters
 pub mod Pages
 pub mod Finds
-pub mod Places

@@ -1,7 +1,8 @@
-ghost use Rattle.std.specs.Prelude.{◌≡◌, ◌↔◌, IsTrue, IfOk, IfErr};
+ghost use Rattle.std.specs.Prelude.{◌≡◌, ◌↔◌, IsTrue, IfOk, IfErr, HoldsAt, length};
+ghost use Rattle.std.specs.List.Sorted.{IsPartitionPoint, IsSearchInRange};
 ghost use Rattle.uds_chapters.specs.Names.{IsBelow, AreRising};
 ghost use Rattle.uds_chapters.specs.Chapters.{location_of};
-ghost use Rattle.uds_chapters.specs.Places.{IsPlaceOf, IsGapFor};
+ghost use Rattle.uds_chapters.specs.Finds.{IsUnder, IsOver};
 
 use crate::Record;
 use blk_base::Pbn;
@@ -11,8 +12,9 @@ use block_names::Name;
 /// halving.
 pub fn place_of(records: &[Record], name: &Name) -> Result<usize, usize>
     requires { AreRising records.now }
-    ensures found { IfOk result (IsPlaceOf records.now name.now) }
-    ensures gap { IfErr result (IsGapFor records.now name.now) }
+    ensures bound { IsSearchInRange result (length records.now) }
+    ensures found { IfOk result (HoldsAt (λ one. one.name ≡ name.now) records.now) }
+    ensures gap { IfErr result (IsPartitionPoint (IsUnder name.now) (IsOver name.now) records.now) }
 {
     records.binary_search_by_key(name, |record| record.name)
 }

@@ -13,16 +13,15 @@ name = 7 ∷ 0 ∷ 0 ∷ 0 ∷ []
 -- the name would stand on the first page of chapters 5 and 4, which have no records: of two places from block 69 on these are
 -- the blocks 73 and 69
 page_of_five : IsNamePage 69 2 name 73 (chapter 5)
-page_of_five = record { place = 0; stands = inr (record { inside = omega arith; parted = ((λ k d from below. absurd (omega (arith, below))), (λ k d past inside. absurd (omega (arith, inside)))) }); block = refl }
+page_of_five = record { place = 0; inside = omega arith; stands = inr ((λ k d from below. absurd (omega (arith, below))), (λ k d past inside. absurd (omega (arith, inside)))); block = refl }
 
 page_of_four : IsNamePage 69 2 name 69 (chapter 4)
-page_of_four = record { place = 0; stands = inr (record { inside = omega arith; parted = ((λ k d from below. absurd (omega (arith, below))), (λ k d past inside. absurd (omega (arith, inside)))) }); block = refl }
+page_of_four = record { place = 0; inside = omega arith; stands = inr ((λ k d from below. absurd (omega (arith, below))), (λ k d past inside. absurd (omega (arith, inside)))); block = refl }
 
 one_page : (number at : ℕ) → IsNamePage 69 2 name at (chapter number) → at ≡ 69 + 4 * (number % 2)
-one_page number at is = elim is.stands [
-  | inl there ↦ absurd (omega (arith, there.inside))
-  | inr gap ↦ let none : is.place ≡ 0 = omega (arith, gap.inside) in is.block ∙ ap (λ (p : ℕ). 69 + 4 * (number % 2) + min (p / 170) 3) none ∙ (let whole : 69 + 4 * (number % 2) + 0 ≡ 69 + 4 * (number % 2) = omega arith in whole)
-]
+one_page number at is =
+    let none : is.place ≡ 0 = omega (arith, is.inside) in
+    is.block ∙ ap (λ (p : ℕ). 69 + 4 * (number % 2) + min (p / 170) 3) none ∙ (let whole : 69 + 4 * (number % 2) + 0 ≡ 69 + 4 * (number % 2) = omega arith in whole)
 
 the_next_block : ¬ IsNamePage 69 2 name 74 (chapter 5)
 the_next_block = λ is. let no' = one_page 5 74 is in omega (arith, no')

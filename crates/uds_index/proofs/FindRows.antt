@@ -1,6 +1,7 @@
 -- What a look finds and asks for, and what a book in memory is: for each clause that has no row beside it elsewhere a case
 -- that it accepts, and one that breaks it alone.
-use Rattle.std.proofs.Common.{ℕ, zero, suc, ◌≡◌, true, false, List, [], ◌∷◌, Contains, length, replicate, Option, None, Some, ap, sym, subst, arith, refl, inl, inr}
+use Rattle.std.proofs.Common.{ℕ, zero, suc, ◌≡◌, ◌≤◌, true, false, List, [], ◌∷◌, Contains, length, replicate, Option, None, Some, ap, sym, subst, arith, refl, inl, inr}
+use Rattle.std.specs.List.Sorted.{IsPartitionPoint}
 use Rattle.std.proofs.lemmas.Bool.{false≢true}
 use Rattle.std.proofs.lemmas.List.Elements.{All-cons, All-contains, All-nil, All-replicate}
 use Rattle.std.proofs.lemmas.List.{get_or-replicate, length-replicate}
@@ -10,8 +11,7 @@ use Rattle.blk_base.specs.Forms.{pbn as at}
 use Rattle.byte_fields.specs.Fields.{number_at}
 use Rattle.uds_chapters.specs.declared.entry.Record.{Record}
 use Rattle.uds_chapters.specs.Chapters.{Numbered}
-use Rattle.uds_chapters.specs.Finds.{IsUnder}
-use Rattle.uds_chapters.specs.Places.{IsGapFor}
+use Rattle.uds_chapters.specs.Finds.{IsUnder, IsOver}
 use Rattle.index_advice.specs.Books.{Book}
 use Rattle.index_advice.specs.Orders.{IsChapter, IsOfKept}
 use Rattle.index_advice.specs.declared.look.Look.TheVariants.{Known, Nothing, Read}
@@ -148,7 +148,7 @@ finds_a_page_for_no_chapter is = omega (arith, is.1.one.1)
 -- AsksOf: of a name that the open chapter has no page is asked for
 asks_its_page : AsksOf kept_book [] [] name (Read (at 73))
 unfolding number_at
-asks_its_page none = inl (record { place = 0; stands = inl (record { inside = omega arith; named = λ d. refl }); block = refl }, nothing_known 73)
+asks_its_page none = inl (record { place = 0; inside = omega arith; stands = inl (λ d. refl); block = refl }, nothing_known 73)
 
 asks_nothing_of_an_open_name : AsksOf open_book [] [] name Nothing
 asks_nothing_of_an_open_name none = absurd (none-some (at 90) (sym none))
@@ -157,30 +157,29 @@ asks_nothing : AsksOf kept_book [] [] name Nothing → ⊥
 unfolding number_at
 asks_nothing asks = (asks refl).0.2 (nothing_known (asks refl).0.0)
 
-behind_all : (count : ℕ) → IsGapFor (replicate count (record { name = 6 ∷ 0 ∷ 0 ∷ 0 ∷ []; at = at 85 })) name count
+behind_all : (count : ℕ) → IsPartitionPoint (IsUnder name) (IsOver name) (replicate count (record { name = 6 ∷ 0 ∷ 0 ∷ 0 ∷ []; at = at 85 })) count
 behind_all count =
     let other : Record = record { name = 6 ∷ 0 ∷ 0 ∷ 0 ∷ []; at = at 85 } in
-    let size = length-replicate {A = Record} count other in
-    record {
-      inside = omega (arith, size);
-      parted = (
-        (λ k d from below. subst (λ (one : Record). IsUnder name one) (sym (get_or-replicate count k other d below)) refl),
-        (λ k d past inside. absurd (omega (arith, size, past, inside))),
-      );
-    }
+    let size = length-replicate {A = Record} count other in (
+      (λ k d from below. subst (λ (one : Record). IsUnder name one) (sym (get_or-replicate count k other d below)) refl),
+      (λ k d past inside. absurd (omega (arith, size, past, inside))),
+    )
 
 -- IsNamePage: a page has 170 records, and the last one all behind it
 abbrev records_of : ℕ → List Record
 records_of count = replicate count (record { name = 6 ∷ 0 ∷ 0 ∷ 0 ∷ []; at = at 85 })
 
+few : (count : ℕ) → count ≤ length (records_of count)
+few count = let size = length-replicate {A = Record} count (record { name = 6 ∷ 0 ∷ 0 ∷ 0 ∷ []; at = at 85 }) in omega (arith, size)
+
 first_page : IsNamePage 69 2 name 73 (record { number = 5; records = records_of 169 })
-first_page = record { place = 169; stands = inr (behind_all 169); block = refl }
+first_page = record { place = 169; inside = few 169; stands = inr (behind_all 169); block = refl }
 
 second_page : IsNamePage 69 2 name 74 (record { number = 5; records = records_of 170 })
-second_page = record { place = 170; stands = inr (behind_all 170); block = refl }
+second_page = record { place = 170; inside = few 170; stands = inr (behind_all 170); block = refl }
 
 last_page : IsNamePage 69 2 name 76 (record { number = 5; records = records_of 680 })
-last_page = record { place = 680; stands = inr (behind_all 680); block = refl }
+last_page = record { place = 680; inside = few 680; stands = inr (behind_all 680); block = refl }
 
 -- Asks: unless a page couldn't be read
 asks : Asks name (index_with kept_book false) (Read (at 73))

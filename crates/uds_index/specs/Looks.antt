@@ -1,8 +1,9 @@
 -- What contracts see of the index, and what its looks answer.
-use Rattle.std.specs.Prelude.{ℕ, ◌≡◌, ◌⊎◌, ◌+◌, ◌*◌, ◌/◌, ◌%◌, ◌-◌, ◌<◌, ◌≤◌, min, ◌||◌, ◌&&◌, not, Bool, true, false, List, [], ◌∷◌, ◌++◌, length, take, filter, Contains, Option, None, Some, IsSome, nat_eq, if◌then◌else◌}
+use Rattle.std.specs.Prelude.{ℕ, ◌≡◌, ◌⊎◌, ◌+◌, ◌*◌, ◌/◌, ◌%◌, ◌-◌, ◌<◌, ◌≤◌, min, ◌||◌, ◌&&◌, not, Bool, true, false, List, [], ◌∷◌, ◌++◌, length, take, filter, Contains, HoldsAt, Option, None, Some, IsSome, nat_eq, if◌then◌else◌}
+use Rattle.std.specs.List.Sorted.{IsPartitionPoint}
 use Rattle.block_names.specs.Names.{tag_of}
 use Rattle.uds_chapters.specs.Chapters.{Numbered, location_of}
-use Rattle.uds_chapters.specs.Places.{IsGapFor, IsPlaceOf}
+use Rattle.uds_chapters.specs.Finds.{IsUnder, IsOver}
 use Rattle.index_advice.specs.declared.look.Look.{Look}
 use Rattle.index_advice.specs.declared.look.Look.TheVariants.{Known, Nothing, Read}
 use Rattle.index_advice.specs.Books.{Book, has_tag, first_location, newest_record}
@@ -57,7 +58,8 @@ FindsKept region chapters cached given name (Read at) = MayRead region.first reg
 -- the block of the page on which a name stands in a chapter, or would stand: a page has 170 records
 pub record IsNamePage (first places : ℕ) (name : List ℕ) (at : ℕ) (chapter : Numbered) : Type 0 where
   pub place : ℕ
-  pub stands : IsPlaceOf chapter.records name place ⊎ IsGapFor chapter.records name place
+  pub inside : place ≤ length chapter.records
+  pub stands : HoldsAt (λ one. one.name ≡ name) chapter.records place ⊎ IsPartitionPoint (IsUnder name) (IsOver name) chapter.records place
   pub block : at ≡ first + 4 * (chapter.number % places) + min (place / 170) 3
 
 -- the name's page of the chapter needn't be asked for: it is cached or was given, or too many were

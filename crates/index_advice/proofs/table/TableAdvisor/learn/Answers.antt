@@ -14,13 +14,13 @@ invariant_of-self-then-len-self c =
     record {
       few = omega (arith, len, c.len.ensures, c.if-len-self.true);
       capacity = omega (arith, grown, c.self.invariant.capacity);
-      rising = subst AreRising (sym done.items) (rising_new records c.deref.result.now one c.in-Err.place c.deref.ensures.value c.in-Err.ensures.gap c.self.invariant.rising);
+      rising = subst AreRising (sym done.items) (rising_new records c.deref.result.now one c.in-Err.place c.deref.ensures.value c.in-Err.ensures.bound c.in-Err.ensures.gap c.self.invariant.rising);
     }
 
 pub returns-in-Ok : goal.returns-in-Ok
 returns-in-Ok c =
     found_in c.self.inside.room c.self.inside.records.items c.deref.result.now (record { name = c.args.name.now; at = c.args.at }) c.in-Ok.place c.args.self.now
-    c.self.view_is c.deref.ensures.value c.self.invariant.rising c.in-Ok.ensures.found
+    c.self.view_is c.deref.ensures.value c.self.invariant.rising c.in-Ok.ensures.bound c.in-Ok.ensures.found
 
 pub returns-in-Ok-insert : goal.returns-in-Ok-insert
 returns-in-Ok-insert c =
@@ -29,7 +29,7 @@ returns-in-Ok-insert c =
     let size : length records ≡ c.len.result = ap length (sym c.deref.ensures.value) ∙ c.deref.ensures.len ∙ sym c.len.ensures in
     let few : length records < c.self.inside.room = omega (arith, size, c.if-len-self.true) in
     ap (tabled c.self.inside.room) c.in-Ok-insert.ensures.items
-    ∙ new_in c.self.inside.room records c.deref.result.now one c.in-Err.place c.args.self.now c.self.view_is c.deref.ensures.value c.in-Err.ensures.gap few
+    ∙ new_in c.self.inside.room records c.deref.result.now one c.in-Err.place c.args.self.now c.self.view_is c.deref.ensures.value c.in-Err.ensures.bound c.in-Err.ensures.gap few
 
 pub returns-else-len-self : goal.returns-else-len-self
 returns-else-len-self c =
