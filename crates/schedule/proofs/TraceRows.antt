@@ -6,11 +6,11 @@ use Rattle.disk_model.specs.Seen.{Seen}
 use Rattle.core_model.specs.declared.zones.Zone.{Zone}
 use Rattle.core_model.specs.Trace.{Says}
 use Rattle.core_model.proofs.rows.WorkedTraces.{sizes}
-use Rattle.vdo_core.specs.Plays.{HasNoWork}
+use Rattle.vdo_core.specs.Plays.{HasNoWork, vdo}
 use Rattle.vdo_core.specs.declared.events.Event.{Event}
 use Rattle.vdo_core.specs.declared.events.Event.TheVariants as event
 use Rattle.vdo_core.proofs.PlayRows.{core_0, core_1, core_2, desk, first_step, has_work, has_work_still, line_of, oldest, oldest_on, played_first, second_step, undone}
-use Rattle.schedule.specs.Turns.{AreReady, Drives, IsTurn, PlaysUntilDone}
+use Rattle.schedule.specs.Turns.{AreReady, Drives, IsTurn, PlaysUntilDone, driving}
 
 -- the step of the desk is the one event for which there is work
 none_to_itself : (zone : Zone) → HasNoWork sizes (zone ∷ []) (event.Move 0 0)
@@ -32,41 +32,39 @@ steps = event.Step 0 ∷ event.Step 0 ∷ []
 
 module _ (tells honest : Bool) (seen : Seen) where
   -- Drives
-  two_turns : Drives tells honest sizes 0 (next_state (next_state 0)) steps core_0 core_2 seen seen (Says (line_of 1) ∷ Says (line_of 0) ∷ [])
+  two_turns : Drives tells honest sizes steps (driving 0 core_0 seen) (driving (next_state (next_state 0)) core_2 seen) (Says (line_of 1) ∷ Says (line_of 0) ∷ [])
   two_turns = (
-    core_1,
-    seen,
+    vdo core_1 seen,
     Says (line_of 0) ∷ [],
     Says (line_of 1) ∷ [],
     undone 0 [] (omega arith),
     first_turn,
     inl (first_step tells honest seen),
-    (core_2, seen, Says (line_of 1) ∷ [], [], undone 1 (line_of 0 ∷ []) (omega arith), second_turn, inl (second_step tells honest seen), (refl, refl, refl, refl), refl),
+    (vdo core_2 seen, Says (line_of 1) ∷ [], [], undone 1 (line_of 0 ∷ []) (omega arith), second_turn, inl (second_step tells honest seen), (refl, refl), refl),
     refl,
   )
 
-  two_turns-in_no_other_order : Drives tells honest sizes 0 (next_state (next_state 0)) steps core_0 core_2 seen seen (Says (line_of 0) ∷ Says (line_of 1) ∷ []) → ⊥
-  two_turns-in_no_other_order (between, s, first, later, isnt, turn, one, rest, is) =
-      let number = played_first tells honest (oldest 0 later) between seen s first one in
+  two_turns-in_no_other_order : Drives tells honest sizes steps (driving 0 core_0 seen) (driving (next_state (next_state 0)) core_2 seen) (Says (line_of 0) ∷ Says (line_of 1) ∷ []) → ⊥
+  two_turns-in_no_other_order (between, first, later, isnt, turn, one, rest, is) =
+      let number = played_first tells honest (oldest 0 later) seen between first one in
       let said : 1 ≡ oldest 0 (later ++ first) = ap (oldest 0) is in
       absurd (omega (arith, number, said, oldest_on 0 later first))
 
   -- PlaysUntilDone
-  two_events : PlaysUntilDone tells honest sizes steps core_0 core_2 seen seen (Says (line_of 1) ∷ Says (line_of 0) ∷ [])
+  two_events : PlaysUntilDone tells honest sizes steps (vdo core_0 seen) (vdo core_2 seen) (Says (line_of 1) ∷ Says (line_of 0) ∷ [])
   two_events = inr (
-    core_1,
-    seen,
+    vdo core_1 seen,
     Says (line_of 0) ∷ [],
     Says (line_of 1) ∷ [],
     undone 0 [] (omega arith),
     inl (first_step tells honest seen),
-    inr (core_2, seen, Says (line_of 1) ∷ [], [], undone 1 (line_of 0 ∷ []) (omega arith), inl (second_step tells honest seen), (refl, refl, refl), refl),
+    inr (vdo core_2 seen, Says (line_of 1) ∷ [], [], undone 1 (line_of 0 ∷ []) (omega arith), inl (second_step tells honest seen), (refl, refl), refl),
     refl,
   )
 
-  two_events-in_no_other_order : PlaysUntilDone tells honest sizes steps core_0 core_2 seen seen (Says (line_of 0) ∷ Says (line_of 1) ∷ []) → ⊥
-  two_events-in_no_other_order (inl (is, same, silent, nothing)) = undone 0 [] (omega arith) is
-  two_events-in_no_other_order (inr (between, s, first, later, isnt, one, rest, is)) =
-      let number = played_first tells honest (oldest 0 later) between seen s first one in
+  two_events-in_no_other_order : PlaysUntilDone tells honest sizes steps (vdo core_0 seen) (vdo core_2 seen) (Says (line_of 0) ∷ Says (line_of 1) ∷ []) → ⊥
+  two_events-in_no_other_order (inl (is, same, nothing)) = undone 0 [] (omega arith) is
+  two_events-in_no_other_order (inr (between, first, later, isnt, one, rest, is)) =
+      let number = played_first tells honest (oldest 0 later) seen between first one in
       let said : 1 ≡ oldest 0 (later ++ first) = ap (oldest 0) is in
       absurd (omega (arith, number, said, oldest_on 0 later first))

@@ -14,10 +14,10 @@ use Rattle.core_model.proofs.rows.PhaseRows.{nothing, physical}
 use Rattle.core_model.proofs.rows.ViewRows.{one}
 use Rattle.vdo_core.specs.Done.{IsDone}
 use Rattle.vdo_core.specs.Moves.{has_items}
-use Rattle.vdo_core.specs.Plays.{HasNoWork, PlaysOne}
+use Rattle.vdo_core.specs.Plays.{HasNoWork, PlaysOne, Vdo, vdo}
 use Rattle.vdo_core.specs.declared.events.Event.{Event}
 use Rattle.vdo_core.specs.declared.events.Event.TheVariants as event
-use Rattle.schedule.specs.Turns.{AreReady, Drives, IsTurn, PlaysUntilDone, event_count, event_of}
+use Rattle.schedule.specs.Turns.{AreReady, Drives, Driving, IsTurn, PlaysUntilDone, driving, event_count, event_of}
 use Rattle.schedule.proofs.TurnLaws.{ready_once, turn_once}
 
 -- event_count: a step of each zone, and a move from each to each
@@ -135,7 +135,7 @@ module _ (sizes : Sizes) (keeps : ZoneData) where
   received (a ∷ b ∷ rest) = length b.ports.inbox
 
   -- the move, and what it leaves
-  plays : (tells honest : Bool) (seen : Seen) → PlaysOne tells honest sizes (event.Move 0 1) (zones keeps) (moved keeps) seen seen []
+  plays : (tells honest : Bool) (seen : Seen) → PlaysOne tells honest sizes (event.Move 0 1) (vdo (zones keeps) seen) (vdo (moved keeps) seen) []
   plays tells honest seen = inl (
     record {
       source = sender keeps one;
@@ -151,92 +151,95 @@ module _ (sizes : Sizes) (keeps : ZoneData) where
     refl,
   )
 
-  makes_nothing : (tells honest : Bool) (zones' : List Zone) (before after : Seen) (made : Trace) → PlaysOne tells honest sizes (event.Move 0 1) (zones keeps) zones' before after made → made ≡ []
-  makes_nothing tells honest zones' before after made (inl (moves, silent, nothing)) = nothing
-  makes_nothing tells honest zones' before after made (inr (none, same, silent, nothing)) = nothing
+  makes_nothing : (tells honest : Bool) (before : Seen) (new : Vdo) (made : Trace)
+      → PlaysOne tells honest sizes (event.Move 0 1) (vdo (zones keeps) before) new made → made ≡ []
+  makes_nothing tells honest before new made (inl (moves, silent, nothing)) = nothing
+  makes_nothing tells honest before new made (inr (none, same, nothing)) = nothing
 
-  brings_one : (tells honest : Bool) (zones' : List Zone) (before after : Seen) (made : Trace) → PlaysOne tells honest sizes (event.Move 0 1) (zones keeps) zones' before after made → received zones' ≡ 1
-  brings_one tells honest zones' before after made (inl (moves, silent, nothing)) =
+  brings_one : (tells honest : Bool) (before : Seen) (new : Vdo) (made : Trace)
+      → PlaysOne tells honest sizes (event.Move 0 1) (vdo (zones keeps) before) new made → received new.zones ≡ 1
+  brings_one tells honest before new made (inl (moves, silent, nothing)) =
       let target : receiver [] ≡ moves.target = same_Some _ _ moves.had_target in
       let source : sender keeps one ≡ moves.source = same_Some _ _ moves.had_source in
       let part : one ≡ moves.part = same_Some _ _ (subst (λ (z : Zone). slice_get z.ports.outboxes 1 ≡ Some moves.part) (sym source) moves.outbox) in
       ap received moves.has ∙ ap (λ (z : Zone). length (z.ports.inbox ++ moves.part)) (sym target) ∙ ap length (sym part)
-  brings_one tells honest zones' before after made (inr (none, same, silent, nothing)) = absurd (move_to_second none)
+  brings_one tells honest before new made (inr (none, same, nothing)) = absurd (move_to_second none)
 
 module _ (tells honest : Bool) (sizes : Sizes) (seen : Seen) where
   -- Drives: no turn changes nothing
-  no_turn : Drives tells honest sizes 7 7 [] (zones undone) (zones undone) seen seen []
-  no_turn = (refl, refl, refl, refl)
+  no_turn : Drives tells honest sizes [] (driving 7 (zones undone) seen) (driving 7 (zones undone) seen) []
+  no_turn = (refl, refl)
 
-  no_turn-of_the_state : Drives tells honest sizes 7 8 [] (zones undone) (zones undone) seen seen [] → ⊥
-  no_turn-of_the_state d = let same = d.0 in absurd (omega (arith, same))
+  no_turn-of_the_state : Drives tells honest sizes [] (driving 7 (zones undone) seen) (driving 8 (zones undone) seen) [] → ⊥
+  no_turn-of_the_state d = let same = ap (λ (new : Driving). new.state) d.0 in absurd (omega (arith, same))
 
-  no_turn-of_the_zones : Drives tells honest sizes 7 7 [] (zones undone) (moved undone) seen seen [] → ⊥
-  no_turn-of_the_zones d = let same = ap (received sizes undone) d.1 in absurd (omega (arith, same))
+  no_turn-of_the_zones : Drives tells honest sizes [] (driving 7 (zones undone) seen) (driving 7 (moved undone) seen) [] → ⊥
+  no_turn-of_the_zones d = let same = ap (λ (new : Driving). received sizes undone new.vdo.zones) d.0 in absurd (omega (arith, same))
 
-  no_turn-of_the_device : Drives tells honest sizes 7 7 [] (zones undone) (zones undone) seen (record seen { faults = suc seen.faults }) [] → ⊥
-  no_turn-of_the_device d = let same = ap (λ (s : Seen). s.faults) d.2 in absurd (omega (arith, same))
+  no_turn-of_the_device : Drives tells honest sizes [] (driving 7 (zones undone) seen) (driving 7 (zones undone) (record seen { faults = suc seen.faults })) [] → ⊥
+  no_turn-of_the_device d = let same = ap (λ (new : Driving). new.vdo.seen.faults) d.0 in absurd (omega (arith, same))
 
-  no_turn-of_the_trace : Drives tells honest sizes 7 7 [] (zones undone) (zones undone) seen seen (Seals ∷ []) → ⊥
-  no_turn-of_the_trace d = let nothing = d.3 in absurd cc
+  no_turn-of_the_trace : Drives tells honest sizes [] (driving 7 (zones undone) seen) (driving 7 (zones undone) seen) (Seals ∷ []) → ⊥
+  no_turn-of_the_trace d = let nothing = d.1 in absurd cc
 
   -- a turn takes its event, and steps the state, where the core isn't done
-  one_turn : Drives tells honest sizes 0 (next_state 0) (event.Move 0 1 ∷ []) (zones undone) (moved undone) seen seen []
-  one_turn = (moved undone, seen, [], [], isnt_done, first_turn sizes undone, plays sizes undone tells honest seen, (refl, refl, refl, refl), refl)
+  one_turn : Drives tells honest sizes (event.Move 0 1 ∷ []) (driving 0 (zones undone) seen) (driving (next_state 0) (moved undone) seen) []
+  one_turn = (vdo (moved undone) seen, [], [], isnt_done, first_turn sizes undone, plays sizes undone tells honest seen, (refl, refl), refl)
 
-  one_turn-of_a_core_that_is_done : Drives tells honest sizes 0 (next_state 0) (event.Move 0 1 ∷ []) (zones done) (moved done) seen seen [] → ⊥
-  one_turn-of_a_core_that_is_done (between, s, first, later, isnt, turn, one, rest, is) = isnt is_done
+  one_turn-of_a_core_that_is_done : Drives tells honest sizes (event.Move 0 1 ∷ []) (driving 0 (zones done) seen) (driving (next_state 0) (moved done) seen) [] → ⊥
+  one_turn-of_a_core_that_is_done (between, first, later, isnt, turn, one, rest, is) = isnt is_done
 
-  one_turn-not_another : (new : List Zone) (made : Trace) → Drives tells honest sizes 0 (next_state 0) (event.Step 0 ∷ []) (zones undone) new seen seen made → ⊥
-  one_turn-not_another new made (between, s, first, later, isnt, turn, one, rest, is) = first_turn-not_another_place sizes undone turn
+  one_turn-not_another : (new : List Zone) (made : Trace)
+      → Drives tells honest sizes (event.Step 0 ∷ []) (driving 0 (zones undone) seen) (driving (next_state 0) new seen) made → ⊥
+  one_turn-not_another new made (between, first, later, isnt, turn, one, rest, is) = first_turn-not_another_place sizes undone turn
 
-  one_turn-of_the_zones : Drives tells honest sizes 0 (next_state 0) (event.Move 0 1 ∷ []) (zones undone) (zones undone) seen seen [] → ⊥
-  one_turn-of_the_zones (between, s, first, later, isnt, turn, one, rest, is) =
-      let brought = brings_one sizes undone tells honest between seen s first one in
-      let same = ap (received sizes undone) rest.1 in
+  one_turn-of_the_zones : Drives tells honest sizes (event.Move 0 1 ∷ []) (driving 0 (zones undone) seen) (driving (next_state 0) (zones undone) seen) [] → ⊥
+  one_turn-of_the_zones (between, first, later, isnt, turn, one, rest, is) =
+      let brought = brings_one sizes undone tells honest seen between first one in
+      let same = ap (λ (new : Driving). received sizes undone new.vdo.zones) rest.0 in
       absurd (omega (arith, brought, same))
 
-  one_turn-of_the_state : Drives tells honest sizes 0 0 (event.Move 0 1 ∷ []) (zones undone) (moved undone) seen seen [] → ⊥
+  one_turn-of_the_state : Drives tells honest sizes (event.Move 0 1 ∷ []) (driving 0 (zones undone) seen) (driving 0 (moved undone) seen) [] → ⊥
   unfolding next_state
-  one_turn-of_the_state (between, s, first, later, isnt, turn, one, rest, is) = let same = rest.0 in absurd (omega (arith, same))
+  one_turn-of_the_state (between, first, later, isnt, turn, one, rest, is) = let same = ap (λ (new : Driving). new.state) rest.0 in absurd (omega (arith, same))
 
-  one_turn-of_the_trace : Drives tells honest sizes 0 (next_state 0) (event.Move 0 1 ∷ []) (zones undone) (moved undone) seen seen (Seals ∷ []) → ⊥
-  one_turn-of_the_trace (between, s, first, later, isnt, turn, one, rest, is) =
-      let early = makes_nothing sizes undone tells honest between seen s first one in
-      let nothing : Seals ∷ [] ≡ [] = is ∙ ap (λ (t : Trace). t ++ first) rest.3 ∙ early in
+  one_turn-of_the_trace : Drives tells honest sizes (event.Move 0 1 ∷ []) (driving 0 (zones undone) seen) (driving (next_state 0) (moved undone) seen) (Seals ∷ []) → ⊥
+  one_turn-of_the_trace (between, first, later, isnt, turn, one, rest, is) =
+      let early = makes_nothing sizes undone tells honest seen between first one in
+      let nothing : Seals ∷ [] ≡ [] = is ∙ ap (λ (t : Trace). t ++ first) rest.1 ∙ early in
       absurd cc
 
   -- PlaysUntilDone: no event changes nothing
-  no_event : PlaysUntilDone tells honest sizes [] (zones undone) (zones undone) seen seen []
-  no_event = (refl, refl, refl)
+  no_event : PlaysUntilDone tells honest sizes [] (vdo (zones undone) seen) (vdo (zones undone) seen) []
+  no_event = (refl, refl)
 
-  no_event-of_the_zones : PlaysUntilDone tells honest sizes [] (zones undone) (moved undone) seen seen [] → ⊥
-  no_event-of_the_zones p = let same = ap (received sizes undone) p.0 in absurd (omega (arith, same))
+  no_event-of_the_zones : PlaysUntilDone tells honest sizes [] (vdo (zones undone) seen) (vdo (moved undone) seen) [] → ⊥
+  no_event-of_the_zones p = let same = ap (λ (new : Vdo). received sizes undone new.zones) p.0 in absurd (omega (arith, same))
 
-  no_event-of_the_device : PlaysUntilDone tells honest sizes [] (zones undone) (zones undone) seen (record seen { faults = suc seen.faults }) [] → ⊥
-  no_event-of_the_device p = let same = ap (λ (s : Seen). s.faults) p.1 in absurd (omega (arith, same))
+  no_event-of_the_device : PlaysUntilDone tells honest sizes [] (vdo (zones undone) seen) (vdo (zones undone) (record seen { faults = suc seen.faults })) [] → ⊥
+  no_event-of_the_device p = let same = ap (λ (new : Vdo). new.seen.faults) p.0 in absurd (omega (arith, same))
 
-  no_event-of_the_trace : PlaysUntilDone tells honest sizes [] (zones undone) (zones undone) seen seen (Seals ∷ []) → ⊥
-  no_event-of_the_trace p = let nothing = p.2 in absurd cc
+  no_event-of_the_trace : PlaysUntilDone tells honest sizes [] (vdo (zones undone) seen) (vdo (zones undone) seen) (Seals ∷ []) → ⊥
+  no_event-of_the_trace p = let nothing = p.1 in absurd cc
 
   -- an event is played where the core isn't done, and only there
-  one_event : PlaysUntilDone tells honest sizes (event.Move 0 1 ∷ []) (zones undone) (moved undone) seen seen []
-  one_event = inr (moved undone, seen, [], [], isnt_done, plays sizes undone tells honest seen, (refl, refl, refl), refl)
+  one_event : PlaysUntilDone tells honest sizes (event.Move 0 1 ∷ []) (vdo (zones undone) seen) (vdo (moved undone) seen) []
+  one_event = inr (vdo (moved undone) seen, [], [], isnt_done, plays sizes undone tells honest seen, (refl, refl), refl)
 
-  one_event-not_left_out : PlaysUntilDone tells honest sizes (event.Move 0 1 ∷ []) (zones undone) (zones undone) seen seen [] → ⊥
-  one_event-not_left_out (inl (is, same, silent, nothing)) = isnt_done is
-  one_event-not_left_out (inr (between, s, first, later, isnt, played, (same, silent, nothing), is)) =
-      let brought = brings_one sizes undone tells honest between seen s first played in
-      let stays = ap (received sizes undone) same in
+  one_event-not_left_out : PlaysUntilDone tells honest sizes (event.Move 0 1 ∷ []) (vdo (zones undone) seen) (vdo (zones undone) seen) [] → ⊥
+  one_event-not_left_out (inl (is, same, nothing)) = isnt_done is
+  one_event-not_left_out (inr (between, first, later, isnt, played, (same, nothing), is)) =
+      let brought = brings_one sizes undone tells honest seen between first played in
+      let stays = ap (λ (new : Vdo). received sizes undone new.zones) same in
       absurd (omega (arith, brought, stays))
 
-  no_event_once_done : PlaysUntilDone tells honest sizes (event.Move 0 1 ∷ []) (zones done) (zones done) seen seen []
-  no_event_once_done = inl (is_done, refl, refl, refl)
+  no_event_once_done : PlaysUntilDone tells honest sizes (event.Move 0 1 ∷ []) (vdo (zones done) seen) (vdo (zones done) seen) []
+  no_event_once_done = inl (is_done, refl, refl)
 
-  no_event_once_done-not_played : PlaysUntilDone tells honest sizes (event.Move 0 1 ∷ []) (zones done) (moved done) seen seen [] → ⊥
-  no_event_once_done-not_played (inl (is, same, silent, nothing)) = let stays = ap (received sizes done) same in absurd (omega (arith, stays))
-  no_event_once_done-not_played (inr (between, s, first, later, isnt, played, rest, is)) = isnt is_done
+  no_event_once_done-not_played : PlaysUntilDone tells honest sizes (event.Move 0 1 ∷ []) (vdo (zones done) seen) (vdo (moved done) seen) [] → ⊥
+  no_event_once_done-not_played (inl (is, same, nothing)) = let stays = ap (λ (new : Vdo). received sizes done new.zones) same in absurd (omega (arith, stays))
+  no_event_once_done-not_played (inr (between, first, later, isnt, played, rest, is)) = isnt is_done
 
-  no_event_once_done-of_the_trace : PlaysUntilDone tells honest sizes (event.Move 0 1 ∷ []) (zones done) (zones done) seen seen (Seals ∷ []) → ⊥
-  no_event_once_done-of_the_trace (inl (is, same, silent, nothing)) = absurd cc
-  no_event_once_done-of_the_trace (inr (between, s, first, later, isnt, played, rest, is)) = isnt is_done
+  no_event_once_done-of_the_trace : PlaysUntilDone tells honest sizes (event.Move 0 1 ∷ []) (vdo (zones done) seen) (vdo (zones done) seen) (Seals ∷ []) → ⊥
+  no_event_once_done-of_the_trace (inl (is, same, nothing)) = absurd cc
+  no_event_once_done-of_the_trace (inr (between, first, later, isnt, played, rest, is)) = isnt is_done

@@ -6,7 +6,7 @@ use Rattle.data_vio.specs.declared.sizes.Sizes.{Sizes}
 use Rattle.core_model.specs.declared.zones.Zone.{Zone}
 use Rattle.core_model.specs.Trace.{Trace}
 use Rattle.vdo_core.specs.Done.{IsDone}
-use Rattle.vdo_core.specs.Plays.{HasNoWork, PlaysOne}
+use Rattle.vdo_core.specs.Plays.{HasNoWork, PlaysOne, Vdo}
 use Rattle.vdo_core.specs.declared.events.Event.{Event}
 use Rattle.vdo_core.specs.declared.events.Event.TheVariants as event
 
@@ -31,19 +31,28 @@ pub record IsTurn (sizes : Sizes) (zones : List Zone) (state : ℕ) (e : Event) 
   pub are_ready : AreReady sizes zones (event_count (length zones)) ready
   pub is : slice_get ready (number_in (next_state state) % length ready) ≡ Some e
 
--- turns one after another, each of a core that isn't done, from one state of the row to another, and what happens by them,
--- that of a later one in front
-abbrev pub Drives : Bool → Bool → Sizes → ℕ → ℕ → List Event → List Zone → List Zone → Seen → Seen → Trace → Type 0
-Drives tells honest sizes state state' [] old new before after made = (state' ≡ state) × (new ≡ old) × (after ≡ before) × (made ≡ [])
-Drives tells honest sizes state state' (e ∷ events) old new before after made =
-    (between : List Zone) × (seen : Seen) × (first later : Trace) × (IsDone old → ⊥) × IsTurn sizes old state e
-    × PlaysOne tells honest sizes e old between before seen first × Drives tells honest sizes (next_state state) state' events between new seen after later
-    × (made ≡ later ++ first)
+-- a VDO that a schedule drives, at a moment: with the state of the row of numbers
+pub record Driving : Type 0 where
+  pub state : ℕ
+  pub vdo : Vdo
+
+-- the one at this state, with these zones, of whose device this is seen
+abbrev pub driving : ℕ → List Zone → Seen → Driving
+driving state zones seen = record { state = state; vdo = record { zones = zones; seen = seen } }
+
+-- turns one after another, each of a core that isn't done and with the next state of the row, and what happens by them, that
+-- of a later one in front
+abbrev pub Drives : Bool → Bool → Sizes → List Event → Driving → Driving → Trace → Type 0
+Drives tells honest sizes [] old new made = (new ≡ old) × (made ≡ [])
+Drives tells honest sizes (e ∷ events) old new made =
+    (between : Vdo) × (first later : Trace) × (IsDone old.vdo.zones → ⊥) × IsTurn sizes old.vdo.zones old.state e
+    × PlaysOne tells honest sizes e old.vdo between first
+    × Drives tells honest sizes events (record { state = next_state old.state; vdo = between }) new later × (made ≡ later ++ first)
 
 -- events one after another, up to the first before which the core is done, and what happens by them
-abbrev pub PlaysUntilDone : Bool → Bool → Sizes → List Event → List Zone → List Zone → Seen → Seen → Trace → Type 0
-PlaysUntilDone tells honest sizes [] old new before after made = (new ≡ old) × (after ≡ before) × (made ≡ [])
-PlaysUntilDone tells honest sizes (e ∷ events) old new before after made =
-    (IsDone old × (new ≡ old) × (after ≡ before) × (made ≡ []))
-    ⊎ ((between : List Zone) × (seen : Seen) × (first later : Trace) × (IsDone old → ⊥) × PlaysOne tells honest sizes e old between before seen first
-    × PlaysUntilDone tells honest sizes events between new seen after later × (made ≡ later ++ first))
+abbrev pub PlaysUntilDone : Bool → Bool → Sizes → List Event → Vdo → Vdo → Trace → Type 0
+PlaysUntilDone tells honest sizes [] old new made = (new ≡ old) × (made ≡ [])
+PlaysUntilDone tells honest sizes (e ∷ events) old new made =
+    (IsDone old.zones × (new ≡ old) × (made ≡ []))
+    ⊎ ((between : Vdo) × (first later : Trace) × (IsDone old.zones → ⊥) × PlaysOne tells honest sizes e old between first
+    × PlaysUntilDone tells honest sizes events between new later × (made ≡ later ++ first))

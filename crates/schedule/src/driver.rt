@@ -4,7 +4,7 @@ ghost use Rattle.core_model.specs.Trace.{Trace};
 ghost use Rattle.device_zone.specs.DeviceCalls.{Fits};
 ghost use Rattle.vdo_core.specs.Done.{IsDone};
 ghost use Rattle.vdo_core.specs.declared.events.Event.{Event};
-ghost use Rattle.schedule.specs.Turns.{Drives};
+ghost use Rattle.schedule.specs.Turns.{Drives, driving};
 
 use crate::events::EventList;
 use crate::turns::Schedule;
@@ -19,8 +19,9 @@ pub fn drive<R: Wait, D: Disk>(rt: &R, core: &mut Core, schedule: &mut Schedule,
     ensures stays { Stays (D.seen device.old) (D.seen device.new) }
     ensures sizes { core.new.sizes ≡ core.old.sizes }
     ensures drives { (events : List Event) × (made : Trace)
-        × Drives D.tells D.honest core.old.sizes schedule.old schedule.new events core.old.zones
-        core.new.zones (D.seen device.old) (D.seen device.new) made }
+        × Drives D.tells D.honest core.old.sizes events
+        (driving schedule.old core.old.zones (D.seen device.old))
+        (driving schedule.new core.new.zones (D.seen device.new)) made }
     ensures done { IsDone core.new.zones }
 {
     let mut ready = EventList::new();

@@ -2,6 +2,7 @@ ghost use Rattle.std.specs.Prelude.{◌≡◌};
 ghost use Rattle.disk_model.specs.Seen.{Stays};
 ghost use Rattle.core_model.specs.Trace.{Trace};
 ghost use Rattle.device_zone.specs.DeviceCalls.{Fits};
+ghost use Rattle.vdo_core.specs.Plays.{vdo};
 ghost use Rattle.schedule.specs.Turns.{PlaysUntilDone};
 
 use disk_model::Disk;
@@ -14,8 +15,8 @@ pub fn play<D: Disk>(core: &mut Core, events: &[Event], device: &mut D)
     ensures stays { Stays (D.seen device.old) (D.seen device.new) }
     ensures sizes { core.new.sizes ≡ core.old.sizes }
     ensures plays { (made : Trace)
-        × PlaysUntilDone D.tells D.honest core.old.sizes events.now core.old.zones core.new.zones
-        (D.seen device.old) (D.seen device.new) made }
+        × PlaysUntilDone D.tells D.honest core.old.sizes events.now
+        (vdo core.old.zones (D.seen device.old)) (vdo core.new.zones (D.seen device.new)) made }
 {
     for event in events {
         if core.done() {

@@ -5,7 +5,7 @@ ghost use Rattle.core_model.specs.Trace.{Trace};
 ghost use Rattle.device_zone.specs.DeviceCalls.{Fits};
 ghost use Rattle.vdo_core.specs.Done.{IsDone};
 ghost use Rattle.vdo_core.specs.declared.events.Event.{Event};
-ghost use Rattle.schedule.specs.Turns.{AreReady, Drives, IsTurn, event_count, event_of};
+ghost use Rattle.schedule.specs.Turns.{AreReady, Drives, IsTurn, driving, event_count, event_of};
 
 use crate::events::EventList;
 use disk_model::{Disk, next_state, number_in};
@@ -45,8 +45,9 @@ impl Schedule {
         ensures sizes { core.new.sizes ≡ core.old.sizes }
         ensures drives { (IsDone core.old.zones → ⊥)
             → (events : List Event) × (made : Trace)
-            × Drives D.tells D.honest core.old.sizes self.old self.new events core.old.zones
-            core.new.zones (D.seen device.old) (D.seen device.new) made }
+            × Drives D.tells D.honest core.old.sizes events
+            (driving self.old core.old.zones (D.seen device.old))
+            (driving self.new core.new.zones (D.seen device.new)) made }
     {
         let next = next_state(self.state);
         let Some(event) = choose(core, number_in(next), ready) else {

@@ -26,7 +26,7 @@ use Rattle.core_model.specs.Trace.{Calls, Fails, Happening, Says, Seals, Trace, 
 use Rattle.core_model.specs.Uses.{counted, uncounted, used_at}
 use Rattle.page_codec.specs.declared.fault.PageFault.{PageFault}
 use Rattle.rebuild.specs.declared.forms.Recovered.{Recovered}
-use Rattle.schedule.specs.Turns.{Drives}
+use Rattle.schedule.specs.Turns.{Drives, Driving, driving}
 use Rattle.stream_text.specs.StreamRequests.{no_requests}
 use Rattle.vdo_core.specs.Cores.{CanBegin}
 use Rattle.vdo_core.specs.Done.{IsDone}
@@ -87,15 +87,17 @@ begins_done : (s : Session) (zones : List Zone) → s.script ≡ no_requests →
 begins_done s [] none first = absurd (omega (arith, first.count))
 begins_done s (zone ∷ zones) none first = done_by s (zone ∷ zones) zone zone.keeps refl refl none (first.each 0 zone refl).own
 
-makes_nothing : (tells honest : Bool) (sizes : Sizes) (state state' : ℕ) (events : List Event) (first last : List Zone) (before after : Seen) (made : Trace)
-    → IsDone first → Drives tells honest sizes state state' events first last before after made → made ≡ []
-makes_nothing tells honest sizes state state' [] first last before after made done (at_state, same, silent, nothing) = nothing
-makes_nothing tells honest sizes state state' (e ∷ events) first last before after made done (between, seen, early, late, undone, turn, one, rest, is) = absurd (undone done)
+makes_nothing : (tells honest : Bool) (sizes : Sizes) (events : List Event) (old new : Driving) (made : Trace) → IsDone old.vdo.zones
+    → Drives tells honest sizes events old new made → made ≡ []
+makes_nothing tells honest sizes [] old new made done (same, nothing) = nothing
+makes_nothing tells honest sizes (e ∷ events) old new made done (between, early, late, undone, turn, one, rest, is) = absurd (undone done)
 
 driven-empty_no_more : (start : Opened) (before after : Seen) → IsDriven (trust true false) 7 (task start no_requests) (Seals ∷ []) before after → ⊥
 driven-empty_no_more start before after driven =
     let done = begins_done (session_over start no_requests) driven.first refl (driven.begins (session_over start no_requests) (is_over start no_requests)) in
-    let nothing = makes_nothing true false (run_sizes start.head) 7 driven.state driven.events driven.first driven.last before after (Seals ∷ []) done driven.drives in
+    let old = driving 7 driven.first before in
+    let new = driving driven.state driven.last after in
+    let nothing = makes_nothing true false (run_sizes start.head) driven.events old new (Seals ∷ []) done driven.drives in
     absurd cc
 
 module _ (start : Opened) (script : Script) (trace : Trace) (before after : Seen) (driven : IsDriven (trust true false) 7 (task start script) trace before after) where
@@ -106,19 +108,19 @@ module _ (start : Opened) (script : Script) (trace : Trace) (before after : Seen
   -- the turns begin with the number of this schedule; without any the core stays as it is, and nothing happens; and a core
   -- that is done takes none
   abbrev Led : List Event → Type 0
-  Led events = Drives true false (run_sizes start.head) 7 driven.state events driven.first driven.last before after trace
+  Led events = Drives true false (run_sizes start.head) events (driving 7 driven.first before) (driving driven.state driven.last after) trace
 
   driven-not_by_schedule_8 : driven.events ≡ [] → driven.state ≡ 8 → ⊥
-  driven-not_by_schedule_8 none is = let led : Led [] = subst Led none driven.drives in omega (arith, led.0, is)
+  driven-not_by_schedule_8 none is = let led : Led [] = subst Led none driven.drives in omega (arith, ap (λ (d : Driving). d.state) led.0, is)
 
   driven-not_without_a_turn : driven.events ≡ [] → driven.last ≢ driven.first → ⊥
-  driven-not_without_a_turn none differ = let led : Led [] = subst Led none driven.drives in differ led.1
+  driven-not_without_a_turn none differ = let led : Led [] = subst Led none driven.drives in differ (ap (λ (d : Driving). d.vdo.zones) led.0)
 
   driven-not_more_without_a_turn : driven.events ≡ [] → trace ≢ [] → ⊥
-  driven-not_more_without_a_turn none some = let led : Led [] = subst Led none driven.drives in some led.3
+  driven-not_more_without_a_turn none some = let led : Led [] = subst Led none driven.drives in some led.1
 
   driven-not_beyond_the_end : (e : Event) (events : List Event) → driven.events ≡ e ∷ events → IsDone driven.first → ⊥
-  driven-not_beyond_the_end e events some done = let led : Led (e ∷ events) = subst Led some driven.drives in led.4 done
+  driven-not_beyond_the_end e events some done = let led : Led (e ∷ events) = subst Led some driven.drives in led.3 done
 
   -- the last core is done, and so every request is answered by what happened on the way
   driven-not_to_no_zone : driven.last ≡ [] → ⊥

@@ -179,7 +179,7 @@ module _ (tells honest : Bool) (schedule : ℕ) (found : Recovered) (start : Ope
     begins = begins;
     events = [];
     state = schedule;
-    drives = (refl, refl, refl, refl);
+    drives = (refl, refl);
     done = first_done start counts;
   }
 
@@ -201,7 +201,7 @@ module _ (tells honest : Bool) (schedule : ℕ) (found : Recovered) (start : Ope
       serves =
           plays tells honest start no_requests zones zones [] opened opened can
           begins rests (first_done start counts) (not_called tells honest opened) before found ready named schedule schedule []
-          (record { opening = refl; size = refl }) (refl, refl, refl, refl);
+          (record { opening = refl; size = refl }) (refl, refl);
       script_is = script_is;
       to_its_end = whole;
     }

@@ -67,7 +67,7 @@ use Rattle.vdo_model.specs.declared.report.Damage.TheVariants.{Page, Stray}
 use Rattle.vdo_model.specs.declared.report.DeskLine.TheVariants as line
 use Rattle.vdo_model.specs.declared.report.RunReport.{RunReport}
 use Rattle.vdo_model.specs.Stops.{RightAfterStops}
-use Rattle.schedule.specs.Turns.{Drives}
+use Rattle.schedule.specs.Turns.{Drives, driving}
 use Rattle.schedule.proofs.TurnLaws.{driven_leads}
 use Rattle.vdo_core.specs.Starts.{IsOf}
 use Rattle.vdo_core.specs.declared.events.Event.{Event}
@@ -270,14 +270,14 @@ stray_of s (h ∷ t) at count right is = after s h t at count (stray_of s t at c
 
 -- what happened by turns leads there, and the device had its calls
 module _ (tells honest : Bool) (sizes : Sizes) (state state' : ℕ) (events : List Event) (first last : List Zone) (before after : Seen) (made : Trace)
-    (drives : Drives tells honest sizes state state' events first last before after made) where
+    (drives : Drives tells honest sizes events (driving state first before) (driving state' last after) made) where
   pub turns_lead : Leads sizes (core_with first []) (core_with last made)
   turns_lead =
       subst (λ (t : Trace). Leads sizes (core_with first []) (core_with last t)) (append-nil made)
-      ((driven_leads tells honest sizes state state' events first last before after made drives).0 [])
+      ((driven_leads tells honest sizes events (driving state first before) (driving state' last after) made drives).0 [])
 
   pub turns_call : HasCalled tells honest before after made
-  turns_call = (driven_leads tells honest sizes state state' events first last before after made drives).1
+  turns_call = (driven_leads tells honest sizes events (driving state first before) (driving state' last after) made drives).1
 
 -- A core that began over what was opened, and came to its end.
 module _ (tells honest : Bool) (start : Opened) (script : Script) (first last : List Zone) (trace : Trace) (before after : Seen) (can : CanBegin (run_sizes start.head) script start)
@@ -470,7 +470,7 @@ module _ (tells honest : Bool) (start : Opened) (script : Script) (first last : 
           (sym before_it.1) right)
 
     pub plays : (schedule state : ℕ) (events : List Event) → Stays before after
-        → Drives tells honest (run_sizes start.head) schedule state events first last before after trace
+        → Drives tells honest (run_sizes start.head) events (driving schedule first before) (driving state last after) trace
         → ServesRequests (trust tells honest) schedule found start report entry after
     plays schedule state events stays drives = record {
       opened = before;
@@ -500,15 +500,15 @@ pub played : (tells honest : Bool) (number state : ℕ) (start : Opened) (script
     (report : RunReport) → CanBegin (run_sizes start.head) script start → IsReady (trust tells honest) entry before found start → start.head.geometry.nonce < 2 ^ 64
     → sizes ≡ sizes_of run_setup start.head
     → ((s : Session) → IsOf s sizes script start → IsFirst s (core_with first []))
-    → ((events : List Event) × (made : Trace) × Drives tells honest sizes number state events first last before after made) → IsDone last → Stays before after
+    → ((events : List Event) × (made : Trace) × Drives tells honest sizes events (driving number first before) (driving state last after) made) → IsDone last → Stays before after
     → ((s : Session) (t : Trace) → IsSession s → Legal s (core_with last t) → IsDone last → report ≡ report_of s t)
     → ServesRequests (trust tells honest) number found start report entry after × (report.requests ≡ script)
 played tells honest number state start script sizes first last entry before after found report can ready named sizes_are begins driven done stays says =
     let sized : sizes ≡ run_sizes start.head = sizes_are in
     let begins_so = (λ (s : Session) (over : IsOver (task start script) s). begins s (rw sized over)) in
     let (events, made, drives_so) = driven in
-    let drives : Drives tells honest (run_sizes start.head) number state events first last before after made =
-    subst (λ (z : Sizes). Drives tells honest z number state events first last before after made) sized drives_so in
+    let drives : Drives tells honest (run_sizes start.head) events (driving number first before) (driving state last after) made =
+    subst (λ (z : Sizes). Drives tells honest z events (driving number first before) (driving state last after) made) sized drives_so in
     let leads = turns_lead tells honest (run_sizes start.head) number state events first last before after made drives in
     let called = turns_call tells honest (run_sizes start.head) number state events first last before after made drives in
     let report_is = says (over tells honest start script first last made before after can begins_so leads done called) made

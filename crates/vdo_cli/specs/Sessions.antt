@@ -23,7 +23,7 @@ use Rattle.vdo_core.specs.Done.{IsDone}
 use Rattle.vdo_core.specs.Plays.{core_with}
 use Rattle.vdo_core.specs.Starts.{IsOf}
 use Rattle.vdo_core.specs.declared.events.Event.{Event}
-use Rattle.schedule.specs.Turns.{Drives}
+use Rattle.schedule.specs.Turns.{Drives, driving}
 use Rattle.vdo_model.specs.DeskLog.{answer_of}
 use Rattle.vdo_model.specs.RightRuns.{RunRight}
 use Rattle.vdo_model.specs.Scripts.{Script, request_at}
@@ -58,7 +58,7 @@ pub record IsDriven (trust : Trust) (schedule : ℕ) (task : Task) (trace : Trac
   pub begins : (s : Session) → IsOver task s → IsFirst s (core_with first [])
   pub events : List Event
   pub state : ℕ
-  pub drives : Drives trust.tells trust.honest (run_sizes task.start.head) schedule state events first last before after trace
+  pub drives : Drives trust.tells trust.honest (run_sizes task.start.head) events (driving schedule first before) (driving state last after) trace
   pub done : IsDone last
 
 -- An answer that says that the device failed, or that the session was stopped, is explained: the device's count of faults rose, or

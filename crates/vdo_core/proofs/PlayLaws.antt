@@ -17,7 +17,7 @@ use Rattle.core_laws.proofs.trace.Cuts.{calls_append}
 use Rattle.step_parts.specs.DeviceLog.{GivesSettled, HasCalled, failed_calls, has_calls, lost_calls}
 use Rattle.step_parts.proofs.SilentLaws.{unchanged}
 use Rattle.vdo_core.specs.Moves.{MovesNothing}
-use Rattle.vdo_core.specs.Plays.{ComesTo, core_with, ZoneSteps, StepsAt, MovesAll, HasNoWork, PlaysOne, Plays, LeadsTo}
+use Rattle.vdo_core.specs.Plays.{ComesTo, Vdo, core_with, vdo, ZoneSteps, StepsAt, MovesAll, HasNoWork, PlaysOne, Plays, LeadsTo}
 use Rattle.vdo_core.specs.declared.events.Event.{Event}
 use Rattle.vdo_core.specs.declared.events.Event.TheVariants as event
 use Rattle.vdo_core.specs.declared.stepped.Stepped.{Stepped}
@@ -74,25 +74,28 @@ called_on tells honest a b c made more early late = record {
 }
 
 -- this happens on the way from one core to another, whatever happened before
-abbrev pub LeadsBy : Bool → Bool → Sizes → List Zone → List Zone → Seen → Seen → Trace → Type 0
-LeadsBy tells honest sizes old new before after made = ((t : Trace) → Leads sizes (core_with old t) (core_with new (made ++ t))) × HasCalled tells honest before after made
+abbrev pub LeadsBy : Bool → Bool → Sizes → Vdo → Vdo → Trace → Type 0
+LeadsBy tells honest sizes old new made =
+    ((t : Trace) → Leads sizes (core_with old.zones t) (core_with new.zones (made ++ t))) × HasCalled tells honest old.seen new.seen made
 
 -- one event, and then others
-led_on : (tells honest : Bool) (sizes : Sizes) (a b c : List Zone) (log log' log'' : Seen) (made more : Trace)
-    → LeadsBy tells honest sizes a b log log' made → LeadsBy tells honest sizes b c log' log'' more → LeadsBy tells honest sizes a c log log'' (more ++ made)
-led_on tells honest sizes a b c log log' log'' made more (early, called) (late, called') = (
-  (λ (t : Trace). rw append_assoc (leads_on sizes (core_with a t) (core_with b (made ++ t)) (core_with c (more ++ (made ++ t))) (early t) (late (made ++ t)))),
-  called_on tells honest log log' log'' made more called called',
+led_on : (tells honest : Bool) (sizes : Sizes) (a b c : Vdo) (made more : Trace) → LeadsBy tells honest sizes a b made → LeadsBy tells honest sizes b c more
+    → LeadsBy tells honest sizes a c (more ++ made)
+led_on tells honest sizes a b c made more (early, called) (late, called') = (
+  (λ (t : Trace). rw append_assoc (leads_on sizes (core_with a.zones t) (core_with b.zones (made ++ t)) (core_with c.zones (more ++ (made ++ t))) (early t) (late (made ++ t)))),
+  called_on tells honest a.seen b.seen c.seen made more called called',
 )
 
 -- where nothing happens, that leads nowhere else
-none_leads : (tells honest : Bool) (sizes : Sizes) (a b : List Zone) (log log' : Seen) (made : Trace) → b ≡ a → log' ≡ log → made ≡ [] → LeadsBy tells honest sizes a b log log' made
-none_leads tells honest sizes a b log log' made same silent none = rw (same, silent, none) ((λ (t : Trace). rests), unchanged tells honest log)
+none_leads : (tells honest : Bool) (sizes : Sizes) (a b : Vdo) (made : Trace) → b ≡ a → made ≡ [] → LeadsBy tells honest sizes a b made
+none_leads tells honest sizes a b made same none =
+    subst (λ (v : Vdo). LeadsBy tells honest sizes a v made) (sym same)
+    (subst (λ (t : Trace). LeadsBy tells honest sizes a a t) (sym none) ((λ (t : Trace). rests), unchanged tells honest a.seen))
 
 -- a step of a zone is one of the core
-stepped_leads : (tells honest : Bool) (sizes : Sizes) (n : ℕ) (a b : List Zone) (log log' : Seen) (made : Trace) → StepsAt tells honest sizes n a b log log' made
-    → LeadsBy tells honest sizes a b log log' made
-stepped_leads tells honest sizes n a b log log' made at = (
+stepped_leads : (tells honest : Bool) (sizes : Sizes) (n : ℕ) (a b : Vdo) (made : Trace) → StepsAt tells honest sizes n a b made
+    → LeadsBy tells honest sizes a b made
+stepped_leads tells honest sizes n a b made at = (
   (λ (t : Trace). steps (record {
     number = n;
     zone = at.zone;
@@ -106,8 +109,9 @@ stepped_leads tells honest sizes n a b log log' made at = (
 )
 
 -- a move is one of the core
-moved_leads : (tells honest : Bool) (sizes : Sizes) (from to : ℕ) (a b : List Zone) (log : Seen) → MovesAll from to a b → LeadsBy tells honest sizes a b log log []
-moved_leads tells honest sizes from to a b log all = (
+moved_leads : (tells honest : Bool) (sizes : Sizes) (from to : ℕ) (a b : Vdo) → MovesAll from to a.zones b.zones → b.seen ≡ a.seen
+    → LeadsBy tells honest sizes a b []
+moved_leads tells honest sizes from to a b all silent = (
   (λ (t : Trace). moves (record {
     from = from;
     to = to;
@@ -121,7 +125,7 @@ moved_leads tells honest sizes from to a b log all = (
     outbox = rw append-nil all.outbox;
     has = ap (λ (zs : List Zone). core_with zs t) all.has;
   }) rests),
-  unchanged tells honest log,
+  subst (λ (seen : Seen). HasCalled tells honest a.seen seen []) (sym silent) (unchanged tells honest a.seen),
 )
 
 -- after an event, whether there was work or not
@@ -140,7 +144,7 @@ comes_less done done' none same same' Idle less kept (idle, still) = (idle, kept
 -- a step of a zone in its place among the others
 pub step_of : (tells honest : Bool) (sizes : Sizes) (n : ℕ) (zones : List Zone) (zone zone' : Zone) (log log' : Seen) (stepped : Stepped) → slice_get zones n ≡ Some zone
     → ComesTo (ZoneSteps tells honest sizes zone zone' log log') (IsIdle sizes zone) ((zone' ≡ zone) × (log' ≡ log)) stepped
-    → ComesTo ((made : Trace) × StepsAt tells honest sizes n zones (slice_set zones n zone') log log' made) (HasNoWork sizes zones (event.Step n))
+    → ComesTo ((made : Trace) × StepsAt tells honest sizes n (vdo zones log) (vdo (slice_set zones n zone') log') made) (HasNoWork sizes zones (event.Step n))
     ((slice_set zones n zone' ≡ zones) × (log' ≡ log)) stepped
 step_of tells honest sizes n zones zone zone' log log' Did had (did, some) =
     let (made, step, called) = did in (
@@ -162,34 +166,40 @@ step_of tells honest sizes n zones zone zone' log log' Idle had (idle, still) = 
   (rw still.0 (put_same zones n zone had), still.1),
 )
 
+-- zones and a device that stay are a VDO that stays
+same_vdo : (a b : List Zone) (log log' : Seen) → b ≡ a → log' ≡ log → vdo b log' ≡ vdo a log
+same_vdo a b log log' same silent = ap (λ (zones : List Zone). vdo zones log') same ∙ ap (λ (seen : Seen). vdo a seen) silent
+
 pub step_plays : (tells honest : Bool) (sizes : Sizes) (n : ℕ) (a b : List Zone) (log log' : Seen) (stepped : Stepped)
-    → ComesTo ((made : Trace) × StepsAt tells honest sizes n a b log log' made) (HasNoWork sizes a (event.Step n)) ((b ≡ a) × (log' ≡ log)) stepped
-    → (made : Trace) × PlaysOne tells honest sizes (event.Step n) a b log log' made
+    → ComesTo ((made : Trace) × StepsAt tells honest sizes n (vdo a log) (vdo b log') made) (HasNoWork sizes a (event.Step n)) ((b ≡ a) × (log' ≡ log)) stepped
+    → (made : Trace) × PlaysOne tells honest sizes (event.Step n) (vdo a log) (vdo b log') made
 step_plays tells honest sizes n a b log log' Did (done, some) = let (made, one) = done in (made, inl one)
-step_plays tells honest sizes n a b log log' Idle (idle, still) = ([], inr (idle, still.0, still.1, refl))
+step_plays tells honest sizes n a b log log' Idle (idle, still) = ([], inr (idle, same_vdo a b log log' still.0 still.1, refl))
 
 pub move_plays : (tells honest : Bool) (sizes : Sizes) (from to : ℕ) (a b : List Zone) (log : Seen) (stepped : Stepped)
-    → ComesTo (MovesAll from to a b) (MovesNothing a from to) (b ≡ a) stepped → (made : Trace) × PlaysOne tells honest sizes (event.Move from to) a b log log made
+    → ComesTo (MovesAll from to a b) (MovesNothing a from to) (b ≡ a) stepped → (made : Trace) × PlaysOne tells honest sizes (event.Move from to) (vdo a log) (vdo b log) made
 move_plays tells honest sizes from to a b log Did (all, some) = ([], inl (all, refl, refl))
-move_plays tells honest sizes from to a b log Idle (idle, same) = ([], inr (idle, same, refl, refl))
+move_plays tells honest sizes from to a b log Idle (idle, same) = ([], inr (idle, same_vdo a b log log same refl, refl))
 
 -- what happens by an event leads on
-pub played_leads : (tells honest : Bool) (sizes : Sizes) (e : Event) (a b : List Zone) (log log' : Seen) (made : Trace) → PlaysOne tells honest sizes e a b log log' made
-    → LeadsBy tells honest sizes a b log log' made
-played_leads tells honest sizes (event.Step n) a b log log' made (inl at) = stepped_leads tells honest sizes n a b log log' made at
-played_leads tells honest sizes (event.Step n) a b log log' made (inr (idle, same, silent, none)) = none_leads tells honest sizes a b log log' made same silent none
-played_leads tells honest sizes (event.Move from to) a b log log' made (inl (all, silent, none)) = rw (silent, none) (moved_leads tells honest sizes from to a b log all)
-played_leads tells honest sizes (event.Move from to) a b log log' made (inr (idle, same, silent, none)) = none_leads tells honest sizes a b log log' made same silent none
+pub played_leads : (tells honest : Bool) (sizes : Sizes) (e : Event) (a b : Vdo) (made : Trace) → PlaysOne tells honest sizes e a b made
+    → LeadsBy tells honest sizes a b made
+played_leads tells honest sizes (event.Step n) a b made (inl at) = stepped_leads tells honest sizes n a b made at
+played_leads tells honest sizes (event.Step n) a b made (inr (idle, same, none)) = none_leads tells honest sizes a b made same none
+played_leads tells honest sizes (event.Move from to) a b made (inl (all, silent, none)) =
+    subst (λ (t : Trace). LeadsBy tells honest sizes a b t) (sym none) (moved_leads tells honest sizes from to a b all silent)
+played_leads tells honest sizes (event.Move from to) a b made (inr (idle, same, none)) = none_leads tells honest sizes a b made same none
 
-pub one_leads : (tells honest : Bool) (sizes : Sizes) (e : Event) (a b : List Zone) (log log' : Seen) → ((made : Trace) × PlaysOne tells honest sizes e a b log log' made)
-    → LeadsTo tells honest sizes a b log log'
-one_leads tells honest sizes e a b log log' (made, one) = let (leads, called) = played_leads tells honest sizes e a b log log' made one in (made, leads, called)
+pub one_leads : (tells honest : Bool) (sizes : Sizes) (e : Event) (a b : List Zone) (log log' : Seen)
+    → ((made : Trace) × PlaysOne tells honest sizes e (vdo a log) (vdo b log') made) → LeadsTo tells honest sizes a b log log'
+one_leads tells honest sizes e a b log log' (made, one) =
+    let (leads, called) = played_leads tells honest sizes e (vdo a log) (vdo b log') made one in (made, leads, called)
 
 -- what happens by a list of events leads on
-pub plays_lead : (tells honest : Bool) (sizes : Sizes) (events : List Event) (a b : List Zone) (log log' : Seen) (made : Trace) → Plays tells honest sizes events a b log log' made
-    → LeadsBy tells honest sizes a b log log' made
-plays_lead tells honest sizes [] a b log log' made (same, silent, none) = none_leads tells honest sizes a b log log' made same silent none
-plays_lead tells honest sizes (e ∷ events) a b log log' made (between, seen, first, later, one, rest, is) =
-    let early = played_leads tells honest sizes e a between log seen first one in
-    let late = plays_lead tells honest sizes events between b seen log' later rest in
-    rw is (led_on tells honest sizes a between b log seen log' first later early late)
+pub plays_lead : (tells honest : Bool) (sizes : Sizes) (events : List Event) (a b : Vdo) (made : Trace) → Plays tells honest sizes events a b made
+    → LeadsBy tells honest sizes a b made
+plays_lead tells honest sizes [] a b made (same, none) = none_leads tells honest sizes a b made same none
+plays_lead tells honest sizes (e ∷ events) a b made (between, first, later, one, rest, is) =
+    let early = played_leads tells honest sizes e a between first one in
+    let late = plays_lead tells honest sizes events between b later rest in
+    rw is (led_on tells honest sizes a between b first later early late)

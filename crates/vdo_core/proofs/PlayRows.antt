@@ -29,7 +29,7 @@ use Rattle.core_model.proofs.rows.WorkedTraces.{sizes}
 use Rattle.step_parts.specs.DeviceLog.{HasCalled}
 use Rattle.step_parts.proofs.SilentLaws.{none_called}
 use Rattle.vdo_core.specs.Done.{IsDone}
-use Rattle.vdo_core.specs.Plays.{ComesTo, HasNoWork, Plays, PlaysOne, StepsAt}
+use Rattle.vdo_core.specs.Plays.{ComesTo, HasNoWork, Plays, PlaysOne, StepsAt, Vdo, vdo}
 use Rattle.vdo_core.specs.declared.stepped.Stepped.TheVariants.{Did, Idle}
 use Rattle.vdo_core.specs.declared.events.Event.{Event}
 use Rattle.vdo_core.specs.declared.events.Event.TheVariants as event
@@ -80,7 +80,7 @@ says_alone tells honest seen line = none_called (Says line ∷ []) refl refl ref
 
 module _ (tells honest : Bool) (seen : Seen) where
   -- StepsAt: the desk steps, and its line is what happens
-  pub first_step : StepsAt tells honest sizes 0 core_0 core_1 seen seen (Says (line_of 0) ∷ [])
+  pub first_step : StepsAt tells honest sizes 0 (vdo core_0 seen) (vdo core_1 seen) (Says (line_of 0) ∷ [])
   first_step = record {
     zone = desk 0 [];
     zone' = desk 1 (line_of 0 ∷ []);
@@ -90,7 +90,7 @@ module _ (tells honest : Bool) (seen : Seen) where
     has = refl;
   }
 
-  pub second_step : StepsAt tells honest sizes 0 core_1 core_2 seen seen (Says (line_of 1) ∷ [])
+  pub second_step : StepsAt tells honest sizes 0 (vdo core_1 seen) (vdo core_2 seen) (Says (line_of 1) ∷ [])
   second_step = record {
     zone = desk 1 (line_of 0 ∷ []);
     zone' = desk 2 (line_of 1 ∷ line_of 0 ∷ []);
@@ -129,8 +129,9 @@ begins_first : (n : ℕ) (keeps : ZoneData) (made : Trace) (posts : List Post) �
 begins_first n keeps made posts (begins (DeskBegins.answers w r v a next asked vio once is made_is posts_is)) = ap (oldest n) made_is ∙ next.may.0
 begins_first n keeps made posts (begins (DeskBegins.sends w r v next asked vio once is made_is posts_is)) = ap (oldest n) made_is ∙ next.may.0
 
-pub stepped_first : (tells honest : Bool) (n : ℕ) (new : List Zone) (before after : Seen) (made : Trace) → StepsAt tells honest sizes 0 core_0 new before after made → oldest n made ≡ 0
-stepped_first tells honest n new before after made is =
+pub stepped_first : (tells honest : Bool) (n : ℕ) (before : Seen) (new : Vdo) (made : Trace)
+    → StepsAt tells honest sizes 0 (vdo core_0 before) new made → oldest n made ≡ 0
+stepped_first tells honest n before new made is =
     let zone : desk 0 [] ≡ is.zone = same_Some _ _ is.had in
     let step = subst (λ (z : Zone). ZoneStep sizes z is.zone' made) (sym zone) is.step in
     let act = subst (λ (front : List Item). Act sizes (at.Desk (desk_with [])) front is.zone'.keeps made step.posts) (no_front step.front step.rest step.taken) step.act in
@@ -149,67 +150,67 @@ has_work_still none = elim (none (desk 1 (line_of 0 ∷ [])) refl) [
   | inr many ↦ absurd (omega (arith, many))
 ]
 
-pub played_first : (tells honest : Bool) (n : ℕ) (new : List Zone) (before after : Seen) (made : Trace) → PlaysOne tells honest sizes (event.Step 0) core_0 new before after made → oldest n made ≡ 0
-played_first tells honest n new before after made (inl is) = stepped_first tells honest n new before after made is
-played_first tells honest n new before after made (inr (none, same, silent, nothing)) = absurd (has_work none)
+pub played_first : (tells honest : Bool) (n : ℕ) (before : Seen) (new : Vdo) (made : Trace)
+    → PlaysOne tells honest sizes (event.Step 0) (vdo core_0 before) new made → oldest n made ≡ 0
+played_first tells honest n before new made (inl is) = stepped_first tells honest n before new made is
+played_first tells honest n before new made (inr (none, same, nothing)) = absurd (has_work none)
 
 module _ (tells honest : Bool) (seen : Seen) where
-  first_step-not_silent : StepsAt tells honest sizes 0 core_0 core_1 seen seen [] → ⊥
-  first_step-not_silent is = let number = stepped_first tells honest 1 core_1 seen seen [] is in absurd (omega (arith, number))
+  first_step-not_silent : StepsAt tells honest sizes 0 (vdo core_0 seen) (vdo core_1 seen) [] → ⊥
+  first_step-not_silent is = let number = stepped_first tells honest 1 seen (vdo core_1 seen) [] is in absurd (omega (arith, number))
 
   -- PlaysOne: by a step its line happens,
-  plays_step : PlaysOne tells honest sizes (event.Step 0) core_0 core_1 seen seen (Says (line_of 0) ∷ [])
+  plays_step : PlaysOne tells honest sizes (event.Step 0) (vdo core_0 seen) (vdo core_1 seen) (Says (line_of 0) ∷ [])
   plays_step = inl (first_step tells honest seen)
 
-  plays_step-not_silent : PlaysOne tells honest sizes (event.Step 0) core_0 core_1 seen seen [] → ⊥
-  plays_step-not_silent is = let number = played_first tells honest 1 core_1 seen seen [] is in absurd (omega (arith, number))
+  plays_step-not_silent : PlaysOne tells honest sizes (event.Step 0) (vdo core_0 seen) (vdo core_1 seen) [] → ⊥
+  plays_step-not_silent is = let number = played_first tells honest 1 seen (vdo core_1 seen) [] is in absurd (omega (arith, number))
 
   -- and nothing where there is no work
-  plays_nothing : PlaysOne tells honest sizes (event.Step 1) core_0 core_0 seen seen []
-  plays_nothing = inr ((λ zone had. absurd cc), refl, refl, refl)
+  plays_nothing : PlaysOne tells honest sizes (event.Step 1) (vdo core_0 seen) (vdo core_0 seen) []
+  plays_nothing = inr ((λ zone had. absurd cc), refl, refl)
 
-  plays_nothing-no_more : PlaysOne tells honest sizes (event.Step 1) core_0 core_0 seen seen (Seals ∷ []) → ⊥
+  plays_nothing-no_more : PlaysOne tells honest sizes (event.Step 1) (vdo core_0 seen) (vdo core_0 seen) (Seals ∷ []) → ⊥
   plays_nothing-no_more (inl is) = let had = is.had in absurd cc
-  plays_nothing-no_more (inr (none, same, silent, nothing)) = absurd cc
+  plays_nothing-no_more (inr (none, same, nothing)) = absurd cc
 
-  moves_nothing : PlaysOne tells honest sizes (event.Move 0 0) core_0 core_0 seen seen []
-  moves_nothing = inr ((λ source target apart had_source had_target. absurd (apart refl)), refl, refl, refl)
+  moves_nothing : PlaysOne tells honest sizes (event.Move 0 0) (vdo core_0 seen) (vdo core_0 seen) []
+  moves_nothing = inr ((λ source target apart had_source had_target. absurd (apart refl)), refl, refl)
 
-  moves_nothing-no_more : PlaysOne tells honest sizes (event.Move 0 0) core_0 core_0 seen seen (Seals ∷ []) → ⊥
+  moves_nothing-no_more : PlaysOne tells honest sizes (event.Move 0 0) (vdo core_0 seen) (vdo core_0 seen) (Seals ∷ []) → ⊥
   moves_nothing-no_more (inl (all, silent, nothing)) = absurd cc
-  moves_nothing-no_more (inr (none, same, silent, nothing)) = absurd cc
+  moves_nothing-no_more (inr (none, same, nothing)) = absurd cc
 
   -- Plays: of no event nothing,
-  no_event : Plays tells honest sizes [] core_0 core_0 seen seen []
-  no_event = (refl, refl, refl)
+  no_event : Plays tells honest sizes [] (vdo core_0 seen) (vdo core_0 seen) []
+  no_event = (refl, refl)
 
-  no_event-no_more : Plays tells honest sizes [] core_0 core_0 seen seen (Seals ∷ []) → ⊥
-  no_event-no_more (same, silent, nothing) = absurd cc
+  no_event-no_more : Plays tells honest sizes [] (vdo core_0 seen) (vdo core_0 seen) (Seals ∷ []) → ⊥
+  no_event-no_more (same, nothing) = absurd cc
 
   -- of two that of the later one in front
   abbrev steps : List Event
   steps = event.Step 0 ∷ event.Step 0 ∷ []
 
-  two_events : Plays tells honest sizes steps core_0 core_2 seen seen (Says (line_of 1) ∷ Says (line_of 0) ∷ [])
+  two_events : Plays tells honest sizes steps (vdo core_0 seen) (vdo core_2 seen) (Says (line_of 1) ∷ Says (line_of 0) ∷ [])
   two_events = (
-    core_1,
-    seen,
+    vdo core_1 seen,
     Says (line_of 0) ∷ [],
     Says (line_of 1) ∷ [],
     inl (first_step tells honest seen),
-    (core_2, seen, Says (line_of 1) ∷ [], [], inl (second_step tells honest seen), (refl, refl, refl), refl),
+    (vdo core_2 seen, Says (line_of 1) ∷ [], [], inl (second_step tells honest seen), (refl, refl), refl),
     refl,
   )
 
-  two_events-in_no_other_order : Plays tells honest sizes steps core_0 core_2 seen seen (Says (line_of 0) ∷ Says (line_of 1) ∷ []) → ⊥
-  two_events-in_no_other_order (between, s, first, later, one, rest, is) =
-      let number = played_first tells honest (oldest 0 later) between seen s first one in
+  two_events-in_no_other_order : Plays tells honest sizes steps (vdo core_0 seen) (vdo core_2 seen) (Says (line_of 0) ∷ Says (line_of 1) ∷ []) → ⊥
+  two_events-in_no_other_order (between, first, later, one, rest, is) =
+      let number = played_first tells honest (oldest 0 later) seen between first one in
       let said : 1 ≡ oldest 0 (later ++ first) = ap (oldest 0) is in
       absurd (omega (arith, number, said, oldest_on 0 later first))
 
-  two_events-none_left_out : Plays tells honest sizes steps core_0 core_2 seen seen (Says (line_of 1) ∷ []) → ⊥
-  two_events-none_left_out (between, s, first, later, one, rest, is) =
-      let number = played_first tells honest (oldest 0 later) between seen s first one in
+  two_events-none_left_out : Plays tells honest sizes steps (vdo core_0 seen) (vdo core_2 seen) (Says (line_of 1) ∷ []) → ⊥
+  two_events-none_left_out (between, first, later, one, rest, is) =
+      let number = played_first tells honest (oldest 0 later) seen between first one in
       let said : 1 ≡ oldest 0 (later ++ first) = ap (oldest 0) is in
       absurd (omega (arith, number, said, oldest_on 0 later first))
 

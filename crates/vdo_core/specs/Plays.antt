@@ -18,14 +18,23 @@ use Rattle.vdo_core.specs.declared.events.Event.TheVariants as event
 abbrev pub ZoneSteps : Bool → Bool → Sizes → Zone → Zone → Seen → Seen → Type 0
 ZoneSteps tells honest sizes old new before after = (made : Trace) × ZoneStep sizes old new made × HasCalled tells honest before after made
 
+-- a VDO at a moment: the zones of its core, and what contracts see of its device
+pub record Vdo : Type 0 where
+  pub zones : List Zone
+  pub seen : Seen
+
+-- the one with these zones, of whose device this is seen
+abbrev pub vdo : List Zone → Seen → Vdo
+vdo zones seen = record { zones = zones; seen = seen }
+
 -- the zone of this number steps, all others stay, and this happens
-pub record StepsAt (tells honest : Bool) (sizes : Sizes) (number : ℕ) (old new : List Zone) (before after : Seen) (made : Trace) : Type 0 where
+pub record StepsAt (tells honest : Bool) (sizes : Sizes) (number : ℕ) (old new : Vdo) (made : Trace) : Type 0 where
   pub zone : Zone
   pub zone' : Zone
-  pub had : slice_get old number ≡ Some zone
+  pub had : slice_get old.zones number ≡ Some zone
   pub step : ZoneStep sizes zone zone' made
-  pub called : HasCalled tells honest before after made
-  pub has : new ≡ slice_set old number zone'
+  pub called : HasCalled tells honest old.seen new.seen made
+  pub has : new.zones ≡ slice_set old.zones number zone'
 
 -- what one zone posted to another moves, all of it, to the tail of its inbox
 pub record MovesAll (from to : ℕ) (old new : List Zone) : Type 0 where
@@ -53,20 +62,20 @@ abbrev pub HaveStepsLeft : List Zone → Type 0
 HaveStepsLeft zones = (n : ℕ) (z : Zone) → slice_get zones n ≡ Some z → z.steps < step_limit
 
 -- an event: the zone steps, or all moves; or nothing happens, where there is no work for it
-abbrev pub PlaysOne : Bool → Bool → Sizes → Event → List Zone → List Zone → Seen → Seen → Trace → Type 0
-PlaysOne tells honest sizes (event.Step number) old new before after made =
-    StepsAt tells honest sizes number old new before after made
-    ⊎ (HasNoWork sizes old (event.Step number) × (new ≡ old) × (after ≡ before) × (made ≡ []))
-PlaysOne tells honest sizes (event.Move from to) old new before after made =
-    (MovesAll from to old new × (after ≡ before) × (made ≡ []))
-    ⊎ (HasNoWork sizes old (event.Move from to) × (new ≡ old) × (after ≡ before) × (made ≡ []))
+abbrev pub PlaysOne : Bool → Bool → Sizes → Event → Vdo → Vdo → Trace → Type 0
+PlaysOne tells honest sizes (event.Step number) old new made =
+    StepsAt tells honest sizes number old new made
+    ⊎ (HasNoWork sizes old.zones (event.Step number) × (new ≡ old) × (made ≡ []))
+PlaysOne tells honest sizes (event.Move from to) old new made =
+    (MovesAll from to old.zones new.zones × (new.seen ≡ old.seen) × (made ≡ []))
+    ⊎ (HasNoWork sizes old.zones (event.Move from to) × (new ≡ old) × (made ≡ []))
 
 -- all of these, one after another, and what happens by them, that of a later one in front
-abbrev pub Plays : Bool → Bool → Sizes → List Event → List Zone → List Zone → Seen → Seen → Trace → Type 0
-Plays tells honest sizes [] old new before after made = (new ≡ old) × (after ≡ before) × (made ≡ [])
-Plays tells honest sizes (e ∷ events) old new before after made =
-    (between : List Zone) × (seen : Seen) × (first later : Trace) × PlaysOne tells honest sizes e old between before seen first
-    × Plays tells honest sizes events between new seen after later × (made ≡ later ++ first)
+abbrev pub Plays : Bool → Bool → Sizes → List Event → Vdo → Vdo → Trace → Type 0
+Plays tells honest sizes [] old new made = (new ≡ old) × (made ≡ [])
+Plays tells honest sizes (e ∷ events) old new made =
+    (between : Vdo) × (first later : Trace) × PlaysOne tells honest sizes e old between first
+    × Plays tells honest sizes events between new later × (made ≡ later ++ first)
 
 -- events lead from one core to another
 abbrev pub LeadsTo : Bool → Bool → Sizes → List Zone → List Zone → Seen → Seen → Type 0

@@ -11,7 +11,7 @@ ghost use Rattle.device_zone.specs.DeviceCalls.{Fits};
 ghost use Rattle.vdo_core.specs.Cores.{CanBegin, IsWhole, sizes_of};
 ghost use Rattle.vdo_core.specs.Done.{IsDone};
 ghost use Rattle.vdo_core.specs.Notes.{IsSetOfSenders, IsSetOfWork};
-ghost use Rattle.vdo_core.specs.Plays.{HasNoWork, PlaysOne, core_with};
+ghost use Rattle.vdo_core.specs.Plays.{HasNoWork, PlaysOne, core_with, vdo};
 ghost use Rattle.vdo_core.specs.Starts.{IsOf};
 
 use crate::events::{Event, play_one};
@@ -114,8 +114,8 @@ impl Core {
         ensures stays { Stays (D.seen device.old) (D.seen device.new) }
         ensures sizes { self.new.sizes ≡ self.old.sizes }
         ensures plays { (made : Trace)
-            × PlaysOne D.tells D.honest self.old.sizes event self.old.zones self.new.zones
-            (D.seen device.old) (D.seen device.new) made }
+            × PlaysOne D.tells D.honest self.old.sizes event
+            (vdo self.old.zones (D.seen device.old)) (vdo self.new.zones (D.seen device.new)) made }
         ensures did { result ≡ Did → HasNoWork self.old.sizes self.old.zones event → ⊥ }
         ensures idle { result ≡ Idle → HasNoWork self.old.sizes self.old.zones event }
         ensures same { result ≡ Idle → self.new ≡ self.old }

@@ -4,7 +4,7 @@ ghost use Rattle.core_model.specs.Trace.{Trace};
 ghost use Rattle.device_zone.specs.DeviceCalls.{Fits};
 ghost use Rattle.vdo_core.specs.Conditions.{AllCanStep};
 ghost use Rattle.vdo_core.specs.declared.events.Event.TheVariants as event;
-ghost use Rattle.vdo_core.specs.Plays.{ComesTo, StepsAt, HasNoWork, PlaysOne, LeadsTo};
+ghost use Rattle.vdo_core.specs.Plays.{ComesTo, StepsAt, HasNoWork, PlaysOne, LeadsTo, vdo};
 
 use crate::moves::move_items;
 use crate::stepped::Stepped;
@@ -29,8 +29,8 @@ fn step<D: Disk>(sizes: &Sizes, zones: &mut Zones, number: u32, disk: &mut D) ->
     ensures stays { Stays (D.seen disk.old) (D.seen disk.new) }
     ensures steps { ComesTo
         ((made : Trace)
-        × StepsAt D.tells D.honest sizes.now number zones.old zones.new (D.seen disk.old)
-        (D.seen disk.new) made)
+        × StepsAt D.tells D.honest sizes.now number (vdo zones.old (D.seen disk.old))
+        (vdo zones.new (D.seen disk.new)) made)
         (HasNoWork sizes.now zones.old (event.Step number))
         ((zones.new ≡ zones.old) × (D.seen disk.new ≡ D.seen disk.old)) result }
 {
@@ -53,8 +53,8 @@ pub(crate) fn play_one<D: Disk>(
     requires fits { Fits sizes.now (D.seen disk.old) }
     ensures stays { Stays (D.seen disk.old) (D.seen disk.new) }
     ensures plays { (made : Trace)
-        × PlaysOne D.tells D.honest sizes.now event zones.old zones.new (D.seen disk.old)
-        (D.seen disk.new) made }
+        × PlaysOne D.tells D.honest sizes.now event (vdo zones.old (D.seen disk.old))
+        (vdo zones.new (D.seen disk.new)) made }
     ensures leads { LeadsTo D.tells D.honest sizes.now zones.old zones.new (D.seen disk.old)
         (D.seen disk.new) }
     ensures work { ComesTo (Unit {0}) (HasNoWork sizes.now zones.old event)

@@ -2,7 +2,7 @@ use Rattle.std.proofs.Common.{◌≡◌, List}
 use Rattle.disk_model.specs.Seen.{Stays}
 use Rattle.core_model.specs.Trace.{Trace}
 use Rattle.vdo_core.specs.declared.events.Event.{Event}
-use Rattle.schedule.specs.Turns.{Drives}
+use Rattle.schedule.specs.Turns.{Drives, driving}
 use Rattle.schedule.proofs.driver.drive.Given as goal
 
 abbrev pub invariant-loop : goal.invariant-loop
@@ -10,5 +10,6 @@ invariant-loop g l = record {
   stays : Stays (g.D.Disk.seen l.fn.device) (g.D.Disk.seen l.device);
   sizes : l.core.sizes ≡ l.fn.core.sizes;
   drives : (events : List Event) × (made : Trace)
-      × Drives g.D.Disk.tells g.D.Disk.honest l.fn.core.sizes l.fn.schedule l.schedule events l.fn.core.zones l.core.zones (g.D.Disk.seen l.fn.device) (g.D.Disk.seen l.device) made;
+      × Drives g.D.Disk.tells g.D.Disk.honest l.fn.core.sizes events (driving l.fn.schedule l.fn.core.zones (g.D.Disk.seen l.fn.device))
+      (driving l.schedule l.core.zones (g.D.Disk.seen l.device)) made;
 }

@@ -1,4 +1,5 @@
 use Rattle.std.proofs.Common.{length}
+use Rattle.vdo_core.specs.Plays.{vdo}
 use Rattle.vdo_core.proofs.SessionLaws.{all_can_step, few_zones, reached_on}
 use Rattle.vdo_core.proofs.NoteLaws.{played_length, played_posts, played_work}
 use Rattle.vdo_core.proofs.PlayLaws.{was_done, was_idle}
@@ -23,14 +24,16 @@ follow-requires-clause-few g c =
 pub invariant_of-self : goal.invariant_of-self
 invariant_of-self g c =
     let played = c.play_one-stepped.ensures in
+    let old = vdo c.self.inside.zones (g.D.Disk.seen c.args.device.now) in
+    let new = vdo c.play_one-stepped.new.zones (g.D.Disk.seen c.play_one-stepped.new.disk) in
     record {
       whole = record {
         reached = reached_on c.self.inside.sizes c.self.inside.zones c.self.invariant.whole.reached g.D.Disk.tells g.D.Disk.honest c.play_one-stepped.new.zones (g.D.Disk.seen c.args.device.now) (g.D.Disk.seen c.play_one-stepped.new.disk) played.leads;
         has_room = c.self.invariant.whole.has_room;
       };
-      known = c.follow.ensures c.self.inside.zones (played_length g.D.Disk.tells g.D.Disk.honest c.self.inside.sizes c.args.event c.self.inside.zones c.play_one-stepped.new.zones _ _ played.plays.0 played.plays.1)
-          (played_posts (length c.play_one-stepped.new.zones) g.D.Disk.tells g.D.Disk.honest c.self.inside.sizes c.args.event c.self.inside.zones c.play_one-stepped.new.zones _ _ played.plays.0 played.plays.1)
-          (played_work g.D.Disk.tells g.D.Disk.honest c.self.inside.sizes c.args.event c.self.inside.zones c.play_one-stepped.new.zones _ _ played.plays.0 played.plays.1) c.self.invariant.known;
+      known = c.follow.ensures c.self.inside.zones (played_length g.D.Disk.tells g.D.Disk.honest c.self.inside.sizes c.args.event old new played.plays.0 played.plays.1)
+          (played_posts (length c.play_one-stepped.new.zones) g.D.Disk.tells g.D.Disk.honest c.self.inside.sizes c.args.event old new played.plays.0 played.plays.1)
+          (played_work g.D.Disk.tells g.D.Disk.honest c.self.inside.sizes c.args.event old new played.plays.0 played.plays.1) c.self.invariant.known;
     }
 
 pub returns-clause-plays : goal.returns-clause-plays
