@@ -8,6 +8,7 @@ use Rattle.blk_base.specs.declared.place.Pbn.{Pbn}
 use Rattle.count_updates.specs.Numbers.{block_number}
 use Rattle.disk_model.specs.Log.{Blocks}
 use Rattle.disk_model.specs.Seen.{Seen}
+use Rattle.disk_model.specs.Trust.{Trust}
 use Rattle.image_layout.specs.declared.fault.SuperFault.TheVariants.{NotAnImage}
 use Rattle.image_model.proofs.CountLaws.{none_in_nothing, one_number, one_stored}
 use Rattle.image_model.proofs.EmptyLaws.{the_image}
@@ -87,10 +88,10 @@ module _ (blocks : Blocks) (nothing : HasNothing (the_image small blocks)) (good
   one_used report used is same = let sum = is.used.sum in let none = ap (λ (counts : List ℕ). used_in counts) same in omega (arith, sum, used, none)
 
 -- AuditFails: a device without blocks has no superblock; and no fault of the counts is an audit's
-no_superblock : (tells honest : Bool) (seen : Seen) → seen.size ≡ 0 → AuditFails tells honest seen seen (Super NotAnImage)
-no_superblock tells honest seen none = inl (inl (record { none = none; fault_is = refl; same = refl }))
+no_superblock : (trust : Trust) (seen : Seen) → seen.size ≡ 0 → AuditFails trust seen seen (Super NotAnImage)
+no_superblock trust seen none = inl (inl (record { none = none; fault_is = refl; same = refl }))
 
-never_of_counts : (tells honest : Bool) (before now : Seen) (at : Pbn) (stored mapped : ℕ) → AuditFails tells honest before now (Counts at stored mapped) → ⊥
-never_of_counts tells honest before now at stored mapped (inl fails) = fails
-never_of_counts tells honest before now at stored mapped (inr (inl (head, middle, read, fails))) = fails
-never_of_counts tells honest before now at stored mapped (inr (inr (head, window, middle, opened, fails))) = fails
+never_of_counts : (trust : Trust) (before now : Seen) (at : Pbn) (stored mapped : ℕ) → AuditFails trust before now (Counts at stored mapped) → ⊥
+never_of_counts trust before now at stored mapped (inl fails) = fails
+never_of_counts trust before now at stored mapped (inr (inl (head, middle, read, fails))) = fails
+never_of_counts trust before now at stored mapped (inr (inr (head, window, middle, opened, fails))) = fails

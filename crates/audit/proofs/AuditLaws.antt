@@ -10,6 +10,7 @@ use Rattle.blk_base.specs.declared.journal_entry.CommittedEntry.{CommittedEntry}
 use Rattle.count_updates.specs.Numbers.{all_sectors, block_number}
 use Rattle.disk_model.specs.Log.{Blocks, block_at}
 use Rattle.disk_model.specs.Seen.{Seen}
+use Rattle.disk_model.specs.Trust.{Trust}
 use Rattle.blk_base.specs.Limits.{IsGeometry}
 use Rattle.image_model.specs.Counts.{Stores, mapped_below}
 use Rattle.image_model.specs.Maps.{Image, ArePagesGood, mapping_of, page_at}
@@ -62,26 +63,26 @@ slab_shown g reads slab i is below =
     ∙ ap (read_at g reads) place
     ∙ ap₂ (λ (s w : ℕ). block_at (read_of reads s) w) parts.0 left
 
-counts_size : (tells honest : Bool) (g : Geometry) (window : List CommittedEntry) (before now : Seen) (counts : List ℕ) (sectors : List SectorPoints)
-    → AreCountsRead tells honest g window before now counts sectors → length counts ≡ all_blocks g
-counts_size tells honest g window before now counts sectors (reads, read, has) =
+counts_size : (trust : Trust) (g : Geometry) (window : List CommittedEntry) (before now : Seen) (counts : List ℕ) (sectors : List SectorPoints)
+    → AreCountsRead trust g window before now counts sectors → length counts ≡ all_blocks g
+counts_size trust g window before now counts sectors (reads, read, has) =
     (has (listed (read_at g reads) 0 (needed_blocks g)) (slab_shown g reads)).blocks
 
-sectors_size : (tells honest : Bool) (g : Geometry) (window : List CommittedEntry) (before now : Seen) (counts : List ℕ) (sectors : List SectorPoints)
-    → AreCountsRead tells honest g window before now counts sectors → length sectors ≡ all_sectors g
-sectors_size tells honest g window before now counts sectors (reads, read, has) =
+sectors_size : (trust : Trust) (g : Geometry) (window : List CommittedEntry) (before now : Seen) (counts : List ℕ) (sectors : List SectorPoints)
+    → AreCountsRead trust g window before now counts sectors → length sectors ≡ all_sectors g
+sectors_size trust g window before now counts sectors (reads, read, has) =
     (has (listed (read_at g reads) 0 (needed_blocks g)) (slab_shown g reads)).sizes
 
-pub contents_read : (tells honest : Bool) (head : Superblock) (window : WindowState) (before middle now : Seen) (map : RecoveredMap) (counts : RecoveredCounts)
-    → IsMapRead tells honest head.geometry window before middle map
-    → AreCountsRead tells honest head.geometry window.entries middle now counts.counts.items counts.sectors.items
+pub contents_read : (trust : Trust) (head : Superblock) (window : WindowState) (before middle now : Seen) (map : RecoveredMap) (counts : RecoveredCounts)
+    → IsMapRead trust head.geometry window before middle map
+    → AreCountsRead trust head.geometry window.entries middle now counts.counts.items counts.sectors.items
     → All (λ count. count ≤ limit_of head.geometry) counts.counts.items
-    → AreContents tells honest head window before now (record { map = map; counts = counts })
-contents_read tells honest head window before middle now map counts read slabs_read limit =
+    → AreContents trust head window before now (record { map = map; counts = counts })
+contents_read trust head window before middle now map counts read slabs_read limit =
     let found = read.found in record {
       entries = read.entries;
-      blocks = counts_size tells honest head.geometry window.entries middle now counts.counts.items counts.sectors.items slabs_read;
-      sectors = sectors_size tells honest head.geometry window.entries middle now counts.counts.items counts.sectors.items slabs_read;
+      blocks = counts_size trust head.geometry window.entries middle now counts.counts.items counts.sectors.items slabs_read;
+      sectors = sectors_size trust head.geometry window.entries middle now counts.counts.items counts.sectors.items slabs_read;
       limit = limit;
       shown = (
         found.0,
@@ -91,24 +92,24 @@ contents_read tells honest head window before middle now map counts read slabs_r
       );
     }
 
-module _ (tells honest : Bool) (head : Superblock) (window : WindowState) (before now : Seen) where
+module _ (trust : Trust) (head : Superblock) (window : WindowState) (before now : Seen) where
   -- what follows for each image of these sizes
   pub both_follow : (Says Says' : Image → Type 0) → ((image : Image) → image.geometry ≡ head.geometry → Says image → Says' image)
-      → BothShow tells honest head window before now Says → BothShow tells honest head window before now Says'
+      → BothShow trust head window before now Says → BothShow trust head window before now Says'
   both_follow Says Says' follows (pages, slabs, read, says) =
       (pages, slabs, read, λ blocks shows holds. follows (image_of head blocks window.entries) refl (says blocks shows holds))
 
-  pub audited : (contents : Contents) (report : Report) → AreContents tells honest head window before now contents
+  pub audited : (contents : Contents) (report : Report) → AreContents trust head window before now contents
       → ((image : Image) → image.geometry ≡ head.geometry → HasMap image contents.map → HasCounts image contents.counts.counts.items contents.counts.sectors.items
       → IsReport image report)
-      → IsAuditedWith tells honest head window before now report
+      → IsAuditedWith trust head window before now report
   audited contents report are says =
       both_follow (λ image. HasMap image contents.map × HasCounts image contents.counts.counts.items contents.counts.sectors.items) (λ image. IsReport image report)
       (λ image same has. says image same has.0 has.1) are.shown
 
-module _ (tells honest : Bool) (head : Superblock) (window : WindowState) (before middle now : Seen) where
-  counts_fail_after : (pages : List Reading) → BlocksRead tells honest head.geometry before middle pages → ((blocks : Blocks) → Shows blocks pages → ArePagesGood (image_of head blocks window.entries))
-      → (why : ImageFault) → CountsFail tells honest head.geometry window.entries middle now why → AuditWithFails tells honest head window before now why
+module _ (trust : Trust) (head : Superblock) (window : WindowState) (before middle now : Seen) where
+  counts_fail_after : (pages : List Reading) → BlocksRead trust head.geometry before middle pages → ((blocks : Blocks) → Shows blocks pages → ArePagesGood (image_of head blocks window.entries))
+      → (why : ImageFault) → CountsFail trust head.geometry window.entries middle now why → AuditWithFails trust head window before now why
   counts_fail_after pages read good (Counter at point) (slabs, slabs_read, fault) =
       (pages, slabs, record { middle = middle; pages_read = read; slabs_read = slabs_read }, λ blocks shows holds. (good blocks shows, fault blocks holds))
   counts_fail_after pages read good Device fails = inr (pages, middle, read, fails)
@@ -120,18 +121,18 @@ module _ (tells honest : Bool) (head : Superblock) (window : WindowState) (befor
   counts_fail_after pages read good (Counts at stored mapped) fails = absurd fails
   counts_fail_after pages read good Unclean fails = absurd fails
 
-  pub counts_fail : (map : RecoveredMap) (why : ImageFault) → IsMapRead tells honest head.geometry window before middle map
-      → CountsFail tells honest head.geometry window.entries middle now why → AuditWithFails tells honest head window before now why
+  pub counts_fail : (map : RecoveredMap) (why : ImageFault) → IsMapRead trust head.geometry window before middle map
+      → CountsFail trust head.geometry window.entries middle now why → AuditWithFails trust head window before now why
   counts_fail map why read fails =
       let found = read.found in counts_fail_after found.0 found.1 (λ blocks shows. (found.2 blocks shows).pages) why fails
 
   -- after a page that is shared
-  pub shared_counts_fail : (at : Pbn) (why : ImageFault) → MapFails tells honest head.geometry window.entries before middle (SharedPage at)
-      → CountsFail tells honest head.geometry window.entries middle now why → AuditWithFails tells honest head window before now why
+  pub shared_counts_fail : (at : Pbn) (why : ImageFault) → MapFails trust head.geometry window.entries before middle (SharedPage at)
+      → CountsFail trust head.geometry window.entries middle now why → AuditWithFails trust head window before now why
   shared_counts_fail at why (pages, read, says) fails = counts_fail_after pages read (λ blocks shows. (says blocks shows).0) why fails
 
-  pub still_shared : (at : Pbn) (counts : List ℕ) (sectors : List SectorPoints) → MapFails tells honest head.geometry window.entries before middle (SharedPage at)
-      → AreCountsRead tells honest head.geometry window.entries middle now counts sectors → AuditWithFails tells honest head window before now (SharedPage at)
+  pub still_shared : (at : Pbn) (counts : List ℕ) (sectors : List SectorPoints) → MapFails trust head.geometry window.entries before middle (SharedPage at)
+      → AreCountsRead trust head.geometry window.entries middle now counts sectors → AuditWithFails trust head window before now (SharedPage at)
   still_shared at counts sectors (pages, read, says) (slabs, slabs_read, has) = (
     pages,
     slabs,

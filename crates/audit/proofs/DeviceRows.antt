@@ -13,6 +13,7 @@ use Rattle.blk_base.specs.Forms.{pbn}
 use Rattle.count_updates.specs.Numbers.{block_number}
 use Rattle.disk_model.specs.Log.{Blocks, block_at}
 use Rattle.disk_model.specs.Seen.{Seen}
+use Rattle.disk_model.specs.Trust.{Trust, trust_of}
 use Rattle.image_model.proofs.EmptyLaws.{blank_slot, no_commits, no_updates, none_kept_in_zeros, nothing_there, pages_good, root_says, the_image}
 use Rattle.image_model.proofs.Example.{small, small_is}
 use Rattle.image_model.specs.Counts.{Stores}
@@ -43,7 +44,7 @@ pub root_readings : ℕ → List Reading
 root_readings zero = []
 root_readings (suc n) = record { at = pbn (block_of small (Root n)); bytes = empty_root small n } ∷ root_readings n
 
-pub roots_read : (honest : Bool) (n : ℕ) → n ≤ 60 → BlocksRead false honest small seen seen (root_readings n)
+pub roots_read : (honest : Bool) (n : ℕ) → n ≤ 60 → BlocksRead (trust_of false honest) small seen seen (root_readings n)
 unfolding root_readings
 roots_read honest zero within = refl
 roots_read honest (suc n) within = (
@@ -63,7 +64,7 @@ roots_shown blocks (suc n) shown tree below = elim (cases_eq tree n) [
 ]
 
 -- the slab: a block of counters and four of its journal
-pub slab_read : (honest : Bool) → AreSlabsRead false honest small seen seen (five ∷ [])
+pub slab_read : (honest : Bool) → AreSlabsRead (trust_of false honest) small seen seen (five ∷ [])
 slab_read honest = record {
   count = refl;
   read = (
@@ -76,7 +77,7 @@ slab_read honest = record {
   );
 }
 
-abbrev both_read : (honest : Bool) → AreBothRead false honest (head_of true) seen seen (root_readings 60) (five ∷ [])
+abbrev both_read : (honest : Bool) → AreBothRead (trust_of false honest) (head_of true) seen seen (root_readings 60) (five ∷ [])
 both_read honest = record { middle = seen; pages_read = roots_read honest 60 (omega arith); slabs_read = slab_read honest }
 
 -- each image with that slab has no counters there, and no updates
@@ -131,10 +132,10 @@ module _ (blocks : Blocks) (shown : Shows blocks (root_readings 60)) (holds : Ho
   }
 
 -- IsOpenedTo, IsAudited: the superblock of a closed session, and no window; and no block differs
-pub opened_to : (honest : Bool) → IsOpenedTo false honest seen seen (head_of true) no_entries
+pub opened_to : (honest : Bool) → IsOpenedTo (trust_of false honest) seen seen (head_of true) no_entries
 opened_to honest = record { middle = seen; head_read = head_is_read honest true; window_read = window_is_read honest true }
 
-audited : (honest : Bool) (report : Report) → report.differs.items ≡ [] → report.used ≡ 0 → report.total ≡ 64 → IsAudited false honest seen seen report
+audited : (honest : Bool) (report : Report) → report.differs.items ≡ [] → report.used ≡ 0 → report.total ≡ 64 → IsAudited (trust_of false honest) seen seen report
 audited honest report none used total = (
   head_of true,
   no_entries,
@@ -144,13 +145,13 @@ audited honest report none used total = (
 )
 
 -- a device without blocks has none
-nothing_to_audit : (tells honest : Bool) (now : Seen) (report : Report) → ¬ IsAudited tells honest (record seen { size = 0 }) now report
-nothing_to_audit tells honest now report (head, window, middle, opened, with_report) = let room = opened.head_read.is.room in omega (arith, room)
+nothing_to_audit : (trust : Trust) (now : Seen) (report : Report) → ¬ IsAudited trust (record seen { size = 0 }) now report
+nothing_to_audit trust now report (head, window, middle, opened, with_report) = let room = opened.head_read.is.room in omega (arith, room)
 
 -- AreContents: of each such image the map has no link, no slot and no address, and each count is 0
 contents_are : (honest : Bool) (contents : Contents) → contents.map.entries ≡ 0 → contents.map.links.items ≡ [] → contents.map.slots.items ≡ [] → contents.map.mapped.items ≡ []
     → contents.counts.counts.items ≡ replicate 64 0 → contents.counts.sectors.items ≡ replicate 1 no_points
-    → AreContents false honest (head_of true) no_entries seen seen contents
+    → AreContents (trust_of false honest) (head_of true) no_entries seen seen contents
 contents_are honest contents entries links slots mapped counts sectors = record {
   entries = entries;
   blocks = ap length counts ∙ length-replicate {A = ℕ} 64 0;
@@ -168,30 +169,30 @@ contents_are honest contents entries links slots mapped counts sectors = record 
 }
 
 -- shown: the slabs were read, and there is one
-no_slab_shown : (tells honest : Bool) (contents : Contents) (are : AreContents tells honest (head_of true) no_entries seen seen contents) → are.shown.1 ≡ [] → ⊥
-no_slab_shown tells honest contents are none = let count = are.shown.2.slabs_read.count in let size = ap length none in omega (arith, count, size)
+no_slab_shown : (trust : Trust) (contents : Contents) (are : AreContents trust (head_of true) no_entries seen seen contents) → are.shown.1 ≡ [] → ⊥
+no_slab_shown trust contents are none = let count = are.shown.2.slabs_read.count in let size = ap length none in omega (arith, count, size)
 
 -- AuditFails, behind a superblock: a block of the journal isn't read; there is no memory for it
-window_not_read : (honest : Bool) → AuditFails false honest seen failed Device
+window_not_read : (honest : Bool) → AuditFails (trust_of false honest) seen failed Device
 window_not_read honest = inr (inl (head_of true, seen, head_is_read honest true, ([], omega arith, next_failed honest 1)))
 
-no_memory_for_it : (honest : Bool) → AuditFails false honest seen seen Memory
+no_memory_for_it : (honest : Bool) → AuditFails (trust_of false honest) seen seen Memory
 no_memory_for_it honest = inr (inl (head_of true, seen, head_is_read honest true, tt))
 
 -- behind a window: a page isn't read, or a block of the slab
-page_not_read : (honest : Bool) → AuditFails false honest seen failed Device
+page_not_read : (honest : Bool) → AuditFails (trust_of false honest) seen failed Device
 page_not_read honest = inr (inr (head_of true, no_entries, seen, opened_to honest, inl ([], seen, pbn 9, refl, next_failed honest 9, inr (0, omega arith, refl))))
 
-slab_not_read : (honest : Bool) → AuditFails false honest seen failed Device
+slab_not_read : (honest : Bool) → AuditFails (trust_of false honest) seen failed Device
 slab_not_read honest = inr (inr (head_of true, no_entries, seen, opened_to honest, inr ([], seen, refl, ([], omega arith, seen, refl, ([], omega arith, next_failed honest 149)))))
 
 -- that the image wasn't closed is no fault here; and no read failed where there is no block but the first one to read
-never_unclean : (tells honest : Bool) (before now : Seen) → ¬ AuditFails tells honest before now Unclean
-never_unclean tells honest before now (inl fails) = fails
-never_unclean tells honest before now (inr (inl (head, middle, read, fails))) = fails
-never_unclean tells honest before now (inr (inr (head, window, middle, opened, fails))) = fails
+never_unclean : (trust : Trust) (before now : Seen) → ¬ AuditFails trust before now Unclean
+never_unclean trust before now (inl fails) = fails
+never_unclean trust before now (inr (inl (head, middle, read, fails))) = fails
+never_unclean trust before now (inr (inr (head, window, middle, opened, fails))) = fails
 
-first_read_failed : (tells honest : Bool) → AuditFails tells honest (record seen { size = 0 }) seen Device → ⊥
-first_read_failed tells honest (inl fails) = omega (arith, fails.rose)
-first_read_failed tells honest (inr (inl (head, middle, read, fails))) = let room = read.is.room in omega (arith, room)
-first_read_failed tells honest (inr (inr (head, window, middle, opened, fails))) = let room = opened.head_read.is.room in omega (arith, room)
+first_read_failed : (trust : Trust) → AuditFails trust (record seen { size = 0 }) seen Device → ⊥
+first_read_failed trust (inl fails) = omega (arith, fails.rose)
+first_read_failed trust (inr (inl (head, middle, read, fails))) = let room = read.is.room in omega (arith, room)
+first_read_failed trust (inr (inr (head, window, middle, opened, fails))) = let room = opened.head_read.is.room in omega (arith, room)

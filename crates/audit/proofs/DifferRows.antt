@@ -13,6 +13,7 @@ use Rattle.byte_fields.proofs.FieldLaws.{number_at-drop}
 use Rattle.byte_fields.specs.Fields.{number_at}
 use Rattle.count_updates.specs.Numbers.{block_number}
 use Rattle.disk_model.specs.Log.{Blocks, block_at}
+use Rattle.disk_model.specs.Trust.{trust_of}
 use Rattle.image_model.proofs.CountLaws.{none_in_nothing, one_number, one_stored}
 use Rattle.image_model.proofs.EmptyLaws.{all_counted, blank_slot, no_updates, none_kept_in_zeros, not_shared, pages_good, root_says, stored_counter, the_image, zero_first}
 use Rattle.image_model.proofs.Example.{small, small_is}
@@ -73,7 +74,7 @@ behind_counters : (c i : ℕ) → 1 ≤ i → i < 5 → block_at (slab_with c) i
 behind_counters c zero some below = absurd (omega (arith, some))
 behind_counters c (suc k) some below = get_or-replicate 4 k zero_block zero_block (omega (arith, below))
 
-both_read : (c : ℕ) (honest : Bool) → AreBothRead false honest (example.head_of true) seen seen (root_readings 60) (slab_with c ∷ [])
+both_read : (c : ℕ) (honest : Bool) → AreBothRead (trust_of false honest) (example.head_of true) seen seen (root_readings 60) (slab_with c ∷ [])
 both_read c honest = record {
   middle = seen;
   pages_read = roots_read honest 60 (omega arith);
@@ -204,7 +205,7 @@ module _ (blocks : Blocks) (shown : Shows blocks (root_readings 60)) (holds : Ho
   none_reported : (report : Report) → report.differs.items ≡ [] → IsReport one_counted report → ⊥
   none_reported report none is = none_in_nothing difference (subst (λ (ds : List Difference). Contains ds difference) none ((is.each difference).1 differs))
 
-audited : (honest : Bool) (report : Report) → report.differs.items ≡ difference ∷ [] → report.used ≡ 1 → report.total ≡ 64 → IsAudited false honest seen seen report
+audited : (honest : Bool) (report : Report) → report.differs.items ≡ difference ∷ [] → report.used ≡ 1 → report.total ≡ 64 → IsAudited (trust_of false honest) seen seen report
 audited honest report one used total = (
   example.head_of true,
   no_entries,
@@ -215,7 +216,7 @@ audited honest report one used total = (
 
 -- AuditFails: the count of the first data block leaves its range, at its commit point
 
-count_fails : (honest : Bool) → AuditFails false honest seen seen (Counter (pbn 85) (record { 0 = 0 }))
+count_fails : (honest : Bool) → AuditFails (trust_of false honest) seen seen (Counter (pbn 85) (record { 0 = 0 }))
 count_fails honest =
     inr (inr (example.head_of true, no_entries, seen, opened_to honest, (root_readings 60, slab_with 255 ∷ [], both_read 255 honest, λ blocks shown holds. (good 255 blocks shown holds, fault blocks shown holds))))
   where
@@ -243,7 +244,7 @@ count_fails honest =
 
 -- AuditFails: the first root is no page
 
-page_fails : (honest : Bool) → AuditFails false honest seen seen (Page (pbn 9) Header)
+page_fails : (honest : Bool) → AuditFails (trust_of false honest) seen seen (Page (pbn 9) Header)
 page_fails honest =
     inr (inr (
       example.head_of true,

@@ -1,5 +1,6 @@
 -- A small image, as a device gives it that doesn't tell which calls were made: its superblock, and a journal of zeros.
 use Rattle.std.proofs.Common.{◌≡◌, Bool, false, [], ◌∷◌, reverse, Ok, refl, inl, arith}
+use Rattle.disk_model.specs.Trust.{trust_of}
 use Rattle.replay_counts.proofs.ReadRows.{no_entries}
 use Rattle.blk_base.specs.declared.geometry.Super.{Super as Superblock}
 use Rattle.image_layout.proofs.AgainLaws.{written_again}
@@ -18,7 +19,7 @@ head_of clean = record { geometry = small; clean = clean; start = 1 }
 pub says_head : (clean : Bool) → super_of (super_block (head_of clean)) 154 ≡ Ok (head_of clean)
 says_head clean = written_again (head_of clean) 154 small_is (omega arith) (omega arith) (omega arith) (omega arith)
 
-pub head_is_read : (honest clean : Bool) → IsHeadRead false honest seen seen (head_of clean)
+pub head_is_read : (honest clean : Bool) → IsHeadRead (trust_of false honest) seen seen (head_of clean)
 head_is_read honest clean = record {
   block = super_block (head_of clean);
   read = were_read honest 0 (super_block (head_of clean) ∷ []) (super_size (head_of clean), (λ told. absurd (cc told)), tt);
@@ -36,7 +37,7 @@ window_of_zeros = record {
   entries = refl;
 }
 
-pub window_is_read : (honest clean : Bool) → IsWindowRead false honest seen seen (head_of clean) no_entries
+pub window_is_read : (honest clean : Bool) → IsWindowRead (trust_of false honest) seen seen (head_of clean) no_entries
 window_is_read honest clean = (
   zero_journal,
   record { count = refl; read = were_read honest 1 (reverse zero_journal) (zeros_given honest 1 8) },
@@ -58,7 +59,7 @@ window_of_none = record {
   entries = refl;
 }
 
-pub nothing_read : (honest : Bool) → IsWindowRead false honest seen seen without_journal no_entries
+pub nothing_read : (honest : Bool) → IsWindowRead (trust_of false honest) seen seen without_journal no_entries
 nothing_read honest = (
   [],
   record { count = refl; read = were_read honest 1 [] tt },

@@ -12,6 +12,7 @@ use Rattle.blk_base.specs.Forms.{pbn}
 use Rattle.blk_base.specs.Regions.{data_blocks}
 use Rattle.count_updates.specs.Numbers.{all_sectors}
 use Rattle.disk_model.specs.Seen.{Seen}
+use Rattle.disk_model.specs.Trust.{Trust, trust_of}
 use Rattle.disk_model.specs.Since.{reads_of}
 use Rattle.image_model.proofs.CountLaws.{none_in_nothing}
 use Rattle.image_model.proofs.Example.{small}
@@ -182,14 +183,14 @@ one_too_few : (image : Image) (report : Report) → image.geometry ≡ small →
 one_too_few image report same total is = let all = is.all ∙ ap data_blocks same in omega (arith, all, total)
 
 -- What was read. All slabs are read.
-no_slab_read : (tells honest : Bool) (head : Superblock) (seen : Seen) → head.geometry ≡ small → AreBothRead tells honest head seen seen [] [] → ⊥
-no_slab_read tells honest head seen same are =
+no_slab_read : (trust : Trust) (head : Superblock) (seen : Seen) → head.geometry ≡ small → AreBothRead trust head seen seen [] [] → ⊥
+no_slab_read trust head seen same are =
     let count = are.slabs_read.count in
     let slabs = ap (λ (g : Geometry). g.slabs) same in
     omega (arith, count, slabs)
 
 -- Superblock and journal were read: a device that tells has them in its log.
-not_opened : (honest : Bool) (head : Superblock) (window : WindowState) (seen : Seen) → IsOpenedTo true honest seen seen head window → ⊥
+not_opened : (honest : Bool) (head : Superblock) (window : WindowState) (seen : Seen) → IsOpenedTo (trust_of true honest) seen seen head window → ⊥
 not_opened honest head window seen is =
     let first = ap length (is.head_read.read.logged refl) in
     let second = ap length (is.window_read.1.read.logged refl) in
@@ -197,18 +198,18 @@ not_opened honest head window seen is =
     omega (arith, first, second, more)
 
 -- Once both were read no fault of theirs comes, nor one that only other calls give.
-no_super : (tells honest : Bool) (head : Superblock) (window : WindowState) (before now : Seen) → AuditWithFails tells honest head window before now (Window 7) → ⊥
-no_super tells honest head window before now fails = fails
+no_super : (trust : Trust) (head : Superblock) (window : WindowState) (before now : Seen) → AuditWithFails trust head window before now (Window 7) → ⊥
+no_super trust head window before now fails = fails
 
-no_counts : (tells honest : Bool) (head : Superblock) (window : WindowState) (before now : Seen) → AuditWithFails tells honest head window before now (Counts (pbn 86) 2 1) → ⊥
-no_counts tells honest head window before now fails = fails
+no_counts : (trust : Trust) (head : Superblock) (window : WindowState) (before now : Seen) → AuditWithFails trust head window before now (Counts (pbn 86) 2 1) → ⊥
+no_counts trust head window before now fails = fails
 
-not_unclean : (tells honest : Bool) (head : Superblock) (window : WindowState) (before now : Seen) → AuditWithFails tells honest head window before now Unclean → ⊥
-not_unclean tells honest head window before now fails = fails
+not_unclean : (trust : Trust) (head : Superblock) (window : WindowState) (before now : Seen) → AuditWithFails trust head window before now Unclean → ⊥
+not_unclean trust head window before now fails = fails
 
 -- The map and the counts of an image. entries: as many as the window has; blocks, sectors: a count for each data block, and
 -- points for each sector of counters; limit: no count above it
-module _ (tells honest : Bool) (head : Superblock) (window : WindowState) (before now : Seen) (contents : Contents) (are : AreContents tells honest head window before now contents) where
+module _ (trust : Trust) (head : Superblock) (window : WindowState) (before now : Seen) (contents : Contents) (are : AreContents trust head window before now contents) where
   entries_miscounted : window.entries ≡ [] → contents.map.entries ≡ 7 → ⊥
   entries_miscounted none seven = let entries = are.entries in let empty = ap length none in omega (arith, entries, empty, seven)
 

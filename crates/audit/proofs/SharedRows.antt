@@ -15,6 +15,7 @@ use Rattle.blk_base.specs.Forms.{pbn}
 use Rattle.blk_base.proofs.Example.{leaf}
 use Rattle.disk_model.specs.Log.{Blocks, block_at}
 use Rattle.disk_model.specs.Seen.{Seen}
+use Rattle.disk_model.specs.Trust.{Trust, trust_of}
 use Rattle.image_model.proofs.EmptyLaws.{none_kept_in_zeros, stored_zero, the_image, chosen}
 use Rattle.image_model.proofs.Example.{small, head_of_leaf as leaf_head}
 use Rattle.image_model.proofs.MapLaws.{guarded, page_in_range, slot_says_its_mapping}
@@ -80,7 +81,7 @@ readings : ℕ → List Reading
 readings zero = []
 readings (suc n) = record { at = pbn (block_of small (Root n)); bytes = root_bytes n } ∷ readings n
 
-roots_read : (honest : Bool) (n : ℕ) → n ≤ 60 → BlocksRead false honest small seen seen (readings n)
+roots_read : (honest : Bool) (n : ℕ) → n ≤ 60 → BlocksRead (trust_of false honest) small seen seen (readings n)
 unfolding readings root_bytes
 roots_read honest zero within = refl
 roots_read honest (suc n) within = (
@@ -102,7 +103,7 @@ roots_shown blocks (suc n) shown tree below = elim (cases_eq tree n) [
 abbrev all_readings : List Reading
 all_readings = record { at = pbn 85; bytes = leaf_bytes } ∷ readings 60
 
-all_read : (honest : Bool) → BlocksRead false honest small seen seen all_readings
+all_read : (honest : Bool) → BlocksRead (trust_of false honest) small seen seen all_readings
 unfolding leaf_bytes
 all_read honest = (
   seen,
@@ -222,7 +223,7 @@ module _ (blocks : Blocks) (shown : Shows blocks all_readings) where
   stored holds place inside = (0, stored_zero small blocks (counters_are blocks holds) (none_kept_in_zeros small blocks (journals_are blocks holds)) place inside)
 
 -- AuditFails, behind a window: by a shared block
-shared_page : (honest : Bool) → AuditFails false honest seen seen (SharedPage (pbn 85))
+shared_page : (honest : Bool) → AuditFails (trust_of false honest) seen seen (SharedPage (pbn 85))
 shared_page honest = inr (inr (
   head_of true,
   no_entries,
@@ -243,7 +244,7 @@ another_page_shared blocks shown fault =
     omega (arith, is)
 
 -- nor of a device without blocks
-shared_on_nothing : (tells honest : Bool) (now : Seen) → AuditFails tells honest (record seen { size = 0 }) now (SharedPage (pbn 85)) → ⊥
-shared_on_nothing tells honest now (inl fails) = fails
-shared_on_nothing tells honest now (inr (inl (head, middle, read, fails))) = let room = read.is.room in omega (arith, room)
-shared_on_nothing tells honest now (inr (inr (head, window, middle, opened, fails))) = let room = opened.head_read.is.room in omega (arith, room)
+shared_on_nothing : (trust : Trust) (now : Seen) → AuditFails trust (record seen { size = 0 }) now (SharedPage (pbn 85)) → ⊥
+shared_on_nothing trust now (inl fails) = fails
+shared_on_nothing trust now (inr (inl (head, middle, read, fails))) = let room = read.is.room in omega (arith, room)
+shared_on_nothing trust now (inr (inr (head, window, middle, opened, fails))) = let room = opened.head_read.is.room in omega (arith, room)

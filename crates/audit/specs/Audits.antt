@@ -1,8 +1,9 @@
 -- What an audit of a device finds: by what the reads gave.
-use Rattle.std.specs.Prelude.{◌⊎◌, Bool, List}
+use Rattle.std.specs.Prelude.{◌⊎◌, List}
 use Rattle.blk_base.specs.declared.geometry.Super.{Super as Superblock}
 use Rattle.disk_model.specs.Log.{Blocks}
 use Rattle.disk_model.specs.Seen.{Seen}
+use Rattle.disk_model.specs.Trust.{Trust}
 use Rattle.image_model.specs.Faults.{IsCountFault, IsPageFault, IsShareFault}
 use Rattle.image_model.specs.Maps.{Image, ArePagesGood}
 use Rattle.image_model.specs.Sound.{AreStored, image_of}
@@ -21,69 +22,69 @@ use Rattle.audit.specs.Reports.{IsReport}
 -- From the superblock and the window on.
 
 -- pages were read, and then the slabs, and nothing else was done
-pub record AreBothRead (tells honest : Bool) (head : Superblock) (before now : Seen) (pages : List Reading) (slabs : List Blocks) : Type 0 where
+pub record AreBothRead (trust : Trust) (head : Superblock) (before now : Seen) (pages : List Reading) (slabs : List Blocks) : Type 0 where
   pub middle : Seen
-  pub pages_read : BlocksRead tells honest head.geometry before middle pages
-  pub slabs_read : AreSlabsRead tells honest head.geometry middle now slabs
+  pub pages_read : BlocksRead trust head.geometry before middle pages
+  pub slabs_read : AreSlabsRead trust head.geometry middle now slabs
 
 -- they were, and this holds of each image with this window that has what was read
-abbrev pub BothShow : Bool → Bool → Superblock → WindowState → Seen → Seen → (Image → Type 0) → Type 0
-BothShow tells honest head window before now Says =
-    (pages : List Reading) × (slabs : List Blocks) × AreBothRead tells honest head before now pages slabs
+abbrev pub BothShow : Trust → Superblock → WindowState → Seen → Seen → (Image → Type 0) → Type 0
+BothShow trust head window before now Says =
+    (pages : List Reading) × (slabs : List Blocks) × AreBothRead trust head before now pages slabs
     × ((blocks : Blocks) → Shows blocks pages → Holds head.geometry blocks slabs → Says (image_of head blocks window.entries))
 
 -- pages were read, and this holds of each image with this window that has what was read
-abbrev pub PagesShow : Bool → Bool → Superblock → WindowState → Seen → Seen → (Image → Type 0) → Type 0
-PagesShow tells honest head window before now Says =
-    (pages : List Reading) × BlocksRead tells honest head.geometry before now pages × ((blocks : Blocks) → Shows blocks pages → Says (image_of head blocks window.entries))
+abbrev pub PagesShow : Trust → Superblock → WindowState → Seen → Seen → (Image → Type 0) → Type 0
+PagesShow trust head window before now Says =
+    (pages : List Reading) × BlocksRead trust head.geometry before now pages × ((blocks : Blocks) → Shows blocks pages → Says (image_of head blocks window.entries))
 
 -- each such image has this report
-abbrev pub IsAuditedWith : Bool → Bool → Superblock → WindowState → Seen → Seen → Report → Type 0
-IsAuditedWith tells honest head window before now report = BothShow tells honest head window before now (λ image. IsReport image report)
+abbrev pub IsAuditedWith : Trust → Superblock → WindowState → Seen → Seen → Report → Type 0
+IsAuditedWith trust head window before now report = BothShow trust head window before now (λ image. IsReport image report)
 
 -- pages were read, and then a read of a slab's block failed
-abbrev pub SlabsFailed : Bool → Bool → Superblock → Seen → Seen → Type 0
-SlabsFailed tells honest head before now =
-    (pages : List Reading) × (middle : Seen) × BlocksRead tells honest head.geometry before middle pages × ReadFailed tells honest head.geometry middle now
+abbrev pub SlabsFailed : Trust → Superblock → Seen → Seen → Type 0
+SlabsFailed trust head before now =
+    (pages : List Reading) × (middle : Seen) × BlocksRead trust head.geometry before middle pages × ReadFailed trust head.geometry middle now
 
 -- Why there is none: the first page of each such image that can't be read; or else the least block whose count leaves its
 -- range; or else the least block that has both a page and the data of an address; a read that failed, or want of memory.
-abbrev pub AuditWithFails : Bool → Bool → Superblock → WindowState → Seen → Seen → ImageFault → Type 0
-AuditWithFails tells honest head window before now (Page at fault) = PagesShow tells honest head window before now (λ image. IsPageFault image at fault)
-AuditWithFails tells honest head window before now (Counter at point) =
-    BothShow tells honest head window before now (λ image. ArePagesGood image × IsCountFault image at point.0)
-AuditWithFails tells honest head window before now (SharedPage at) =
-    BothShow tells honest head window before now (λ image. ArePagesGood image × AreStored image × IsShareFault image at)
-AuditWithFails tells honest head window before now Device = ReadFails tells honest head.geometry before now ⊎ SlabsFailed tells honest head before now
-AuditWithFails tells honest head window before now Memory = Unit {0}
-AuditWithFails tells honest head window before now (Super fault) = ⊥
-AuditWithFails tells honest head window before now (Window sequence) = ⊥
-AuditWithFails tells honest head window before now (Counts at stored mapped) = ⊥
-AuditWithFails tells honest head window before now Unclean = ⊥
+abbrev pub AuditWithFails : Trust → Superblock → WindowState → Seen → Seen → ImageFault → Type 0
+AuditWithFails trust head window before now (Page at fault) = PagesShow trust head window before now (λ image. IsPageFault image at fault)
+AuditWithFails trust head window before now (Counter at point) =
+    BothShow trust head window before now (λ image. ArePagesGood image × IsCountFault image at point.0)
+AuditWithFails trust head window before now (SharedPage at) =
+    BothShow trust head window before now (λ image. ArePagesGood image × AreStored image × IsShareFault image at)
+AuditWithFails trust head window before now Device = ReadFails trust head.geometry before now ⊎ SlabsFailed trust head before now
+AuditWithFails trust head window before now Memory = Unit {0}
+AuditWithFails trust head window before now (Super fault) = ⊥
+AuditWithFails trust head window before now (Window sequence) = ⊥
+AuditWithFails trust head window before now (Counts at stored mapped) = ⊥
+AuditWithFails trust head window before now Unclean = ⊥
 
 -- what is answered after this fault of the map: that one, or one of the counts that stands before it
-abbrev pub LaterFails : Bool → Bool → Superblock → WindowState → ImageFault → Seen → Seen → ImageFault → Type 0
-LaterFails tells honest head window fault before now why = (first : Seen) → MapFails tells honest head.geometry window.entries first before fault
-    → AuditWithFails tells honest head window first now why
+abbrev pub LaterFails : Trust → Superblock → WindowState → ImageFault → Seen → Seen → ImageFault → Type 0
+LaterFails trust head window fault before now why = (first : Seen) → MapFails trust head.geometry window.entries first before fault
+    → AuditWithFails trust head window first now why
 
 -- The whole.
 
 -- block 0 was read, and then the journal, and they have this superblock and this window
-pub record IsOpenedTo (tells honest : Bool) (before now : Seen) (head : Superblock) (window : WindowState) : Type 0 where
+pub record IsOpenedTo (trust : Trust) (before now : Seen) (head : Superblock) (window : WindowState) : Type 0 where
   pub middle : Seen
-  pub head_read : IsHeadRead tells honest before middle head
-  pub window_read : IsWindowRead tells honest middle now head window
+  pub head_read : IsHeadRead trust before middle head
+  pub window_read : IsWindowRead trust middle now head window
 
 -- they were read, and then each image that has what was read has this report
-abbrev pub IsAudited : Bool → Bool → Seen → Seen → Report → Type 0
-IsAudited tells honest before now report =
-    (head : Superblock) × (window : WindowState) × (middle : Seen) × IsOpenedTo tells honest before middle head window
-    × IsAuditedWith tells honest head window middle now report
+abbrev pub IsAudited : Trust → Seen → Seen → Report → Type 0
+IsAudited trust before now report =
+    (head : Superblock) × (window : WindowState) × (middle : Seen) × IsOpenedTo trust before middle head window
+    × IsAuditedWith trust head window middle now report
 
 -- why there is none: block 0 is no superblock; or it was read, and there is no window; or both were read, and then as above
-abbrev pub AuditFails : Bool → Bool → Seen → Seen → ImageFault → Type 0
-AuditFails tells honest before now why =
-    HeadFails tells honest before now why
-    ⊎ ((head : Superblock) × (middle : Seen) × IsHeadRead tells honest before middle head × Fails tells honest middle now head why)
-    ⊎ ((head : Superblock) × (window : WindowState) × (middle : Seen) × IsOpenedTo tells honest before middle head window
-    × AuditWithFails tells honest head window middle now why)
+abbrev pub AuditFails : Trust → Seen → Seen → ImageFault → Type 0
+AuditFails trust before now why =
+    HeadFails trust before now why
+    ⊎ ((head : Superblock) × (middle : Seen) × IsHeadRead trust before middle head × Fails trust middle now head why)
+    ⊎ ((head : Superblock) × (window : WindowState) × (middle : Seen) × IsOpenedTo trust before middle head window
+    × AuditWithFails trust head window middle now why)

@@ -30,11 +30,11 @@ use std::alloc::{AllocError, Global};
 /// `SharedPage`. `Device` comes only where a read failed, and `Memory` only for want of memory.
 pub fn audit<D: Disk>(alloc: Global, device: &mut D) -> Result<Report, ImageFault>
     ensures report { IfOk result
-        (IsAudited D.tells D.honest (D.seen device.old) (D.seen device.new)) }
+        (IsAudited D.trust (D.seen device.old) (D.seen device.new)) }
     ensures few { IfOk result (λ report. length report.differs.items < 2 ^ 32) }
     ensures fault { IfErr result
-        (AuditFails D.tells D.honest (D.seen device.old) (D.seen device.new)) }
-    ensures untouched { IsUntouched D.tells (D.seen device.old) (D.seen device.new) }
+        (AuditFails D.trust (D.seen device.old) (D.seen device.new)) }
+    ensures untouched { IsUntouched D.trust.tells (D.seen device.old) (D.seen device.new) }
 {
     let head = read_head(device)?;
     let window = read_window(alloc, &head, device)?;
@@ -56,13 +56,13 @@ pub fn audit_with<D: Disk>(
     requires room { needed_blocks head.now.geometry ≤ (D.seen device.old).size }
     requires window { (journal : Blocks) × IsWindowOf head.now journal window.now }
     ensures report { IfOk result
-        (IsAuditedWith D.tells D.honest head.now window.now (D.seen device.old)
+        (IsAuditedWith D.trust head.now window.now (D.seen device.old)
         (D.seen device.new)) }
     ensures few { IfOk result (λ report. length report.differs.items < 2 ^ 32) }
     ensures fault { IfErr result
-        (AuditWithFails D.tells D.honest head.now window.now (D.seen device.old)
+        (AuditWithFails D.trust head.now window.now (D.seen device.old)
         (D.seen device.new)) }
-    ensures untouched { IsUntouched D.tells (D.seen device.old) (D.seen device.new) }
+    ensures untouched { IsUntouched D.trust.tells (D.seen device.old) (D.seen device.new) }
 {
     let contents = read_contents(alloc, head, window, device)?;
     let layout = Layout::of(&head.geometry);

@@ -39,11 +39,11 @@ pub fn read_contents<D: Disk>(
     ensures form { IfOk result (λ contents.
         HasForm head.now.geometry contents.map.links.items contents.map.slots.items) }
     ensures contents { IfOk result
-        (AreContents D.tells D.honest head.now window.now (D.seen device.old) (D.seen device.new)) }
+        (AreContents D.trust head.now window.now (D.seen device.old) (D.seen device.new)) }
     ensures fault { IfErr result
-        (AuditWithFails D.tells D.honest head.now window.now (D.seen device.old)
+        (AuditWithFails D.trust head.now window.now (D.seen device.old)
         (D.seen device.new)) }
-    ensures untouched { IsUntouched D.tells (D.seen device.old) (D.seen device.new) }
+    ensures untouched { IsUntouched D.trust.tells (D.seen device.old) (D.seen device.new) }
 {
     let Ok(changes) = Changes::of(alloc, window.entries()) else {
         return Err(ImageFault::Memory);
@@ -69,11 +69,11 @@ pub fn contents_with<D: Disk>(
     ensures form { IfOk result (λ contents.
         HasForm head.now.geometry contents.map.links.items contents.map.slots.items) }
     ensures contents { IfOk result
-        (AreContents D.tells D.honest head.now window.now (D.seen device.old) (D.seen device.new)) }
+        (AreContents D.trust head.now window.now (D.seen device.old) (D.seen device.new)) }
     ensures fault { IfErr result
-        (AuditWithFails D.tells D.honest head.now window.now (D.seen device.old)
+        (AuditWithFails D.trust head.now window.now (D.seen device.old)
         (D.seen device.new)) }
-    ensures untouched { IsUntouched D.tells (D.seen device.old) (D.seen device.new) }
+    ensures untouched { IsUntouched D.trust.tells (D.seen device.old) (D.seen device.new) }
 {
     let map = match replay_changes(alloc, head, window, changes, device) {
         Ok(map) => map,
@@ -94,9 +94,9 @@ fn first_fault<D: Disk>(
     requires sizes { IsGeometry head.now.geometry }
     requires room { needed_blocks head.now.geometry ≤ (D.seen device.old).size }
     requires window { (journal : Blocks) × IsWindowOf head.now journal window.now }
-    ensures fault { LaterFails D.tells D.honest head.now window.now fault (D.seen device.old)
+    ensures fault { LaterFails D.trust head.now window.now fault (D.seen device.old)
         (D.seen device.new) result }
-    ensures untouched { IsUntouched D.tells (D.seen device.old) (D.seen device.new) }
+    ensures untouched { IsUntouched D.trust.tells (D.seen device.old) (D.seen device.new) }
 {
     let ImageFault::SharedPage { .. } = fault else {
         return fault;

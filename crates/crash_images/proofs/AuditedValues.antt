@@ -9,6 +9,7 @@ use Rattle.blk_base.specs.declared.place.Pbn.{Pbn}
 use Rattle.command_text.specs.declared.crashes.AddressValue.{AddressValue}
 use Rattle.disk_model.specs.Log.{Blocks}
 use Rattle.disk_model.specs.Seen.{Seen}
+use Rattle.disk_model.specs.Trust.{Trust}
 use Rattle.disk_model.specs.Since.{IsUntouched}
 use Rattle.image_layout.specs.Opened.{super_of_image}
 use Rattle.image_layout.specs.Values.{journal_of}
@@ -41,10 +42,10 @@ use Rattle.crash_images.specs.declared.shown.Shown.{Shown}
 
 -- Of a sound image.
 
-pub sound_values : (tells honest : Bool) (script : Script) (before : Seen) (blocks : Blocks) (values : List AddressValue) → IsTold tells honest before blocks → (sound : IsSound blocks)
-    → AreValues tells honest script before values
+pub sound_values : (trust : Trust) (script : Script) (before : Seen) (blocks : Blocks) (values : List AddressValue) → IsTold trust before blocks → (sound : IsSound blocks)
+    → AreValues trust script before values
     → AreAddresses script sound.head.geometry.logical (map address_of values) × (values ≡ map (value_in (image_in blocks sound)) (map address_of values))
-sound_values tells honest script before blocks values is sound are =
+sound_values trust script before blocks values is sound are =
     let has = are.says blocks is in
     let one = opened_alike blocks sound are.found.head has.last has.window has.opens in
     let image = image_alike blocks sound are.found.head has.last has.window has.opens in (
@@ -54,12 +55,12 @@ sound_values tells honest script before blocks values is sound are =
 
 -- Of one that was closed, whatever its counts are: recovery and audit have left it as it was.
 
-pub closed_values : (tells honest : Bool) (script : Script) (before : Seen) (blocks : Blocks) (shown : Shown) → IsTold tells honest before blocks → IsShown tells honest script before shown → shown.recovery ≡ Clean
+pub closed_values : (trust : Trust) (script : Script) (before : Seen) (blocks : Blocks) (shown : Shown) → IsTold trust before blocks → IsShown trust script before shown → shown.recovery ≡ Clean
     → (head : Superblock) × HasValues blocks head shown.values.items × AreAddresses script head.geometry.logical (map address_of shown.values.items)
-closed_values tells honest script before blocks shown is shows clean =
-    let answer : Answers tells honest before shows.middle Clean = subst (λ (found : Recovered). Answers tells honest before shows.middle found) clean shows.recovery.answers in
-    let middle = told_on tells honest before shows.middle blocks is answer.3 in
-    let behind = told_on tells honest shows.middle shows.behind blocks middle shows.untouched in
+closed_values trust script before blocks shown is shows clean =
+    let answer : Answers trust before shows.middle Clean = subst (λ (found : Recovered). Answers trust before shows.middle found) clean shows.recovery.answers in
+    let middle = told_on trust before shows.middle blocks is answer.3 in
+    let behind = told_on trust shows.middle shows.behind blocks middle shows.untouched in
     (shows.values.found.head, shows.values.says blocks behind, shows.values.named)
 
 -- Of one that passed its audit: none is refused for the image.
@@ -114,9 +115,9 @@ module _ (blocks : Blocks) (head : Superblock) (last : ℕ) (window : List Commi
       let there : IsShareFault here at = subst (λ (i : Image). IsShareFault i at) (image_is image opened) has in
       right.unshared at there.address there.page there.mapped
 
-  module _ (tells honest : Bool) (before : Seen) (is : IsTold tells honest before blocks) where
-    by_head : (now : Seen) (why : ImageFault) → length before.opening ≡ before.size → HeadFails tells honest before now why → OfNoImage why
-    by_head now (Super fault) size fails = absurd (no_super_fault fault (head_refused tells honest before blocks is now (Super fault) size fails))
+  module _ (trust : Trust) (before : Seen) (is : IsTold trust before blocks) where
+    by_head : (now : Seen) (why : ImageFault) → length before.opening ≡ before.size → HeadFails trust before now why → OfNoImage why
+    by_head now (Super fault) size fails = absurd (no_super_fault fault (head_refused trust before blocks is now (Super fault) size fails))
     by_head now Device size fails = inl refl
     by_head now Memory size fails = inr refl
     by_head now (Window sequence) size fails = absurd fails
@@ -126,13 +127,13 @@ module _ (blocks : Blocks) (head : Superblock) (last : ℕ) (window : List Commi
     by_head now (Counts at stored mapped) size fails = absurd fails
     by_head now Unclean size fails = absurd fails
 
-    module _ (other : Superblock) (middle : Seen) (read : IsHeadRead tells honest before middle other) where
-      shown_fault : (now : Seen) (why : ImageFault) → ReplayFails tells honest other middle now why → IsMapFault blocks why
+    module _ (other : Superblock) (middle : Seen) (read : IsHeadRead trust before middle other) where
+      shown_fault : (now : Seen) (why : ImageFault) → ReplayFails trust other middle now why → IsMapFault blocks why
       shown_fault now why fails =
-          fault_of_map tells honest blocks is.told is.fair middle now other (one_there tells honest before blocks is middle other read) (enough tells honest before blocks is middle other read)
-          (accepted tells honest before blocks is middle other read) why fails
+          fault_of_map trust blocks is.told is.fair middle now other (one_there trust before blocks is middle other read) (enough trust before blocks is middle other read)
+          (accepted trust before blocks is middle other read) why fails
 
-      by_map : (now : Seen) (why : ImageFault) → ReplayFails tells honest other middle now why → OfNoImage why
+      by_map : (now : Seen) (why : ImageFault) → ReplayFails trust other middle now why → OfNoImage why
       by_map now (Super fault) fails = absurd (no_super_fault fault (shown_fault now (Super fault) fails))
       by_map now (Window sequence) fails = absurd (no_window_fault sequence (shown_fault now (Window sequence) fails))
       by_map now (Page at fault) fails = absurd (no_page at fault (shown_fault now (Page at fault) fails))
@@ -146,7 +147,7 @@ module _ (blocks : Blocks) (head : Superblock) (last : ℕ) (window : List Commi
       by_map now Device fails = inl refl
       by_map now Memory fails = inr refl
 
-    by_value : (now : Seen) (why : ImageFault) → HasNoValue tells honest before now why → OfNoImage why
+    by_value : (now : Seen) (why : ImageFault) → HasNoValue trust before now why → OfNoImage why
     by_value now Device lacks = inl refl
     by_value now Memory lacks = inr refl
     by_value now (Page at fault) lacks = absurd (lacks.undamaged blocks is)
@@ -157,17 +158,17 @@ module _ (blocks : Blocks) (head : Superblock) (last : ℕ) (window : List Commi
     by_value now (Counts at stored mapped) lacks = absurd lacks.cause
     by_value now Unclean lacks = absurd lacks.cause
 
-    values_fail : (now : Seen) (why : ImageFault) → length before.opening ≡ before.size → ValuesFail tells honest before now why → OfNoImage why
+    values_fail : (now : Seen) (why : ImageFault) → length before.opening ≡ before.size → ValuesFail trust before now why → OfNoImage why
     values_fail now why size (inl (inl fails)) = by_head now why size fails
     values_fail now why size (inl (inr (other, middle, read, fails))) = by_map other middle read now why fails
     values_fail now why size (inr lacks) = by_value now why lacks
 
-pub values_refused : (tells honest : Bool) (before behind now : Seen) (blocks : Blocks) (report : Report) (why : ImageFault) → IsTold tells honest before blocks → length before.opening ≡ before.size
-    → IsAudited tells honest before behind report → IsUntouched tells before behind → ValuesFail tells honest behind now why → OfNoImage why
-values_refused tells honest before behind now blocks report why is size (head, window, second, to, both) untouched fails =
+pub values_refused : (trust : Trust) (before behind now : Seen) (blocks : Blocks) (report : Report) (why : ImageFault) → IsTold trust before blocks → length before.opening ≡ before.size
+    → IsAudited trust before behind report → IsUntouched trust.tells before behind → ValuesFail trust behind now why → OfNoImage why
+values_refused trust before behind now blocks report why is size (head, window, second, to, both) untouched fails =
     let shown : IsReport (image_of head blocks window.entries) report =
-    both_shown tells honest blocks is.told is.fair head window second behind (λ image. IsReport image report) (accepted tells honest before blocks is to.middle head to.head_read)
-    (one_behind tells honest before blocks is to.middle head to.head_read second window to.window_read) (enough_behind tells honest before blocks is to.middle head to.head_read second window to.window_read) both in
+    both_shown trust blocks is.told is.fair head window second behind (λ image. IsReport image report) (accepted trust before blocks is to.middle head to.head_read)
+    (one_behind trust before blocks is to.middle head to.head_read second window to.window_read) (enough_behind trust before blocks is to.middle head to.head_read second window to.window_read) both in
     let same_size : length behind.opening ≡ behind.size = ap (λ (bs : Blocks). length bs) untouched.stays.opening ∙ size ∙ sym untouched.stays.size in
-    values_fail blocks head window.last window.entries (window_opens tells honest before blocks is to.middle head to.head_read second window to.window_read) shown.right
-    tells honest behind (told_on tells honest before behind blocks is untouched) now why same_size fails
+    values_fail blocks head window.last window.entries (window_opens trust before blocks is to.middle head to.head_read second window to.window_read) shown.right
+    trust behind (told_on trust before behind blocks is untouched) now why same_size fails

@@ -5,13 +5,14 @@ use Rattle.disk_model.proofs.LookedLaws.{given_block}
 use Rattle.disk_model.specs.Log.{Blocks, block_at}
 use Rattle.disk_model.specs.Memory.{Memory, fresh, seen_of}
 use Rattle.disk_model.specs.Seen.{Seen}
+use Rattle.disk_model.specs.Trust.{Trust}
 use Rattle.disk_model.specs.Since.{WereRead}
 use Rattle.image_model.specs.Looked.{looked_in}
 use Rattle.rebuild.specs.Recoveries.{IsTold}
 use Rattle.crash_images.specs.Copies.{IsCopy, KeepsImage}
 
-module _ (tells honest : Bool) (before now : Seen) (blocks : Blocks) (size : length blocks ≡ before.size) (read : WereRead tells honest 0 before now (reverse blocks)) where
-  module _ (image : Blocks) (is : IsTold tells honest before image) where
+module _ (trust : Trust) (before now : Seen) (blocks : Blocks) (size : length blocks ≡ before.size) (read : WereRead trust 0 before now (reverse blocks)) where
+  module _ (image : Blocks) (is : IsTold trust before image) where
     opening : length before.opening ≡ length blocks
     opening = read.told is.told ∙ sym size
 
@@ -21,11 +22,11 @@ module _ (tells honest : Bool) (before now : Seen) (blocks : Blocks) (size : len
         let count = length-reverse blocks in
         let same = opening in
         let start = zero-add b in
-        let given = given_block (looked_in image) tells honest 0 before image is.told is.fair is.one (reverse blocks) read.given (omega (arith, count, same)) b (omega (arith, count, below))
+        let given = given_block (looked_in image) trust 0 before image is.told is.fair is.one (reverse blocks) read.given (omega (arith, count, same)) b (omega (arith, count, below))
         (subst (λ (n : ℕ). IsTrue (looked_in image n)) (sym start) here) in
         sym (ap (block_at image) (sym start) ∙ given ∙ ap (λ (bs : Blocks). block_at bs b) (reverse-reverse blocks))
 
-  pub fresh_keeps : KeepsImage tells honest before (seen_of (fresh blocks))
+  pub fresh_keeps : KeepsImage trust before (seen_of (fresh blocks))
   fresh_keeps image is = record {
     told = refl;
     fair = refl;
@@ -36,6 +37,6 @@ module _ (tells honest : Bool) (before now : Seen) (blocks : Blocks) (size : len
     };
   }
 
-pub copy_keeps : (tells honest : Bool) (before now : Seen) (copy : Memory) → IsCopy tells honest before now copy → KeepsImage tells honest before (seen_of copy)
-copy_keeps tells honest before now copy (blocks, fresh_is, size, read) =
-    subst (λ (memory : Memory). KeepsImage tells honest before (seen_of memory)) (sym fresh_is) (fresh_keeps tells honest before now blocks size read)
+pub copy_keeps : (trust : Trust) (before now : Seen) (copy : Memory) → IsCopy trust before now copy → KeepsImage trust before (seen_of copy)
+copy_keeps trust before now copy (blocks, fresh_is, size, read) =
+    subst (λ (memory : Memory). KeepsImage trust before (seen_of memory)) (sym fresh_is) (fresh_keeps trust before now blocks size read)

@@ -11,6 +11,7 @@ use Rattle.blk_base.specs.declared.place.Mapping.{Mapping}
 use Rattle.blk_base.specs.declared.place.Mapping.TheVariants.{At}
 use Rattle.disk_model.specs.Log.{Blocks}
 use Rattle.disk_model.specs.Seen.{Seen}
+use Rattle.disk_model.specs.Trust.{trust_of}
 use Rattle.image_layout.specs.Opened.{super_of_image}
 use Rattle.image_layout.specs.declared.fault.SuperFault.TheVariants.{NotAnImage}
 use Rattle.image_model.proofs.CountLaws.{is_first, none_in_nothing}
@@ -73,36 +74,36 @@ module _ (found : ImageMap) (sizes : found.head.geometry ≡ small) where
 
 module _ (before now : Seen) (found : ImageMap) where
   -- ShowsMap: block 0, the journal and the pages
-  shows : (window : WindowState) (middle : Seen) → IsOpenedTo true true before middle found.head window → IsMapRead true true found.head.geometry window middle now found.pages
-      → AreNewest window.entries found.changes → ShowsMap true true before now found
+  shows : (window : WindowState) (middle : Seen) → IsOpenedTo (trust_of true true) before middle found.head window → IsMapRead (trust_of true true) found.head.geometry window middle now found.pages
+      → AreNewest window.entries found.changes → ShowsMap (trust_of true true) before now found
   shows window middle to pages newest = record { window = window; middle = middle; opened_to = to; pages = pages; newest = newest }
 
   -- opened_to
-  shows-not_unopened : ((window : WindowState) (middle : Seen) → IsOpenedTo true true before middle found.head window → ⊥) → ShowsMap true true before now found → ⊥
+  shows-not_unopened : ((window : WindowState) (middle : Seen) → IsOpenedTo (trust_of true true) before middle found.head window → ⊥) → ShowsMap (trust_of true true) before now found → ⊥
   shows-not_unopened never is = never is.window is.middle is.opened_to
 
   -- pages
-  shows-not_without_pages : ((window : WindowState) (middle : Seen) → IsMapRead true true found.head.geometry window middle now found.pages → ⊥) → ShowsMap true true before now found → ⊥
+  shows-not_without_pages : ((window : WindowState) (middle : Seen) → IsMapRead (trust_of true true) found.head.geometry window middle now found.pages → ⊥) → ShowsMap (trust_of true true) before now found → ⊥
   shows-not_without_pages never is = never is.window is.middle is.pages
 
   -- newest
-  shows-not_with_other_changes : ((window : WindowState) → AreNewest window.entries found.changes → ⊥) → ShowsMap true true before now found → ⊥
+  shows-not_with_other_changes : ((window : WindowState) → AreNewest window.entries found.changes → ⊥) → ShowsMap (trust_of true true) before now found → ⊥
   shows-not_with_other_changes never is = never is.window is.newest
 
   -- HasNoMap: a device without a block; want of memory behind block 0
-  no_superblock : before.size ≡ 0 → HasNoMap true true before before (image.Super NotAnImage)
+  no_superblock : before.size ≡ 0 → HasNoMap (trust_of true true) before before (image.Super NotAnImage)
   no_superblock none = inl (inl (record { none = none; fault_is = refl; same = refl }))
 
-  no_memory : (head : Super) (middle : Seen) → IsHeadRead true true before middle head → HasNoMap true true before now image.Memory
+  no_memory : (head : Super) (middle : Seen) → IsHeadRead (trust_of true true) before middle head → HasNoMap (trust_of true true) before now image.Memory
   no_memory head middle read = inr (head, middle, read, inl tt)
 
   -- that a session wasn't closed is no reason, nor a wrong count
-  no_map-not_for_being_open : HasNoMap true true before now image.Unclean → ⊥
+  no_map-not_for_being_open : HasNoMap (trust_of true true) before now image.Unclean → ⊥
   no_map-not_for_being_open (inl none) = none
   no_map-not_for_being_open (inr (head, middle, read, inl none)) = none
   no_map-not_for_being_open (inr (head, middle, read, inr (second, window, window_read, none))) = none
 
-  no_map-not_for_a_count : HasNoMap true true before now (image.Counts (record { 0 = 86 }) 2 1) → ⊥
+  no_map-not_for_a_count : HasNoMap (trust_of true true) before now (image.Counts (record { 0 = 86 }) 2 1) → ⊥
   no_map-not_for_a_count (inl none) = none
   no_map-not_for_a_count (inr (head, middle, read, inl none)) = none
   no_map-not_for_a_count (inr (head, middle, read, inr (second, window, window_read, none))) = none
@@ -125,9 +126,9 @@ module _ (found : ImageMap) (blocks : Blocks) (window : List CommittedEntry) whe
   map_in-not_of_another_map never is = never is.has
 
 -- OfMap: nothing is said of a device that doesn't tell; of one whose image has the map it is said of that
-of_untold : (before : Seen) (found : ImageMap) (Says : Image → Type 0) → OfMap false true before found Says
+of_untold : (before : Seen) (found : ImageMap) (Says : Image → Type 0) → OfMap (trust_of false true) before found Says
 of_untold before found Says blocks window is here = absurd (let told = is.told in cc told)
 
-of_this : (before : Seen) (found : ImageMap) (blocks : Blocks) (window : List CommittedEntry) → IsTold true true before blocks → IsMapIn found blocks window
-    → OfMap true true before found (λ image. image.blocks ≡ blocks → ⊥) → ⊥
+of_this : (before : Seen) (found : ImageMap) (blocks : Blocks) (window : List CommittedEntry) → IsTold (trust_of true true) before blocks → IsMapIn found blocks window
+    → OfMap (trust_of true true) before found (λ image. image.blocks ≡ blocks → ⊥) → ⊥
 of_this before found blocks window is here says = says blocks window is here refl

@@ -9,6 +9,7 @@ use Rattle.blk_base.specs.declared.place.Pbn.{Pbn}
 use Rattle.command_text.specs.declared.crashes.AddressValue.{AddressValue}
 use Rattle.disk_model.specs.Log.{Blocks}
 use Rattle.disk_model.specs.Seen.{Seen}
+use Rattle.disk_model.specs.Trust.{trust_of}
 use Rattle.disk_model.specs.Since.{IsUntouched}
 use Rattle.image_layout.specs.Opened.{super_of_image}
 use Rattle.image_layout.specs.declared.fault.SuperFault.TheVariants.{NotAnImage}
@@ -30,7 +31,7 @@ use Rattle.crash_images.specs.declared.shown.Shown.{Shown}
 
 -- no map was read so
 abbrev IsNotRead : Seen → Type 0
-IsNotRead before = (found : ImageMap) (behind : Seen) → ShowsMap true true before behind found → ⊥
+IsNotRead before = (found : ImageMap) (behind : Seen) → ShowsMap (trust_of true true) before behind found → ⊥
 
 -- HasValues: those of an image that can be opened
 module _ (blocks : Blocks) (head : Super) (last : ℕ) (window : List CommittedEntry) (opens : Opens blocks head last window) where
@@ -60,7 +61,7 @@ no_addresses logical = record {
   each = λ at. ((λ has. absurd (none_in_nothing at has)), (λ named. absurd (none_in_nothing named.0 named.2)));
 }
 
-of_no_script : (found : ImageMap) (before behind : Seen) → ShowsMap false true before behind found → AreValues false true [] before []
+of_no_script : (found : ImageMap) (before behind : Seen) → ShowsMap (trust_of false true) before behind found → AreValues (trust_of false true) [] before []
 of_no_script found before behind read = record {
   found = found;
   behind = behind;
@@ -70,24 +71,24 @@ of_no_script found before behind read = record {
 }
 
 -- read
-values_not_unread : (before : Seen) → IsNotRead before → AreValues true true [] before [] → ⊥
+values_not_unread : (before : Seen) → IsNotRead before → AreValues (trust_of true true) [] before [] → ⊥
 values_not_unread before never are = never are.found are.behind are.read
 
 -- named: neither one more, nor one less, whichever blocks differ
-values_not_of_another : (before : Seen) (value : AddressValue) → AreValues true true [] before (value ∷ []) → ⊥
+values_not_of_another : (before : Seen) (value : AddressValue) → AreValues (trust_of true true) [] before (value ∷ []) → ⊥
 values_not_of_another before value are = let named = (are.named.each value.at).0 (is_first value.at []) in none_in_nothing named.0 named.2
 
-values_not_left_out : (before : Seen) (script : Script) (at : Lba) → ((found : ImageMap) → IsNamed script found.head.geometry.logical at.0) → AreValues true true script before [] → ⊥
+values_not_left_out : (before : Seen) (script : Script) (at : Lba) → ((found : ImageMap) → IsNamed script found.head.geometry.logical at.0) → AreValues (trust_of true true) script before [] → ⊥
 values_not_left_out before script at named are = none_in_nothing at ((are.named.each at).1 (named are.found))
 
 -- says: of an honest device on whose image the address has something else
-module _ (before : Seen) (script : Script) (value : AddressValue) (blocks : Blocks) (told : IsTold true true before blocks)
+module _ (before : Seen) (script : Script) (value : AddressValue) (blocks : Blocks) (told : IsTold (trust_of true true) before blocks)
     (differs : (head : Super) (window : List CommittedEntry) → value ≢ value_in (image_of head blocks window) value.at) where
-  values_not_of_another_image : AreValues true true script before (value ∷ []) → ⊥
+  values_not_of_another_image : AreValues (trust_of true true) script before (value ∷ []) → ⊥
   values_not_of_another_image are = let has = are.says blocks told in differs are.found.head has.window (let right = has.right in cc right)
 
 -- HasNoValue: the map was read, and a read failed
-no_value : (found : ImageMap) (before behind : Seen) → ShowsMap true true before behind found → HasNoValue true true before (record behind { faults = behind.faults + 1 }) image.Device
+no_value : (found : ImageMap) (before behind : Seen) → ShowsMap (trust_of true true) before behind found → HasNoValue (trust_of true true) before (record behind { faults = behind.faults + 1 }) image.Device
 no_value found before behind read = record {
   found = found;
   behind = behind;
@@ -97,23 +98,23 @@ no_value found before behind read = record {
 }
 
 -- read
-no_value_not_unread : (before now : Seen) → IsNotRead before → HasNoValue true true before now image.Memory → ⊥
+no_value_not_unread : (before now : Seen) → IsNotRead before → HasNoValue (trust_of true true) before now image.Memory → ⊥
 no_value_not_unread before now never is = never is.found is.behind is.read
 
 -- cause
-no_value_not_of_a_count : (before now : Seen) (at : Pbn) → HasNoValue true true before now (image.SharedPage at) → ⊥
+no_value_not_of_a_count : (before now : Seen) (at : Pbn) → HasNoValue (trust_of true true) before now (image.SharedPage at) → ⊥
 no_value_not_of_a_count before now at is = is.cause
 
 -- undamaged
-no_value_not_of_an_honest_page : (before now : Seen) (at : Pbn) (blocks : Blocks) → IsTold true true before blocks → HasNoValue true true before now (image.Page at Header) → ⊥
+no_value_not_of_an_honest_page : (before now : Seen) (at : Pbn) (blocks : Blocks) → IsTold (trust_of true true) before blocks → HasNoValue (trust_of true true) before now (image.Page at Header) → ⊥
 no_value_not_of_an_honest_page before now at blocks told is = is.undamaged blocks told
 
 -- ValuesFail: there is no map, or a value wasn't read; never for a wrong count
 module _ (before now : Seen) where
-  without_a_map : (why : ImageFault) → HasNoMap true true before now why → ValuesFail true true before now why
+  without_a_map : (why : ImageFault) → HasNoMap (trust_of true true) before now why → ValuesFail (trust_of true true) before now why
   without_a_map why none = inl none
 
-  never_for_a_count : (at : Pbn) → ValuesFail true true before now (image.Counts at 2 1) → ⊥
+  never_for_a_count : (at : Pbn) → ValuesFail (trust_of true true) before now (image.Counts at 2 1) → ⊥
   never_for_a_count at (inl (inl none)) = none
   never_for_a_count at (inl (inr (head, middle, read, inl none))) = none
   never_for_a_count at (inl (inr (head, middle, read, inr (second, window, window_read, none)))) = none
@@ -121,8 +122,8 @@ module _ (before now : Seen) where
 
 -- IsShown
 module _ (script : Script) (before : Seen) (shown : Shown) where
-  is_shown : (middle behind : Seen) → IsRecovery true true before middle (Ok shown.recovery) → IsAudited true true middle behind shown.audit
-      → IsUntouched true middle behind → AreValues true true script behind shown.values.items → IsShown true true script before shown
+  is_shown : (middle behind : Seen) → IsRecovery (trust_of true true) before middle (Ok shown.recovery) → IsAudited (trust_of true true) middle behind shown.audit
+      → IsUntouched true middle behind → AreValues (trust_of true true) script behind shown.values.items → IsShown (trust_of true true) script before shown
   is_shown middle behind recovery audited untouched values = record {
     middle = middle;
     recovery = recovery;
@@ -133,38 +134,38 @@ module _ (script : Script) (before : Seen) (shown : Shown) where
   }
 
   -- recovery
-  shown_not_unrecovered : ((middle : Seen) → IsRecovery true true before middle (Ok shown.recovery) → ⊥) → IsShown true true script before shown → ⊥
+  shown_not_unrecovered : ((middle : Seen) → IsRecovery (trust_of true true) before middle (Ok shown.recovery) → ⊥) → IsShown (trust_of true true) script before shown → ⊥
   shown_not_unrecovered never is = never is.middle is.recovery
 
   -- audited
-  shown_not_unaudited : ((middle behind : Seen) → IsAudited true true middle behind shown.audit → ⊥) → IsShown true true script before shown → ⊥
+  shown_not_unaudited : ((middle behind : Seen) → IsAudited (trust_of true true) middle behind shown.audit → ⊥) → IsShown (trust_of true true) script before shown → ⊥
   shown_not_unaudited never is = never is.middle is.behind is.audited
 
   -- untouched
-  shown_not_written : ((middle behind : Seen) → IsUntouched true middle behind → ⊥) → IsShown true true script before shown → ⊥
+  shown_not_written : ((middle behind : Seen) → IsUntouched true middle behind → ⊥) → IsShown (trust_of true true) script before shown → ⊥
   shown_not_written never is = never is.middle is.behind is.untouched
 
   -- values
-  shown_not_without_values : ((behind : Seen) → AreValues true true script behind shown.values.items → ⊥) → IsShown true true script before shown → ⊥
+  shown_not_without_values : ((behind : Seen) → AreValues (trust_of true true) script behind shown.values.items → ⊥) → IsShown (trust_of true true) script before shown → ⊥
   shown_not_without_values never is = never is.behind is.values
 
 -- IsNotAudited
 module _ (before now : Seen) (why : ImageFault) where
-  is_not_audited : (found : Recovered) (middle : Seen) → IsRecovery true true before middle (Ok found) → AuditFails true true middle now why
-      → IsNotAudited true true before now why
+  is_not_audited : (found : Recovered) (middle : Seen) → IsRecovery (trust_of true true) before middle (Ok found) → AuditFails (trust_of true true) middle now why
+      → IsNotAudited (trust_of true true) before now why
   is_not_audited found middle recovery cause = record { found = found; middle = middle; recovery = recovery; cause = cause }
 
   -- recovery
-  audit_not_unrecovered : ((found : Recovered) (middle : Seen) → IsRecovery true true before middle (Ok found) → ⊥) → IsNotAudited true true before now why → ⊥
+  audit_not_unrecovered : ((found : Recovered) (middle : Seen) → IsRecovery (trust_of true true) before middle (Ok found) → ⊥) → IsNotAudited (trust_of true true) before now why → ⊥
   audit_not_unrecovered never is = never is.found is.middle is.recovery
 
   -- cause
-  audit_not_without_a_cause : ((middle : Seen) → AuditFails true true middle now why → ⊥) → IsNotAudited true true before now why → ⊥
+  audit_not_without_a_cause : ((middle : Seen) → AuditFails (trust_of true true) middle now why → ⊥) → IsNotAudited (trust_of true true) before now why → ⊥
   audit_not_without_a_cause never is = never is.middle is.cause
 
   -- HasNoValues
-  has_no_values : (found : Recovered) (middle : Seen) (report : Report) (behind : Seen) → IsRecovery true true before middle (Ok found)
-      → IsAudited true true middle behind report → IsUntouched true middle behind → ValuesFail true true behind now why → HasNoValues true true before now why
+  has_no_values : (found : Recovered) (middle : Seen) (report : Report) (behind : Seen) → IsRecovery (trust_of true true) before middle (Ok found)
+      → IsAudited (trust_of true true) middle behind report → IsUntouched true middle behind → ValuesFail (trust_of true true) behind now why → HasNoValues (trust_of true true) before now why
   has_no_values found middle report behind recovery audited untouched cause = record {
     found = found;
     middle = middle;
@@ -177,17 +178,17 @@ module _ (before now : Seen) (why : ImageFault) where
   }
 
   -- recovery
-  none_not_unrecovered : ((found : Recovered) (middle : Seen) → IsRecovery true true before middle (Ok found) → ⊥) → HasNoValues true true before now why → ⊥
+  none_not_unrecovered : ((found : Recovered) (middle : Seen) → IsRecovery (trust_of true true) before middle (Ok found) → ⊥) → HasNoValues (trust_of true true) before now why → ⊥
   none_not_unrecovered never is = never is.found is.middle is.recovery
 
   -- audited
-  none_not_unaudited : ((middle behind : Seen) (report : Report) → IsAudited true true middle behind report → ⊥) → HasNoValues true true before now why → ⊥
+  none_not_unaudited : ((middle behind : Seen) (report : Report) → IsAudited (trust_of true true) middle behind report → ⊥) → HasNoValues (trust_of true true) before now why → ⊥
   none_not_unaudited never is = never is.middle is.behind is.report is.audited
 
   -- untouched
-  none_not_written : ((middle behind : Seen) → IsUntouched true middle behind → ⊥) → HasNoValues true true before now why → ⊥
+  none_not_written : ((middle behind : Seen) → IsUntouched true middle behind → ⊥) → HasNoValues (trust_of true true) before now why → ⊥
   none_not_written never is = never is.middle is.behind is.untouched
 
   -- cause
-  none_not_without_a_cause : ((behind : Seen) → ValuesFail true true behind now why → ⊥) → HasNoValues true true before now why → ⊥
+  none_not_without_a_cause : ((behind : Seen) → ValuesFail (trust_of true true) behind now why → ⊥) → HasNoValues (trust_of true true) before now why → ⊥
   none_not_without_a_cause never is = never is.behind is.cause

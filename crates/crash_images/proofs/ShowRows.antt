@@ -2,6 +2,7 @@
 use Rattle.std.proofs.Common.{◌≡◌, ◌+◌, true, [], Err, inl, refl, arith}
 use Rattle.disk_model.specs.Memory.{Memory}
 use Rattle.disk_model.specs.Seen.{Seen}
+use Rattle.disk_model.specs.Trust.{trust_of}
 use Rattle.image_model.proofs.CountLaws.{none_in_nothing}
 use Rattle.image_model.specs.declared.fault.ImageFault.{ImageFault}
 use Rattle.image_model.specs.declared.fault.ImageFault.TheVariants as image
@@ -49,7 +50,7 @@ a_page : (at : Pbn) → IsNoPage (image.Page at Header) → ⊥
 a_page at none = none
 
 -- ShowsNothing: it wasn't recovered
-by_recovery : (before now : Seen) (why : ImageFault) → IsRecovery true true before now (Err why) → ShowsNothing true true before now why
+by_recovery : (before now : Seen) (why : ImageFault) → IsRecovery (trust_of true true) before now (Err why) → ShowsNothing (trust_of true true) before now why
 by_recovery before now why is = inl is
 
 -- pick_fault_of: that of a failed call is want of memory

@@ -4,6 +4,7 @@ use Rattle.blk_base.specs.declared.place.Lba.{Lba}
 use Rattle.disk_model.specs.Log.{Blocks}
 use Rattle.disk_model.specs.Memory.{Memory, fresh, seen_of}
 use Rattle.disk_model.specs.Seen.{Seen}
+use Rattle.disk_model.specs.Trust.{trust_of}
 use Rattle.image_model.specs.declared.fault.ImageFault.{ImageFault}
 use Rattle.image_model.specs.declared.fault.ImageFault.TheVariants as image
 use Rattle.crash_images.specs.Shows.{IsNoPage, IsPickOf, PickFails, ShowsNothing, ValueFails, image_fault_of, pick_fault_of}
@@ -39,7 +40,7 @@ no_page_of (Page at fault) none = absurd none
 no_page_of NoMemory none = tt
 
 -- a picked image that is refused
-pub pick_refused : (disk : Memory) (number : ℕ) (picked : Blocks) (now : Seen) (why : ImageFault) → IsPickOf disk number picked → ShowsNothing true true (seen_of (fresh picked)) now why
+pub pick_refused : (disk : Memory) (number : ℕ) (picked : Blocks) (now : Seen) (why : ImageFault) → IsPickOf disk number picked → ShowsNothing (trust_of true true) (seen_of (fresh picked)) now why
     → PickFails disk number (pick_fault_of why)
 pick_refused disk number picked now image.Memory is nothing = tt
 pick_refused disk number picked now image.Device is nothing = tt

@@ -8,6 +8,7 @@ use Rattle.blk_base.specs.declared.geometry.Super.{Super as Superblock}
 use Rattle.blk_base.specs.declared.place.Pbn.{Pbn}
 use Rattle.disk_model.specs.Log.{Blocks}
 use Rattle.disk_model.specs.Seen.{Seen}
+use Rattle.disk_model.specs.Trust.{Trust}
 use Rattle.image_model.proofs.CountLaws.{is_first, one_number, one_stored}
 use Rattle.image_model.proofs.FaultLaws.{no_fault}
 use Rattle.image_model.proofs.LookedLaws.{looked_in_place}
@@ -33,7 +34,7 @@ none_of : (differs : List Difference) → ((d : Difference) → Contains differs
 none_of [] never = refl
 none_of (d ∷ ds) never = absurd (never d (is_first d ds))
 
-module _ (tells honest : Bool) (before : Seen) (blocks : Blocks) (is : IsTold tells honest before blocks) (sound : IsSound blocks) where
+module _ (trust : Trust) (before : Seen) (blocks : Blocks) (is : IsTold trust before blocks) (sound : IsSound blocks) where
   abbrev here : Image
   here = image_in blocks sound
 
@@ -48,15 +49,15 @@ module _ (tells honest : Bool) (before : Seen) (blocks : Blocks) (is : IsTold te
       absurd (differs.apart (count ∙ sym other))
 
   -- so none is reported
-  pub no_difference : (now : Seen) (report : Report) → IsAudited tells honest before now report → report.differs.items ≡ []
+  pub no_difference : (now : Seen) (report : Report) → IsAudited trust before now report → report.differs.items ≡ []
   no_difference now report (head, window, second, opened_to, both) =
       let first = opened_to.middle in
       let head_read = opened_to.head_read in
       let window_read = opened_to.window_read in
       let shown : IsReport (image_of head blocks window.entries) report =
-      both_shown tells honest blocks is.told is.fair head window second now (λ image. IsReport image report) (accepted tells honest before blocks is first head head_read)
-      (one_behind tells honest before blocks is first head head_read second window window_read) (enough_behind tells honest before blocks is first head head_read second window window_read) both in
-      let same = image_alike blocks sound head window.last window.entries (window_opens tells honest before blocks is first head head_read second window window_read) in
+      both_shown trust blocks is.told is.fair head window second now (λ image. IsReport image report) (accepted trust before blocks is first head head_read)
+      (one_behind trust before blocks is first head head_read second window window_read) (enough_behind trust before blocks is first head head_read second window window_read) both in
+      let same = image_alike blocks sound head window.last window.entries (window_opens trust before blocks is first head head_read second window window_read) in
       let own : IsReport here report = subst (λ (image : Image). IsReport image report) same shown in
       none_of report.differs.items (λ d has. no_block_differs d ((own.each d).0 has))
 
@@ -67,8 +68,8 @@ module _ (tells honest : Bool) (before : Seen) (blocks : Blocks) (is : IsTold te
   of_image : (why : ImageFault) → (why ≡ Unclean → ⊥) → IsImageFault blocks why → OfNoImage why
   of_image why other fault = elim (no_fault blocks sound why fault) [ inl same ↦ inl same | inr (inl same) ↦ absurd (other same) | inr (inr same) ↦ inr same ]
 
-  by_head : (now : Seen) (why : ImageFault) → length before.opening ≡ before.size → HeadFails tells honest before now why → OfNoImage why
-  by_head now (Super fault) size fails = of_image (Super fault) (λ same. absurd (cc same)) (head_refused tells honest before blocks is now (Super fault) size fails)
+  by_head : (now : Seen) (why : ImageFault) → length before.opening ≡ before.size → HeadFails trust before now why → OfNoImage why
+  by_head now (Super fault) size fails = of_image (Super fault) (λ same. absurd (cc same)) (head_refused trust before blocks is now (Super fault) size fails)
   by_head now Device size fails = inl refl
   by_head now Memory size fails = inr refl
   by_head now (Window sequence) size fails = absurd fails
@@ -78,13 +79,13 @@ module _ (tells honest : Bool) (before : Seen) (blocks : Blocks) (is : IsTold te
   by_head now (Counts at stored mapped) size fails = absurd fails
   by_head now Unclean size fails = absurd fails
 
-  module _ (first : Seen) (head : Superblock) (head_read : IsHeadRead tells honest before first head) where
-    shown_fault : (now : Seen) (why : ImageFault) → Fails tells honest first now head why → IsImageFault blocks why
+  module _ (first : Seen) (head : Superblock) (head_read : IsHeadRead trust before first head) where
+    shown_fault : (now : Seen) (why : ImageFault) → Fails trust first now head why → IsImageFault blocks why
     shown_fault now why fails =
-        fault_shown tells honest first now blocks is.told is.fair (one_there tells honest before blocks is first head head_read) head (enough tells honest before blocks is first head head_read)
-        (accepted tells honest before blocks is first head head_read) why fails
+        fault_shown trust first now blocks is.told is.fair (one_there trust before blocks is first head head_read) head (enough trust before blocks is first head head_read)
+        (accepted trust before blocks is first head head_read) why fails
 
-    by_window : (now : Seen) (why : ImageFault) → Fails tells honest first now head why → OfNoImage why
+    by_window : (now : Seen) (why : ImageFault) → Fails trust first now head why → OfNoImage why
     by_window now (Super fault) fails = of_image (Super fault) (λ same. absurd (cc same)) (shown_fault now (Super fault) fails)
     by_window now (Window sequence) fails = of_image (Window sequence) (λ same. absurd (cc same)) (shown_fault now (Window sequence) fails)
     by_window now Device fails = inl refl
@@ -95,32 +96,32 @@ module _ (tells honest : Bool) (before : Seen) (blocks : Blocks) (is : IsTold te
     by_window now (Counts at stored mapped) fails = absurd fails
     by_window now Unclean fails = absurd fails
 
-  module _ (head : Superblock) (window : WindowState) (second : Seen) (to : IsOpenedTo tells honest before second head window) where
-    by_rest : (now : Seen) (why : ImageFault) → AuditWithFails tells honest head window second now why → OfNoImage why
+  module _ (head : Superblock) (window : WindowState) (second : Seen) (to : IsOpenedTo trust before second head window) where
+    by_rest : (now : Seen) (why : ImageFault) → AuditWithFails trust head window second now why → OfNoImage why
     by_rest now (Page at fault) (pages, pages_read, says) = of_image (Page at fault) (λ same. absurd (cc same)) (
       image_of head blocks window.entries,
-      opened tells honest before blocks is to.middle head to.head_read second window to.window_read,
+      opened trust before blocks is to.middle head to.head_read second window to.window_read,
       says blocks
-          (all_shown tells honest blocks is.told is.fair head.geometry second now pages (looked_in_place blocks head (accepted tells honest before blocks is to.middle head to.head_read))
-          (one_behind tells honest before blocks is to.middle head to.head_read second window to.window_read) pages_read),
+          (all_shown trust blocks is.told is.fair head.geometry second now pages (looked_in_place blocks head (accepted trust before blocks is to.middle head to.head_read))
+          (one_behind trust before blocks is to.middle head to.head_read second window to.window_read) pages_read),
     )
     by_rest now (Counter at point) fails =
-        let said = both_shown tells honest blocks is.told is.fair head window second now (λ image. ArePagesGood image × IsCountFault image at point.0) (accepted tells honest before blocks is to.middle head to.head_read)
-        (one_behind tells honest before blocks is to.middle head to.head_read second window to.window_read)
-        (enough_behind tells honest before blocks is to.middle head to.head_read second window to.window_read) fails in
+        let said = both_shown trust blocks is.told is.fair head window second now (λ image. ArePagesGood image × IsCountFault image at point.0) (accepted trust before blocks is to.middle head to.head_read)
+        (one_behind trust before blocks is to.middle head to.head_read second window to.window_read)
+        (enough_behind trust before blocks is to.middle head to.head_read second window to.window_read) fails in
         of_image (Counter at point) (λ same. absurd (cc same)) (
           image_of head blocks window.entries,
-          opened tells honest before blocks is to.middle head to.head_read second window to.window_read,
+          opened trust before blocks is to.middle head to.head_read second window to.window_read,
           said.0,
           said.1,
         )
     by_rest now (SharedPage at) fails =
-        let said = both_shown tells honest blocks is.told is.fair head window second now (λ image. ArePagesGood image × AreStored image × IsShareFault image at) (accepted tells honest before blocks is to.middle head to.head_read)
-        (one_behind tells honest before blocks is to.middle head to.head_read second window to.window_read)
-        (enough_behind tells honest before blocks is to.middle head to.head_read second window to.window_read) fails in
+        let said = both_shown trust blocks is.told is.fair head window second now (λ image. ArePagesGood image × AreStored image × IsShareFault image at) (accepted trust before blocks is to.middle head to.head_read)
+        (one_behind trust before blocks is to.middle head to.head_read second window to.window_read)
+        (enough_behind trust before blocks is to.middle head to.head_read second window to.window_read) fails in
         of_image (SharedPage at) (λ same. absurd (cc same)) (
           image_of head blocks window.entries,
-          opened tells honest before blocks is to.middle head to.head_read second window to.window_read,
+          opened trust before blocks is to.middle head to.head_read second window to.window_read,
           said.0,
           said.1,
           said.2,
@@ -132,7 +133,7 @@ module _ (tells honest : Bool) (before : Seen) (blocks : Blocks) (is : IsTold te
     by_rest now (Counts at stored mapped) fails = absurd fails
     by_rest now Unclean fails = absurd fails
 
-  pub audit_refused : (now : Seen) (why : ImageFault) → length before.opening ≡ before.size → AuditFails tells honest before now why → OfNoImage why
+  pub audit_refused : (now : Seen) (why : ImageFault) → length before.opening ≡ before.size → AuditFails trust before now why → OfNoImage why
   audit_refused now why size (inl fails) = by_head now why size fails
   audit_refused now why size (inr (inl (head, first, head_read, fails))) = by_window first head head_read now why fails
   audit_refused now why size (inr (inr (head, window, second, to, fails))) = by_rest head window second to now why fails

@@ -16,6 +16,7 @@ use Rattle.disk_model.proofs.SinceLaws.{untouched_on}
 use Rattle.disk_model.specs.Images.{IsMixOf}
 use Rattle.disk_model.specs.Log.{Blocks, block_at, settled}
 use Rattle.disk_model.specs.Seen.{Seen}
+use Rattle.disk_model.specs.Trust.{Trust}
 use Rattle.disk_model.specs.Since.{IsUntouched, WereRead}
 use Rattle.image_model.proofs.FaultLaws.{no_page_fault}
 use Rattle.image_model.proofs.LookedLaws.{looked_high, looked_in_place}
@@ -41,12 +42,12 @@ use Rattle.crash_images.specs.declared.fault.ValueFault.TheVariants.{Device, Pag
 use Rattle.crash_images.specs.declared.maps.ImageMap.{ImageMap}
 
 -- after reads it is told still
-pub told_on : (tells honest : Bool) (before now : Seen) (blocks : Blocks) → IsTold tells honest before blocks → IsUntouched tells before now → IsTold tells honest now blocks
-told_on tells honest before now blocks is untouched = record { told = is.told; fair = is.fair; one = still tells honest blocks is.told is.fair before now untouched is.one }
+pub told_on : (trust : Trust) (before now : Seen) (blocks : Blocks) → IsTold trust before blocks → IsUntouched trust.tells before now → IsTold trust now blocks
+told_on trust before now blocks is untouched = record { told = is.told; fair = is.fair; one = still trust blocks is.told is.fair before now untouched is.one }
 
 -- The map that was read.
 
-module _ (tells honest : Bool) (before now : Seen) (found : ImageMap) (read : ShowsMap tells honest before now found) (blocks : Blocks) (is : IsTold tells honest before blocks) where
+module _ (trust : Trust) (before now : Seen) (found : ImageMap) (read : ShowsMap trust before now found) (blocks : Blocks) (is : IsTold trust before blocks) where
   abbrev window : List CommittedEntry
   window = read.window.entries
 
@@ -54,36 +55,36 @@ module _ (tells honest : Bool) (before now : Seen) (found : ImageMap) (read : Sh
   pub map_shown : IsMapIn found blocks window
   map_shown =
       let to = read.opened_to in
-      let own = accepted tells honest before blocks is to.middle found.head to.head_read in
+      let own = accepted trust before blocks is to.middle found.head to.head_read in
       record {
         accepted = own;
         newest = read.newest;
         has = read.pages.found.2 blocks
-            (all_shown tells honest blocks is.told is.fair found.head.geometry read.middle now read.pages.found.0 (looked_in_place blocks found.head own)
-            (one_behind tells honest before blocks is to.middle found.head to.head_read read.middle read.window to.window_read) read.pages.found.1);
+            (all_shown trust blocks is.told is.fair found.head.geometry read.middle now read.pages.found.0 (looked_in_place blocks found.head own)
+            (one_behind trust before blocks is to.middle found.head to.head_read read.middle read.window to.window_read) read.pages.found.1);
       }
 
   -- and nothing was written
-  pub map_untouched : IsUntouched tells before now
+  pub map_untouched : IsUntouched trust.tells before now
   map_untouched =
       let to = read.opened_to in
-      untouched_on tells before read.middle now
-      (untouched_on tells before to.middle read.middle (head_untouched tells honest before blocks is to.middle found.head to.head_read)
-      (window_untouched tells honest before blocks is to.middle found.head to.head_read read.middle read.window to.window_read))
-      (blocks_untouched tells honest found.head.geometry read.middle now read.pages.found.0 read.pages.found.1)
+      untouched_on trust.tells before read.middle now
+      (untouched_on trust.tells before to.middle read.middle (head_untouched trust before blocks is to.middle found.head to.head_read)
+      (window_untouched trust before blocks is to.middle found.head to.head_read read.middle read.window to.window_read))
+      (blocks_untouched trust found.head.geometry read.middle now read.pages.found.0 read.pages.found.1)
 
   -- what was said of the map is said of the image
-  pub said_of_map : (Says : Image → Type 0) → OfMap tells honest now found Says → Says (image_of found.head blocks window)
-  said_of_map Says says = says blocks window (told_on tells honest before now blocks is map_untouched) map_shown
+  pub said_of_map : (Says : Image → Type 0) → OfMap trust now found Says → Says (image_of found.head blocks window)
+  said_of_map Says says = says blocks window (told_on trust before now blocks is map_untouched) map_shown
 
   -- so are its values
-  pub has_values : (values : List AddressValue) → OfMap tells honest now found (λ image. values ≡ map (value_in image) (map address_of values)) → HasValues blocks found.head values
+  pub has_values : (values : List AddressValue) → OfMap trust now found (λ image. values ≡ map (value_in image) (map address_of values)) → HasValues blocks found.head values
   has_values values right =
       let to = read.opened_to in
       record {
         last = read.window.last;
         window = window;
-        opens = window_opens tells honest before blocks is to.middle found.head to.head_read read.middle read.window to.window_read;
+        opens = window_opens trust before blocks is to.middle found.head to.head_read read.middle read.window to.window_read;
         pages = map_shown.has.pages;
         right = said_of_map (λ image. values ≡ map (value_in image) (map address_of values)) right;
       }
@@ -130,22 +131,22 @@ module _ (found : ImageMap) (blocks : Blocks) (entries : List CommittedEntry) (h
 
 -- What each read says of an image that has the map.
 
-pub mapping_behind : {tells honest : Bool} {before now : Seen} (found : ImageMap) (address : ℕ) (mapping : Mapping) (bytes : List ℕ) → IsUntouched tells before now
-    → OfMap tells honest before found (λ image. mapping ≡ mapping_of image address) → OfMap tells honest now found (λ image. bytes ≡ value_with image.blocks mapping)
-    → OfMap tells honest before found (λ image. bytes ≡ value_of image address)
-mapping_behind {tells} {honest} {before} {now} found address mapping bytes untouched first second blocks window is here =
-    second blocks window (told_on tells honest before now blocks is untouched) here ∙ ap (value_with blocks) (first blocks window is here)
+pub mapping_behind : {trust : Trust} {before now : Seen} (found : ImageMap) (address : ℕ) (mapping : Mapping) (bytes : List ℕ) → IsUntouched trust.tells before now
+    → OfMap trust before found (λ image. mapping ≡ mapping_of image address) → OfMap trust now found (λ image. bytes ≡ value_with image.blocks mapping)
+    → OfMap trust before found (λ image. bytes ≡ value_of image address)
+mapping_behind {trust} {before} {now} found address mapping bytes untouched first second blocks window is here =
+    second blocks window (told_on trust before now blocks is untouched) here ∙ ap (value_with blocks) (first blocks window is here)
 
-pub of_later : {tells honest : Bool} {before now : Seen} (found : ImageMap) (Says : Image → Type 0) → IsUntouched tells before now → OfMap tells honest now found Says → OfMap tells honest before found Says
-of_later {tells} {honest} {before} {now} found Says untouched says blocks window is here = says blocks window (told_on tells honest before now blocks is untouched) here
+pub of_later : {trust : Trust} {before now : Seen} (found : ImageMap) (Says : Image → Type 0) → IsUntouched trust.tells before now → OfMap trust now found Says → OfMap trust before found Says
+of_later {trust} {before} {now} found Says untouched says blocks window is here = says blocks window (told_on trust before now blocks is untouched) here
 
-pub nothing_right : (tells honest : Bool) (before : Seen) (found : ImageMap) → Fits found → (address : ℕ) → LinkTo found.pages.links.items (leaf_of address) None
-    → OfMap tells honest before found (λ image. Unmapped ≡ mapping_of image address)
-nothing_right tells honest before found fits address missing blocks window is here = nothing_maps found blocks window here address (no_leaf found blocks window here fits address missing)
+pub nothing_right : (trust : Trust) (before : Seen) (found : ImageMap) → Fits found → (address : ℕ) → LinkTo found.pages.links.items (leaf_of address) None
+    → OfMap trust before found (λ image. Unmapped ≡ mapping_of image address)
+nothing_right trust before found fits address missing blocks window is here = nothing_maps found blocks window here address (no_leaf found blocks window here fits address missing)
 
-module _ (tells honest : Bool) (before now : Seen) (found : ImageMap) (room : needed_blocks found.head.geometry ≤ before.size) where
+module _ (trust : Trust) (before now : Seen) (found : ImageMap) (room : needed_blocks found.head.geometry ≤ before.size) where
   -- a data block is read as it is in the image
-  pub block_right : (at : ℕ) (bytes : List ℕ) → IsDataBlock found.head.geometry at → WereRead tells honest at before now (bytes ∷ []) → OfMap tells honest before found (λ image. bytes ≡ block_at image.blocks at)
+  pub block_right : (at : ℕ) (bytes : List ℕ) → IsDataBlock found.head.geometry at → WereRead trust at before now (bytes ∷ []) → OfMap trust before found (λ image. bytes ≡ block_at image.blocks at)
   block_right at bytes is_data read blocks window is here =
       let inside = data_block_inside found.head.geometry at is_data in
       let looked = looked_in_place blocks found.head here.accepted at (looked_high found.head.geometry at (data_block_high found.head.geometry at is_data)) in
@@ -154,12 +155,12 @@ module _ (tells honest : Bool) (before now : Seen) (found : ImageMap) (room : ne
       (subst (λ (n : ℕ). IsMixOf (settled before.opening before.log n) bytes) (add-zero at) (read.given.1 is.told is.fair)) is.one
 
   module _ (fits : Fits found) (address : ℕ) (leaf : Pbn) (link : LinkTo found.pages.links.items (leaf_of address) (Some leaf))
-      (bytes : List ℕ) (read : WereRead tells honest leaf.0 before now (bytes ∷ [])) where
+      (bytes : List ℕ) (read : WereRead trust leaf.0 before now (bytes ∷ [])) where
     abbrev head : PageHead
     head = record { geometry = found.head.geometry; page = leaf_of address; at = leaf }
 
     -- its leaf stands there, with the changes of its window
-    leaf_stands : (blocks : Blocks) (window : List CommittedEntry) → IsTold tells honest before blocks → IsMapIn found blocks window → Stands (image_of found.head blocks window) head bytes found.changes
+    leaf_stands : (blocks : Blocks) (window : List CommittedEntry) → IsTold trust before blocks → IsMapIn found blocks window → Stands (image_of found.head blocks window) head bytes found.changes
     leaf_stands blocks window is here = record {
       geometry = refl;
       there = sym (block_right leaf.0 bytes (link_is_data found fits (leaf_of address) leaf link) read blocks window is here);
@@ -167,12 +168,12 @@ module _ (tells honest : Bool) (before now : Seen) (found : ImageMap) (room : ne
     }
 
     pub slot_right : (mappings : List Mapping) → ((image : Image) → Stands image head bytes found.changes → IsReadAs image head mappings)
-        → OfMap tells honest before found (λ image. slice_index_or mappings (slot_of_address address) Unmapped ≡ mapping_of image address)
+        → OfMap trust before found (λ image. slice_index_or mappings (slot_of_address address) Unmapped ≡ mapping_of image address)
     slot_right mappings reads blocks window is here =
         let read_as = reads (image_of found.head blocks window) (leaf_stands blocks window is here) in
         slot_maps found blocks window here address leaf (slice_index_or mappings (slot_of_address address) Unmapped) (stands_there found blocks window here (leaf_of address) leaf link) (read_as.each (slot_of_address address) (mod-lt address (omega arith)))
 
-    pub slot_undamaged : (fault : PageFault) → ((image : Image) → Stands image head bytes found.changes → HasFault image (leaf_of address) leaf fault) → OfMap tells honest before found (λ image. ⊥)
+    pub slot_undamaged : (fault : PageFault) → ((image : Image) → Stands image head bytes found.changes → HasFault image (leaf_of address) leaf fault) → OfMap trust before found (λ image. ⊥)
     slot_undamaged fault faulty blocks window is here =
         no_page_fault (image_of found.head blocks window) (leaf_of address) leaf fault
         (here.has.pages (leaf_of address) leaf (stands_there found blocks window here (leaf_of address) leaf link)) (faulty (image_of found.head blocks window) (leaf_stands blocks window is here))

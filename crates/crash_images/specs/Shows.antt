@@ -1,5 +1,5 @@
 -- What an image shows after a stop: its recovery, its audit, and the values of a script's addresses.
-use Rattle.std.specs.Prelude.{ℕ, ◌≡◌, ◌⊎◌, Bool, true, List, map, Some, Ok, Err}
+use Rattle.std.specs.Prelude.{ℕ, ◌≡◌, ◌⊎◌, true, List, map, Some, Ok, Err}
 use Rattle.audit.specs.Audits.{AuditFails, IsAudited}
 use Rattle.audit.specs.declared.forms.Report.{Report}
 use Rattle.blk_base.specs.Pages.{leaf_of}
@@ -11,6 +11,7 @@ use Rattle.disk_model.specs.Log.{Blocks}
 use Rattle.disk_model.specs.Memory.{Memory, fresh, seen_of}
 use Rattle.disk_model.specs.Picks.{IsPicked, counted_log}
 use Rattle.disk_model.specs.Seen.{Seen}
+use Rattle.disk_model.specs.Trust.{Trust, trust_of}
 use Rattle.disk_model.specs.Since.{IsUntouched}
 use Rattle.image_model.specs.Maps.{ArePagesGood}
 use Rattle.image_model.specs.Sound.{Opens, image_of}
@@ -39,14 +40,14 @@ pub record HasValues (blocks : Blocks) (head : Super) (values : List AddressValu
   pub right : values ≡ map (value_in (image_of head blocks window)) (map address_of values)
 
 -- the map was read, and these are the addresses that the script names, with their values
-pub record AreValues (tells honest : Bool) (script : Script) (before : Seen) (values : List AddressValue) : Type 0 where
+pub record AreValues (trust : Trust) (script : Script) (before : Seen) (values : List AddressValue) : Type 0 where
   -- of any device
   pub found : ImageMap
   pub behind : Seen
-  pub read : ShowsMap tells honest before behind found
+  pub read : ShowsMap trust before behind found
   pub named : AreAddresses script found.head.geometry.logical (map address_of values)
   -- of an honest one, by its one image
-  pub says : (blocks : Blocks) → IsTold tells honest before blocks → HasValues blocks found.head values
+  pub says : (blocks : Blocks) → IsTold trust before blocks → HasValues blocks found.head values
 
 -- the fault of a value, as one of an image
 abbrev pub image_fault_of : ValueFault → ImageFault
@@ -67,52 +68,52 @@ IsNoPage (image.Page at fault) = ⊥
 IsNoPage other = Unit {0}
 
 -- the map was read, and a value wasn't
-pub record HasNoValue (tells honest : Bool) (before now : Seen) (why : ImageFault) : Type 0 where
+pub record HasNoValue (trust : Trust) (before now : Seen) (why : ImageFault) : Type 0 where
   -- of any device
   pub found : ImageMap
   pub behind : Seen
-  pub read : ShowsMap tells honest before behind found
+  pub read : ShowsMap trust before behind found
   pub cause : ValueFails found behind now why
   -- of an honest one
-  pub undamaged : (blocks : Blocks) → IsTold tells honest before blocks → IsNoPage why
+  pub undamaged : (blocks : Blocks) → IsTold trust before blocks → IsNoPage why
 
 -- why there are no values: there is no map; or it was read
-abbrev pub ValuesFail : Bool → Bool → Seen → Seen → ImageFault → Type 0
-ValuesFail tells honest before now why = HasNoMap tells honest before now why ⊎ HasNoValue tells honest before now why
+abbrev pub ValuesFail : Trust → Seen → Seen → ImageFault → Type 0
+ValuesFail trust before now why = HasNoMap trust before now why ⊎ HasNoValue trust before now why
 
 -- The whole.
 
 -- a device was recovered and audited, and then the values were read, whatever blocks differ
-pub record IsShown (tells honest : Bool) (script : Script) (before : Seen) (shown : Shown) : Type 0 where
+pub record IsShown (trust : Trust) (script : Script) (before : Seen) (shown : Shown) : Type 0 where
   pub middle : Seen
-  pub recovery : IsRecovery tells honest before middle (Ok shown.recovery)
+  pub recovery : IsRecovery trust before middle (Ok shown.recovery)
   pub behind : Seen
-  pub audited : IsAudited tells honest middle behind shown.audit
-  pub untouched : IsUntouched tells middle behind
-  pub values : AreValues tells honest script behind shown.values.items
+  pub audited : IsAudited trust middle behind shown.audit
+  pub untouched : IsUntouched trust.tells middle behind
+  pub values : AreValues trust script behind shown.values.items
 
 -- it was recovered, and its audit was refused
-pub record IsNotAudited (tells honest : Bool) (before now : Seen) (why : ImageFault) : Type 0 where
+pub record IsNotAudited (trust : Trust) (before now : Seen) (why : ImageFault) : Type 0 where
   pub found : Recovered
   pub middle : Seen
-  pub recovery : IsRecovery tells honest before middle (Ok found)
-  pub cause : AuditFails tells honest middle now why
+  pub recovery : IsRecovery trust before middle (Ok found)
+  pub cause : AuditFails trust middle now why
 
 -- both were done, and there are no values
-pub record HasNoValues (tells honest : Bool) (before now : Seen) (why : ImageFault) : Type 0 where
+pub record HasNoValues (trust : Trust) (before now : Seen) (why : ImageFault) : Type 0 where
   pub found : Recovered
   pub middle : Seen
-  pub recovery : IsRecovery tells honest before middle (Ok found)
+  pub recovery : IsRecovery trust before middle (Ok found)
   pub report : Report
   pub behind : Seen
-  pub audited : IsAudited tells honest middle behind report
-  pub untouched : IsUntouched tells middle behind
-  pub cause : ValuesFail tells honest behind now why
+  pub audited : IsAudited trust middle behind report
+  pub untouched : IsUntouched trust.tells middle behind
+  pub cause : ValuesFail trust behind now why
 
 -- why a device shows nothing
-abbrev pub ShowsNothing : Bool → Bool → Seen → Seen → ImageFault → Type 0
-ShowsNothing tells honest before now why =
-    IsRecovery tells honest before now (Err why) ⊎ IsNotAudited tells honest before now why ⊎ HasNoValues tells honest before now why
+abbrev pub ShowsNothing : Trust → Seen → Seen → ImageFault → Type 0
+ShowsNothing trust before now why =
+    IsRecovery trust before now (Err why) ⊎ IsNotAudited trust before now why ⊎ HasNoValues trust before now why
 
 -- Of a picked image.
 
@@ -124,14 +125,14 @@ IsPickOf disk number blocks = IsPicked disk.opening (counted_log disk.fuse disk.
 pub record IsPickShown (disk : Memory) (number : ℕ) (script : Script) (shown : Shown) : Type 0 where
   pub picked : Blocks
   pub is : IsPickOf disk number picked
-  pub shows : IsShown true true script (seen_of (fresh picked)) shown
+  pub shows : IsShown (trust_of true true) script (seen_of (fresh picked)) shown
 
 -- it is refused for this
 pub record IsPickRefused (disk : Memory) (number : ℕ) (why : ImageFault) : Type 0 where
   pub picked : Blocks
   pub is : IsPickOf disk number picked
   pub now : Seen
-  pub cause : ShowsNothing true true (seen_of (fresh picked)) now why
+  pub cause : ShowsNothing (trust_of true true) (seen_of (fresh picked)) now why
 
 -- the fault of an image there: a call of a device in memory that has no fuse fails for want of memory alone
 abbrev pub pick_fault_of : ImageFault → ImageFault

@@ -13,14 +13,14 @@ use std::alloc::Global;
 /// `Device` where a read failed, which is the last call then; `Memory` only for want of memory.
 pub fn copy_of<D: Disk>(alloc: Global, device: &mut D) -> Result<MemDisk, BlocksFault>
     ensures copy { IfOk result
-        (IsCopy D.tells D.honest (D.seen device.old) (D.seen device.new)) }
+        (IsCopy D.trust (D.seen device.old) (D.seen device.new)) }
     ensures image { IfOk result (λ copy.
-        KeepsImage D.tells D.honest (D.seen device.old) (seen_of copy)) }
+        KeepsImage D.trust (D.seen device.old) (seen_of copy)) }
     ensures fault { IfErr result
         (OfDevice
-        (StopsBefore D.tells D.honest 0 (D.seen device.old).size (D.seen device.old)
+        (StopsBefore D.trust 0 (D.seen device.old).size (D.seen device.old)
         (D.seen device.new))) }
-    ensures untouched { IsUntouched D.tells (D.seen device.old) (D.seen device.new) }
+    ensures untouched { IsUntouched D.trust.tells (D.seen device.old) (D.seen device.new) }
 {
     let count = device.blocks();
     let blocks = read_blocks(alloc, device, Pbn(0), count)?;

@@ -56,10 +56,9 @@ impl CutDisk {
 impl Disk for CutDisk {
     ghost use Rattle.std.specs.Prelude.{true, refl};
     ghost use Rattle.disk_model.specs.Memory.{seen_of};
+    ghost use Rattle.disk_model.specs.Trust.{trust_of};
 
-    ghost tells = { true };
-
-    ghost honest = { true };
+    ghost trust = { trust_of true true };
 
     ghost seen = { λ d. seen_of d.disk };
 

@@ -28,13 +28,13 @@ pub struct ImageMap {
 /// a read failed, and `Memory` only for want of memory.
 pub fn read_map<D: Disk>(alloc: Global, device: &mut D) -> Result<ImageMap, ImageFault>
     ensures map { IfOk result
-        (ShowsMap D.tells D.honest (D.seen device.old) (D.seen device.new)) }
+        (ShowsMap D.trust (D.seen device.old) (D.seen device.new)) }
     ensures fits { IfOk result Fits }
     ensures room { IfOk result (λ map.
         needed_blocks map.head.geometry ≤ (D.seen device.new).size) }
     ensures fault { IfErr result
-        (HasNoMap D.tells D.honest (D.seen device.old) (D.seen device.new)) }
-    ensures untouched { IsUntouched D.tells (D.seen device.old) (D.seen device.new) }
+        (HasNoMap D.trust (D.seen device.old) (D.seen device.new)) }
+    ensures untouched { IsUntouched D.trust.tells (D.seen device.old) (D.seen device.new) }
 {
     let head = read_head(device)?;
     let window = read_window(alloc, &head, device)?;

@@ -48,12 +48,12 @@ fn values_in<D: Disk>(
         AreAddresses requests.now found.now.head.geometry.logical
         (map address_of values.items)) }
     ensures right { IfOk result (λ values.
-        OfMap D.tells D.honest (D.seen device.old) found.now
+        OfMap D.trust (D.seen device.old) found.now
         (λ image. values.items ≡ map (value_in image) (map address_of values.items))) }
     ensures fault { IfErr result
         (ValueFails found.now (D.seen device.old) (D.seen device.new)) }
     ensures undamaged { IfErr result (λ why.
-        OfMap D.tells D.honest (D.seen device.old) found.now (λ image. IsNoPage why)) }
+        OfMap D.trust (D.seen device.old) found.now (λ image. IsNoPage why)) }
 {
     let Ok(addresses) = addresses_of(alloc, requests, found.head.geometry.logical) else {
         return Err(ImageFault::Memory);
@@ -72,9 +72,9 @@ fn read_values<D: Disk>(
 ) -> Result<Vec<AddressValue>, ImageFault>
     requires { length requests.now ≤ 256 }
     ensures values { IfOk result (λ values.
-        AreValues D.tells D.honest requests.now (D.seen device.old) values.items) }
+        AreValues D.trust requests.now (D.seen device.old) values.items) }
     ensures fault { IfErr result
-        (ValuesFail D.tells D.honest (D.seen device.old) (D.seen device.new)) }
+        (ValuesFail D.trust (D.seen device.old) (D.seen device.new)) }
 {
     let found = read_map(alloc, device)?;
     values_in(alloc, device, &found, requests)
@@ -91,10 +91,10 @@ pub fn show<D: Disk>(
 ) -> Result<Shown, ImageFault>
     requires { length requests.now ≤ 256 }
     ensures shows { IfOk result
-        (IsShown D.tells D.honest requests.now (D.seen device.old)) }
+        (IsShown D.trust requests.now (D.seen device.old)) }
     ensures few { IfOk result (λ shown. length shown.audit.differs.items < 2 ^ 32) }
     ensures nothing { IfErr result
-        (ShowsNothing D.tells D.honest (D.seen device.old) (D.seen device.new)) }
+        (ShowsNothing D.trust (D.seen device.old) (D.seen device.new)) }
 {
     let recovery = recover(alloc, device)?;
     let audit = audit(alloc, device)?;

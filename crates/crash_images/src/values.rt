@@ -31,13 +31,13 @@ pub fn values_of<D: Disk>(
     requires room { needed_blocks found.now.head.geometry ≤ (D.seen device.old).size }
     ensures addresses { IfOk result (λ values. map address_of values.items ≡ addresses.now) }
     ensures values { IfOk result (λ values.
-        OfMap D.tells D.honest (D.seen device.old) found.now
+        OfMap D.trust (D.seen device.old) found.now
         (λ image. values.items ≡ map (value_in image) addresses.now)) }
     ensures refused { IfErr result
         (AreRefused found.now addresses.now (D.seen device.old) (D.seen device.new)) }
     ensures undamaged { IfErr result (λ why.
-        OfMap D.tells D.honest (D.seen device.old) found.now (λ image. IsNoDamage why)) }
-    ensures untouched { IsUntouched D.tells (D.seen device.old) (D.seen device.new) }
+        OfMap D.trust (D.seen device.old) found.now (λ image. IsNoDamage why)) }
+    ensures untouched { IsUntouched D.trust.tells (D.seen device.old) (D.seen device.new) }
 {
     let Ok(blocks) = blocks_of(alloc, &found.pages.links) else {
         return Err(ValueFault::Memory);
@@ -63,13 +63,13 @@ pub fn value_at<D: Disk>(device: &mut D, found: &ImageMap, at: Lba) -> Result<Bl
     requires fits { Fits found.now }
     requires room { needed_blocks found.now.head.geometry ≤ (D.seen device.old).size }
     ensures value { IfOk result (λ block.
-        OfMap D.tells D.honest (D.seen device.old) found.now
+        OfMap D.trust (D.seen device.old) found.now
         (λ image. block ≡ value_of image at.0)) }
     ensures refused { IfErr result
         (IsRefused found.now at.0 (D.seen device.old) (D.seen device.new)) }
     ensures undamaged { IfErr result (λ why.
-        OfMap D.tells D.honest (D.seen device.old) found.now (λ image. IsNoDamage why)) }
-    ensures untouched { IsUntouched D.tells (D.seen device.old) (D.seen device.new) }
+        OfMap D.trust (D.seen device.old) found.now (λ image. IsNoDamage why)) }
+    ensures untouched { IsUntouched D.trust.tells (D.seen device.old) (D.seen device.new) }
 {
     let leaf = find_block(&found.pages.links, at.leaf());
     read_value(device, found, leaf, at)
@@ -86,13 +86,13 @@ fn read_value<D: Disk>(
     requires room { needed_blocks found.now.head.geometry ≤ (D.seen device.old).size }
     requires leaf { LinkTo found.now.pages.links.items (leaf_of at.0) leaf }
     ensures value { IfOk result (λ block.
-        OfMap D.tells D.honest (D.seen device.old) found.now
+        OfMap D.trust (D.seen device.old) found.now
         (λ image. block ≡ value_of image at.0)) }
     ensures refused { IfErr result
         (IsRefused found.now at.0 (D.seen device.old) (D.seen device.new)) }
     ensures undamaged { IfErr result (λ why.
-        OfMap D.tells D.honest (D.seen device.old) found.now (λ image. IsNoDamage why)) }
-    ensures untouched { IsUntouched D.tells (D.seen device.old) (D.seen device.new) }
+        OfMap D.trust (D.seen device.old) found.now (λ image. IsNoDamage why)) }
+    ensures untouched { IsUntouched D.trust.tells (D.seen device.old) (D.seen device.new) }
 {
     let mapping = read_mapping(device, found, leaf, at)?;
     match read_mapped(device, found, mapping) {
@@ -112,14 +112,14 @@ fn read_mapping<D: Disk>(
     requires room { needed_blocks found.now.head.geometry ≤ (D.seen device.old).size }
     requires leaf { LinkTo found.now.pages.links.items (leaf_of at.0) leaf }
     ensures mapping { IfOk result (λ mapping.
-        OfMap D.tells D.honest (D.seen device.old) found.now
+        OfMap D.trust (D.seen device.old) found.now
         (λ image. mapping ≡ mapping_of image at.0)) }
     ensures data { IfOk result (LeadsToData found.now.head.geometry) }
     ensures refused { IfErr result
         (IsRefused found.now at.0 (D.seen device.old) (D.seen device.new)) }
     ensures undamaged { IfErr result (λ why.
-        OfMap D.tells D.honest (D.seen device.old) found.now (λ image. IsNoDamage why)) }
-    ensures untouched { IsUntouched D.tells (D.seen device.old) (D.seen device.new) }
+        OfMap D.trust (D.seen device.old) found.now (λ image. IsNoDamage why)) }
+    ensures untouched { IsUntouched D.trust.tells (D.seen device.old) (D.seen device.new) }
 {
     match leaf {
         Some(leaf) => read_slot(device, found, at, leaf),
@@ -138,14 +138,14 @@ fn read_slot<D: Disk>(
     requires room { needed_blocks found.now.head.geometry ≤ (D.seen device.old).size }
     requires leaf { LinkTo found.now.pages.links.items (leaf_of at.0) (Some leaf) }
     ensures mapping { IfOk result (λ mapping.
-        OfMap D.tells D.honest (D.seen device.old) found.now
+        OfMap D.trust (D.seen device.old) found.now
         (λ image. mapping ≡ mapping_of image at.0)) }
     ensures data { IfOk result (LeadsToData found.now.head.geometry) }
     ensures refused { IfErr result
         (IsRefused found.now at.0 (D.seen device.old) (D.seen device.new)) }
     ensures undamaged { IfErr result (λ why.
-        OfMap D.tells D.honest (D.seen device.old) found.now (λ image. IsNoDamage why)) }
-    ensures untouched { IsUntouched D.tells (D.seen device.old) (D.seen device.new) }
+        OfMap D.trust (D.seen device.old) found.now (λ image. IsNoDamage why)) }
+    ensures untouched { IsUntouched D.trust.tells (D.seen device.old) (D.seen device.new) }
 {
     let Ok(bytes) = read_block(device, leaf) else {
         return Err(ValueFault::Device);
@@ -167,10 +167,10 @@ fn read_mapped<D: Disk>(device: &mut D, found: &ImageMap, mapping: Mapping) -> R
     requires data { LeadsToData found.now.head.geometry mapping }
     requires room { needed_blocks found.now.head.geometry ≤ (D.seen device.old).size }
     ensures value { IfOk result (λ block.
-        OfMap D.tells D.honest (D.seen device.old) found.now
+        OfMap D.trust (D.seen device.old) found.now
         (λ image. block ≡ value_with image.blocks mapping)) }
     ensures cause { HasCause (D.seen device.old).faults (D.seen device.new).faults result }
-    ensures untouched { IsUntouched D.tells (D.seen device.old) (D.seen device.new) }
+    ensures untouched { IsUntouched D.trust.tells (D.seen device.old) (D.seen device.new) }
 {
     match mapping {
         Mapping::At(block) => read_block(device, block),

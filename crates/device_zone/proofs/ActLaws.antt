@@ -7,6 +7,7 @@ use Rattle.disk_model.specs.declared.call.Call.{Call}
 use Rattle.data_vio.specs.declared.items.Stage.{Stage}
 use Rattle.data_vio.specs.declared.items.Stage.TheVariants as stage
 use Rattle.disk_model.specs.Seen.{Seen}
+use Rattle.disk_model.specs.Trust.{Trust}
 use Rattle.data_vio.specs.declared.items.Item.{Item}
 use Rattle.data_vio.specs.declared.items.Item.TheVariants as item
 use Rattle.data_vio.specs.declared.items.Phase.{Phase}
@@ -33,24 +34,24 @@ use Rattle.step_parts.specs.DeviceLog.{HasCalled}
 use Rattle.step_parts.proofs.SilentLaws.{none_called}
 use Rattle.vdo_model.specs.declared.report.Damage.{Damage}
 
-pub acts : (tells honest : Bool) (sizes : Sizes) (old new : DeviceZone) (v : Vio) (posts : List Post) (before after : Seen)
-    → ((made : Trace) × DeviceServes sizes old v new made posts × HasCalled tells honest before after made)
-    → Acts tells honest sizes (at.Device old) (item.Request v ∷ []) (at.Device new) posts before after
-acts tells honest sizes old new v posts before after (made, phase_rule, log) = (made, calls phase_rule, log)
+pub acts : (trust : Trust) (sizes : Sizes) (old new : DeviceZone) (v : Vio) (posts : List Post) (before after : Seen)
+    → ((made : Trace) × DeviceServes sizes old v new made posts × HasCalled trust before after made)
+    → Acts trust sizes (at.Device old) (item.Request v ∷ []) (at.Device new) posts before after
+acts trust sizes old new v posts before after (made, phase_rule, log) = (made, calls phase_rule, log)
 
-pub works_on : (tells honest : Bool) (sizes : Sizes) (old new : DeviceZone) (b : SealedBlock) (posts : List Post) (before after : Seen)
-    → ((made : Trace) × DeviceWorks sizes old b new made posts × HasCalled tells honest before after made)
-    → Acts tells honest sizes (at.Device old) (item.Block b ∷ []) (at.Device new) posts before after
-works_on tells honest sizes old new b posts before after (made, phase_rule, log) = (made, works phase_rule, log)
+pub works_on : (trust : Trust) (sizes : Sizes) (old new : DeviceZone) (b : SealedBlock) (posts : List Post) (before after : Seen)
+    → ((made : Trace) × DeviceWorks sizes old b new made posts × HasCalled trust before after made)
+    → Acts trust sizes (at.Device old) (item.Block b ∷ []) (at.Device new) posts before after
+works_on trust sizes old new b posts before after (made, phase_rule, log) = (made, works phase_rule, log)
 
 -- it is told of damage, and the device isn't called
-pub hears : (tells honest : Bool) (sizes : Sizes) (old new : DeviceZone) (damage : Damage) (held posts : List Post) (seen : Seen)
+pub hears : (trust : Trust) (sizes : Sizes) (old new : DeviceZone) (damage : Damage) (held posts : List Post) (seen : Seen)
     → new ≡ harmed damage old → held ≡ [] → posts ≡ held ++ notices_after old.stopped sizes
-    → Acts tells honest sizes (at.Device old) (item.Damage damage ∷ []) (at.Device new) posts seen seen
-hears tells honest sizes old new damage held posts seen new_is none posts_are = (
+    → Acts trust sizes (at.Device old) (item.Damage damage ∷ []) (at.Device new) posts seen seen
+hears trust sizes old new damage held posts seen new_is none posts_are = (
   Hears damage ∷ [],
   halts (record { new_is = new_is; made_is = refl; posts_are = posts_are ∙ ap (λ (ps : List Post). ps ++ notices_after old.stopped sizes) none }),
-  none_called (Hears damage ∷ []) refl refl refl tells honest seen,
+  none_called (Hears damage ∷ []) refl refl refl trust seen,
 )
 
 served_there : (sizes : Sizes) (old : DeviceZone) (v : Vio) (q : Phase) → CanServe sizes old v q → (phase_rule q).zone ≡ AtDevice
@@ -77,15 +78,15 @@ durable_now d goes (inl stops) = let both : true ≡ false = sym stops ∙ goes 
 durable_now d goes (inr durable) = durable
 
 -- the superblock's call is an act too
-pub announced : (tells honest : Bool) (sizes : Sizes) (old new : DeviceZone) (v : Vio) (posts : List Post) (before after : Seen) → CanServe sizes old v v.phase
-    → ((made : Trace) × Announces sizes old (item.Request v) v.request new made posts × HasCalled tells honest before after made)
-    → (made : Trace) × DeviceServes sizes old v new made posts × HasCalled tells honest before after made
-announced tells honest sizes old new v posts before after can (made, act, log) = (made, device.announces (served_there sizes old v v.phase can) act, log)
+pub announced : (trust : Trust) (sizes : Sizes) (old new : DeviceZone) (v : Vio) (posts : List Post) (before after : Seen) → CanServe sizes old v v.phase
+    → ((made : Trace) × Announces sizes old (item.Request v) v.request new made posts × HasCalled trust before after made)
+    → (made : Trace) × DeviceServes sizes old v new made posts × HasCalled trust before after made
+announced trust sizes old new v posts before after can (made, act, log) = (made, device.announces (served_there sizes old v v.phase can) act, log)
 
-pub announced_block : (tells honest : Bool) (sizes : Sizes) (old new : DeviceZone) (b : SealedBlock) (v : Vio) (vs : List Vio) (posts : List Post) (before after : Seen) → b.vios ≡ v ∷ vs → needs_call b.stage ≡ true
-    → ((made : Trace) × Announces sizes old (item.Block b) v.request new made posts × HasCalled tells honest before after made)
-    → (made : Trace) × DeviceWorks sizes old b new made posts × HasCalled tells honest before after made
-announced_block tells honest sizes old new b v vs posts before after are needs (made, act, log) = (made, device.announces v vs are (needed_there b.stage needs) act, log)
+pub announced_block : (trust : Trust) (sizes : Sizes) (old new : DeviceZone) (b : SealedBlock) (v : Vio) (vs : List Vio) (posts : List Post) (before after : Seen) → b.vios ≡ v ∷ vs → needs_call b.stage ≡ true
+    → ((made : Trace) × Announces sizes old (item.Block b) v.request new made posts × HasCalled trust before after made)
+    → (made : Trace) × DeviceWorks sizes old b new made posts × HasCalled trust before after made
+announced_block trust sizes old new b v vs posts before after are needs (made, act, log) = (made, device.announces v vs are (needed_there b.stage needs) act, log)
 
 -- what waits for the superblock can't be served yet
 awaited : (sizes : Sizes) (ok : Bool) (call : Call) (now : SuperblockStage) → superblock_call sizes ok now ≡ Some call → now ≡ Durable → ⊥

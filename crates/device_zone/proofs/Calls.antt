@@ -11,6 +11,7 @@ use Rattle.disk_model.specs.Causes.{Rose, HasCause}
 use Rattle.disk_model.specs.Images.{IsMixOf}
 use Rattle.disk_model.specs.Log.{Blocks, settled}
 use Rattle.disk_model.specs.Seen.{Seen, Stays}
+use Rattle.disk_model.specs.Trust.{Trust, trust_of}
 use Rattle.disk_model.specs.LogSteps.{FailedInLog}
 use Rattle.data_vio.specs.declared.items.Item.TheVariants as item
 use Rattle.data_vio.specs.declared.items.SealedBlock.{SealedBlock}
@@ -39,31 +40,31 @@ read_done opening log at bytes (Ok x) whole given = (whole, given, tt)
 read_done opening log at bytes (Err e) whole given = tt
 
 -- a call that succeeded
-pub done_call : {T E : Type 0} (tells honest : Bool) (before after : Seen) (c : Call) (result : Result T E)
-    → Stays before after → (IsTrue tells → IsTrue honest → OnOk result (GivesSettled before.opening before.log (Calls c ∷ [])))
-    → (IsTrue tells → OnOk result (after.log ≡ c ∷ before.log)) → before.faults ≤ after.faults → before.unkept ≤ after.unkept
-    → OnOk result (HasCalled tells honest before after (Calls c ∷ []))
-done_call tells honest before after c (Err e) stays given said faults unkept = tt
-done_call tells honest before after c (Ok x) stays given said faults unkept = record { stays = stays; given = given; log = said; faults = omega (arith, faults); unkept = omega (arith, unkept); idle = λ none. absurd cc }
+pub done_call : {T E : Type 0} (trust : Trust) (before after : Seen) (c : Call) (result : Result T E)
+    → Stays before after → (IsTrue trust.tells → IsTrue trust.honest → OnOk result (GivesSettled before.opening before.log (Calls c ∷ [])))
+    → (IsTrue trust.tells → OnOk result (after.log ≡ c ∷ before.log)) → before.faults ≤ after.faults → before.unkept ≤ after.unkept
+    → OnOk result (HasCalled trust before after (Calls c ∷ []))
+done_call trust before after c (Err e) stays given said faults unkept = tt
+done_call trust before after c (Ok x) stays given said faults unkept = record { stays = stays; given = given; log = said; faults = omega (arith, faults); unkept = omega (arith, unkept); idle = λ none. absurd cc }
 
 -- a leaf that was read, and doesn't decode
-pub harm_called : (tells honest : Bool) (before after : Seen) (w : Writer) (at : Pbn) (bytes : List ℕ) (fault : PageFault) → HasCalled tells honest before after (Calls (call.Read at bytes true) ∷ []) → HasCalled tells honest before after (Harms w at bytes fault ∷ [])
-harm_called tells honest before after w at bytes fault done = record { stays = done.stays; log = done.log; given = done.given; faults = done.faults; unkept = done.unkept; idle = λ none. absurd cc }
+pub harm_called : (trust : Trust) (before after : Seen) (w : Writer) (at : Pbn) (bytes : List ℕ) (fault : PageFault) → HasCalled trust before after (Calls (call.Read at bytes true) ∷ []) → HasCalled trust before after (Harms w at bytes fault ∷ [])
+harm_called trust before after w at bytes fault done = record { stays = done.stays; log = done.log; given = done.given; faults = done.faults; unkept = done.unkept; idle = λ none. absurd cc }
 
 -- a call that failed: it stands in the log, or the count of those without a place rose
 failed : (tells honest : Bool) (before after : Seen) (c : Call) → Stays before after → (IsTrue tells → FailedInLog before.log after.log c (Rose before.unkept after.unkept))
-    → Rose before.faults after.faults → before.unkept ≤ after.unkept → HasFailed tells honest before after c
+    → Rose before.faults after.faults → before.unkept ≤ after.unkept → HasFailed (trust_of tells honest) before after c
 failed true honest before after c stays said rose unkept = elim (said refl) [
   | inl logged ↦ (true, λ w. record { stays = stays; given = λ told fair. tt; log = λ notified. logged; faults = omega (arith, rose); unkept = omega (arith, unkept); idle = λ none. absurd cc })
   | inr lost ↦ (false, λ w. record { stays = stays; given = λ told fair. tt; log = λ notified. lost.0; faults = omega (arith, rose); unkept = (let more = lost.1 in omega (arith, more)); idle = λ none. absurd cc })
 ]
 failed false honest before after c stays said rose unkept = (true, λ w. record { stays = stays; given = λ told fair. tt; log = λ (notified : false ≡ true). absurd cc; faults = omega (arith, rose); unkept = omega (arith, unkept); idle = λ none. absurd cc })
 
-pub failed_call : {T E : Type 0} (tells honest : Bool) (before after : Seen) (c : Call) (result : Result T E)
-    → Stays before after → (IsTrue tells → OnErr result (FailedInLog before.log after.log c (Rose before.unkept after.unkept))) → HasCause before.faults after.faults result → before.unkept ≤ after.unkept
-    → OnErr result (HasFailed tells honest before after c)
-failed_call tells honest before after c (Ok x) stays said cause unkept = tt
-failed_call tells honest before after c (Err e) stays said cause unkept = failed tells honest before after c stays said cause.failed unkept
+pub failed_call : {T E : Type 0} (trust : Trust) (before after : Seen) (c : Call) (result : Result T E)
+    → Stays before after → (IsTrue trust.tells → OnErr result (FailedInLog before.log after.log c (Rose before.unkept after.unkept))) → HasCause before.faults after.faults result → before.unkept ≤ after.unkept
+    → OnErr result (HasFailed trust before after c)
+failed_call trust before after c (Ok x) stays said cause unkept = tt
+failed_call trust before after c (Err e) stays said cause unkept = failed trust.tells trust.honest before after c stays said cause.failed unkept
 
 -- the call of a sealed block that is written, and of one that is flushed
 pub write_called : (sizes : Sizes) (b : SealedBlock) (slot : Pbn) (ok : Bool) (bytes : List ℕ) → b.stage ≡ stage.Write

@@ -5,6 +5,7 @@ use Rattle.blk_base.specs.Regions.{needed_blocks}
 use Rattle.blk_base.specs.declared.request.Writer.{Writer}
 use Rattle.disk_model.specs.declared.call.Call.{Call}
 use Rattle.disk_model.specs.Seen.{Seen}
+use Rattle.disk_model.specs.Trust.{Trust}
 use Rattle.data_vio.specs.declared.items.Stage.{Stage}
 use Rattle.data_vio.specs.declared.items.Stage.TheVariants as stage
 use Rattle.data_vio.specs.declared.sizes.Sizes.{Sizes}
@@ -19,8 +20,8 @@ pub record Fits (sizes : Sizes) (seen : Seen) : Type 0 where
   pub room : needed_blocks sizes.geometry ≤ seen.size
 
 -- this call failed, whoever it was made for
-abbrev pub HasFailed : Bool → Bool → Seen → Seen → Call → Type 0
-HasFailed tells honest before after call = (kept : Bool) × ((w : Writer) → HasCalled tells honest before after (Fails w call kept ∷ []))
+abbrev pub HasFailed : Trust → Seen → Seen → Call → Type 0
+HasFailed trust before after call = (kept : Bool) × ((w : Writer) → HasCalled trust before after (Fails w call kept ∷ []))
 
 -- what comes waits for the superblock
 abbrev pub is_awaited : SuperblockStage → Bool

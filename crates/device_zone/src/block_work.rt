@@ -86,10 +86,10 @@ fn make_call<D: Disk>(
     ensures stays { Stays (D.seen disk.old) (D.seen disk.new) }
     ensures ok { OnOk result
         ((made : Call) × (call_of sizes.now block.now slot true block.now.stage ≡ Some made)
-        × HasCalled D.tells D.honest (D.seen disk.old) (D.seen disk.new) (Calls made ∷ [])) }
+        × HasCalled D.trust (D.seen disk.old) (D.seen disk.new) (Calls made ∷ [])) }
     ensures err { OnErr result
         ((failed : Call) × (call_of sizes.now block.now slot false block.now.stage ≡ Some failed)
-        × HasFailed D.tells D.honest (D.seen disk.old) (D.seen disk.new) failed) }
+        × HasFailed D.trust (D.seen disk.old) (D.seen disk.new) failed) }
 {
     match block.stage {
         Stage::Write => {
@@ -122,7 +122,7 @@ pub(crate) fn work_block<D: Disk>(
     requires may { MayServe sizes.now zone.old (D.seen disk.old) posts.old }
     ensures stays { Stays (D.seen disk.old) (D.seen disk.new) }
     ensures works { (made : Trace) × DeviceWorks sizes.now zone.old block zone.new made posts.new
-        × HasCalled D.tells D.honest (D.seen disk.old) (D.seen disk.new) made }
+        × HasCalled D.trust (D.seen disk.old) (D.seen disk.new) made }
 {
     if waits(zone) {
         announce(sizes, zone, Item::Block(block), disk, posts);

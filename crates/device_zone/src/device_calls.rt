@@ -13,10 +13,10 @@ pub(crate) fn read_block<D: Disk>(disk: &mut D, at: Pbn, into: &mut Block) -> Re
     requires { at.0 < (D.seen disk.old).size }
     ensures stays { Stays (D.seen disk.old) (D.seen disk.new) }
     ensures ok { OnOk result
-        (HasCalled D.tells D.honest (D.seen disk.old) (D.seen disk.new)
+        (HasCalled D.trust (D.seen disk.old) (D.seen disk.new)
         (Calls (call.Read at into.new true) ∷ [])) }
     ensures err { OnErr result
-        (HasFailed D.tells D.honest (D.seen disk.old) (D.seen disk.new)
+        (HasFailed D.trust (D.seen disk.old) (D.seen disk.new)
         (call.Read at into.new false)) }
 {
     disk.read(at, into)
@@ -27,10 +27,10 @@ pub(crate) fn write_block<D: Disk>(disk: &mut D, at: Pbn, from: &Block) -> Resul
     requires { at.0 < (D.seen disk.old).size }
     ensures stays { Stays (D.seen disk.old) (D.seen disk.new) }
     ensures ok { OnOk result
-        (HasCalled D.tells D.honest (D.seen disk.old) (D.seen disk.new)
+        (HasCalled D.trust (D.seen disk.old) (D.seen disk.new)
         (Calls (call.Write at from.now true) ∷ [])) }
     ensures err { OnErr result
-        (HasFailed D.tells D.honest (D.seen disk.old) (D.seen disk.new)
+        (HasFailed D.trust (D.seen disk.old) (D.seen disk.new)
         (call.Write at from.now false)) }
 {
     disk.write(at, from)
@@ -40,10 +40,10 @@ pub(crate) fn write_block<D: Disk>(disk: &mut D, at: Pbn, from: &Block) -> Resul
 pub(crate) fn flush<D: Disk>(disk: &mut D) -> Result<(), Failed>
     ensures stays { Stays (D.seen disk.old) (D.seen disk.new) }
     ensures ok { OnOk result
-        (HasCalled D.tells D.honest (D.seen disk.old) (D.seen disk.new)
+        (HasCalled D.trust (D.seen disk.old) (D.seen disk.new)
         (Calls (call.Flush true) ∷ [])) }
     ensures err { OnErr result
-        (HasFailed D.tells D.honest (D.seen disk.old) (D.seen disk.new) (call.Flush false)) }
+        (HasFailed D.trust (D.seen disk.old) (D.seen disk.new) (call.Flush false)) }
 {
     disk.flush()
 }

@@ -26,7 +26,7 @@ pub fn act<D: Disk>(
     requires may { MayServe sizes.now zone.old (D.seen disk.old) posts.old }
     requires rule { HasAct sizes.now (at.Device zone.old) (item ∷ []) }
     ensures stays { Stays (D.seen disk.old) (D.seen disk.new) }
-    ensures acts { Acts D.tells D.honest sizes.now (at.Device zone.old) (item ∷ [])
+    ensures acts { Acts D.trust sizes.now (at.Device zone.old) (item ∷ [])
         (at.Device zone.new) posts.new (D.seen disk.old) (D.seen disk.new) }
 {
     match item {

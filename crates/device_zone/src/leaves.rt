@@ -88,7 +88,7 @@ fn load_leaf<D: Disk>(
     requires may { MayServe sizes.now zone.old (D.seen disk.old) posts.old }
     ensures stays { Stays (D.seen disk.old) (D.seen disk.new) }
     ensures serves { (made : Trace) × DeviceServes sizes.now zone.old vio zone.new made posts.new
-        × HasCalled D.tells D.honest (D.seen disk.old) (D.seen disk.new) made }
+        × HasCalled D.trust (D.seen disk.old) (D.seen disk.new) made }
 {
     let home = vio.get().home;
     let at = vio.get().at;
@@ -124,7 +124,7 @@ pub(crate) fn serve_load_leaf<D: Disk>(
     requires may { MayServe sizes.now zone.old (D.seen disk.old) posts.old }
     ensures stays { Stays (D.seen disk.old) (D.seen disk.new) }
     ensures serves { (made : Trace) × DeviceServes sizes.now zone.old vio zone.new made posts.new
-        × HasCalled D.tells D.honest (D.seen disk.old) (D.seen disk.new) made }
+        × HasCalled D.trust (D.seen disk.old) (D.seen disk.new) made }
 {
     let Some(leaf) = vio.get().leaf else {
         unreachable!();

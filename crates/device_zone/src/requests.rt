@@ -41,10 +41,10 @@ fn write_stored<D: Disk>(sizes: &Sizes, vio: &Vio, block: Pbn, disk: &mut D) -> 
     requires inside { block.0 < (D.seen disk.old).size }
     ensures stays { Stays (D.seen disk.old) (D.seen disk.new) }
     ensures ok { OnOk result
-        (HasCalled D.tells D.honest (D.seen disk.old) (D.seen disk.new)
+        (HasCalled D.trust (D.seen disk.old) (D.seen disk.new)
         (Calls (call.Write block (rules.stored sizes.now vio.now block) true) ∷ [])) }
     ensures err { OnErr result
-        (HasFailed D.tells D.honest (D.seen disk.old) (D.seen disk.new)
+        (HasFailed D.trust (D.seen disk.old) (D.seen disk.new)
         (call.Write block (rules.stored sizes.now vio.now block) false)) }
 {
     match vio.page {
@@ -70,7 +70,7 @@ fn store<D: Disk>(
     requires may { MayServe sizes.now zone.old (D.seen disk.old) posts.old }
     ensures stays { Stays (D.seen disk.old) (D.seen disk.new) }
     ensures serves { (made : Trace) × DeviceServes sizes.now zone.old vio zone.new made posts.new
-        × HasCalled D.tells D.honest (D.seen disk.old) (D.seen disk.new) made }
+        × HasCalled D.trust (D.seen disk.old) (D.seen disk.new) made }
 {
     let Ok(()) = write_stored(sizes, vio.get(), block, disk) else {
         let to = counts_of(sizes, vio.get());
@@ -98,7 +98,7 @@ fn load<D: Disk>(
     requires may { MayServe sizes.now zone.old (D.seen disk.old) posts.old }
     ensures stays { Stays (D.seen disk.old) (D.seen disk.new) }
     ensures serves { (made : Trace) × DeviceServes sizes.now zone.old vio zone.new made posts.new
-        × HasCalled D.tells D.honest (D.seen disk.old) (D.seen disk.new) made }
+        × HasCalled D.trust (D.seen disk.old) (D.seen disk.new) made }
 {
     let home = vio.get().home;
     let mut bytes = Block::zero();
@@ -124,7 +124,7 @@ fn flush_for<D: Disk>(
     requires may { MayServe sizes.now zone.old (D.seen disk.old) posts.old }
     ensures stays { Stays (D.seen disk.old) (D.seen disk.new) }
     ensures serves { (made : Trace) × DeviceServes sizes.now zone.old vio zone.new made posts.new
-        × HasCalled D.tells D.honest (D.seen disk.old) (D.seen disk.new) made }
+        × HasCalled D.trust (D.seen disk.old) (D.seen disk.new) made }
 {
     if zone.stopped {
         let unmade = vio.end(Phase::Reply, Answer::Stopped);
@@ -154,7 +154,7 @@ fn serve_store<D: Disk>(
     requires may { MayServe sizes.now zone.old (D.seen disk.old) posts.old }
     ensures stays { Stays (D.seen disk.old) (D.seen disk.new) }
     ensures serves { (made : Trace) × DeviceServes sizes.now zone.old vio zone.new made posts.new
-        × HasCalled D.tells D.honest (D.seen disk.old) (D.seen disk.new) made }
+        × HasCalled D.trust (D.seen disk.old) (D.seen disk.new) made }
 {
     if zone.stopped {
         let to = counts_of(sizes, vio.get());
@@ -182,7 +182,7 @@ fn serve_load<D: Disk>(
     requires may { MayServe sizes.now zone.old (D.seen disk.old) posts.old }
     ensures stays { Stays (D.seen disk.old) (D.seen disk.new) }
     ensures serves { (made : Trace) × DeviceServes sizes.now zone.old vio zone.new made posts.new
-        × HasCalled D.tells D.honest (D.seen disk.old) (D.seen disk.new) made }
+        × HasCalled D.trust (D.seen disk.old) (D.seen disk.new) made }
 {
     let Mapping::At(block) = vio.get().old else {
         unreachable!();
@@ -202,7 +202,7 @@ pub(crate) fn call_device<D: Disk>(
     requires may { MayServe sizes.now zone.old (D.seen disk.old) posts.old }
     ensures stays { Stays (D.seen disk.old) (D.seen disk.new) }
     ensures serves { (made : Trace) × DeviceServes sizes.now zone.old vio zone.new made posts.new
-        × HasCalled D.tells D.honest (D.seen disk.old) (D.seen disk.new) made }
+        × HasCalled D.trust (D.seen disk.old) (D.seen disk.new) made }
 {
     if waits(zone) {
         announce(sizes, zone, Item::Request(vio), disk, posts);

@@ -62,10 +62,10 @@ fn make_call<D: Disk>(sizes: &Sizes, stage: SuperblockStage, disk: &mut D) -> Re
     ensures stays { Stays (D.seen disk.old) (D.seen disk.new) }
     ensures ok { OnOk result
         ((made : Call) × (superblock_call sizes.now true stage ≡ Some made)
-        × HasCalled D.tells D.honest (D.seen disk.old) (D.seen disk.new) (Calls made ∷ [])) }
+        × HasCalled D.trust (D.seen disk.old) (D.seen disk.new) (Calls made ∷ [])) }
     ensures err { OnErr result
         ((failed : Call) × (superblock_call sizes.now false stage ≡ Some failed)
-        × HasFailed D.tells D.honest (D.seen disk.old) (D.seen disk.new) failed) }
+        × HasFailed D.trust (D.seen disk.old) (D.seen disk.new) failed) }
 {
     match stage {
         SuperblockStage::AsOpened => write_block(disk, Pbn(0), &superblock(sizes)),
@@ -87,7 +87,7 @@ pub(crate) fn announce<D: Disk>(
     ensures stays { Stays (D.seen disk.old) (D.seen disk.new) }
     ensures announces { (w : Writer) → (made : Trace)
         × Announces sizes.now zone.old front w zone.new made posts.new
-        × HasCalled D.tells D.honest (D.seen disk.old) (D.seen disk.new) made }
+        × HasCalled D.trust (D.seen disk.old) (D.seen disk.new) made }
 {
     let Ok(()) = make_call(sizes, zone.superblock, disk) else {
         halt(sizes, zone, ZoneId::Device, front, posts);

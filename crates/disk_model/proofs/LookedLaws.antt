@@ -15,6 +15,7 @@ use Rattle.disk_model.specs.Images.{IsMixOf, IsImage, HasOneImage}
 use Rattle.disk_model.specs.Log.{Blocks, block_at, settled, contents, Misses}
 use Rattle.disk_model.specs.OneImages.{IsImageIn, HasOneImageIn, AreAlikeIn}
 use Rattle.disk_model.specs.Seen.{Seen}
+use Rattle.disk_model.specs.Trust.{Trust}
 use Rattle.disk_model.specs.Since.{AreGiven, OnlyReads, SinceThen}
 use Rattle.disk_model.proofs.ImageLaws.{block_of_image, block_of_mix, kept, settled_are_contents}
 use Rattle.disk_model.proofs.OneImageLaws.{contents_from, mix_of_one, settled_from}
@@ -119,8 +120,8 @@ module _ (looked : ℕ → Bool) where
       block_of_mix (settled opening log at) (block_at image at) block (one.whole at below) whole mix (settled_are_contents _ opening log at (one.only at below here))
 
   -- Blocks that an honest device gave one after the other, from a place on, are those of the image.
-  module _ (tells honest : Bool) (from : ℕ) (before : Seen) (image : Blocks) (told : IsTrue tells) (fair : IsTrue honest) (one : HasOneImageIn looked before.opening before.log image) where
-    pub given_block : (blocks : List (List ℕ)) → AreGiven tells honest from before blocks → from + length blocks ≤ length before.opening
+  module _ (trust : Trust) (from : ℕ) (before : Seen) (image : Blocks) (told : IsTrue trust.tells) (fair : IsTrue trust.honest) (one : HasOneImageIn looked before.opening before.log image) where
+    pub given_block : (blocks : List (List ℕ)) → AreGiven trust from before blocks → from + length blocks ≤ length before.opening
         → (i : ℕ) → i < length blocks → IsTrue (looked (from + i)) → block_at image (from + i) ≡ block_at (reverse blocks) i
     given_block [] given room i below here = absurd (omega (arith, below))
     given_block (bytes ∷ older) (whole, mix, given) room i below here =
@@ -144,7 +145,7 @@ module _ (looked : ℕ → Bool) where
               ∙ sym (ap (block_at (reverse (bytes ∷ older))) last_is ∙ last)
         ]
 
-    pub given_blocks : (blocks : List (List ℕ)) → AreGiven tells honest from before blocks → from + length blocks ≤ length before.opening
+    pub given_blocks : (blocks : List (List ℕ)) → AreGiven trust from before blocks → from + length blocks ≤ length before.opening
         → ((b : ℕ) → b < from + length blocks → IsTrue (looked b)) → reverse blocks ≡ take (length blocks) (drop from image)
     given_blocks [] given room looks = refl
     given_blocks (bytes ∷ older) (whole, mix, given) room looks =

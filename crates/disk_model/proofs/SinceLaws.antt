@@ -11,6 +11,7 @@ use Rattle.disk_model.specs.Causes.{Rose}
 use Rattle.disk_model.specs.Images.{IsImage, IsMixOf}
 use Rattle.disk_model.specs.Log.{Blocks, block_at, settled, contents}
 use Rattle.disk_model.specs.Seen.{Seen, Stays, Later}
+use Rattle.disk_model.specs.Trust.{Trust}
 use Rattle.disk_model.specs.Since.{SinceThen, OnlyReads, IsUntouched, reads_of, AreGiven, WereRead, NextFailed}
 use Rattle.disk_model.specs.LogSteps.{FailedInLog}
 use Rattle.disk_model.proofs.ImageLaws.{block_of_mix, settled_are_contents}
@@ -65,8 +66,8 @@ pub only_reads : (from : ℕ) (blocks : List (List ℕ)) → OnlyReads (reads_of
 only_reads from [] = tt
 only_reads from (bytes ∷ older) = only_reads from older
 
-pub were_only_read : (tells honest : Bool) (from : ℕ) (before now : Seen) (blocks : List (List ℕ)) → WereRead tells honest from before now blocks → IsUntouched tells before now
-were_only_read tells honest from before now blocks read = record {
+pub were_only_read : (trust : Trust) (from : ℕ) (before now : Seen) (blocks : List (List ℕ)) → WereRead trust from before now blocks → IsUntouched trust.tells before now
+were_only_read trust from before now blocks read = record {
   stays = read.stays;
   later = read.later;
   reads = λ told. (reads_of from blocks, read.logged told, only_reads from blocks);
@@ -76,22 +77,22 @@ failed_reads : (log now older : List Call) (at : Pbn) (bytes : List ℕ) (lost :
 failed_reads log now older at bytes lost reads (inl is) = (Read at bytes false ∷ older, is, reads)
 failed_reads log now older at bytes lost reads (inr same) = (older, same.0, reads)
 
-pub next_only_read : (tells honest : Bool) (from : ℕ) (before now : Seen) (blocks : List (List ℕ)) → NextFailed tells honest from before now blocks → IsUntouched tells before now
-next_only_read tells honest from before now blocks failed = record {
+pub next_only_read : (trust : Trust) (from : ℕ) (before now : Seen) (blocks : List (List ℕ)) → NextFailed trust from before now blocks → IsUntouched trust.tells before now
+next_only_read trust from before now blocks failed = record {
   stays = failed.stays;
   later = failed.later;
   reads = λ told. let is = failed.logged told in failed_reads before.log now.log (reads_of from blocks) _ is.0 _ (only_reads from blocks) is.1;
 }
 
 -- no block yet, and one more
-pub none_read : (tells honest : Bool) (from : ℕ) (seen : Seen) → (IsTrue tells → length seen.opening ≡ seen.size) → WereRead tells honest from seen seen []
-none_read tells honest from seen told = record { told = told; stays = stays_yet seen; later = later_yet seen; given = tt; logged = λ tells. refl }
+pub none_read : (trust : Trust) (from : ℕ) (seen : Seen) → (IsTrue trust.tells → length seen.opening ≡ seen.size) → WereRead trust from seen seen []
+none_read trust from seen told = record { told = told; stays = stays_yet seen; later = later_yet seen; given = tt; logged = λ tells. refl }
 
 -- one read
-pub one_read : (tells honest : Bool) (from : ℕ) (before now : Seen) (at : Pbn) (bytes : List ℕ) → at.0 ≡ from → (IsTrue tells → length before.opening ≡ before.size)
-    → Stays before now → Later before now → length bytes ≡ 4096 → (IsTrue tells → IsTrue honest → IsMixOf (settled before.opening before.log at.0) bytes)
-    → (IsTrue tells → now.log ≡ Read at bytes true ∷ before.log) → WereRead tells honest from before now (bytes ∷ [])
-one_read tells honest from before now at bytes place told stays later whole given logged =
+pub one_read : (trust : Trust) (from : ℕ) (before now : Seen) (at : Pbn) (bytes : List ℕ) → at.0 ≡ from → (IsTrue trust.tells → length before.opening ≡ before.size)
+    → Stays before now → Later before now → length bytes ≡ 4096 → (IsTrue trust.tells → IsTrue trust.honest → IsMixOf (settled before.opening before.log at.0) bytes)
+    → (IsTrue trust.tells → now.log ≡ Read at bytes true ∷ before.log) → WereRead trust from before now (bytes ∷ [])
+one_read trust from before now at bytes place told stays later whole given logged =
     let here : at.0 ≡ from + 0 = omega (arith, place) in record {
       told = told;
       stays = stays;
@@ -101,10 +102,10 @@ one_read tells honest from before now at bytes place told stays later whole give
     }
 
 -- a read that failed
-pub one_failed : (tells honest : Bool) (from : ℕ) (before now : Seen) (at : Pbn) (bytes : List ℕ) → at.0 ≡ from
+pub one_failed : (trust : Trust) (from : ℕ) (before now : Seen) (at : Pbn) (bytes : List ℕ) → at.0 ≡ from
     → Stays before now → Later before now → Rose before.faults now.faults
-    → (IsTrue tells → FailedInLog before.log now.log (Read at bytes false) (Rose before.unkept now.unkept)) → NextFailed tells honest from before now []
-one_failed tells honest from before now at bytes place stays later rose logged =
+    → (IsTrue trust.tells → FailedInLog before.log now.log (Read at bytes false) (Rose before.unkept now.unkept)) → NextFailed trust from before now []
+one_failed trust from before now at bytes place stays later rose logged =
     let here : at.0 ≡ from + 0 = omega (arith, place) in record {
       stays = stays;
       later = later;
@@ -131,18 +132,18 @@ reads_are_one from (x ∷ xs) (y ∷ ys) log same =
     let others : xs ≡ ys = reads_are_one from xs ys log cc in
     rw (heads, others) refl
 
-pub read_are_one : (tells honest : Bool) (from : ℕ) (before now : Seen) (xs ys : List (List ℕ)) → IsTrue tells → WereRead tells honest from before now xs → WereRead tells honest from before now ys → xs ≡ ys
-read_are_one tells honest from before now xs ys told one other = reads_are_one from xs ys before.log (sym (one.logged told) ∙ other.logged told)
+pub read_are_one : (trust : Trust) (from : ℕ) (before now : Seen) (xs ys : List (List ℕ)) → IsTrue trust.tells → WereRead trust from before now xs → WereRead trust from before now ys → xs ≡ ys
+read_are_one trust from before now xs ys told one other = reads_are_one from xs ys before.log (sym (one.logged told) ∙ other.logged told)
 
-module _ (tells honest : Bool) (from : ℕ) (before middle now : Seen) (blocks : List (List ℕ)) (was : WereRead tells honest from before middle blocks) where
+module _ (trust : Trust) (from : ℕ) (before middle now : Seen) (blocks : List (List ℕ)) (was : WereRead trust from before middle blocks) where
   -- what is settled after the reads was settled before them
-  settled_before : IsTrue tells → (b : ℕ) → settled middle.opening middle.log b ≡ settled before.opening before.log b
+  settled_before : IsTrue trust.tells → (b : ℕ) → settled middle.opening middle.log b ≡ settled before.opening before.log b
   settled_before told b =
       ap (λ (opening : Blocks). settled opening middle.log b) was.stays.opening
       ∙ ap (λ (log : List Call). settled before.opening log b) (was.logged told)
       ∙ same_settled before.opening from blocks before.log b
 
-  append_given : (more : List (List ℕ)) → AreGiven tells honest (from + length blocks) middle more → AreGiven tells honest from before (more ++ blocks)
+  append_given : (more : List (List ℕ)) → AreGiven trust (from + length blocks) middle more → AreGiven trust from before (more ++ blocks)
   append_given [] given = was.given
   append_given (bytes ∷ more) given =
       let place : from + length blocks + length more ≡ from + length (more ++ blocks) = omega (arith, length-append more blocks) in (
@@ -159,14 +160,14 @@ module _ (tells honest : Bool) (from : ℕ) (before middle now : Seen) (blocks :
       ap (λ (calls : List Call). here (from + length blocks + length more) ∷ calls) (append_reads more)
       ∙ ap (λ (b : ℕ). here b ∷ reads_of from (more ++ blocks)) place
 
-  log_before : IsTrue tells → (more : List (List ℕ)) → reads_of (from + length blocks) more ++ middle.log ≡ reads_of from (more ++ blocks) ++ before.log
+  log_before : IsTrue trust.tells → (more : List (List ℕ)) → reads_of (from + length blocks) more ++ middle.log ≡ reads_of from (more ++ blocks) ++ before.log
   log_before told more =
       ap (λ (log : List Call). reads_of (from + length blocks) more ++ log) (was.logged told)
       ∙ sym (append_assoc (reads_of (from + length blocks) more) (reads_of from blocks) before.log)
       ∙ ap (λ (calls : List Call). calls ++ before.log) (append_reads more)
 
   -- what a read that failed behind others adds to the log
-  moved_log : IsTrue tells → (more : List (List ℕ)) (bytes : List ℕ)
+  moved_log : IsTrue trust.tells → (more : List (List ℕ)) (bytes : List ℕ)
       → FailedInLog (reads_of (from + length blocks) more ++ middle.log) now.log (Read (record { 0 = from + length blocks + length more }) bytes false) (Rose middle.unkept now.unkept)
       → FailedInLog (reads_of from (more ++ blocks) ++ before.log) now.log (Read (record { 0 = from + length (more ++ blocks) }) bytes false) (Rose before.unkept now.unkept)
   moved_log told more bytes fails =
@@ -180,7 +181,7 @@ module _ (tells honest : Bool) (from : ℕ) (before middle now : Seen) (blocks :
       ]
 
   -- blocks that were read behind others
-  pub read_on : (more : List (List ℕ)) → WereRead tells honest (from + length blocks) middle now more → WereRead tells honest from before now (more ++ blocks)
+  pub read_on : (more : List (List ℕ)) → WereRead trust (from + length blocks) middle now more → WereRead trust from before now (more ++ blocks)
   read_on more read = record {
     told = was.told;
     stays = stays_on before middle now was.stays read.stays;
@@ -190,7 +191,7 @@ module _ (tells honest : Bool) (from : ℕ) (before middle now : Seen) (blocks :
   }
 
   -- a read that failed behind others
-  pub failed_on : (more : List (List ℕ)) → NextFailed tells honest (from + length blocks) middle now more → NextFailed tells honest from before now (more ++ blocks)
+  pub failed_on : (more : List (List ℕ)) → NextFailed trust (from + length blocks) middle now more → NextFailed trust from before now (more ++ blocks)
   failed_on more failed = record {
     stays = stays_on before middle now was.stays failed.stays;
     later = later_on before middle now was.later failed.later;
@@ -199,37 +200,37 @@ module _ (tells honest : Bool) (from : ℕ) (before middle now : Seen) (blocks :
     logged = λ told. let is = failed.logged told in (is.0, moved_log told more is.0 is.1);
   }
 
-module _ (tells honest : Bool) (from : ℕ) (first now next : Seen) (blocks : List (List ℕ)) (at : Pbn) (bytes : List ℕ) (place : at.0 ≡ from + length blocks)
-    (was : WereRead tells honest from first now (reverse blocks)) (stays : Stays now next) (later : Later now next) where
+module _ (trust : Trust) (from : ℕ) (first now next : Seen) (blocks : List (List ℕ)) (at : Pbn) (bytes : List ℕ) (place : at.0 ≡ from + length blocks)
+    (was : WereRead trust from first now (reverse blocks)) (stays : Stays now next) (later : Later now next) where
   here : at.0 ≡ from + length (reverse blocks)
   here = omega (arith, place, length-reverse blocks)
 
   -- one block more
-  pub one_more : length bytes ≡ 4096 → (IsTrue tells → IsTrue honest → IsMixOf (settled now.opening now.log at.0) bytes) → (IsTrue tells → next.log ≡ Read at bytes true ∷ now.log)
-      → WereRead tells honest from first next (reverse (blocks ++ (bytes ∷ [])))
+  pub one_more : length bytes ≡ 4096 → (IsTrue trust.tells → IsTrue trust.honest → IsMixOf (settled now.opening now.log at.0) bytes) → (IsTrue trust.tells → next.log ≡ Read at bytes true ∷ now.log)
+      → WereRead trust from first next (reverse (blocks ++ (bytes ∷ [])))
   one_more whole given logged =
-      let still : IsTrue tells → length now.opening ≡ now.size = λ told. ap length was.stays.opening ∙ was.told told ∙ sym was.stays.size in
-      let one = one_read tells honest (from + length (reverse blocks)) now next at bytes here still stays later whole given logged in
-      subst (WereRead tells honest from first next) (sym (reverse-append blocks (bytes ∷ []))) (read_on tells honest from first now next (reverse blocks) was (bytes ∷ []) one)
+      let still : IsTrue trust.tells → length now.opening ≡ now.size = λ told. ap length was.stays.opening ∙ was.told told ∙ sym was.stays.size in
+      let one = one_read trust (from + length (reverse blocks)) now next at bytes here still stays later whole given logged in
+      subst (WereRead trust from first next) (sym (reverse-append blocks (bytes ∷ []))) (read_on trust from first now next (reverse blocks) was (bytes ∷ []) one)
 
   -- the next one couldn't be read
-  pub none_more : Rose now.faults next.faults → (IsTrue tells → FailedInLog now.log next.log (Read at bytes false) (Rose now.unkept next.unkept))
-      → NextFailed tells honest from first next (reverse blocks)
+  pub none_more : Rose now.faults next.faults → (IsTrue trust.tells → FailedInLog now.log next.log (Read at bytes false) (Rose now.unkept next.unkept))
+      → NextFailed trust from first next (reverse blocks)
   none_more rose logged =
-      failed_on tells honest from first now next (reverse blocks) was [] (one_failed tells honest (from + length (reverse blocks)) now next at bytes here stays later rose logged)
+      failed_on trust from first now next (reverse blocks) was [] (one_failed trust (from + length (reverse blocks)) now next at bytes here stays later rose logged)
 
-module _ (tells honest : Bool) (from : ℕ) (first now next : Seen) (blocks : List (List ℕ)) (at : Pbn) (place : at.0 ≡ from + length blocks)
-    (was : WereRead tells honest from first now (reverse blocks)) where
+module _ (trust : Trust) (from : ℕ) (first now next : Seen) (blocks : List (List ℕ)) (at : Pbn) (place : at.0 ≡ from + length blocks)
+    (was : WereRead trust from first now (reverse blocks)) where
   behind : at.0 ≡ from + length (reverse blocks)
   behind = omega (arith, place, length-reverse blocks)
 
   -- the block behind them
-  pub next_read : (bytes : List ℕ) → WereRead tells honest at.0 now next (bytes ∷ []) → WereRead tells honest from first next (reverse (blocks ++ (bytes ∷ [])))
+  pub next_read : (bytes : List ℕ) → WereRead trust at.0 now next (bytes ∷ []) → WereRead trust from first next (reverse (blocks ++ (bytes ∷ [])))
   next_read bytes read =
-      subst (WereRead tells honest from first next) (sym (reverse-append blocks (bytes ∷ [])))
-      (read_on tells honest from first now next (reverse blocks) was (bytes ∷ []) (subst (λ (b : ℕ). WereRead tells honest b now next (bytes ∷ [])) behind read))
+      subst (WereRead trust from first next) (sym (reverse-append blocks (bytes ∷ [])))
+      (read_on trust from first now next (reverse blocks) was (bytes ∷ []) (subst (λ (b : ℕ). WereRead trust b now next (bytes ∷ [])) behind read))
 
   -- it couldn't be read
-  pub next_failed : NextFailed tells honest at.0 now next [] → NextFailed tells honest from first next (reverse blocks)
+  pub next_failed : NextFailed trust at.0 now next [] → NextFailed trust from first next (reverse blocks)
   next_failed failed =
-      failed_on tells honest from first now next (reverse blocks) was [] (subst (λ (b : ℕ). NextFailed tells honest b now next []) behind failed)
+      failed_on trust from first now next (reverse blocks) was [] (subst (λ (b : ℕ). NextFailed trust b now next []) behind failed)

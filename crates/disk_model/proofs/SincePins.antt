@@ -10,6 +10,7 @@ use Rattle.disk_model.specs.declared.reads.BlocksFault.TheVariants.{Device, Memo
 use Rattle.disk_model.specs.Causes.{Rose}
 use Rattle.disk_model.specs.Log.{Blocks, block_at}
 use Rattle.disk_model.specs.Seen.{Seen, Stays, Later}
+use Rattle.disk_model.specs.Trust.{trust_of}
 use Rattle.disk_model.specs.Since.{SinceThen, OnlyReads, IsUntouched, reads_of, AreGiven, WereRead, NextFailed, StopsBefore, OfDevice}
 use Rattle.disk_model.specs.LogSteps.{FailedInLog}
 
@@ -131,27 +132,27 @@ no_reads : reads_of 1 [] ≡ []
 no_reads = refl
 
 -- AreGiven: whole blocks, and of an honest device what was settled in each
-given : AreGiven true true 0 first (block 2 ∷ block 1 ∷ [])
+given : AreGiven (trust_of true true) 0 first (block 2 ∷ block 1 ∷ [])
 given = (block_length 2, (λ told honest i within. inl refl), (block_length 1, (λ told honest i within. inl refl), tt))
 
-given-not_short : AreGiven true true 0 first ([] ∷ []) → ⊥
+given-not_short : AreGiven (trust_of true true) 0 first ([] ∷ []) → ⊥
 given-not_short given = let whole = given.0 in omega (arith, whole)
 
 -- what an honest device gives of block 0 is what was there
-gives_first : (byte : ℕ) → AreGiven true true 0 first (block byte ∷ []) → byte ≡ 1
+gives_first : (byte : ℕ) → AreGiven (trust_of true true) 0 first (block byte ∷ []) → byte ≡ 1
 gives_first byte given = elim (given.1 refl refl 0 (omega arith)) [ inl same ↦ sectors_tell byte 1 same | inr none ↦ absurd none ]
 
-given-not_other_bytes : AreGiven true true 0 first (block 9 ∷ []) → ⊥
+given-not_other_bytes : AreGiven (trust_of true true) 0 first (block 9 ∷ []) → ⊥
 given-not_other_bytes given = let byte = gives_first 9 given in omega (arith, byte)
 
-given-not_of_another_place : AreGiven true true 0 first (block 2 ∷ []) → ⊥
+given-not_of_another_place : AreGiven (trust_of true true) 0 first (block 2 ∷ []) → ⊥
 given-not_of_another_place given = let byte = gives_first 2 given in omega (arith, byte)
 
-given-not_older : AreGiven true true 0 first (block 2 ∷ block 9 ∷ []) → ⊥
+given-not_older : AreGiven (trust_of true true) 0 first (block 2 ∷ block 9 ∷ []) → ⊥
 given-not_older given = given-not_other_bytes given.2
 
 -- of one that isn't honest, whole blocks alone
-given-dishonest : AreGiven true false 0 first (block 9 ∷ [])
+given-dishonest : AreGiven (trust_of true false) 0 first (block 9 ∷ [])
 given-dishonest = (block_length 9, (λ told honest. absurd cc), tt)
 
 -- WereRead: both blocks were read, and nothing else happened
@@ -162,7 +163,7 @@ abbrev both_reads : List Call
 both_reads = Read (at 1) (block 2) true ∷ Read (at 0) (block 1) true ∷ []
 
 abbrev Were : Seen → Seen → List (List ℕ) → Type 0
-Were before now blocks = WereRead true true 0 before now blocks
+Were before now blocks = WereRead (trust_of true true) 0 before now blocks
 
 were_read : Were first (after both_reads 3 3) both
 were_read = record {
@@ -191,12 +192,12 @@ were_read-not_unread were = let is = were.logged refl in absurd cc
 were_read-not_flushed : Were first (after (Flush true ∷ []) 3 3) [] → ⊥
 were_read-not_flushed were = let is = were.logged refl in absurd cc
 
-were_read-not_unread_alone : AreGiven true true 0 first (block 1 ∷ []) × Later first (after [] 3 3) × Stays first (after [] 3 3)
+were_read-not_unread_alone : AreGiven (trust_of true true) 0 first (block 1 ∷ []) × Later first (after [] 3 3) × Stays first (after [] 3 3)
 were_read-not_unread_alone = ((block_length 1, (λ told honest i within. inl refl), tt), record { faults = omega arith; unkept = omega arith }, record { opening = refl; size = refl })
 
 -- NextFailed: block 0 was read, and a read of block 1 failed
 abbrev Next : Seen → List (List ℕ) → Type 0
-Next now blocks = NextFailed true true 0 first now blocks
+Next now blocks = NextFailed (trust_of true true) 0 first now blocks
 
 abbrev one_failed : Pbn → List Call
 one_failed next = Read next (block 7) false ∷ Read (at 0) (block 1) true ∷ []
@@ -251,13 +252,13 @@ next_failed-not_unlogged failed = elim (failed.logged refl).1 [
 ]
 
 -- StopsBefore: fewer than all were read, and the next one failed
-stops : StopsBefore true true 0 2 first (after (one_failed (at 1)) 4 3)
+stops : StopsBefore (trust_of true true) 0 2 first (after (one_failed (at 1)) 4 3)
 stops = (block 1 ∷ [], omega arith, next_failed)
 
-stops-not_behind_all : (now : Seen) → StopsBefore true true 0 0 first now → ⊥
+stops-not_behind_all : (now : Seen) → StopsBefore (trust_of true true) 0 0 first now → ⊥
 stops-not_behind_all now (blocks, fewer, failed) = omega (arith, fewer)
 
-stops-not_without_rise : StopsBefore true true 0 2 first (after (one_failed (at 1)) 3 3) → ⊥
+stops-not_without_rise : StopsBefore (trust_of true true) 0 2 first (after (one_failed (at 1)) 3 3) → ⊥
 stops-not_without_rise (blocks, fewer, failed) = omega (arith, failed.rose)
 
 -- OfDevice: a fault of the device alone says something

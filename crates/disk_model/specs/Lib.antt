@@ -14,3 +14,4 @@ pub mod Memory
 pub mod Ram
 pub mod Histories
 pub mod Streams
+pub mod Trust

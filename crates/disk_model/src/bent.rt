@@ -68,10 +68,9 @@ fn bend_all(bends: &[BendAt], writes: u64, at: Pbn, into: &mut Block)
 
 impl Disk for BentDisk {
     ghost use Rattle.std.specs.Prelude.{[], false, length};
+    ghost use Rattle.disk_model.specs.Trust.{trust_of};
 
-    ghost tells = { false };
-
-    ghost honest = { false };
+    ghost trust = { trust_of false false };
 
     ghost seen = { λ d. record { opening = []; size = length d.disk.opening; log = []; faults = d.disk.faults; unkept = d.disk.unkept } };
 

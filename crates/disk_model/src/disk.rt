@@ -1,10 +1,11 @@
-ghost use Rattle.std.specs.Prelude.{◌≡◌, ◌≤◌, ◌<◌, ◌∷◌, Bool, true, false, length, IsTrue, OnOk, OnErr};
+ghost use Rattle.std.specs.Prelude.{◌≡◌, ◌≤◌, ◌<◌, ◌∷◌, true, false, length, IsTrue, OnOk, OnErr};
 ghost use Rattle.disk_model.specs.declared.call.Call.TheVariants.{Read, Write, Flush};
 ghost use Rattle.disk_model.specs.Causes.{Rose, HasCause};
 ghost use Rattle.disk_model.specs.Images.{IsMixOf};
 ghost use Rattle.disk_model.specs.Log.{settled};
 ghost use Rattle.disk_model.specs.Seen.{Seen, Stays};
 ghost use Rattle.disk_model.specs.LogSteps.{FailedInLog};
+ghost use Rattle.disk_model.specs.Trust.{Trust};
 
 use crate::Failed;
 use blk_base::{Block, Pbn};
@@ -13,11 +14,8 @@ use blk_base::{Block, Pbn};
 /// One that tells and is honest gives in each successful read, sector by sector, the content of the last successful
 /// write there or of a failed write since.
 pub trait Disk {
-    /// Whether devices of this type tell their opening blocks and their log.
-    ghost tells: { Bool };
-
-    /// Whether devices of this type that tell are honest.
-    ghost honest: { Bool };
+    /// Whether devices of this type tell their opening blocks and their log, and whether those that tell are honest.
+    ghost trust: { Trust };
 
     /// What contracts see of a device: its opening blocks and size, its log, and its counts.
     ghost seen: { Self → Seen };
@@ -30,14 +28,14 @@ pub trait Disk {
     fn read(&mut self, at: Pbn, into: &mut Block) -> Result<(), Failed>
         requires { at.0 < (seen self.old).size }
         ensures stays { Stays (seen self.old) (seen self.new) }
-        ensures given { IsTrue tells → IsTrue honest
+        ensures given { IsTrue trust.tells → IsTrue trust.honest
             →
             OnOk result
             (IsMixOf (settled (seen self.old).opening (seen self.old).log at.0) into.new) }
         ensures whole { OnOk result (length into.new ≡ 4096) }
-        ensures ok { IsTrue tells →
+        ensures ok { IsTrue trust.tells →
             OnOk result ((seen self.new).log ≡ Read at into.new true ∷ (seen self.old).log) }
-        ensures err { IsTrue tells →
+        ensures err { IsTrue trust.tells →
             OnErr result
             (FailedInLog (seen self.old).log (seen self.new).log (Read at into.new false)
             (Rose (seen self.old).unkept (seen self.new).unkept)) }
@@ -50,9 +48,9 @@ pub trait Disk {
     fn write(&mut self, at: Pbn, from: &Block) -> Result<(), Failed>
         requires { at.0 < (seen self.old).size }
         ensures stays { Stays (seen self.old) (seen self.new) }
-        ensures ok { IsTrue tells →
+        ensures ok { IsTrue trust.tells →
             OnOk result ((seen self.new).log ≡ Write at from.now true ∷ (seen self.old).log) }
-        ensures err { IsTrue tells →
+        ensures err { IsTrue trust.tells →
             OnErr result
             (FailedInLog (seen self.old).log (seen self.new).log (Write at from.now false)
             (Rose (seen self.old).unkept (seen self.new).unkept)) }
@@ -64,9 +62,9 @@ pub trait Disk {
     /// need last than before.
     fn flush(&mut self) -> Result<(), Failed>
         ensures stays { Stays (seen self.old) (seen self.new) }
-        ensures ok { IsTrue tells →
+        ensures ok { IsTrue trust.tells →
             OnOk result ((seen self.new).log ≡ Flush true ∷ (seen self.old).log) }
-        ensures err { IsTrue tells →
+        ensures err { IsTrue trust.tells →
             OnErr result (FailedInLog (seen self.old).log (seen self.new).log (Flush false)
             (Rose (seen self.old).unkept (seen self.new).unkept)) }
         ensures cause { HasCause (seen self.old).faults (seen self.new).faults result }
@@ -74,6 +72,6 @@ pub trait Disk {
         ensures all_kept { OnOk result ((seen self.new).unkept ≡ (seen self.old).unkept) };
 
     /// A device that tells has as many opening blocks as it has blocks.
-    ghost told: { (device : Self) → IsTrue tells →
+    ghost told: { (device : Self) → IsTrue trust.tells →
         length (seen device).opening ≡ (seen device).size };
 }

@@ -181,10 +181,9 @@ impl MemDisk {
 impl Disk for MemDisk {
     ghost use Rattle.std.specs.Prelude.{true, refl};
     ghost use Rattle.disk_model.specs.Memory.{seen_of};
+    ghost use Rattle.disk_model.specs.Trust.{trust_of};
 
-    ghost tells = { true };
-
-    ghost honest = { true };
+    ghost trust = { trust_of true true };
 
     ghost seen = { seen_of };
 

@@ -57,10 +57,9 @@ impl RamDisk {
 impl Disk for RamDisk {
     ghost use Rattle.std.specs.Prelude.{true, refl};
     ghost use Rattle.disk_model.specs.Ram.{ram_seen};
+    ghost use Rattle.disk_model.specs.Trust.{trust_of};
 
-    ghost tells = { true };
-
-    ghost honest = { true };
+    ghost trust = { trust_of true true };
 
     ghost seen = { ram_seen };
 

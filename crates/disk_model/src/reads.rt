@@ -18,10 +18,10 @@ pub enum BlocksFault {
 pub fn read_block<D: Disk>(device: &mut D, at: Pbn) -> Result<Block, Failed>
     requires { at.0 < (D.seen device.old).size }
     ensures read { IfOk result (λ block.
-        WereRead D.tells D.honest at.0 (D.seen device.old) (D.seen device.new) (block ∷ [])) }
+        WereRead D.trust at.0 (D.seen device.old) (D.seen device.new) (block ∷ [])) }
     ensures failed { OnErr result
-        (NextFailed D.tells D.honest at.0 (D.seen device.old) (D.seen device.new) []) }
-    ensures untouched { IsUntouched D.tells (D.seen device.old) (D.seen device.new) }
+        (NextFailed D.trust at.0 (D.seen device.old) (D.seen device.new) []) }
+    ensures untouched { IsUntouched D.trust.tells (D.seen device.old) (D.seen device.new) }
 {
     let mut block = Block::zero();
     let Ok(()) = device.read(at, &mut block) else {
@@ -43,12 +43,12 @@ pub fn read_blocks<D: Disk>(
     requires { first.0 + count ≤ (D.seen device.old).size }
     ensures count { IfOk result (λ blocks. length blocks.items ≡ count) }
     ensures read { IfOk result (λ blocks.
-        WereRead D.tells D.honest first.0 (D.seen device.old) (D.seen device.new)
+        WereRead D.trust first.0 (D.seen device.old) (D.seen device.new)
         (reverse blocks.items)) }
     ensures fault { IfErr result
         (OfDevice
-        (StopsBefore D.tells D.honest first.0 count (D.seen device.old) (D.seen device.new))) }
-    ensures untouched { IsUntouched D.tells (D.seen device.old) (D.seen device.new) }
+        (StopsBefore D.trust first.0 count (D.seen device.old) (D.seen device.new))) }
+    ensures untouched { IsUntouched D.trust.tells (D.seen device.old) (D.seen device.new) }
 {
     // Asked for the proof alone: the numbers of the blocks fit their type.
     let _size = device.blocks();

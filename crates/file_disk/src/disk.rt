@@ -65,10 +65,9 @@ impl<F: Drop> FileDisk<F> {
 
 impl<F: FileExt + OpenFile + Drop> Disk for FileDisk<F> {
     ghost use Rattle.std.specs.Prelude.{[], false};
+    ghost use Rattle.disk_model.specs.Trust.{trust_of};
 
-    ghost tells = { false };
-
-    ghost honest = { false };
+    ghost trust = { trust_of false false };
 
     ghost seen = { λ d.
         record { opening = []; size = d.blocks; log = []; faults = d.faults; unkept = 0 } };

@@ -5,6 +5,7 @@ use Rattle.blk_base.specs.declared.journal_entry.CommittedEntry.{CommittedEntry}
 use Rattle.blk_base.specs.declared.place.Pbn.{Pbn}
 use Rattle.disk_model.specs.Log.{Blocks}
 use Rattle.disk_model.specs.Seen.{Seen}
+use Rattle.disk_model.specs.Trust.{Trust}
 use Rattle.image_layout.specs.Values.{journal_of}
 use Rattle.image_model.proofs.CountLaws.{one_number}
 use Rattle.image_model.proofs.WindowLaws.{not_both, one_last}
@@ -92,9 +93,9 @@ sound_is_rebuildable blocks sound more = record {
 }
 
 -- what is left
-pub left_rebuilt : (tells honest : Bool) (before now : Seen) (blocks : Blocks) (forced : Forced) → IsTold tells honest before blocks → IsToRebuild blocks
-    → IsForcing tells honest before now (Ok forced) → HasRebuiltImage tells honest now
-left_rebuilt tells honest before now blocks forced told to forcing =
+pub left_rebuilt : (trust : Trust) (before now : Seen) (blocks : Blocks) (forced : Forced) → IsTold trust before blocks → IsToRebuild blocks
+    → IsForcing trust before now (Ok forced) → HasRebuiltImage trust now
+left_rebuilt trust before now blocks forced told to forcing =
     let left = forcing.rebuilt blocks told to in
     let sound = left.2.sound in (
       left.0,

@@ -5,6 +5,7 @@ use Rattle.disk_model.specs.declared.call.Call.{Call}
 use Rattle.disk_model.specs.declared.call.Failed.{Failed}
 use Rattle.disk_model.specs.Log.{Blocks, block_at}
 use Rattle.disk_model.specs.Seen.{Seen}
+use Rattle.disk_model.specs.Trust.{Trust}
 use Rattle.disk_model.proofs.SeenLaws.{later_on, stays_on}
 use Rattle.image_format.specs.Runs.{Makes, OneFailed, WereMade, as_failed}
 use Rattle.image_model.specs.Maps.{Image}
@@ -23,7 +24,7 @@ use Rattle.image_model.specs.Looked.{HasOneImageButIndex}
 
 -- At a start.
 
-module _ (tells honest : Bool) (first : Seen) (blocks : Blocks) (start : IsStart tells honest first blocks) where
+module _ (trust : Trust) (first : Seen) (blocks : Blocks) (start : IsStart trust first blocks) where
   abbrev image : Image
   image = image_at blocks start
 
@@ -67,7 +68,7 @@ module _ (tells honest : Bool) (first : Seen) (blocks : Blocks) (start : IsStart
     pages : ArePagePuts image puts
     pages = record { each = made.each; all = done }
 
-    closed_made : WereMade tells before now closing → IsAllMade image last first now
+    closed_made : WereMade trust.tells before now closing → IsAllMade image last first now
     closed_made closes = record {
       puts = puts;
       pages = pages;
@@ -76,7 +77,7 @@ module _ (tells honest : Bool) (first : Seen) (blocks : Blocks) (start : IsStart
       logged = closes.logged start.told ∙ ap (λ (log : List Call). closing ++ log) made.logged ∙ sym (append_assoc closing puts first.log);
     }
 
-    closing_failed : OneFailed tells before now closing → IsKeptSince image first now
+    closing_failed : OneFailed trust.tells before now closing → IsKeptSince image first now
     closing_failed failed =
         let parts : forced_calls image.geometry last counters puts ≡ failed.newer ++ (failed.call ∷ (failed.done ++ puts)) =
         ap (λ (calls : List Call). calls ++ puts) failed.parts ∙ append_assoc failed.newer (failed.call ∷ failed.done) puts in
@@ -98,7 +99,7 @@ module _ (tells honest : Bool) (first : Seen) (blocks : Blocks) (start : IsStart
           )
         ]
 
-    pub closes_to : (result : Result (Unit {0}) Failed) → Makes tells before now closing result → Ends image last first now result
+    pub closes_to : (result : Result (Unit {0}) Failed) → Makes trust.tells before now closing result → Ends image last first now result
     closes_to (Ok _) makes = closed_made makes
     closes_to (Err _) makes = closing_failed makes
 
@@ -108,33 +109,33 @@ ends_failed : {T E : Type 0} (image : Image) (last : ℕ) (first now : Seen) (re
 ends_failed image last first now (Ok _) is kept = absurd (cc is)
 ends_failed image last first now (Err _) is kept = kept
 
-pub pages_failed : (tells honest : Bool) (before now : Seen) (N N' : Image → Type 0) (last : ℕ) (fault : Failed) (result : Result (Unit {0}) Failed) → IsErr result
-    → ((image : Image) → N image → N' image) → Acts tells (page_writing honest) before now N' ArePagesDone (Err fault) → WritesAll tells honest before now N last result
-pages_failed tells honest before now N N' last fault result is needs acts = record {
+pub pages_failed : (trust : Trust) (before now : Seen) (N N' : Image → Type 0) (last : ℕ) (fault : Failed) (result : Result (Unit {0}) Failed) → IsErr result
+    → ((image : Image) → N image → N' image) → Acts trust.tells (page_writing trust.honest) before now N' ArePagesDone (Err fault) → WritesAll trust before now N last result
+pages_failed trust before now N N' last fault result is needs acts = record {
   stays = acts.stays;
   later = acts.later;
   grows = acts.grows;
-  failed = on_err tells before now result acts.failed;
+  failed = on_err trust.tells before now result acts.failed;
   ends = λ first blocks start calls made has same.
       ends_failed (image_at blocks start) last first now result is
-      (stopped_kept tells honest first blocks start now (acts.writes start.told first (image_at blocks start, pages_start tells honest first blocks start) calls made (needs (image_at blocks start) has)));
+      (stopped_kept trust first blocks start now (acts.writes start.told first (image_at blocks start, pages_start trust first blocks start) calls made (needs (image_at blocks start) has)));
 }
 
-module _ (tells honest : Bool) (before middle now : Seen) (N N' : Image → Type 0) (last : ℕ) (g : Geometry) (counters : List ℕ) where
+module _ (trust : Trust) (before middle now : Seen) (N N' : Image → Type 0) (last : ℕ) (g : Geometry) (counters : List ℕ) where
   pub all_written : (result : Result (Unit {0}) Failed) → ((image : Image) → N image → N' image) → ((image : Image) → N image → image.geometry ≡ g)
-      → ((image : Image) → N image → AreMappings image counters) → Acts tells (page_writing honest) before middle N' ArePagesDone (Ok tt)
-      → Makes tells middle now (closing_calls g last counters) result → WritesAll tells honest before now N last result
+      → ((image : Image) → N image → AreMappings image counters) → Acts trust.tells (page_writing trust.honest) before middle N' ArePagesDone (Ok tt)
+      → Makes trust.tells middle now (closing_calls g last counters) result → WritesAll trust before now N last result
   all_written result needs sizes mappings acts makes =
-      let parts = made_stays tells middle now (closing_calls g last counters) result makes in record {
+      let parts = made_stays trust.tells middle now (closing_calls g last counters) result makes in record {
         stays = stays_on before middle now acts.stays parts.0;
         later = later_on before middle now acts.later parts.1;
-        grows = grows_on tells before middle now acts.grows (made_grows tells middle now (closing_calls g last counters) result makes);
-        failed = failed_on tells before middle now result acts.later acts.grows (makes_failed tells middle now (closing_calls g last counters) result makes);
+        grows = grows_on trust.tells before middle now acts.grows (made_grows trust.tells middle now (closing_calls g last counters) result makes);
+        failed = failed_on trust.tells before middle now result acts.later acts.grows (makes_failed trust.tells middle now (closing_calls g last counters) result makes);
         ends = λ first blocks start calls made has same.
             let image = image_at blocks start in
-            let went = acts.writes start.told first (image, pages_start tells honest first blocks start) calls made (needs image has) in
+            let went = acts.writes start.told first (image, pages_start trust first blocks start) calls made (needs image has) in
             subst (λ (n : ℕ). Ends image n first now result) same
-            (closes_to tells honest first blocks start middle now (went.0 ++ calls) went.1 went.2 counters (mappings image has) result
-            (subst (λ (n : ℕ). Makes tells middle now (closing_calls image.geometry n counters) result) (sym same)
-            (subst (λ (h : Geometry). Makes tells middle now (closing_calls h last counters) result) (sym (sizes image has)) makes)));
+            (closes_to trust first blocks start middle now (went.0 ++ calls) went.1 went.2 counters (mappings image has) result
+            (subst (λ (n : ℕ). Makes trust.tells middle now (closing_calls image.geometry n counters) result) (sym same)
+            (subst (λ (h : Geometry). Makes trust.tells middle now (closing_calls h last counters) result) (sym (sizes image has)) makes)));
       }

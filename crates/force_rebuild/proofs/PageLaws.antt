@@ -2,6 +2,7 @@
 use Rattle.std.proofs.Common.{Bool, refl}
 use Rattle.disk_model.specs.Log.{Blocks, settled}
 use Rattle.disk_model.specs.Seen.{Seen}
+use Rattle.disk_model.specs.Trust.{Trust}
 use Rattle.disk_model.proofs.ImageLaws.{all_weaker}
 use Rattle.image_model.proofs.LookedLaws.{looked_in_place}
 use Rattle.image_model.specs.Looked.{looked_in}
@@ -14,8 +15,8 @@ use Rattle.force_rebuild.proofs.SoundLaws.{known, sizes}
 use Rattle.force_rebuild.proofs.StopLaws.{page_inside, page_looked_at}
 use Rattle.force_rebuild.specs.Starts.{IsStart, image_at}
 
-pub pages_start : (tells honest : Bool) (first : Seen) (blocks : Blocks) (start : IsStart tells honest first blocks) → IsPageStart honest first (image_at blocks start)
-pages_start tells honest first blocks start = record {
+pub pages_start : (trust : Trust) (first : Seen) (blocks : Blocks) (start : IsStart trust first blocks) → IsPageStart trust.honest first (image_at blocks start)
+pages_start trust first blocks start = record {
   fair = start.fair;
   sizes = sizes blocks blocks start.is;
   window = λ k d below. (known blocks blocks start.is k d below).of_image;

@@ -1,10 +1,11 @@
 -- What is promised of a forced rebuild.
-use Rattle.std.specs.Prelude.{ℕ, ◌≡◌, ◌⊎◌, ◌+◌, ◌≤◌, ◌<◌, ◌^◌, Bool, false, true, List, Result, Ok, Err, IfOk, IfErr}
+use Rattle.std.specs.Prelude.{ℕ, ◌≡◌, ◌⊎◌, ◌+◌, ◌≤◌, ◌<◌, ◌^◌, false, true, List, Result, Ok, Err, IfOk, IfErr}
 use Rattle.blk_base.specs.declared.geometry.Geometry.{Geometry}
 use Rattle.blk_base.specs.declared.geometry.Super.{Super as Superblock}
 use Rattle.blk_base.specs.declared.journal_entry.CommittedEntry.{CommittedEntry}
 use Rattle.disk_model.specs.Log.{Blocks}
 use Rattle.disk_model.specs.Seen.{Later, Seen, Stays}
+use Rattle.disk_model.specs.Trust.{Trust}
 use Rattle.disk_model.specs.Since.{IsUntouched}
 use Rattle.image_format.specs.Formats.{LastFailed}
 use Rattle.image_layout.specs.Opened.{super_of_image}
@@ -41,39 +42,39 @@ unclosed head = record { geometry = head.geometry; clean = false; start = head.s
 
 -- The journal was read, and then the pages, and each image with this window that has what was read is counted to this. This
 -- is that moment, or a later one of the same device.
-pub record HasCounted (tells honest : Bool) (head : Superblock) (before now : Seen) (forced : Forced) : Type 0 where
+pub record HasCounted (trust : Trust) (head : Superblock) (before now : Seen) (forced : Forced) : Type 0 where
   pub middle : Seen
   pub behind : Seen
   pub window : WindowState
-  pub read : IsWindowRead tells honest before middle head window
-  pub counted : IsFound tells honest head.geometry window.entries middle behind (λ image. IsCountedTo image forced)
+  pub read : IsWindowRead trust before middle head window
+  pub counted : IsFound trust head.geometry window.entries middle behind (λ image. IsCountedTo image forced)
   pub stays : Stays behind now
   pub later : Later behind now
-  pub grows : Grows tells behind now
+  pub grows : Grows trust.tells behind now
 
 -- why there are no counts behind a window: the first page that can't be read; or else the least block that has both a page
 -- and the data of an address; or else the least one that is mapped too often; a read that failed, or want of memory
-abbrev pub CountingFails : Bool → Bool → Geometry → List CommittedEntry → Seen → Seen → ImageFault → Type 0
-CountingFails tells honest g window before now (Counts at stored mapped) = IsFound tells honest g window before now (λ image. IsUncountable image at stored mapped)
-CountingFails tells honest g window before now other = MapFails tells honest g window before now other
+abbrev pub CountingFails : Trust → Geometry → List CommittedEntry → Seen → Seen → ImageFault → Type 0
+CountingFails trust g window before now (Counts at stored mapped) = IsFound trust g window before now (λ image. IsUncountable image at stored mapped)
+CountingFails trust g window before now other = MapFails trust g window before now other
 
 -- Why an image isn't rebuilt whose superblock was read: its journal has no window; or it was read, and then as above; or the
 -- last call failed.
-abbrev pub UnclosedFails : Bool → Bool → Superblock → Seen → Seen → ImageFault → Type 0
-UnclosedFails tells honest head before now why =
-    Fails tells honest before now head why
-    ⊎ ((middle : Seen) × (window : WindowState) × IsWindowRead tells honest before middle head window × CountingFails tells honest head.geometry window.entries middle now why)
-    ⊎ ((why ≡ Device) × LastFailed tells before now)
+abbrev pub UnclosedFails : Trust → Superblock → Seen → Seen → ImageFault → Type 0
+UnclosedFails trust head before now why =
+    Fails trust before now head why
+    ⊎ ((middle : Seen) × (window : WindowState) × IsWindowRead trust before middle head window × CountingFails trust head.geometry window.entries middle now why)
+    ⊎ ((why ≡ Device) × LastFailed trust.tells before now)
 
 -- what it answers, and why there is none: block 0 was read, and its image is looked at as one that wasn't closed
-abbrev pub Answers : Bool → Bool → Seen → Seen → Forced → Type 0
-Answers tells honest before now forced =
-    (head : Superblock) × (middle : Seen) × IsHeadRead tells honest before middle head × HasCounted tells honest (unclosed head) middle now forced
+abbrev pub Answers : Trust → Seen → Seen → Forced → Type 0
+Answers trust before now forced =
+    (head : Superblock) × (middle : Seen) × IsHeadRead trust before middle head × HasCounted trust (unclosed head) middle now forced
 
-abbrev pub ForceFails : Bool → Bool → Seen → Seen → ImageFault → Type 0
-ForceFails tells honest before now why =
-    HeadFails tells honest before now why
-    ⊎ ((head : Superblock) × (middle : Seen) × IsHeadRead tells honest before middle head × UnclosedFails tells honest (unclosed head) middle now why)
+abbrev pub ForceFails : Trust → Seen → Seen → ImageFault → Type 0
+ForceFails trust before now why =
+    HeadFails trust before now why
+    ⊎ ((head : Superblock) × (middle : Seen) × IsHeadRead trust before middle head × UnclosedFails trust (unclosed head) middle now why)
 
 -- Of an honest device on which nothing is pending but in the index: by its one image.
 
@@ -133,30 +134,30 @@ abbrev pub LeavesRebuilt : Blocks → Seen → Type 0
 LeavesRebuilt blocks now = (to : IsToRebuild blocks) → (image : Blocks) × HasOneImageButIndex now.opening now.log image × IsRebuilt (rebuildable_image blocks to.is) to.is.last image
 
 -- what a forced rebuild promises of any device, and of an honest one
-pub record IsForcing (tells honest : Bool) (before now : Seen) (result : Result Forced ImageFault) : Type 0 where
+pub record IsForcing (trust : Trust) (before now : Seen) (result : Result Forced ImageFault) : Type 0 where
   -- of any device
   pub stays : Stays before now
   pub later : Later before now
-  pub grows : Grows tells before now
-  pub answers : IfOk result (Answers tells honest before now)
-  pub fails : IfErr result (ForceFails tells honest before now)
-  pub nothing : IfErr result (WritesNothing tells before now)
+  pub grows : Grows trust.tells before now
+  pub answers : IfOk result (Answers trust before now)
+  pub fails : IfErr result (ForceFails trust before now)
+  pub nothing : IfErr result (WritesNothing trust.tells before now)
   -- of an honest one, by its one image
-  pub says : (blocks : Blocks) → IsTold tells honest before blocks → IsResult blocks before now result
-  pub stops : (blocks : Blocks) → IsTold tells honest before blocks → AreStopsRebuildable blocks before now
-  pub rebuilt : IfOk result (λ forced. (blocks : Blocks) → IsTold tells honest before blocks → LeavesRebuilt blocks now)
+  pub says : (blocks : Blocks) → IsTold trust before blocks → IsResult blocks before now result
+  pub stops : (blocks : Blocks) → IsTold trust before blocks → AreStopsRebuildable blocks before now
+  pub rebuilt : IfOk result (λ forced. (blocks : Blocks) → IsTold trust before blocks → LeavesRebuilt blocks now)
 
 -- what rebuilding an image answers whose superblock was read, as of one that wasn't closed
-pub record ForcesUnclosed (tells honest : Bool) (head : Superblock) (before now : Seen) (result : Result Forced ImageFault) : Type 0 where
+pub record ForcesUnclosed (trust : Trust) (head : Superblock) (before now : Seen) (result : Result Forced ImageFault) : Type 0 where
   pub stays : Stays before now
   pub later : Later before now
-  pub grows : Grows tells before now
-  pub answers : IfOk result (HasCounted tells honest head before now)
-  pub fails : IfErr result (UnclosedFails tells honest head before now)
-  pub nothing : IfErr result (WritesNothing tells before now)
-  pub ends : (first : Seen) (blocks : Blocks) (start : IsStart tells honest first blocks) → IsUntouched tells first before → unclosed start.is.head ≡ head
+  pub grows : Grows trust.tells before now
+  pub answers : IfOk result (HasCounted trust head before now)
+  pub fails : IfErr result (UnclosedFails trust head before now)
+  pub nothing : IfErr result (WritesNothing trust.tells before now)
+  pub ends : (first : Seen) (blocks : Blocks) (start : IsStart trust first blocks) → IsUntouched trust.tells first before → unclosed start.is.head ≡ head
       → Ends (image_at blocks start) start.is.last first now result
 
 -- nothing is pending on the device but in the index, and its one image is sound and closed, and can be rebuilt
-abbrev pub HasRebuiltImage : Bool → Bool → Seen → Type 0
-HasRebuiltImage tells honest now = (image : Blocks) × IsTold tells honest now image × IsSound image × IsCleanImage image × IsRebuildable image
+abbrev pub HasRebuiltImage : Trust → Seen → Type 0
+HasRebuiltImage trust now = (image : Blocks) × IsTold trust now image × IsSound image × IsCleanImage image × IsRebuildable image

@@ -1,11 +1,12 @@
 -- How the writing of a forced rebuild ends.
-use Rattle.std.specs.Prelude.{ℕ, ◌≡◌, Bool, List, ◌++◌, Result, Ok, Err, OnErr}
+use Rattle.std.specs.Prelude.{ℕ, ◌≡◌, List, ◌++◌, Result, Ok, Err, OnErr}
 use Rattle.blk_base.specs.declared.geometry.Geometry.{Geometry}
 use Rattle.blk_base.specs.declared.place.Mapping.{Mapping}
 use Rattle.disk_model.specs.declared.call.Call.{Call}
 use Rattle.disk_model.specs.declared.call.Failed.{Failed}
 use Rattle.disk_model.specs.Log.{Blocks}
 use Rattle.disk_model.specs.Seen.{Later, Seen, Stays}
+use Rattle.disk_model.specs.Trust.{Trust}
 use Rattle.disk_model.specs.Since.{SinceThen}
 use Rattle.image_format.specs.Formats.{LastFailed}
 use Rattle.image_model.specs.Maps.{Image}
@@ -46,10 +47,10 @@ Ends image last first now (Err _) = IsKeptSince image first now
 
 -- What writing all of an image answers: where it fails, its last call failed. From each start on, after reads and where the
 -- image has what is needed, these sizes, these counts and this last sequence, it ends so.
-pub record WritesAll (tells honest : Bool) (before now : Seen) (Needs : Image → Type 0) (last : ℕ) (result : Result (Unit {0}) Failed) : Type 0 where
+pub record WritesAll (trust : Trust) (before now : Seen) (Needs : Image → Type 0) (last : ℕ) (result : Result (Unit {0}) Failed) : Type 0 where
   pub stays : Stays before now
   pub later : Later before now
-  pub grows : Grows tells before now
-  pub failed : OnErr result (LastFailed tells before now)
-  pub ends : (first : Seen) (blocks : Blocks) (start : IsStart tells honest first blocks) (calls : List Call) → AreMade (IsPageCall (image_at blocks start)) first before calls
+  pub grows : Grows trust.tells before now
+  pub failed : OnErr result (LastFailed trust.tells before now)
+  pub ends : (first : Seen) (blocks : Blocks) (start : IsStart trust first blocks) (calls : List Call) → AreMade (IsPageCall (image_at blocks start)) first before calls
       → Needs (image_at blocks start) → start.is.last ≡ last → Ends (image_at blocks start) last first now result

@@ -40,14 +40,14 @@ pub(crate) fn count_map<D: Disk>(
     ensures counters { IfOk result (λ counted.
         AreCounters head.now.geometry counted.map counted.counters.items) }
     ensures map { IfOk result (λ counted.
-        IsMapRead D.tells D.honest head.now.geometry window.now (D.seen device.old)
+        IsMapRead D.trust head.now.geometry window.now (D.seen device.old)
         (D.seen device.new) counted.map) }
     ensures form { IfOk result (λ counted.
         HasForm head.now.geometry counted.map.links.items counted.map.slots.items) }
     ensures fault { IfErr result
-        (CountingFails D.tells D.honest head.now.geometry window.now.entries (D.seen device.old)
+        (CountingFails D.trust head.now.geometry window.now.entries (D.seen device.old)
         (D.seen device.new)) }
-    ensures untouched { IsUntouched D.tells (D.seen device.old) (D.seen device.new) }
+    ensures untouched { IsUntouched D.trust.tells (D.seen device.old) (D.seen device.new) }
 {
     let map = replay_with(alloc, head, window, device)?;
     let counters = counters_of(alloc, &Layout::of(&head.geometry), &map)?;

@@ -41,7 +41,7 @@ use std::alloc::Global;
 /// each block but the superblock's, the pages', the counters' and the slabs' journals' has the bytes that it had; and
 /// afterwards the image is closed and sound.
 pub fn force<D: Disk>(alloc: Global, device: &mut D) -> Result<Forced, ImageFault>
-    ensures { IsForcing D.tells D.honest (D.seen device.old) (D.seen device.new) result }
+    ensures { IsForcing D.trust (D.seen device.old) (D.seen device.new) result }
 {
     let head = read_head(device)?;
     // Looked at for the proof alone: it fits 64 bits, so that it is read back.
@@ -74,7 +74,7 @@ fn force_unclosed<D: Disk>(
     requires below { head.now.start < 2 ^ 54 }
     requires room { needed_blocks head.now.geometry ≤ (D.seen device.old).size }
     requires unclean { head.now.clean ≡ false }
-    ensures { ForcesUnclosed D.tells D.honest head.now (D.seen device.old)
+    ensures { ForcesUnclosed D.trust head.now (D.seen device.old)
         (D.seen device.new) result }
 {
     let window = read_window(alloc, head, device)?;
@@ -113,7 +113,7 @@ fn write_image<D: Disk>(
     requires few { last < 2 ^ 54 }
     requires counts { length counters.now ≡ data_blocks layout.now.geometry }
     requires form { HasForm layout.now.geometry map.now.links.items map.now.slots.items }
-    ensures { WritesAll D.tells D.honest (D.seen device.old) (D.seen device.new)
+    ensures { WritesAll D.trust (D.seen device.old) (D.seen device.new)
         (HasContents layout.now.geometry changes.now map.now.links.items counters.now) last result }
 {
     put_pages(device, layout, changes, &map.links)?;
@@ -130,7 +130,7 @@ fn write_counted<D: Disk>(
     requires room { needed_blocks layout.now.geometry ≤ (D.seen device.old).size }
     requires few { last < 2 ^ 54 }
     requires counts { length counters.now ≡ data_blocks layout.now.geometry }
-    ensures { Makes D.tells (D.seen device.old) (D.seen device.new)
+    ensures { Makes D.trust.tells (D.seen device.old) (D.seen device.new)
         (closing_calls layout.now.geometry last counters.now) result }
 {
     put_slabs(device, layout, last, counters)?;

@@ -1,6 +1,7 @@
-ghost use Rattle.std.specs.Prelude.{◌≡◌, ◌⊎◌, ◌<◌, ◌+◌, ◌^◌, Bool, Result, Ok};
+ghost use Rattle.std.specs.Prelude.{◌≡◌, ◌⊎◌, ◌<◌, ◌+◌, ◌^◌, Result, Ok};
 ghost use Rattle.disk_model.specs.Log.{Blocks};
 ghost use Rattle.disk_model.specs.Seen.{Seen};
+ghost use Rattle.disk_model.specs.Trust.{Trust};
 ghost use Rattle.image_model.specs.Sound.{IsSound};
 ghost use Rattle.image_model.specs.declared.fault.ImageFault.{ImageFault};
 ghost use Rattle.image_model.specs.declared.fault.ImageFault.TheVariants.{Device, Memory};
@@ -18,7 +19,7 @@ pub fn a_rebuildable_image_is_accepted()
         IsRebuildable blocks }
 
     // Afterwards nothing is pending, and the one image is sound and closed, and can be rebuilt.
-    ensures left { (tells honest : Bool) (before now : Seen) (blocks : Blocks) (forced : Forced) →
-        IsTold tells honest before blocks → IsToRebuild blocks
-        → IsForcing tells honest before now (Ok forced) → HasRebuiltImage tells honest now }
+    ensures left { (trust : Trust) (before now : Seen) (blocks : Blocks) (forced : Forced) →
+        IsTold trust before blocks → IsToRebuild blocks
+        → IsForcing trust before now (Ok forced) → HasRebuiltImage trust now }
 {}

@@ -27,7 +27,7 @@ pub(crate) fn put_slabs<D: Disk>(
     requires room { needed_blocks layout.now.geometry ≤ (D.seen device.old).size }
     requires few { last < 2 ^ 54 }
     requires all { length counters.now ≡ data_blocks layout.now.geometry }
-    ensures { Makes D.tells (D.seen device.old) (D.seen device.new)
+    ensures { Makes D.trust.tells (D.seen device.old) (D.seen device.new)
         (slabs_below layout.now.geometry
         (commit_behind last) counters.now layout.now.geometry.slabs) result }
 {
@@ -57,7 +57,7 @@ fn put_slab<D: Disk>(
     requires room { needed_blocks layout.now.geometry ≤ (D.seen device.old).size }
     requires inside { slab < layout.now.geometry.slabs }
     requires all { length counters.now ≡ data_blocks layout.now.geometry }
-    ensures { Makes D.tells (D.seen device.old) (D.seen device.new)
+    ensures { Makes D.trust.tells (D.seen device.old) (D.seen device.new)
         (slab_calls layout.now.geometry commit.0 counters.now slab) result }
 {
     empty_journal(device, layout, slab)?;
@@ -84,7 +84,7 @@ fn of_slab<'a>(layout: &Layout, slab: u32, counters: &'a [u8]) -> &'a [u8]
 fn empty_journal<D: Disk>(device: &mut D, layout: &Layout, slab: u32) -> Result<(), Failed>
     requires room { needed_blocks layout.now.geometry ≤ (D.seen device.old).size }
     requires inside { slab < layout.now.geometry.slabs }
-    ensures { Makes D.tells (D.seen device.old) (D.seen device.new)
+    ensures { Makes D.trust.tells (D.seen device.old) (D.seen device.new)
         (zeros_from
         (block_of layout.now.geometry (SlabJournalSlot slab 0)) layout.now.geometry.slab_journal)
         result }
@@ -106,7 +106,7 @@ fn put_counters<D: Disk>(
 ) -> Result<(), Failed>
     requires room { needed_blocks layout.now.geometry ≤ (D.seen device.old).size }
     requires inside { slab < layout.now.geometry.slabs }
-    ensures { Makes D.tells (D.seen device.old) (D.seen device.new)
+    ensures { Makes D.trust.tells (D.seen device.old) (D.seen device.new)
         (counters_below layout.now.geometry commit.0 slab own.now
         (references_of layout.now.geometry)) result }
 {

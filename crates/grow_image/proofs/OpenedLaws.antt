@@ -13,6 +13,7 @@ use Rattle.blk_base.specs.Pages.{slot_of}
 use Rattle.block_map_tree.specs.OpenedTree.{IsOpened, all_trees}
 use Rattle.block_map_tree.specs.Pages.{IsTreeOf}
 use Rattle.disk_model.specs.Seen.{Seen}
+use Rattle.disk_model.specs.Trust.{Trust}
 use Rattle.disk_model.specs.declared.call.Failed.{Failed}
 use Rattle.image_format.specs.Runs.{Makes}
 use Rattle.image_model.specs.declared.fault.ImageFault.{ImageFault}
@@ -51,48 +52,48 @@ still_fits g logical slabs blocks can =
 
 -- The search.
 
-pub searching_failed : (tells honest : Bool) (opened : Opened) (logical : ℕ) (leaves : List Link) (before now : Seen) (why : ImageFault)
+pub searching_failed : (trust : Trust) (opened : Opened) (logical : ℕ) (leaves : List Link) (before now : Seen) (why : ImageFault)
     → AreNewLeaves (new_addresses opened.head.geometry logical) opened.pages.items leaves
-    → SearchFails tells honest opened.head.geometry (new_addresses opened.head.geometry logical) leaves before now why → UnmappedFails tells honest opened logical before now (Image why)
-searching_failed tells honest opened logical leaves before now (Page at fault) are fails = (leaves, are, fails)
-searching_failed tells honest opened logical leaves before now Device are fails = (leaves, are, fails)
-searching_failed tells honest opened logical leaves before now Memory are fails = absurd fails
-searching_failed tells honest opened logical leaves before now (Super fault) are fails = absurd fails
-searching_failed tells honest opened logical leaves before now (Window sequence) are fails = absurd fails
-searching_failed tells honest opened logical leaves before now (Counter at point) are fails = absurd fails
-searching_failed tells honest opened logical leaves before now (SharedPage at) are fails = absurd fails
-searching_failed tells honest opened logical leaves before now (Counts at stored mapped) are fails = absurd fails
-searching_failed tells honest opened logical leaves before now Unclean are fails = absurd fails
+    → SearchFails trust opened.head.geometry (new_addresses opened.head.geometry logical) leaves before now why → UnmappedFails trust opened logical before now (Image why)
+searching_failed trust opened logical leaves before now (Page at fault) are fails = (leaves, are, fails)
+searching_failed trust opened logical leaves before now Device are fails = (leaves, are, fails)
+searching_failed trust opened logical leaves before now Memory are fails = absurd fails
+searching_failed trust opened logical leaves before now (Super fault) are fails = absurd fails
+searching_failed trust opened logical leaves before now (Window sequence) are fails = absurd fails
+searching_failed trust opened logical leaves before now (Counter at point) are fails = absurd fails
+searching_failed trust opened logical leaves before now (SharedPage at) are fails = absurd fails
+searching_failed trust opened logical leaves before now (Counts at stored mapped) are fails = absurd fails
+searching_failed trust opened logical leaves before now Unclean are fails = absurd fails
 
 -- The whole.
 
-module _ (tells honest : Bool) (opened : Opened) (logical slabs : ℕ) (before now : Seen) where
+module _ (trust : Trust) (opened : Opened) (logical slabs : ℕ) (before now : Seen) where
   -- what holds of a refusal holds where it is passed on
-  pub passed_as : (why : GrowFault) (result : Result Grown GrowFault) → IsErrAnd result (λ e. e ≡ why) → GrowsOpened tells honest opened logical slabs before now (Err why)
-      → GrowsOpened tells honest opened logical slabs before now result
+  pub passed_as : (why : GrowFault) (result : Result Grown GrowFault) → IsErrAnd result (λ e. e ≡ why) → GrowsOpened trust opened logical slabs before now (Err why)
+      → GrowsOpened trust opened logical slabs before now result
   passed_as why (Ok grown) is fails = absurd is
-  passed_as why (Err e) is fails = subst (λ (f : GrowFault). GrowsOpened tells honest opened logical slabs before now (Err f)) (sym is) fails
+  passed_as why (Err e) is fails = subst (λ (f : GrowFault). GrowsOpened trust opened logical slabs before now (Err f)) (sym is) fails
 
   module _ (middle : Seen) (g : Geometry) (same : g ≡ grown_sizes opened.head.geometry logical slabs) (can : CanGrow opened.head.geometry logical slabs before.size)
-      (searched : IsSearched tells honest opened logical before middle None) where
-    pub call_failed : (fault : Failed) → Makes tells middle now (growth_calls g opened.head.geometry.slabs opened.head.start) (Err fault)
-        → GrowsOpened tells honest opened logical slabs before now (Err (Image Device))
+      (searched : IsSearched trust opened logical before middle None) where
+    pub call_failed : (fault : Failed) → Makes trust.tells middle now (growth_calls g opened.head.geometry.slabs opened.head.start) (Err fault)
+        → GrowsOpened trust opened logical slabs before now (Err (Image Device))
     call_failed fault makes = inr (inr (
       refl,
       record {
         can = can;
         middle = middle;
         searched = searched;
-        failed = subst (λ (h : Geometry). Makes tells middle now (growth_calls h opened.head.geometry.slabs opened.head.start) (Err fault)) same makes;
+        failed = subst (λ (h : Geometry). Makes trust.tells middle now (growth_calls h opened.head.geometry.slabs opened.head.start) (Err fault)) same makes;
       },
     ))
 
-    pub all_made : (grown : Grown) → Makes tells middle now (growth_calls g opened.head.geometry.slabs opened.head.start) (Ok tt)
-        → grown ≡ record { blocks = needed_blocks g; slabs = slabs; slab_blocks = g.slab_blocks; logical = logical } → GrowsOpened tells honest opened logical slabs before now (Ok grown)
+    pub all_made : (grown : Grown) → Makes trust.tells middle now (growth_calls g opened.head.geometry.slabs opened.head.start) (Ok tt)
+        → grown ≡ record { blocks = needed_blocks g; slabs = slabs; slab_blocks = g.slab_blocks; logical = logical } → GrowsOpened trust opened logical slabs before now (Ok grown)
     all_made grown makes is = record {
       can = can;
       middle = middle;
       searched = searched;
-      made = subst (λ (h : Geometry). Makes tells middle now (growth_calls h opened.head.geometry.slabs opened.head.start) (Ok tt)) same makes;
+      made = subst (λ (h : Geometry). Makes trust.tells middle now (growth_calls h opened.head.geometry.slabs opened.head.start) (Ok tt)) same makes;
       grown_is = is ∙ ap (λ (h : Geometry). record { blocks = needed_blocks h; slabs = slabs; slab_blocks = h.slab_blocks; logical = logical }) same;
     }

@@ -12,6 +12,7 @@ use Rattle.blk_base.specs.declared.place.Pbn.{Pbn}
 use Rattle.blk_base.specs.declared.sizes.TheConstants.{PAGE_SLOTS, TREES}
 use Rattle.disk_model.specs.Log.{Blocks, block_at}
 use Rattle.disk_model.specs.Seen.{Seen}
+use Rattle.disk_model.specs.Trust.{Trust}
 use Rattle.disk_model.specs.Since.{WereRead}
 use Rattle.image_model.proofs.CountLaws.{none_in_nothing}
 use Rattle.image_model.specs.declared.fault.ImageFault.{ImageFault}
@@ -141,30 +142,30 @@ module _ (g : Geometry) (range : AddressRange) (blocks : Blocks) where
 
 -- By the reads.
 
-module _ (tells honest : Bool) (g : Geometry) where
-  pub shown_yet : (seen : Seen) (Says : Blocks → Type 0) → ((blocks : Blocks) → Says blocks) → IsShownBy tells honest g seen seen Says
+module _ (trust : Trust) (g : Geometry) where
+  pub shown_yet : (seen : Seen) (Says : Blocks → Type 0) → ((blocks : Blocks) → Says blocks) → IsShownBy trust g seen seen Says
   shown_yet seen Says holds = ([], refl, λ blocks shows. holds blocks)
 
-  pub shown_on : (before middle now : Seen) (Old New Both : Blocks → Type 0) → IsShownBy tells honest g before middle Old → IsShownBy tells honest g middle now New
-      → ((blocks : Blocks) → Old blocks → New blocks → Both blocks) → IsShownBy tells honest g before now Both
+  pub shown_on : (before middle now : Seen) (Old New Both : Blocks → Type 0) → IsShownBy trust g before middle Old → IsShownBy trust g middle now New
+      → ((blocks : Blocks) → Old blocks → New blocks → Both blocks) → IsShownBy trust g before now Both
   shown_on before middle now Old New Both old new together = (
     new.0 ++ old.0,
-    blocks_on tells honest g before middle now old.0 new.0 old.1 new.1,
+    blocks_on trust g before middle now old.0 new.0 old.1 new.1,
     λ blocks shows. together blocks (old.2 blocks (older_shown blocks new.0 old.0 shows)) (new.2 blocks (newer_shown blocks new.0 old.0 shows)),
   )
 
-  pub shown_by_one : (before now : Seen) (at : Pbn) (bytes : List ℕ) (Says : Blocks → Type 0) → at.0 < before.size → IsPageBlock g at → WereRead tells honest at.0 before now (bytes ∷ [])
-      → ((blocks : Blocks) → block_at blocks at.0 ≡ bytes → Says blocks) → IsShownBy tells honest g before now Says
+  pub shown_by_one : (before now : Seen) (at : Pbn) (bytes : List ℕ) (Says : Blocks → Type 0) → at.0 < before.size → IsPageBlock g at → WereRead trust at.0 before now (bytes ∷ [])
+      → ((blocks : Blocks) → block_at blocks at.0 ≡ bytes → Says blocks) → IsShownBy trust g before now Says
   shown_by_one before now at bytes Says inside stands read says =
       (record { at = at; bytes = bytes } ∷ [], (before, refl, read, inside, stands), λ blocks shows. says blocks shows.0)
 
-  fails_behind : (before middle now : Seen) (Old : Blocks → Type 0) → IsShownBy tells honest g before middle Old → ReadFails tells honest g middle now → ReadFails tells honest g before now
+  fails_behind : (before middle now : Seen) (Old : Blocks → Type 0) → IsShownBy trust g before middle Old → ReadFails trust g middle now → ReadFails trust g before now
   fails_behind before middle now Old shown failed =
-      (failed.0 ++ shown.0, failed.1, failed.2, blocks_on tells honest g before middle failed.1 shown.0 failed.0 shown.1 failed.3, failed.4, failed.5)
+      (failed.0 ++ shown.0, failed.1, failed.2, blocks_on trust g before middle failed.1 shown.0 failed.0 shown.1 failed.3, failed.4, failed.5)
 
   -- a search that fails behind a part of it
   pub search_fails : (range : AddressRange) (leaves : List Link) (i : ℕ) (d : Link) (before middle now : Seen) (Old : Blocks → Type 0) (why : ImageFault) → i < length leaves
-      → IsShownBy tells honest g before middle Old → SearchFails tells honest g range (get_or leaves i d ∷ []) middle now why → SearchFails tells honest g range leaves before now why
+      → IsShownBy trust g before middle Old → SearchFails trust g range (get_or leaves i d ∷ []) middle now why → SearchFails trust g range leaves before now why
   search_fails range leaves i d before middle now Old (Page at fault) inside old fails =
       shown_on before middle now Old (λ blocks. HasUnreadable g range (get_or leaves i d ∷ []) blocks at fault) (λ blocks. HasUnreadable g range leaves blocks at fault) old fails
       (λ blocks earlier has. (has.0, subst (Contains leaves) (only_one (get_or leaves i d) has.0 has.1) (Contains-get_or leaves i d inside), has.2, has.3))

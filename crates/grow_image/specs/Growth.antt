@@ -8,6 +8,7 @@ use Rattle.blk_base.specs.declared.place.Lba.{Lba}
 use Rattle.blk_base.specs.declared.place.Mapping.TheVariants.{Unmapped}
 use Rattle.disk_model.specs.Log.{Blocks}
 use Rattle.disk_model.specs.Seen.{Later, Seen, Stays}
+use Rattle.disk_model.specs.Trust.{Trust}
 use Rattle.disk_model.specs.Since.{IsUntouched, SinceThen}
 use Rattle.image_format.specs.Runs.{OneFailed, WereMade}
 use Rattle.image_layout.specs.PossibleSizes.{plan_of}
@@ -39,71 +40,71 @@ new_addresses g logical = record { first = g.logical; end = logical }
 
 -- the leaves that have new addresses were read, and in all blocks that have what was read this is the least of them that is
 -- mapped, if there is one
-abbrev pub IsSearched : Bool → Bool → Opened → ℕ → Seen → Seen → Option Lba → Type 0
-IsSearched tells honest opened logical before now least =
+abbrev pub IsSearched : Trust → Opened → ℕ → Seen → Seen → Option Lba → Type 0
+IsSearched trust opened logical before now least =
     (leaves : List Link) × AreNewLeaves (new_addresses opened.head.geometry logical) opened.pages.items leaves
-    × IsShownBy tells honest opened.head.geometry before now (λ blocks. IsLeastMapped opened.head.geometry (new_addresses opened.head.geometry logical) leaves blocks least)
+    × IsShownBy trust opened.head.geometry before now (λ blocks. IsLeastMapped opened.head.geometry (new_addresses opened.head.geometry logical) leaves blocks least)
 
 -- why it isn't known whether one is
-abbrev pub SearchingFails : Bool → Bool → Opened → ℕ → Seen → Seen → ImageFault → Type 0
-SearchingFails tells honest opened logical before now Memory = now ≡ before
-SearchingFails tells honest opened logical before now why =
+abbrev pub SearchingFails : Trust → Opened → ℕ → Seen → Seen → ImageFault → Type 0
+SearchingFails trust opened logical before now Memory = now ≡ before
+SearchingFails trust opened logical before now why =
     (leaves : List Link) × AreNewLeaves (new_addresses opened.head.geometry logical) opened.pages.items leaves
-    × SearchFails tells honest opened.head.geometry (new_addresses opened.head.geometry logical) leaves before now why
+    × SearchFails trust opened.head.geometry (new_addresses opened.head.geometry logical) leaves before now why
 
 -- why they aren't known to be unmapped
-abbrev pub UnmappedFails : Bool → Bool → Opened → ℕ → Seen → Seen → GrowFault → Type 0
-UnmappedFails tells honest opened logical before now (Mapped at) = IsSearched tells honest opened logical before now (Some at)
-UnmappedFails tells honest opened logical before now (Image why) = SearchingFails tells honest opened logical before now why
-UnmappedFails tells honest opened logical before now (Smaller field) = ⊥
-UnmappedFails tells honest opened logical before now (Layout fault) = ⊥
+abbrev pub UnmappedFails : Trust → Opened → ℕ → Seen → Seen → GrowFault → Type 0
+UnmappedFails trust opened logical before now (Mapped at) = IsSearched trust opened logical before now (Some at)
+UnmappedFails trust opened logical before now (Image why) = SearchingFails trust opened logical before now why
+UnmappedFails trust opened logical before now (Smaller field) = ⊥
+UnmappedFails trust opened logical before now (Layout fault) = ⊥
 
 -- the new addresses were searched, and then the calls were made
-pub record GrowsTo (tells honest : Bool) (opened : Opened) (logical slabs : ℕ) (before now : Seen) (grown : Grown) : Type 0 where
+pub record GrowsTo (trust : Trust) (opened : Opened) (logical slabs : ℕ) (before now : Seen) (grown : Grown) : Type 0 where
   pub can : CanGrow opened.head.geometry logical slabs before.size
   pub middle : Seen
-  pub searched : IsSearched tells honest opened logical before middle None
-  pub made : WereMade tells middle now (grow_calls opened.head logical slabs)
+  pub searched : IsSearched trust opened logical before middle None
+  pub made : WereMade trust.tells middle now (grow_calls opened.head logical slabs)
   pub grown_is : grown ≡ grown_of opened.head.geometry logical slabs
 
 -- they were, and one of the calls failed
-pub record GrowStops (tells honest : Bool) (opened : Opened) (logical slabs : ℕ) (before now : Seen) : Type 0 where
+pub record GrowStops (trust : Trust) (opened : Opened) (logical slabs : ℕ) (before now : Seen) : Type 0 where
   pub can : CanGrow opened.head.geometry logical slabs before.size
   pub middle : Seen
-  pub searched : IsSearched tells honest opened logical before middle None
-  pub failed : OneFailed tells middle now (grow_calls opened.head logical slabs)
+  pub searched : IsSearched trust opened logical before middle None
+  pub failed : OneFailed trust.tells middle now (grow_calls opened.head logical slabs)
 
 -- why an image that was opened didn't grow: the sizes can't be had, and no call was made; a new address is mapped, or it isn't
 -- known; or a call failed
-abbrev pub OpenedFails : Bool → Bool → Opened → ℕ → ℕ → Seen → Seen → GrowFault → Type 0
-OpenedFails tells honest opened logical slabs before now why =
+abbrev pub OpenedFails : Trust → Opened → ℕ → ℕ → Seen → Seen → GrowFault → Type 0
+OpenedFails trust opened logical slabs before now why =
     (PlanFails opened.head.geometry logical slabs before.size why × (now ≡ before))
-    ⊎ (CanGrow opened.head.geometry logical slabs before.size × UnmappedFails tells honest opened logical before now why × IsUntouched tells before now)
-    ⊎ ((why ≡ Image Device) × GrowStops tells honest opened logical slabs before now)
+    ⊎ (CanGrow opened.head.geometry logical slabs before.size × UnmappedFails trust opened logical before now why × IsUntouched trust.tells before now)
+    ⊎ ((why ≡ Image Device) × GrowStops trust opened logical slabs before now)
 
-abbrev pub GrowsOpened : Bool → Bool → Opened → ℕ → ℕ → Seen → Seen → Result Grown GrowFault → Type 0
-GrowsOpened tells honest opened logical slabs before now (Ok grown) = GrowsTo tells honest opened logical slabs before now grown
-GrowsOpened tells honest opened logical slabs before now (Err why) = OpenedFails tells honest opened logical slabs before now why
+abbrev pub GrowsOpened : Trust → Opened → ℕ → ℕ → Seen → Seen → Result Grown GrowFault → Type 0
+GrowsOpened trust opened logical slabs before now (Ok grown) = GrowsTo trust opened logical slabs before now grown
+GrowsOpened trust opened logical slabs before now (Err why) = OpenedFails trust opened logical slabs before now why
 
 -- Of any device.
 
 -- the image was opened, and then it has grown
-abbrev pub Answers : Bool → Bool → ℕ → ℕ → Seen → Seen → Grown → Type 0
-Answers tells honest logical slabs before now grown =
-    (opened : Opened) × (middle : Seen) × IsOpenedFrom tells honest before middle opened × GrowsTo tells honest opened logical slabs middle now grown
+abbrev pub Answers : Trust → ℕ → ℕ → Seen → Seen → Grown → Type 0
+Answers trust logical slabs before now grown =
+    (opened : Opened) × (middle : Seen) × IsOpenedFrom trust before middle opened × GrowsTo trust opened logical slabs middle now grown
 
 -- why it wasn't opened
-abbrev pub NotOpened : Bool → Bool → Seen → Seen → GrowFault → Type 0
-NotOpened tells honest before now (Image why) = OpeningFails tells honest before now why
-NotOpened tells honest before now (Smaller field) = ⊥
-NotOpened tells honest before now (Layout fault) = ⊥
-NotOpened tells honest before now (Mapped at) = ⊥
+abbrev pub NotOpened : Trust → Seen → Seen → GrowFault → Type 0
+NotOpened trust before now (Image why) = OpeningFails trust before now why
+NotOpened trust before now (Smaller field) = ⊥
+NotOpened trust before now (Layout fault) = ⊥
+NotOpened trust before now (Mapped at) = ⊥
 
 -- why it didn't grow: it wasn't opened, or it was and then as above
-abbrev pub GrowFails : Bool → Bool → ℕ → ℕ → Seen → Seen → GrowFault → Type 0
-GrowFails tells honest logical slabs before now why =
-    NotOpened tells honest before now why
-    ⊎ ((opened : Opened) × (middle : Seen) × IsOpenedFrom tells honest before middle opened × OpenedFails tells honest opened logical slabs middle now why)
+abbrev pub GrowFails : Trust → ℕ → ℕ → Seen → Seen → GrowFault → Type 0
+GrowFails trust logical slabs before now why =
+    NotOpened trust before now why
+    ⊎ ((opened : Opened) × (middle : Seen) × IsOpenedFrom trust before middle opened × OpenedFails trust opened logical slabs middle now why)
 
 -- nothing was written, but where a call failed
 abbrev pub WritesNothing : Bool → Seen → Seen → GrowFault → Type 0
@@ -161,15 +162,15 @@ pub record LeavesGrown (blocks : Blocks) (sound : IsSound blocks) (logical slabs
   pub fresh : (address : ℕ) → sound.head.geometry.logical ≤ address → address < logical → value_of (image_in image is.grown) address ≡ zero_block
 
 -- what is promised of any device, and of an honest one
-pub record IsGrowing (tells honest : Bool) (logical slabs : ℕ) (before now : Seen) (result : Result Grown GrowFault) : Type 0 where
+pub record IsGrowing (trust : Trust) (logical slabs : ℕ) (before now : Seen) (result : Result Grown GrowFault) : Type 0 where
   -- of any device
   pub stays : Stays before now
   pub later : Later before now
-  pub grows : Grows tells before now
-  pub answers : IfOk result (Answers tells honest logical slabs before now)
-  pub fails : IfErr result (GrowFails tells honest logical slabs before now)
-  pub nothing : IfErr result (WritesNothing tells before now)
+  pub grows : Grows trust.tells before now
+  pub answers : IfOk result (Answers trust logical slabs before now)
+  pub fails : IfErr result (GrowFails trust logical slabs before now)
+  pub nothing : IfErr result (WritesNothing trust.tells before now)
   -- of an honest one, by its one image
-  pub says : (blocks : Blocks) → IsTold tells honest before blocks → IsResult blocks logical slabs before now result
-  pub stops : (blocks : Blocks) → IsTold tells honest before blocks → AreStopsSound blocks logical slabs before now
-  pub grown : IfOk result (λ _. (blocks : Blocks) → IsTold tells honest before blocks → (sound : IsSound blocks) → LeavesGrown blocks sound logical slabs now)
+  pub says : (blocks : Blocks) → IsTold trust before blocks → IsResult blocks logical slabs before now result
+  pub stops : (blocks : Blocks) → IsTold trust before blocks → AreStopsSound blocks logical slabs before now
+  pub grown : IfOk result (λ _. (blocks : Blocks) → IsTold trust before blocks → (sound : IsSound blocks) → LeavesGrown blocks sound logical slabs now)

@@ -1,5 +1,5 @@
 -- The addresses that an image doesn't have yet, and the leaves in which they have slots.
-use Rattle.std.specs.Prelude.{ℕ, ◌≡◌, ◌⊎◌, ◌+◌, ◌*◌, ◌<◌, ◌≤◌, Bool, List, Option, Some, None, Contains, slice_index_or}
+use Rattle.std.specs.Prelude.{ℕ, ◌≡◌, ◌⊎◌, ◌+◌, ◌*◌, ◌<◌, ◌≤◌, List, Option, Some, None, Contains, slice_index_or}
 use Rattle.blk_base.specs.declared.geometry.Geometry.{Geometry}
 use Rattle.blk_base.specs.declared.opened.OpenedPage.{OpenedPage}
 use Rattle.blk_base.specs.declared.place.Lba.{Lba}
@@ -12,6 +12,7 @@ use Rattle.blk_base.specs.Pages.{above, slot_of, leaf_of, slot_of_address}
 use Rattle.block_map_tree.specs.OpenedTree.{IsLed}
 use Rattle.disk_model.specs.Log.{Blocks, block_at}
 use Rattle.disk_model.specs.Seen.{Seen}
+use Rattle.disk_model.specs.Trust.{Trust}
 use Rattle.page_codec.specs.Grammar.{IsSlot, IsSlotFault}
 use Rattle.page_codec.specs.declared.fault.PageFault.{PageFault}
 use Rattle.page_codec.specs.declared.forms.PageHead.{PageHead}
@@ -115,5 +116,5 @@ HasUnreadable g range leaves blocks at fault =
 -- By the reads.
 
 -- blocks were read, and this holds of all that have what was read
-abbrev pub IsShownBy : Bool → Bool → Geometry → Seen → Seen → (Blocks → Type 0) → Type 0
-IsShownBy tells honest g before now Says = (reads : List Reading) × BlocksRead tells honest g before now reads × ((blocks : Blocks) → Shows blocks reads → Says blocks)
+abbrev pub IsShownBy : Trust → Geometry → Seen → Seen → (Blocks → Type 0) → Type 0
+IsShownBy trust g before now Says = (reads : List Reading) × BlocksRead trust g before now reads × ((blocks : Blocks) → Shows blocks reads → Says blocks)

@@ -1,10 +1,11 @@
 -- How a search for mapped addresses in leaves goes on, and why it ends without an answer.
-use Rattle.std.specs.Prelude.{ℕ, ◌≡◌, ◌<◌, Bool, List, Option, Some, None}
+use Rattle.std.specs.Prelude.{ℕ, ◌≡◌, ◌<◌, List, Option, Some, None}
 use Rattle.blk_base.specs.declared.geometry.Geometry.{Geometry}
 use Rattle.blk_base.specs.declared.place.Lba.{Lba}
 use Rattle.blk_base.specs.declared.place.Mapping.{Mapping}
 use Rattle.blk_base.specs.declared.place.Mapping.TheVariants.{Unmapped}
 use Rattle.disk_model.specs.Seen.{Seen}
+use Rattle.disk_model.specs.Trust.{Trust}
 use Rattle.image_model.specs.declared.fault.ImageFault.{ImageFault}
 use Rattle.image_model.specs.declared.fault.ImageFault.TheVariants.{Super, Window, Page, Counter, SharedPage, Counts, Device, Unclean, Memory}
 use Rattle.page_codec.specs.Grammar.{IsSlot}
@@ -25,13 +26,13 @@ abbrev pub AreUnmappedBelow : PageHead → AddressRange → List ℕ → ℕ →
 AreUnmappedBelow head range block count = (slot : ℕ) → slot < count → IsWithin range (address_in head.page slot) → IsSlot head block slot Unmapped
 
 -- why there is no answer: a read that failed, or a slot that has this fault in all blocks that have what was read
-abbrev pub SearchFails : Bool → Bool → Geometry → AddressRange → List Link → Seen → Seen → ImageFault → Type 0
-SearchFails tells honest g range leaves before now (Page at fault) = IsShownBy tells honest g before now (λ blocks. HasUnreadable g range leaves blocks at fault)
-SearchFails tells honest g range leaves before now Device = ReadFails tells honest g before now
-SearchFails tells honest g range leaves before now Memory = ⊥
-SearchFails tells honest g range leaves before now (Super fault) = ⊥
-SearchFails tells honest g range leaves before now (Window sequence) = ⊥
-SearchFails tells honest g range leaves before now (Counter at point) = ⊥
-SearchFails tells honest g range leaves before now (SharedPage at) = ⊥
-SearchFails tells honest g range leaves before now (Counts at stored mapped) = ⊥
-SearchFails tells honest g range leaves before now Unclean = ⊥
+abbrev pub SearchFails : Trust → Geometry → AddressRange → List Link → Seen → Seen → ImageFault → Type 0
+SearchFails trust g range leaves before now (Page at fault) = IsShownBy trust g before now (λ blocks. HasUnreadable g range leaves blocks at fault)
+SearchFails trust g range leaves before now Device = ReadFails trust g before now
+SearchFails trust g range leaves before now Memory = ⊥
+SearchFails trust g range leaves before now (Super fault) = ⊥
+SearchFails trust g range leaves before now (Window sequence) = ⊥
+SearchFails trust g range leaves before now (Counter at point) = ⊥
+SearchFails trust g range leaves before now (SharedPage at) = ⊥
+SearchFails trust g range leaves before now (Counts at stored mapped) = ⊥
+SearchFails trust g range leaves before now Unclean = ⊥

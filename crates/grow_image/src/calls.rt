@@ -11,7 +11,7 @@ use image_format::calls::{close, put_slab};
 fn put_slabs<D: Disk>(device: &mut D, layout: &Layout, first: u32) -> Result<(), Failed>
     requires room { needed_blocks layout.now.geometry ≤ (D.seen device.old).size }
     requires more { first ≤ layout.now.geometry.slabs }
-    ensures { Makes D.tells (D.seen device.old) (D.seen device.new)
+    ensures { Makes D.trust.tells (D.seen device.old) (D.seen device.new)
         (new_slabs layout.now.geometry first (layout.now.geometry.slabs - first)) result }
 {
     for i in 0..layout.geometry.slabs - first {
@@ -29,7 +29,7 @@ pub(crate) fn write_grown<D: Disk>(
 ) -> Result<(), Failed>
     requires room { needed_blocks layout.now.geometry ≤ (D.seen device.old).size }
     requires more { first ≤ layout.now.geometry.slabs }
-    ensures { Makes D.tells (D.seen device.old) (D.seen device.new)
+    ensures { Makes D.trust.tells (D.seen device.old) (D.seen device.new)
         (growth_calls layout.now.geometry first start) result }
 {
     put_slabs(device, layout, first)?;

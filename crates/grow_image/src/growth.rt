@@ -41,7 +41,7 @@ pub fn grow<D: Disk>(
     logical: u32,
     slabs: u32,
 ) -> Result<Grown, GrowFault>
-    ensures { IsGrowing D.tells D.honest logical slabs (D.seen device.old) (D.seen device.new)
+    ensures { IsGrowing D.trust logical slabs (D.seen device.old) (D.seen device.new)
         result }
 {
     match open_clean(alloc, device) {
@@ -63,7 +63,7 @@ fn grow_opened<D: Disk>(
     slabs: u32,
 ) -> Result<Grown, GrowFault>
     requires { Fits opened.now }
-    ensures { GrowsOpened D.tells D.honest opened.now logical slabs (D.seen device.old)
+    ensures { GrowsOpened D.trust opened.now logical slabs (D.seen device.old)
         (D.seen device.new) result }
 {
     let head = &opened.head;
@@ -90,12 +90,12 @@ fn check_unmapped<D: Disk>(
     requires fits { Fits opened.now }
     requires room { needed_blocks opened.now.head.geometry ≤ (D.seen device.old).size }
     ensures none { OnOk result
-        (IsSearched D.tells D.honest opened.now logical (D.seen device.old) (D.seen device.new)
+        (IsSearched D.trust opened.now logical (D.seen device.old) (D.seen device.new)
         None) }
     ensures fault { IfErr result
-        (UnmappedFails D.tells D.honest opened.now logical (D.seen device.old)
+        (UnmappedFails D.trust opened.now logical (D.seen device.old)
         (D.seen device.new)) }
-    ensures untouched { IsUntouched D.tells (D.seen device.old) (D.seen device.new) }
+    ensures untouched { IsUntouched D.trust.tells (D.seen device.old) (D.seen device.new) }
 {
     let range = AddressRange {
         first: opened.head.geometry.logical,

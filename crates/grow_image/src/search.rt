@@ -27,12 +27,12 @@ pub(crate) fn least_mapped<D: Disk>(
     requires trees { (leaf : Leaf) → Contains leaves.now leaf →
         (leaf.page.level ≡ 0) × (leaf.page.tree < TREES) }
     ensures least { IfOk result (λ least.
-        IsShownBy D.tells D.honest sizes.now (D.seen device.old) (D.seen device.new)
+        IsShownBy D.trust sizes.now (D.seen device.old) (D.seen device.new)
         (λ blocks. IsLeastMapped sizes.now range leaves.now blocks least)) }
     ensures fault { IfErr result
-        (SearchFails D.tells D.honest sizes.now range leaves.now (D.seen device.old)
+        (SearchFails D.trust sizes.now range leaves.now (D.seen device.old)
         (D.seen device.new)) }
-    ensures untouched { IsUntouched D.tells (D.seen device.old) (D.seen device.new) }
+    ensures untouched { IsUntouched D.trust.tells (D.seen device.old) (D.seen device.new) }
 {
     let mut least = None;
     for leaf in leaves {
@@ -68,12 +68,12 @@ fn search_leaf<D: Disk>(
     requires level { leaf.page.level ≡ 0 }
     requires tree { leaf.page.tree < TREES }
     ensures least { IfOk result (λ least.
-        IsShownBy D.tells D.honest sizes.now (D.seen device.old) (D.seen device.new)
+        IsShownBy D.trust sizes.now (D.seen device.old) (D.seen device.new)
         (λ blocks. IsLeastMapped sizes.now range (leaf ∷ []) blocks least)) }
     ensures fault { IfErr result
-        (SearchFails D.tells D.honest sizes.now range (leaf ∷ []) (D.seen device.old)
+        (SearchFails D.trust sizes.now range (leaf ∷ []) (D.seen device.old)
         (D.seen device.new)) }
-    ensures untouched { IsUntouched D.tells (D.seen device.old) (D.seen device.new) }
+    ensures untouched { IsUntouched D.trust.tells (D.seen device.old) (D.seen device.new) }
 {
     let Ok(block) = read_block(device, leaf.at) else {
         return Err(ImageFault::Device);

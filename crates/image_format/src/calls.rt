@@ -14,7 +14,7 @@ use page_codec::{PageHead, encode_unmapped};
 /// Writes a block.
 pub fn put<D: Disk>(device: &mut D, at: Pbn, block: &Block) -> Result<(), Failed>
     requires { at.0 < (D.seen device.old).size }
-    ensures { Makes D.tells (D.seen device.old) (D.seen device.new)
+    ensures { Makes D.trust.tells (D.seen device.old) (D.seen device.new)
         (put at.0 block.now ∷ []) result }
 {
     device.write(at, block)
@@ -22,7 +22,7 @@ pub fn put<D: Disk>(device: &mut D, at: Pbn, block: &Block) -> Result<(), Failed
 
 // Makes the writes last.
 fn flush<D: Disk>(device: &mut D) -> Result<(), Failed>
-    ensures { Makes D.tells (D.seen device.old) (D.seen device.new) (Flush true ∷ []) result }
+    ensures { Makes D.trust.tells (D.seen device.old) (D.seen device.new) (Flush true ∷ []) result }
 {
     device.flush()
 }
@@ -30,7 +30,7 @@ fn flush<D: Disk>(device: &mut D) -> Result<(), Failed>
 // Writes zeros into so many blocks from this one on.
 fn put_zeros<D: Disk>(device: &mut D, first: Pbn, count: u32) -> Result<(), Failed>
     requires { first.0 + count ≤ (D.seen device.old).size }
-    ensures { Makes D.tells (D.seen device.old) (D.seen device.new)
+    ensures { Makes D.trust.tells (D.seen device.old) (D.seen device.new)
         (zeros_from first.0 count) result }
 {
     // Asked for the proof alone: the numbers of the blocks fit their type.
@@ -58,7 +58,7 @@ fn root_page(layout: &Layout, tree: u8, into: &mut Block)
 // Writes the roots.
 fn put_roots<D: Disk>(device: &mut D, layout: &Layout) -> Result<(), Failed>
     requires { needed_blocks layout.now.geometry ≤ (D.seen device.old).size }
-    ensures { Makes D.tells (D.seen device.old) (D.seen device.new)
+    ensures { Makes D.trust.tells (D.seen device.old) (D.seen device.new)
         (roots_below layout.now.geometry TREES) result }
 {
     let mut page = Block::zero();
@@ -73,7 +73,7 @@ fn put_roots<D: Disk>(device: &mut D, layout: &Layout) -> Result<(), Failed>
 pub fn put_slab<D: Disk>(device: &mut D, layout: &Layout, slab: u32) -> Result<(), Failed>
     requires room { needed_blocks layout.now.geometry ≤ (D.seen device.old).size }
     requires there { slab < layout.now.geometry.slabs }
-    ensures { Makes D.tells (D.seen device.old) (D.seen device.new)
+    ensures { Makes D.trust.tells (D.seen device.old) (D.seen device.new)
         (slab_calls layout.now.geometry slab) result }
 {
     let counters = layout.reference_block(slab, 0);
@@ -84,7 +84,7 @@ pub fn put_slab<D: Disk>(device: &mut D, layout: &Layout, slab: u32) -> Result<(
 
 fn put_slabs<D: Disk>(device: &mut D, layout: &Layout) -> Result<(), Failed>
     requires { needed_blocks layout.now.geometry ≤ (D.seen device.old).size }
-    ensures { Makes D.tells (D.seen device.old) (D.seen device.new)
+    ensures { Makes D.trust.tells (D.seen device.old) (D.seen device.new)
         (slabs_below layout.now.geometry layout.now.geometry.slabs) result }
 {
     for slab in 0..layout.geometry.slabs {
@@ -97,7 +97,7 @@ fn put_slabs<D: Disk>(device: &mut D, layout: &Layout) -> Result<(), Failed>
 #[tactic(auto, unfolding(crate::specs::Calls::region_calls))]
 fn put_regions<D: Disk>(device: &mut D, layout: &Layout) -> Result<(), Failed>
     requires { needed_blocks layout.now.geometry ≤ (D.seen device.old).size }
-    ensures { Makes D.tells (D.seen device.old) (D.seen device.new)
+    ensures { Makes D.trust.tells (D.seen device.old) (D.seen device.new)
         (region_calls layout.now.geometry) result }
 {
     put_zeros(device, layout.journal_slot(0), layout.geometry.journal)?;
@@ -109,7 +109,7 @@ fn put_regions<D: Disk>(device: &mut D, layout: &Layout) -> Result<(), Failed>
 // Clears block 0, so that the device has no image.
 fn clear<D: Disk>(device: &mut D) -> Result<(), Failed>
     requires { 0 < (D.seen device.old).size }
-    ensures { Makes D.tells (D.seen device.old) (D.seen device.new) clear_calls result }
+    ensures { Makes D.trust.tells (D.seen device.old) (D.seen device.new) clear_calls result }
 {
     put(device, Pbn(0), &Block::zero())?;
     flush(device)
@@ -118,7 +118,7 @@ fn clear<D: Disk>(device: &mut D) -> Result<(), Failed>
 // Writes the superblock of a closed image with these sizes, on which a session begins there, and makes it last.
 fn put_head<D: Disk>(device: &mut D, sizes: &Geometry, start: u64) -> Result<(), Failed>
     requires { 0 < (D.seen device.old).size }
-    ensures { Makes D.tells (D.seen device.old) (D.seen device.new)
+    ensures { Makes D.trust.tells (D.seen device.old) (D.seen device.new)
         (super_calls sizes.now start) result }
 {
     let head = Super {
@@ -135,7 +135,7 @@ fn put_head<D: Disk>(device: &mut D, sizes: &Geometry, start: u64) -> Result<(),
 /// Makes the writes last, and then the superblock of a closed image with these sizes, on which a session begins there.
 pub fn close<D: Disk>(device: &mut D, sizes: &Geometry, start: u64) -> Result<(), Failed>
     requires { 0 < (D.seen device.old).size }
-    ensures { Makes D.tells (D.seen device.old) (D.seen device.new)
+    ensures { Makes D.trust.tells (D.seen device.old) (D.seen device.new)
         (closing_calls sizes.now start) result }
 {
     flush(device)?;
@@ -145,7 +145,7 @@ pub fn close<D: Disk>(device: &mut D, sizes: &Geometry, start: u64) -> Result<()
 // Makes the image: there is none before its last block is written, and all others are on the device by then.
 pub(crate) fn make<D: Disk>(device: &mut D, layout: &Layout) -> Result<(), Failed>
     requires { needed_blocks layout.now.geometry ≤ (D.seen device.old).size }
-    ensures { Makes D.tells (D.seen device.old) (D.seen device.new)
+    ensures { Makes D.trust.tells (D.seen device.old) (D.seen device.new)
         (format_calls layout.now.geometry) result }
 {
     clear(device)?;

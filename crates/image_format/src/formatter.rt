@@ -28,17 +28,17 @@ pub fn format<D: Disk>(wanted: &Geometry, device: &mut D) -> Result<Layout, Form
     ensures planned { IfOk result (λ layout.
         (layout.geometry ≡ wanted.now) × (plan_of wanted.now (D.seen device.old).size ≡ Ok tt)) }
     ensures fault { IfErr result
-        (FormatFails D.tells wanted.now (D.seen device.old) (D.seen device.new)) }
+        (FormatFails D.trust.tells wanted.now (D.seen device.old) (D.seen device.new)) }
     ensures stays { Stays (D.seen device.old) (D.seen device.new) }
     ensures later { Later (D.seen device.old) (D.seen device.new) }
 
     // Whatever a stop leaves, at each moment since.
-    ensures stops { IsTrue D.tells →
+    ensures stops { IsTrue D.trust.tells →
         StopsAreRight wanted.now (D.seen device.old) (D.seen device.new) }
 
     // And afterwards nothing is pending.
     ensures made { IfOk result (λ layout.
-        IsTrue D.tells → LeavesEmpty wanted.now (D.seen device.old) (D.seen device.new)) }
+        IsTrue D.trust.tells → LeavesEmpty wanted.now (D.seen device.old) (D.seen device.new)) }
 {
     // That it fits 64 bits, so that it is read back.
     let _nonce = wanted.nonce;

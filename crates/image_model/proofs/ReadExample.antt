@@ -5,6 +5,7 @@ use Rattle.blk_base.proofs.SectorLaws.{zero_size}
 use Rattle.blk_base.specs.Sectors.{sector, zero_block}
 use Rattle.blk_base.specs.declared.journal_entry.Entry.{Entry}
 use Rattle.disk_model.specs.Seen.{Seen}
+use Rattle.disk_model.specs.Trust.{trust_of}
 use Rattle.disk_model.specs.Since.{AreGiven, NextFailed, WereRead}
 use Rattle.image_model.proofs.Example.{small, zeros}
 use Rattle.image_model.proofs.ZeroLaws.{of_eight}
@@ -19,7 +20,7 @@ seen = record { opening = []; size = 154; log = []; faults = 3; unkept = 0 }
 abbrev pub failed : Seen
 failed = record seen { faults = 4 }
 
-pub next_failed : (honest : Bool) (from : ℕ) → NextFailed false honest from seen failed []
+pub next_failed : (honest : Bool) (from : ℕ) → NextFailed (trust_of false honest) from seen failed []
 next_failed honest from = record {
   stays = record { opening = refl; size = refl };
   later = record { faults = omega arith; unkept = omega arith };
@@ -29,7 +30,7 @@ next_failed honest from = record {
 }
 
 -- Blocks that it may give, and that were read.
-pub were_read : (honest : Bool) (from : ℕ) (blocks : List (List ℕ)) → AreGiven false honest from seen blocks → WereRead false honest from seen seen blocks
+pub were_read : (honest : Bool) (from : ℕ) (blocks : List (List ℕ)) → AreGiven (trust_of false honest) from seen blocks → WereRead (trust_of false honest) from seen seen blocks
 were_read honest from blocks given = record {
   told = λ told. absurd (cc told);
   stays = record { opening = refl; size = refl };
@@ -38,7 +39,7 @@ were_read honest from blocks given = record {
   logged = λ told. absurd (cc told);
 }
 
-pub zeros_given : (honest : Bool) (from n : ℕ) → AreGiven false honest from seen (replicate n zero_block)
+pub zeros_given : (honest : Bool) (from n : ℕ) → AreGiven (trust_of false honest) from seen (replicate n zero_block)
 zeros_given honest from zero = tt
 zeros_given honest from (suc n) = (zero_size, (λ told. absurd (cc told)), zeros_given honest from n)
 

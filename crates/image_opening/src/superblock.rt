@@ -13,10 +13,10 @@ use image_model::ImageFault;
 /// where the device has no block; and with `Device` where the read failed.
 pub fn read_head<D: Disk>(device: &mut D) -> Result<Super, ImageFault>
     ensures head { IfOk result
-        (IsHeadRead D.tells D.honest (D.seen device.old) (D.seen device.new)) }
+        (IsHeadRead D.trust (D.seen device.old) (D.seen device.new)) }
     ensures fault { IfErr result
-        (HeadFails D.tells D.honest (D.seen device.old) (D.seen device.new)) }
-    ensures untouched { IsUntouched D.tells (D.seen device.old) (D.seen device.new) }
+        (HeadFails D.trust (D.seen device.old) (D.seen device.new)) }
+    ensures untouched { IsUntouched D.trust.tells (D.seen device.old) (D.seen device.new) }
 {
     let blocks = device.blocks();
     let is_empty = blocks == 0;

@@ -26,10 +26,10 @@ use uds_index::Uds;
 /// holds no page. `Memory` comes only for want of memory.
 pub fn read_status<D: Disk>(alloc: Global, device: &mut D) -> Result<ImageStatus, ImageFault>
     ensures status { IfOk result
-        (IsStatusRead D.tells D.honest (D.seen device.old) (D.seen device.new)) }
+        (IsStatusRead D.trust (D.seen device.old) (D.seen device.new)) }
     ensures fault { IfErr result
-        (AuditFails D.tells D.honest (D.seen device.old) (D.seen device.new)) }
-    ensures untouched { IsUntouched D.tells (D.seen device.old) (D.seen device.new) }
+        (AuditFails D.trust (D.seen device.old) (D.seen device.new)) }
+    ensures untouched { IsUntouched D.trust.tells (D.seen device.old) (D.seen device.new) }
 {
     let head = read_head(device)?;
     let window = read_window(alloc, &head, device)?;
@@ -50,12 +50,12 @@ fn status_with<D: Disk>(
     requires room { needed_blocks head.now.geometry ≤ (D.seen device.old).size }
     requires window { (journal : Blocks) × IsWindowOf head.now journal window.now }
     ensures status { IfOk result
-        (IsStatusWith D.tells D.honest head.now window.now (D.seen device.old)
+        (IsStatusWith D.trust head.now window.now (D.seen device.old)
         (D.seen device.new)) }
     ensures fault { IfErr result
-        (AuditWithFails D.tells D.honest head.now window.now (D.seen device.old)
+        (AuditWithFails D.trust head.now window.now (D.seen device.old)
         (D.seen device.new)) }
-    ensures untouched { IsUntouched D.tells (D.seen device.old) (D.seen device.new) }
+    ensures untouched { IsUntouched D.trust.tells (D.seen device.old) (D.seen device.new) }
 {
     let (used, total) = read_space(alloc, head, window, device)?;
     let Ok(chapters) = count_chapters(alloc, &head.geometry, device) else {
@@ -82,12 +82,12 @@ fn read_space<D: Disk>(
     requires room { needed_blocks head.now.geometry ≤ (D.seen device.old).size }
     requires window { (journal : Blocks) × IsWindowOf head.now journal window.now }
     ensures space { IfOk result (λ space.
-        HasSpace D.tells D.honest head.now window.now (D.seen device.old) (D.seen device.new)
+        HasSpace D.trust head.now window.now (D.seen device.old) (D.seen device.new)
         space.0 space.1) }
     ensures fault { IfErr result
-        (AuditWithFails D.tells D.honest head.now window.now (D.seen device.old)
+        (AuditWithFails D.trust head.now window.now (D.seen device.old)
         (D.seen device.new)) }
-    ensures untouched { IsUntouched D.tells (D.seen device.old) (D.seen device.new) }
+    ensures untouched { IsUntouched D.trust.tells (D.seen device.old) (D.seen device.new) }
 {
     let contents = read_contents(alloc, head, window, device)?;
     let used = count_used(&contents.counts.counts);
@@ -103,8 +103,8 @@ fn count_chapters<D: Disk>(
     requires sizes { IsGeometry geometry.now }
     requires room { needed_blocks geometry.now ≤ (D.seen device.old).size }
     ensures chapters { IfOk result
-        (HasChapters D.tells D.honest geometry.now (D.seen device.old) (D.seen device.new)) }
-    ensures untouched { IsUntouched D.tells (D.seen device.old) (D.seen device.new) }
+        (HasChapters D.trust geometry.now (D.seen device.old) (D.seen device.new)) }
+    ensures untouched { IsUntouched D.trust.tells (D.seen device.old) (D.seen device.new) }
 {
     let index = Uds::load(alloc, geometry, device, 0)?;
     Ok(index.chapters())

@@ -4,6 +4,7 @@ use Rattle.std.proofs.Common.{ℕ, ◌≡◌, ◌+◌, Bool, true, false, Some, 
 use Rattle.blk_base.specs.declared.geometry.Super.{Super}
 use Rattle.blk_base.specs.Forms.{pbn}
 use Rattle.disk_model.specs.Seen.{Seen}
+use Rattle.disk_model.specs.Trust.{Trust, trust_of}
 use Rattle.image_layout.specs.declared.fault.Field.TheVariants.{Start}
 use Rattle.image_layout.specs.declared.fault.SuperFault.TheVariants.{BadField, NotAnImage}
 use Rattle.image_model.proofs.Example.{small, zeros}
@@ -25,7 +26,7 @@ last_of_zeros : (start last : ℕ) → last + 1 ≡ start → IsLast small start
 last_of_zeros start last behind = record { there = inl behind; none = λ s h from later below there. none_there s h there }
 
 -- Its window is read.
-window_read : (honest : Bool) → IsWindowRead false honest seen seen (head_from 1) (no_entries 0)
+window_read : (honest : Bool) → IsWindowRead (trust_of false honest) seen seen (head_from 1) (no_entries 0)
 window_read honest = (
   zero_journal,
   record { count = refl; read = were_read honest 1 (reverse zero_journal) (zeros_given honest 1 8) },
@@ -39,7 +40,7 @@ window_read honest = (
 abbrev single : Super
 single = record { geometry = record small { journal = 1 }; clean = false; start = 1 }
 
-window_unread : (honest : Bool) (window : WindowState) → IsWindowRead true honest seen seen single window → ⊥
+window_unread : (honest : Bool) (window : WindowState) → IsWindowRead (trust_of true honest) seen seen single window → ⊥
 window_unread honest window ([], read, is) = let count = read.count in omega (arith, count)
 window_unread honest window (block ∷ [], read, is) = let size = ap length (read.read.logged refl) in omega (arith, size)
 window_unread honest window (block ∷ other ∷ more, read, is) = let count = read.count in omega (arith, count)
@@ -51,75 +52,75 @@ without_slots = record { geometry = record small { journal = 0 }; clean = false;
 last_of_none : IsLast (record small { journal = 0 }) 1 [] 0
 last_of_none = record { there = inl refl; none = λ s h from later below there. zeros 1 s h there.0 there.1 }
 
-another_window : (tells honest : Bool) (before now : Seen) → IsWindowRead tells honest before now without_slots (no_entries 1) → ⊥
-another_window tells honest before now (block ∷ journal, read, is) = let count = read.count in omega (arith, count)
-another_window tells honest before now ([], read, is) =
+another_window : (trust : Trust) (before now : Seen) → IsWindowRead trust before now without_slots (no_entries 1) → ⊥
+another_window trust before now (block ∷ journal, read, is) = let count = read.count in omega (arith, count)
+another_window trust before now ([], read, is) =
     let same = one_last (record small { journal = 0 }) 1 [] 1 0 is.is_window.is_last last_of_none in omega (arith, same)
 
 -- Why it has none: a session that wasn't closed has used up the sequences.
 abbrev final : ℕ
 final = 18014398509481983
 
-refusal_read : (honest : Bool) → IsRefusalRead false honest seen seen (head_from final) (Superblock (BadField Start))
+refusal_read : (honest : Bool) → IsRefusalRead (trust_of false honest) seen seen (head_from final) (Superblock (BadField Start))
 refusal_read honest = (
   zero_journal,
   record { count = refl; read = were_read honest 1 (reverse zero_journal) (zeros_given honest 1 8) },
   (refl, record { unclean = refl; last = 18014398509481982; is_last = last_of_zeros final 18014398509481982 refl; past = omega arith }),
 )
 
-refusal_unread : (honest : Bool) → IsRefusalRead true honest seen seen single Memory → ⊥
+refusal_unread : (honest : Bool) → IsRefusalRead (trust_of true honest) seen seen single Memory → ⊥
 refusal_unread honest ([], read, is) = let count = read.count in omega (arith, count)
 refusal_unread honest (block ∷ [], read, is) = let size = ap length (read.read.logged refl) in omega (arith, size)
 refusal_unread honest (block ∷ other ∷ more, read, is) = let count = read.count in omega (arith, count)
 
-used_up_early : (tells honest : Bool) (before now : Seen) → IsRefusalRead tells honest before now without_slots (Superblock (BadField Start)) → ⊥
-used_up_early tells honest before now (block ∷ journal, read, is) = let count = read.count in omega (arith, count)
-used_up_early tells honest before now ([], read, (same, used)) =
+used_up_early : (trust : Trust) (before now : Seen) → IsRefusalRead trust before now without_slots (Superblock (BadField Start)) → ⊥
+used_up_early trust before now (block ∷ journal, read, is) = let count = read.count in omega (arith, count)
+used_up_early trust before now ([], read, (same, used)) =
     let last = one_last (record small { journal = 0 }) 1 [] used.last 0 used.is_last last_of_none in
     let past = used.past in omega (arith, last, past)
 
 -- Failures. Super, Window: of what was read
-fails_used_up : (honest : Bool) → Fails false honest seen seen (head_from final) (Superblock (BadField Start))
+fails_used_up : (honest : Bool) → Fails (trust_of false honest) seen seen (head_from final) (Superblock (BadField Start))
 fails_used_up = refusal_read
 
-fails_no_image : (tells honest : Bool) (before now : Seen) (head : Super) → Fails tells honest before now head (Superblock NotAnImage) → ⊥
-fails_no_image tells honest before now head fails = let same = fails.2.0 in absurd (cc same)
+fails_no_image : (trust : Trust) (before now : Seen) (head : Super) → Fails trust before now head (Superblock NotAnImage) → ⊥
+fails_no_image trust before now head fails = let same = fails.2.0 in absurd (cc same)
 
-fails_window : (tells honest : Bool) (before now : Seen) → Fails tells honest before now without_slots (Window 7) → ⊥
-fails_window tells honest before now (block ∷ journal, read, is) = let count = read.count in omega (arith, count)
-fails_window tells honest before now ([], read, (used, faulty)) =
+fails_window : (trust : Trust) (before now : Seen) → Fails trust before now without_slots (Window 7) → ⊥
+fails_window trust before now (block ∷ journal, read, is) = let count = read.count in omega (arith, count)
+fails_window trust before now ([], read, (used, faulty)) =
     let last = one_last (record small { journal = 0 }) 1 [] faulty.last 0 faulty.is_last last_of_none in
     let inside = faulty.inside in omega (arith, last, inside)
 
 -- Device: where a read failed; Memory: at any time
-fails_device : (honest : Bool) → Fails false honest seen failed (head_from 1) Device
+fails_device : (honest : Bool) → Fails (trust_of false honest) seen failed (head_from 1) Device
 fails_device honest = ([], omega arith, next_failed honest 1)
 
-fails_for_nothing : (tells honest : Bool) (head : Super) → Fails tells honest seen seen head Device → ⊥
-fails_for_nothing tells honest head fails = let rose = fails.2.rose in omega (arith, rose)
+fails_for_nothing : (trust : Trust) (head : Super) → Fails trust seen seen head Device → ⊥
+fails_for_nothing trust head fails = let rose = fails.2.rose in omega (arith, rose)
 
-fails_memory : (tells honest : Bool) (before now : Seen) (head : Super) → Fails tells honest before now head Memory
-fails_memory tells honest before now head = tt
+fails_memory : (trust : Trust) (before now : Seen) (head : Super) → Fails trust before now head Memory
+fails_memory trust before now head = tt
 
 -- and no other
-fails_unclean : (tells honest : Bool) (before now : Seen) (head : Super) → Fails tells honest before now head Unclean → ⊥
-fails_unclean tells honest before now head none = none
+fails_unclean : (trust : Trust) (before now : Seen) (head : Super) → Fails trust before now head Unclean → ⊥
+fails_unclean trust before now head none = none
 
-fails_counts : (tells honest : Bool) (before now : Seen) (head : Super) → Fails tells honest before now head (Counts (pbn 86) 2 1) → ⊥
-fails_counts tells honest before now head none = none
+fails_counts : (trust : Trust) (before now : Seen) (head : Super) → Fails trust before now head (Counts (pbn 86) 2 1) → ⊥
+fails_counts trust before now head none = none
 
 -- The same of the blocks alone.
-journal_fails_device : (honest : Bool) → JournalFails false honest seen failed small Device
+journal_fails_device : (honest : Bool) → JournalFails (trust_of false honest) seen failed small Device
 journal_fails_device honest = ([], omega arith, next_failed honest 1)
 
-journal_fails_for_nothing : (tells honest : Bool) → JournalFails tells honest seen seen small Device → ⊥
-journal_fails_for_nothing tells honest fails = let rose = fails.2.rose in omega (arith, rose)
+journal_fails_for_nothing : (trust : Trust) → JournalFails trust seen seen small Device → ⊥
+journal_fails_for_nothing trust fails = let rose = fails.2.rose in omega (arith, rose)
 
-journal_fails_memory : (tells honest : Bool) (before now : Seen) → JournalFails tells honest before now small Memory
-journal_fails_memory tells honest before now = tt
+journal_fails_memory : (trust : Trust) (before now : Seen) → JournalFails trust before now small Memory
+journal_fails_memory trust before now = tt
 
-journal_fails_used_up : (tells honest : Bool) (before now : Seen) → JournalFails tells honest before now small (Superblock (BadField Start)) → ⊥
-journal_fails_used_up tells honest before now none = none
+journal_fails_used_up : (trust : Trust) (before now : Seen) → JournalFails trust before now small (Superblock (BadField Start)) → ⊥
+journal_fails_used_up trust before now none = none
 
 -- Sequences up to the newest block; without one there are none.
 up_to_seven : IsUpTo (Some (record { sequence = 7; head = 1 })) 7

@@ -6,6 +6,7 @@ use Rattle.blk_base.specs.declared.geometry.Geometry.{Geometry}
 use Rattle.blk_base.specs.declared.geometry.Super.{Super}
 use Rattle.disk_model.specs.Log.{Blocks, block_at, settled}
 use Rattle.disk_model.specs.Seen.{Seen}
+use Rattle.disk_model.specs.Trust.{Trust}
 use Rattle.disk_model.proofs.LookedLaws.{given_blocks}
 use Rattle.image_layout.specs.Opened.{super_of_image}
 use Rattle.image_layout.specs.Values.{journal_of}
@@ -24,21 +25,21 @@ use Rattle.journal_window.specs.Windows.{IsUsedUp}
 one_head : (a b : Super) → ◌≡◌ {A = Result Super SuperFault} (Ok a) (Ok b) → a ≡ b
 one_head a b same = cc
 
-module _ (tells honest : Bool) (before now : Seen) (image : Blocks) (told : IsTrue tells) (fair : IsTrue honest) (one : HasOneImageButIndex before.opening before.log image) where
+module _ (trust : Trust) (before now : Seen) (image : Blocks) (told : IsTrue trust.tells) (fair : IsTrue trust.honest) (one : HasOneImageButIndex before.opening before.log image) where
   -- the blocks of the journal
-  pub journal_shown : (head : Super) (journal : Blocks) → needed_blocks head.geometry ≤ before.size → super_of_image image ≡ Ok head → IsJournalRead tells honest before now head.geometry journal
+  pub journal_shown : (head : Super) (journal : Blocks) → needed_blocks head.geometry ≤ before.size → super_of_image image ≡ Ok head → IsJournalRead trust before now head.geometry journal
       → journal ≡ journal_of head.geometry image
   journal_shown head journal room accepted read =
       let count = read.count in
       let size = length-reverse journal in
       let opening = read.read.told told in
       sym (reverse-reverse journal)
-      ∙ given_blocks (looked_in image) tells honest 1 before image told fair one (reverse journal) read.read.given (omega (arith, count, size, opening, room))
+      ∙ given_blocks (looked_in image) trust 1 before image told fair one (reverse journal) read.read.given (omega (arith, count, size, opening, room))
       (λ b less. looked_in_place image head accepted b (looked_low head.geometry b (omega (arith, less, count, size))))
       ∙ ap (λ (n : ℕ). take n (drop 1 image)) (size ∙ count)
 
   module _ (head : Super) (room : needed_blocks head.geometry ≤ before.size) (accepted : super_of_image image ≡ Ok head) where
-    pub window_shown : (window : WindowState) → IsWindowRead tells honest before now head window → Opens image head window.last window.entries
+    pub window_shown : (window : WindowState) → IsWindowRead trust before now head window → Opens image head window.last window.entries
     window_shown window (journal, read, is) = record {
       accepted = accepted;
       sequences = is.sequences;
@@ -67,7 +68,7 @@ module _ (tells honest : Bool) (before now : Seen) (image : Blocks) (told : IsTr
           past = ended.past;
         }
 
-    pub fault_shown : (why : ImageFault) → Fails tells honest before now head why → IsImageFault image why
+    pub fault_shown : (why : ImageFault) → Fails trust before now head why → IsImageFault image why
     fault_shown (Superblock fault) (journal, read, refused) = inr (refused.0, at_end journal (journal_shown head journal room accepted read) refused.1)
     fault_shown (Window sequence) (journal, read, refused) =
         let same = journal_shown head journal room accepted read in

@@ -10,6 +10,7 @@ use Rattle.blk_base.specs.declared.journal_entry.CommittedEntry.{CommittedEntry}
 use Rattle.blk_base.specs.declared.journal_entry.Entry.{Entry}
 use Rattle.blk_base.proofs.Example.{maps}
 use Rattle.disk_model.specs.Seen.{Seen}
+use Rattle.disk_model.specs.Trust.{trust_of}
 use Rattle.disk_model.proofs.SeenLaws.{stays_yet, later_yet}
 use Rattle.image_layout.specs.declared.fault.Field.TheVariants.{Start, Nonce}
 use Rattle.image_layout.specs.declared.fault.SuperFault.TheVariants.{BadField}
@@ -240,7 +241,7 @@ single = record small { journal = 1 }
 abbrev pub seen_with : ℕ → Seen
 seen_with faults = record { opening = []; size = 154; log = []; faults = faults; unkept = 0 }
 
-journal_read : IsJournalRead false false (seen_with 0) (seen_with 0) single (zero_block ∷ [])
+journal_read : IsJournalRead (trust_of false false) (seen_with 0) (seen_with 0) single (zero_block ∷ [])
 unfolding zero_block
 journal_read = record {
   count = refl;
@@ -253,13 +254,13 @@ journal_read = record {
   };
 }
 
-journal_read_count : IsJournalRead false false (seen_with 0) (seen_with 0) small (zero_block ∷ []) → ⊥
+journal_read_count : IsJournalRead (trust_of false false) (seen_with 0) (seen_with 0) small (zero_block ∷ []) → ⊥
 journal_read_count is = let count = is.count in omega (arith, count)
 
-journal_read_read : IsJournalRead false false (seen_with 0) (seen_with 0) single ((0 ∷ []) ∷ []) → ⊥
+journal_read_read : IsJournalRead (trust_of false false) (seen_with 0) (seen_with 0) single ((0 ∷ []) ∷ []) → ⊥
 journal_read_read is = let size = is.read.given.0 in omega (arith, size)
 
-read_failed : HasReadFailed false false (seen_with 0) (seen_with 1) single
+read_failed : HasReadFailed (trust_of false false) (seen_with 0) (seen_with 1) single
 read_failed = (
   [],
   omega arith,
@@ -273,14 +274,14 @@ read_failed = (
 )
 
 -- no read failed where the count didn't rise, or where there is no block to be read
-read_failed_rose : HasReadFailed false false (seen_with 0) (seen_with 0) single → ⊥
+read_failed_rose : HasReadFailed (trust_of false false) (seen_with 0) (seen_with 0) single → ⊥
 read_failed_rose failed = let rose = failed.2.rose in omega (arith, rose)
 
-read_failed_few : HasReadFailed false false (seen_with 0) (seen_with 1) (record small { journal = 0 }) → ⊥
+read_failed_few : HasReadFailed (trust_of false false) (seen_with 0) (seen_with 1) (record small { journal = 0 }) → ⊥
 read_failed_few failed = let few = failed.1 in omega (arith, few)
 
-device_fails : Fails false false (seen_with 0) (seen_with 1) (record { geometry = single; clean = false; start = 1 }) Device
+device_fails : Fails (trust_of false false) (seen_with 0) (seen_with 1) (record { geometry = single; clean = false; start = 1 }) Device
 device_fails = read_failed
 
-device_fails_alone : JournalFails false false (seen_with 0) (seen_with 1) single (Window 1) → ⊥
+device_fails_alone : JournalFails (trust_of false false) (seen_with 0) (seen_with 1) single (Window 1) → ⊥
 device_fails_alone is = is

@@ -25,10 +25,10 @@ pub fn read_window<D: Disk>(
     requires below { head.now.start < 2 ^ 54 }
     requires room { needed_blocks head.now.geometry ≤ (D.seen device.old).size }
     ensures window { IfOk result
-        (IsWindowRead D.tells D.honest (D.seen device.old) (D.seen device.new) head.now) }
+        (IsWindowRead D.trust (D.seen device.old) (D.seen device.new) head.now) }
     ensures fault { IfErr result
-        (Fails D.tells D.honest (D.seen device.old) (D.seen device.new) head.now) }
-    ensures untouched { IsUntouched D.tells (D.seen device.old) (D.seen device.new) }
+        (Fails D.trust (D.seen device.old) (D.seen device.new) head.now) }
+    ensures untouched { IsUntouched D.trust.tells (D.seen device.old) (D.seen device.new) }
 {
     let layout = Layout::of(&head.geometry);
     let journal = read_journal(alloc, device, &layout)?;
@@ -45,12 +45,12 @@ fn read_journal<D: Disk>(
 ) -> Result<Vec<Block>, ImageFault>
     requires room { needed_blocks layout.now.geometry ≤ (D.seen device.old).size }
     ensures read { IfOk result (λ journal.
-        IsJournalRead D.tells D.honest (D.seen device.old)
+        IsJournalRead D.trust (D.seen device.old)
         (D.seen device.new) layout.now.geometry journal.items) }
     ensures fault { IfErr result
-        (JournalFails D.tells D.honest (D.seen device.old)
+        (JournalFails D.trust (D.seen device.old)
         (D.seen device.new) layout.now.geometry) }
-    ensures untouched { IsUntouched D.tells (D.seen device.old) (D.seen device.new) }
+    ensures untouched { IsUntouched D.trust.tells (D.seen device.old) (D.seen device.new) }
 {
     let first = layout.journal_slot(0);
     match read_blocks(alloc, device, first, layout.geometry.journal) {

@@ -1,8 +1,9 @@
-ghost use Rattle.std.specs.Prelude.{◌≡◌, ◌≤◌, ◌⊎◌, Bool, IsTrue, Ok};
+ghost use Rattle.std.specs.Prelude.{◌≡◌, ◌≤◌, ◌⊎◌, IsTrue, Ok};
 ghost use Rattle.blk_base.specs.Regions.{needed_blocks};
 ghost use Rattle.blk_base.specs.declared.geometry.Super.{Super};
 ghost use Rattle.disk_model.specs.Log.{Blocks};
 ghost use Rattle.disk_model.specs.Seen.{Seen};
+ghost use Rattle.disk_model.specs.Trust.{Trust};
 ghost use Rattle.image_layout.specs.Opened.{super_of_image};
 ghost use Rattle.image_model.specs.Faults.{IsImageFault};
 ghost use Rattle.image_model.specs.Looked.{HasOneImageButIndex};
@@ -27,16 +28,18 @@ pub fn a_journal_has_one_answer()
 /// Where a device is honest and nothing is pending on it but in the index, what was read of its journal is what its one
 /// image has: the window with which it is opened, or its fault. It does nothing.
 pub fn reads_show_the_window()
-    ensures window { (tells honest : Bool) (before now : Seen) (image : Blocks) (head : Super)
+    ensures window { (trust : Trust) (before now : Seen) (image : Blocks) (head : Super)
         (window : WindowState)
-        → IsTrue tells → IsTrue honest → HasOneImageButIndex before.opening before.log image →
-        needed_blocks head.geometry ≤ before.size
-        → super_of_image image ≡ Ok head → IsWindowRead tells honest before now head window
+        → IsTrue trust.tells → IsTrue trust.honest
+        → HasOneImageButIndex before.opening before.log image
+        → needed_blocks head.geometry ≤ before.size
+        → super_of_image image ≡ Ok head → IsWindowRead trust before now head window
         → Opens image head window.last window.entries }
-    ensures fault { (tells honest : Bool) (before now : Seen) (image : Blocks) (head : Super)
+    ensures fault { (trust : Trust) (before now : Seen) (image : Blocks) (head : Super)
         (why : ImageFault)
-        → IsTrue tells → IsTrue honest → HasOneImageButIndex before.opening before.log image →
-        needed_blocks head.geometry ≤ before.size
-        → super_of_image image ≡ Ok head → Fails tells honest before now head why
+        → IsTrue trust.tells → IsTrue trust.honest
+        → HasOneImageButIndex before.opening before.log image
+        → needed_blocks head.geometry ≤ before.size
+        → super_of_image image ≡ Ok head → Fails trust before now head why
         → IsImageFault image why }
 {}

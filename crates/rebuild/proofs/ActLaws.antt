@@ -7,6 +7,7 @@ use Rattle.disk_model.specs.declared.call.Call.TheVariants.{Read, Write, Flush}
 use Rattle.disk_model.specs.declared.call.Failed.{Failed}
 use Rattle.disk_model.specs.Log.{IsWritten}
 use Rattle.disk_model.specs.Seen.{Later, Seen, Stays}
+use Rattle.disk_model.specs.Trust.{Trust}
 use Rattle.disk_model.specs.Since.{IsUntouched, OnlyReads, WereRead, NextFailed, reads_of}
 use Rattle.disk_model.proofs.SeenLaws.{stays_on, later_on, stays_yet, later_yet}
 use Rattle.image_format.proofs.FormatLaws.{last_failed}
@@ -66,8 +67,8 @@ pub made_stays : (tells : Bool) (before now : Seen) (calls : List Call) (result 
 made_stays tells before now calls (Ok _) made = (made.stays, made.later)
 made_stays tells before now calls (Err _) made = (made.stays, made.later)
 
-pub failed_grows : (tells honest : Bool) (from : ℕ) (before now : Seen) → NextFailed tells honest from before now [] → Grows tells before now
-failed_grows tells honest from before now failed = λ told.
+pub failed_grows : (trust : Trust) (from : ℕ) (before now : Seen) → NextFailed trust from before now [] → Grows trust.tells before now
+failed_grows trust from before now failed = λ told.
     let logged = failed.logged told in
     elim logged.1 [
       | inl stands ↦ (Read (record { 0 = from + 0 }) logged.0 false ∷ [], stands)
@@ -149,8 +150,8 @@ one_of_one one [] done call is = (cc is, cc is)
 one_of_one one (other ∷ []) done call is = absurd (cc is)
 one_of_one one (other ∷ another ∷ newer) done call is = absurd (cc is)
 
-pub read_failed : (tells honest : Bool) (w : Writing) (before now : Seen) (at : Pbn) (N : Image → Type 0) → NextFailed tells honest at.0 before now [] → Stopped tells w before now N
-read_failed tells honest w before now at N failed = λ told first from calls made has.
+pub read_failed : (trust : Trust) (w : Writing) (before now : Seen) (at : Pbn) (N : Image → Type 0) → NextFailed trust at.0 before now [] → Stopped trust.tells w before now N
+read_failed trust w before now at N failed = λ told first from calls made has.
     let logged = failed.logged told in
     record {
       calls = calls;
@@ -163,18 +164,18 @@ read_failed tells honest w before now at N failed = λ told first from calls mad
       ];
     }
 
-module _ (tells honest : Bool) (w : Writing) (before middle now : Seen) (at : Pbn) (given bytes : List ℕ) (N : Image → Type 0) where
+module _ (trust : Trust) (w : Writing) (before middle now : Seen) (at : Pbn) (given bytes : List ℕ) (N : Image → Type 0) where
   abbrev Puts : Type 0
-  Puts = IsTrue tells → (first : Seen) (from : w.From first) (calls : List Call) → AreMade (w.Kind (w.image first from)) first before calls
+  Puts = IsTrue trust.tells → (first : Seen) (from : w.From first) (calls : List Call) → AreMade (w.Kind (w.image first from)) first before calls
       → N (w.image first from) → w.Kind (w.image first from) (put at.0 bytes)
 
-  log_then : IsTrue tells → (first : Seen) (from : w.From first) (calls : List Call) → WereRead tells honest at.0 before middle (given ∷ [])
+  log_then : IsTrue trust.tells → (first : Seen) (from : w.From first) (calls : List Call) → WereRead trust at.0 before middle (given ∷ [])
       → AreMade (w.Kind (w.image first from)) first before calls → middle.log ≡ Read (record { 0 = at.0 + 0 }) given true ∷ (calls ++ first.log)
   log_then told first from calls read made =
       read.logged told ∙ ap (λ (log : List Call). Read (record { 0 = at.0 + 0 }) given true ∷ log) made.logged
 
-  written_writes : (result : Result (Unit {0}) Failed) → WereRead tells honest at.0 before middle (given ∷ []) → Makes tells middle now (put at.0 bytes ∷ []) result → Puts
-      → Writes tells w before now N (λ image calls. IsWritten calls at.0) result
+  written_writes : (result : Result (Unit {0}) Failed) → WereRead trust at.0 before middle (given ∷ []) → Makes trust.tells middle now (put at.0 bytes ∷ []) result → Puts
+      → Writes trust.tells w before now N (λ image calls. IsWritten calls at.0) result
   written_writes (Ok _) read made is = λ told first from calls were has.
       let image = w.image first from in (
         put at.0 bytes ∷ Read (record { 0 = at.0 + 0 }) given true ∷ [],
@@ -202,15 +203,15 @@ module _ (tells honest : Bool) (w : Writing) (before middle now : Seen) (at : Pb
         ];
       }
 
-  read_grows : WereRead tells honest at.0 before middle (given ∷ []) → Grows tells before middle
+  read_grows : WereRead trust at.0 before middle (given ∷ []) → Grows trust.tells before middle
   read_grows read = λ told. (reads_of at.0 (given ∷ []), read.logged told)
 
-  grows_both : (result : Result (Unit {0}) Failed) → WereRead tells honest at.0 before middle (given ∷ []) → Makes tells middle now (put at.0 bytes ∷ []) result
-      → Grows tells before now
-  grows_both result read made = grows_on tells before middle now (read_grows read) (made_grows tells middle now (put at.0 bytes ∷ []) result made)
+  grows_both : (result : Result (Unit {0}) Failed) → WereRead trust at.0 before middle (given ∷ []) → Makes trust.tells middle now (put at.0 bytes ∷ []) result
+      → Grows trust.tells before now
+  grows_both result read made = grows_on trust.tells before middle now (read_grows read) (made_grows trust.tells middle now (put at.0 bytes ∷ []) result made)
 
-  pub written : (result : Result (Unit {0}) Failed) → WereRead tells honest at.0 before middle (given ∷ []) → Makes tells middle now (put at.0 bytes ∷ []) result → Puts
-      → Acts tells w before now N (λ image calls. IsWritten calls at.0) result
+  pub written : (result : Result (Unit {0}) Failed) → WereRead trust at.0 before middle (given ∷ []) → Makes trust.tells middle now (put at.0 bytes ∷ []) result → Puts
+      → Acts trust.tells w before now N (λ image calls. IsWritten calls at.0) result
   written (Ok u) read made is = record {
     stays = stays_on before middle now read.stays made.stays;
     later = later_on before middle now read.later made.later;
@@ -222,21 +223,21 @@ module _ (tells honest : Bool) (w : Writing) (before middle now : Seen) (at : Pb
     stays = stays_on before middle now read.stays made.stays;
     later = later_on before middle now read.later made.later;
     grows = grows_both (Err e) read made;
-    failed = failed_behind tells before middle now read.later (read_grows read) (last_failed tells middle now (put at.0 bytes ∷ []) made);
+    failed = failed_behind trust.tells before middle now read.later (read_grows read) (last_failed trust.tells middle now (put at.0 bytes ∷ []) made);
     writes = written_writes (Err e) read made is;
   }
 
-writes_err : (tells honest : Bool) (w : Writing) (before now : Seen) (N : Image → Type 0) (D : Image → List Call → Type 0) (result : Result (Unit {0}) Failed) → IsErr result → Stopped tells w before now N
-    → Writes tells w before now N D result
-writes_err tells honest w before now N D (Ok _) is stopped = absurd (cc is)
-writes_err tells honest w before now N D (Err _) is stopped = stopped
+writes_err : (trust : Trust) (w : Writing) (before now : Seen) (N : Image → Type 0) (D : Image → List Call → Type 0) (result : Result (Unit {0}) Failed) → IsErr result → Stopped trust.tells w before now N
+    → Writes trust.tells w before now N D result
+writes_err trust w before now N D (Ok _) is stopped = absurd (cc is)
+writes_err trust w before now N D (Err _) is stopped = stopped
 
-pub read_stops : (tells honest : Bool) (w : Writing) (before now : Seen) (at : Pbn) (N : Image → Type 0) (D : Image → List Call → Type 0) (result : Result (Unit {0}) Failed) → IsErr result
-    → NextFailed tells honest at.0 before now [] → Acts tells w before now N D result
-read_stops tells honest w before now at N D result is failed = record {
+pub read_stops : (trust : Trust) (w : Writing) (before now : Seen) (at : Pbn) (N : Image → Type 0) (D : Image → List Call → Type 0) (result : Result (Unit {0}) Failed) → IsErr result
+    → NextFailed trust at.0 before now [] → Acts trust.tells w before now N D result
+read_stops trust w before now at N D result is failed = record {
   stays = failed.stays;
   later = failed.later;
-  grows = failed_grows tells honest at.0 before now failed;
-  failed = on_err tells before now result (read_is_last tells honest at.0 before now [] failed);
-  writes = writes_err tells honest w before now N D result is (read_failed tells honest w before now at N failed);
+  grows = failed_grows trust at.0 before now failed;
+  failed = on_err trust.tells before now result (read_is_last trust at.0 before now [] failed);
+  writes = writes_err trust w before now N D result is (read_failed trust w before now at N failed);
 }

@@ -15,6 +15,7 @@ use Rattle.disk_model.specs.declared.call.Call.TheVariants.{Read, Write, Flush}
 use Rattle.disk_model.specs.declared.call.Failed.{Failed}
 use Rattle.disk_model.specs.Log.{Blocks, block_at}
 use Rattle.disk_model.specs.Seen.{Seen}
+use Rattle.disk_model.specs.Trust.{trust_of}
 use Rattle.image_format.specs.Runs.{as_failed}
 use Rattle.image_layout.specs.Opened.{super_of_image}
 use Rattle.image_model.specs.Empty.{IsMade, made_block}
@@ -45,19 +46,19 @@ untold_grows = λ told. absurd (cc told)
 module _ (g : Geometry) (blocks : Blocks) (accepted : super_of_image blocks ≡ Ok (opened_super g)) (named : g.nonce < 2 ^ 64)
     (made : (place : Place) → IsPlace g place → IsMade place → block_at blocks (block_of g place) ≡ made_block g place)
     (whole : (b : ℕ) → b < length blocks → length (block_at blocks b) ≡ 4096) where
-  pub opened_starts : IsStart true true (record seen { opening = blocks }) blocks
+  pub opened_starts : IsStart (trust_of true true) (record seen { opening = blocks }) blocks
   opened_starts = record { told = refl; fair = refl; to = opened_is_to_recover g blocks accepted made named whole }
 
 module _ (first : Seen) (blocks : Blocks) where
   -- told, fair
-  untold_start : IsStart false true first blocks → ⊥
+  untold_start : IsStart (trust_of false true) first blocks → ⊥
   untold_start start = let told = start.told in absurd (cc told)
 
-  unfair_start : IsStart true false first blocks → ⊥
+  unfair_start : IsStart (trust_of true false) first blocks → ⊥
   unfair_start start = let fair = start.fair in absurd (cc fair)
 
   -- to: nothing is pending, and the last session wasn't closed
-  closed_start : (head : Superblock) → super_of_image blocks ≡ Ok head → head.clean ≡ true → IsStart true true first blocks → ⊥
+  closed_start : (head : Superblock) → super_of_image blocks ≡ Ok head → head.clean ≡ true → IsStart (trust_of true true) first blocks → ⊥
   closed_start head accepted clean start =
       let accepted_too = start.to.sound.opens.accepted in
       let same_head : start.to.sound.head ≡ head = cc (accepted, accepted_too) in
@@ -65,7 +66,7 @@ module _ (first : Seen) (blocks : Blocks) where
       let unclean = start.to.unclean in
       absurd (cc (here, clean, unclean))
 
-pending_start : IsStart true true (record seen { opening = zero_block ∷ []; log = Write (pbn 0) [] true ∷ [] }) (zero_block ∷ []) → ⊥
+pending_start : IsStart (trust_of true true) (record seen { opening = zero_block ∷ []; log = Write (pbn 0) [] true ∷ [] }) (zero_block ∷ []) → ⊥
 pending_start start = let only = (start.to.one.only 0 (omega arith) (looked_first (zero_block ∷ []))).0 in let whole = start.to.one.whole 0 (omega arith) in let size = ap length only in omega (arith, size, whole)
 
 -- A call that failed. each: those before it are reads and recovery's writes.
@@ -139,7 +140,7 @@ abbrev never : Image → List Call → Type 0
 never image calls = ⊥
 
 -- From a start on.
-module _ (first : Seen) (blocks : Blocks) (start : IsStart true true first blocks) (fault : Failed) where
+module _ (first : Seen) (blocks : Blocks) (start : IsStart (trust_of true true) first blocks) (fault : Failed) where
   abbrev started : Image
   started = image_in blocks start.to.sound
 
@@ -150,25 +151,25 @@ module _ (first : Seen) (blocks : Blocks) (start : IsStart true true first block
   with_failed = record first { log = Flush false ∷ first.log; faults = first.faults + 1 }
 
   -- More such calls were made, or none; and no other.
-  went_yet : Went true (recovery true true) first first any yet
+  went_yet : Went true (recovery (trust_of true true)) first first any yet
   went_yet told other from calls made needs = ([], made, tt)
 
-  flush_made : Went true (recovery true true) first with_flush any yet → ⊥
+  flush_made : Went true (recovery (trust_of true true)) first with_flush any yet → ⊥
   flush_made went = let more = went refl first (blocks, start) [] (none_made (IsPut started) first) tt in one_flush started true (more.0 ++ []) [] first.log more.1.logged more.1.each
 
   -- it is done
-  not_done : Went true (recovery true true) first first any never → ⊥
+  not_done : Went true (recovery (trust_of true true)) first first any never → ⊥
   not_done went = (went refl first (blocks, start) [] (none_made (IsPut started) first) tt).2
 
   -- where the image has what is needed
-  none_needed : Went true (recovery true true) first with_flush (λ image. ⊥) yet
+  none_needed : Went true (recovery (trust_of true true)) first with_flush (λ image. ⊥) yet
   none_needed told other from calls made needs = absurd needs
 
   -- of a device that tells and is honest
-  untold_went : Went false (recovery false true) first with_flush any yet
+  untold_went : Went false (recovery (trust_of false true)) first with_flush any yet
   untold_went told other from calls made needs = absurd (cc told)
 
-  unfair_went : Went true (recovery true false) first with_flush any yet
+  unfair_went : Went true (recovery (trust_of true false)) first with_flush any yet
   unfair_went told other from calls made needs = let fair = from.1.fair in absurd (cc fair)
 
   -- and the calls made before are among those by which it is done
@@ -178,13 +179,13 @@ module _ (first : Seen) (blocks : Blocks) (start : IsStart true true first block
   read_is_made : AreMade (IsPut started) first with_read (Read (pbn 9) [] true ∷ [])
   read_is_made = record { stays = record { opening = refl; size = refl }; logged = refl; each = (tt, tt) }
 
-  read_forgotten : Went true (recovery true true) with_read with_read any (λ image calls. length calls ≡ 0) → ⊥
+  read_forgotten : Went true (recovery (trust_of true true)) with_read with_read any (λ image calls. length calls ≡ 0) → ⊥
   read_forgotten went =
       let more = went refl first (blocks, start) (Read (pbn 9) [] true ∷ []) read_is_made tt in
       let size = more.2 in omega (arith, size, length-append more.0 (Read (pbn 9) [] true ∷ []))
 
   -- One failed, a flush too; and not one that succeeded.
-  flush_stopped : Stopped true (recovery true true) first with_failed any
+  flush_stopped : Stopped true (recovery (trust_of true true)) first with_failed any
   flush_stopped told other from calls made needs = record {
     calls = calls;
     each = made.each;
@@ -193,33 +194,33 @@ module _ (first : Seen) (blocks : Blocks) (start : IsStart true true first block
     logged = inl (ap (λ (log : List Call). Flush false ∷ log) made.logged);
   }
 
-  taken_stopped : Stopped true (recovery true true) first with_flush any → ⊥
+  taken_stopped : Stopped true (recovery (trust_of true true)) first with_flush any → ⊥
   taken_stopped stopped = taken_and_failed started first (stopped refl first (blocks, start) [] (none_made (IsPut started) first) tt)
 
-  none_stopped : Stopped true (recovery true true) first with_flush (λ image. ⊥)
+  none_stopped : Stopped true (recovery (trust_of true true)) first with_flush (λ image. ⊥)
   none_stopped told other from calls made needs = absurd needs
 
-  untold_stopped : Stopped false (recovery false true) first with_flush any
+  untold_stopped : Stopped false (recovery (trust_of false true)) first with_flush any
   untold_stopped told other from calls made needs = absurd (cc told)
 
   -- An answer is for what is done; after a refusal nothing is said of that, but that a call failed.
-  answered : Writes true (recovery true true) first first any yet (Ok tt)
+  answered : Writes true (recovery (trust_of true true)) first first any yet (Ok tt)
   answered = went_yet
 
-  answered_undone : Writes true (recovery true true) first first any never (Ok tt) → ⊥
+  answered_undone : Writes true (recovery (trust_of true true)) first first any never (Ok tt) → ⊥
   answered_undone = not_done
 
-  refused_undone : Writes true (recovery true true) first with_failed any never (Err fault)
+  refused_undone : Writes true (recovery (trust_of true true)) first with_failed any never (Err fault)
   refused_undone = flush_stopped
 
-  refused_taken : Writes true (recovery true true) first with_flush any yet (Err fault) → ⊥
+  refused_taken : Writes true (recovery (trust_of true true)) first with_flush any yet (Err fault) → ⊥
   refused_taken = taken_stopped
 
   -- The whole: an answer with no call, and a refusal after one that failed.
-  acted : Acts true (recovery true true) first first any yet (Ok tt)
-  acted = acts_yet true (recovery true true) first any yet (λ told other from calls made needs. tt)
+  acted : Acts true (recovery (trust_of true true)) first first any yet (Ok tt)
+  acted = acts_yet true (recovery (trust_of true true)) first any yet (λ told other from calls made needs. tt)
 
-  refused : Acts true (recovery true true) first with_failed any never (Err fault)
+  refused : Acts true (recovery (trust_of true true)) first with_failed any never (Err fault)
   refused = record {
     stays = record { opening = refl; size = refl };
     later = record { faults = omega arith; unkept = omega arith };
@@ -229,26 +230,26 @@ module _ (first : Seen) (blocks : Blocks) (start : IsStart true true first block
   }
 
   -- writes
-  acted_otherwise : Acts true (recovery true true) first with_flush any yet (Ok tt) → ⊥
+  acted_otherwise : Acts true (recovery (trust_of true true)) first with_flush any yet (Ok tt) → ⊥
   acted_otherwise acts = flush_made acts.writes
 
 -- stays: the device has as many blocks, of any device
-other_size : (honest : Bool) → Acts false (recovery false honest) seen (record seen { size = 3 }) any yet (Ok tt) → ⊥
+other_size : (honest : Bool) → Acts false (recovery (trust_of false honest)) seen (record seen { size = 3 }) any yet (Ok tt) → ⊥
 other_size honest acts = let size = acts.stays.size in omega (arith, size)
 
 -- later: no count falls
-fewer_faults : (honest : Bool) → Acts false (recovery false honest) (record seen { faults = 4 }) seen any yet (Ok tt) → ⊥
+fewer_faults : (honest : Bool) → Acts false (recovery (trust_of false honest)) (record seen { faults = 4 }) seen any yet (Ok tt) → ⊥
 fewer_faults honest acts = let less = acts.later.faults in omega (arith, less)
 
 -- grows
-log_is_lost : (honest : Bool) → Acts true (recovery true honest) flushed seen any yet (Ok tt) → ⊥
+log_is_lost : (honest : Bool) → Acts true (recovery (trust_of true honest)) flushed seen any yet (Ok tt) → ⊥
 log_is_lost honest acts = log_lost acts.grows
 
 -- failed: a refusal comes with a fault, and it is the last call that failed
-refused_for_nothing : (honest : Bool) (fault : Failed) → Acts false (recovery false honest) seen seen any yet (Err fault) → ⊥
+refused_for_nothing : (honest : Bool) (fault : Failed) → Acts false (recovery (trust_of false honest)) seen seen any yet (Err fault) → ⊥
 refused_for_nothing honest fault acts = let rose = acts.failed.rose in omega (arith, rose)
 
-refused_and_went_on : (honest : Bool) (fault : Failed) → Acts true (recovery true honest) seen called_after any yet (Err fault) → ⊥
+refused_and_went_on : (honest : Bool) (fault : Failed) → Acts true (recovery (trust_of true honest)) seen called_after any yet (Err fault) → ⊥
 refused_and_went_on honest fault acts = last_is_not acts.failed
 
 -- Pages are written whole and where they stand, with reads among them; no flush, no write that failed, and no part of a block

@@ -5,6 +5,7 @@ use Rattle.disk_model.specs.declared.call.Call.TheVariants.{Read}
 use Rattle.disk_model.specs.declared.call.Failed.{Failed}
 use Rattle.disk_model.specs.Causes.{Rose}
 use Rattle.disk_model.specs.Seen.{Later, Seen}
+use Rattle.disk_model.specs.Trust.{Trust}
 use Rattle.disk_model.specs.Since.{IsUntouched, NextFailed, reads_of}
 use Rattle.disk_model.specs.LogSteps.{FailedInLog}
 use Rattle.image_format.proofs.FormatLaws.{last_failed}
@@ -47,8 +48,8 @@ failed_after tells before middle now untouched failed =
 
 -- What failed.
 
-pub read_is_last : (tells honest : Bool) (from : ℕ) (before now : Seen) (blocks : List (List ℕ)) → NextFailed tells honest from before now blocks → LastFailed tells before now
-read_is_last tells honest from before now blocks failed = record {
+pub read_is_last : (trust : Trust) (from : ℕ) (before now : Seen) (blocks : List (List ℕ)) → NextFailed trust from before now blocks → LastFailed trust.tells before now
+read_is_last trust from before now blocks failed = record {
   rose = failed.rose;
   logged = λ told. let is = failed.logged told in (Read (record { 0 = from + length blocks }) is.0 false, reads_of from blocks, refl, is.1);
 }

@@ -9,6 +9,7 @@ use Rattle.disk_model.specs.declared.call.Call.TheVariants.{Read, Write, Flush}
 use Rattle.disk_model.specs.declared.call.Failed.{Failed}
 use Rattle.disk_model.specs.Log.{Blocks, Misses}
 use Rattle.disk_model.specs.Seen.{Seen}
+use Rattle.disk_model.specs.Trust.{Trust}
 use Rattle.disk_model.specs.Since.{IsUntouched, OnlyReads}
 use Rattle.disk_model.proofs.LookedLaws.{one_in-since, one_in-unique}
 use Rattle.image_format.specs.Calls.{put}
@@ -63,7 +64,7 @@ untouched_kept tells before now blocks sound told one untouched =
       },
     )
 
-module _ (tells honest : Bool) (first : Seen) (blocks : Blocks) (start : IsStart tells honest first blocks) where
+module _ (trust : Trust) (first : Seen) (blocks : Blocks) (start : IsStart trust first blocks) where
   abbrev image : Image
   image = image_in blocks start.to.sound
 
@@ -87,10 +88,10 @@ module _ (tells honest : Bool) (first : Seen) (blocks : Blocks) (start : IsStart
     abbrev closing : List Call
     closing = Flush true ∷ put 0 (super_block (recovered_super image.geometry last)) ∷ Flush true ∷ []
 
-    pub closed_made : WereMade tells before now closing → IsAllMade image last first now
+    pub closed_made : WereMade trust.tells before now closing → IsAllMade image last first now
     closed_made closes = (puts, are, closes.logged start.told ∙ ap (λ (log : List Call). closing ++ log) made.logged)
 
-    pub closing_failed : OneFailed tells before now closing → IsKeptSince blocks start.to.sound first now
+    pub closing_failed : OneFailed trust.tells before now closing → IsKeptSince blocks start.to.sound first now
     closing_failed failed =
         let whole : recovery_calls image last puts ≡ failed.newer ++ (failed.call ∷ (failed.done ++ puts)) =
         ap (λ (calls : List Call). calls ++ puts) failed.parts ∙ append_assoc failed.newer (failed.call ∷ failed.done) puts in
@@ -110,7 +111,7 @@ module _ (tells honest : Bool) (first : Seen) (blocks : Blocks) (start : IsStart
           )
         ]
 
-    pub closes_to : (result : Result (Unit {0}) Failed) → Makes tells before now closing result → Ends blocks start.to.sound first now result
+    pub closes_to : (result : Result (Unit {0}) Failed) → Makes trust.tells before now closing result → Ends blocks start.to.sound first now result
     closes_to (Ok _) makes = closed_made makes
     closes_to (Err _) makes = closing_failed makes
 

@@ -12,6 +12,7 @@ use Rattle.blk_base.specs.declared.opened.Opened.{Opened}
 use Rattle.count_updates.specs.Numbers.{all_sectors}
 use Rattle.disk_model.specs.Log.{Blocks}
 use Rattle.disk_model.specs.Seen.{Seen}
+use Rattle.disk_model.specs.Trust.{Trust}
 use Rattle.disk_model.specs.Since.{IsUntouched}
 use Rattle.disk_model.proofs.SinceLaws.{untouched_on}
 use Rattle.image_layout.specs.Opened.{IsHead, super_of_image}
@@ -39,17 +40,17 @@ use Rattle.audit.specs.declared.forms.Contents.{Contents}
 
 -- From what was read.
 
-module _ (tells honest : Bool) (head : Superblock) (window : WindowState) (before now : Seen) where
+module _ (trust : Trust) (head : Superblock) (window : WindowState) (before now : Seen) where
   stored_all : (image : Image) (contents : Contents) → HasCounts image contents.counts.counts.items contents.counts.sectors.items → AreStored image
   stored_all image contents has place inside = (_, has.stored place inside)
 
-  pub opened_right : (contents : Contents) (opened : Opened) → AreContents tells honest head window before now contents
+  pub opened_right : (contents : Contents) (opened : Opened) → AreContents trust head window before now contents
       → ((image : Image) → image.geometry ≡ head.geometry → HasMap image contents.map → HasCounts image contents.counts.counts.items contents.counts.sectors.items → AreTrue image)
       → ((image : Image) → image.geometry ≡ head.geometry → HasMap image contents.map → HasCounts image contents.counts.counts.items contents.counts.sectors.items
       → IsStart image head opened)
-      → IsOpenedWith tells honest head window before now opened
+      → IsOpenedWith trust head window before now opened
   opened_right contents opened are true_all starts =
-      both_follow tells honest head window before now (λ image. HasMap image contents.map × HasCounts image contents.counts.counts.items contents.counts.sectors.items) (λ image. IsRight image head opened)
+      both_follow trust head window before now (λ image. HasMap image contents.map × HasCounts image contents.counts.counts.items contents.counts.sectors.items) (λ image. IsRight image head opened)
       (λ image same has. record {
         pages = has.0.pages;
         unshared = has.0.unshared;
@@ -57,10 +58,10 @@ module _ (tells honest : Bool) (head : Superblock) (window : WindowState) (befor
         start = starts image same has.0 has.1;
       }) are.shown
 
-  pub check_failed : (contents : Contents) (why : ImageFault) → AreContents tells honest head window before now contents → CheckFails head.geometry contents why
-      → OpenWithFails tells honest head window before now why
+  pub check_failed : (contents : Contents) (why : ImageFault) → AreContents trust head window before now contents → CheckFails head.geometry contents why
+      → OpenWithFails trust head window before now why
   check_failed contents (Counts at stored mapped) are fails =
-      both_follow tells honest head window before now (λ image. HasMap image contents.map × HasCounts image contents.counts.counts.items contents.counts.sectors.items) (λ image. HasWrongCount image at stored mapped)
+      both_follow trust head window before now (λ image. HasMap image contents.map × HasCounts image contents.counts.counts.items contents.counts.sectors.items) (λ image. HasWrongCount image at stored mapped)
       (λ image same has. record {
         pages = has.0.pages;
         stored_all = stored_all image contents has.1;
@@ -76,7 +77,7 @@ module _ (tells honest : Bool) (head : Superblock) (window : WindowState) (befor
   check_failed contents Device are fails = absurd fails
   check_failed contents Unclean are fails = absurd fails
 
-  pub fits_with : (contents : Contents) (opened : Opened) → IsGeometry head.geometry → AreContents tells honest head window before now contents → opened.head ≡ head
+  pub fits_with : (contents : Contents) (opened : Opened) → IsGeometry head.geometry → AreContents trust head window before now contents → opened.head ≡ head
       → opened.counters.items ≡ contents.counts.counts.items → length opened.commits.items ≡ length contents.counts.sectors.items
       → AreTrees (all_trees head.geometry) opened.pages.items → AreLedTo head.geometry opened.pages.items opened.tree_pages.items → Fits opened
   fits_with contents opened sizes are same counters commits pages tree_pages =
@@ -92,7 +93,7 @@ module _ (tells honest : Bool) (head : Superblock) (window : WindowState) (befor
       }
 
   -- the faults of an audit come here too
-  pub audit_failed : (why : ImageFault) → AuditWithFails tells honest head window before now why → OpenWithFails tells honest head window before now why
+  pub audit_failed : (why : ImageFault) → AuditWithFails trust head window before now why → OpenWithFails trust head window before now why
   audit_failed (Counts at stored mapped) fails = absurd fails
   audit_failed (Super fault) fails = fails
   audit_failed (Window sequence) fails = fails
@@ -105,10 +106,10 @@ module _ (tells honest : Bool) (head : Superblock) (window : WindowState) (befor
 
 -- By the one image.
 
-module _ (tells honest : Bool) (before : Seen) (blocks : Blocks) (is : IsTold tells honest before blocks) where
-  refused_head : (now : Seen) (why : ImageFault) → length before.opening ≡ before.size → HeadFails tells honest before now why → IsOpeningRefusal blocks before now why
-  refused_head now (Super fault) told fails = head_refused tells honest before blocks is now (Super fault) told fails
-  refused_head now Device told fails = head_refused tells honest before blocks is now Device told fails
+module _ (trust : Trust) (before : Seen) (blocks : Blocks) (is : IsTold trust before blocks) where
+  refused_head : (now : Seen) (why : ImageFault) → length before.opening ≡ before.size → HeadFails trust before now why → IsOpeningRefusal blocks before now why
+  refused_head now (Super fault) told fails = head_refused trust before blocks is now (Super fault) told fails
+  refused_head now Device told fails = head_refused trust before blocks is now Device told fails
   refused_head now (Window sequence) told fails = absurd fails
   refused_head now (Page at fault) told fails = absurd fails
   refused_head now (Counter at point) told fails = absurd fails
@@ -117,9 +118,9 @@ module _ (tells honest : Bool) (before : Seen) (blocks : Blocks) (is : IsTold te
   refused_head now Unclean told fails = absurd fails
   refused_head now Memory told fails = absurd fails
 
-  module _ (middle : Seen) (head : Superblock) (read : IsHeadRead tells honest before middle head) where
+  module _ (middle : Seen) (head : Superblock) (read : IsHeadRead trust before middle head) where
     abbrev is_head : super_of_image blocks ≡ Ok head
-    is_head = accepted tells honest before blocks is middle head read
+    is_head = accepted trust before blocks is middle head read
 
     refused_unclean : (why : ImageFault) (now : Seen) → why ≡ Unclean → head.clean ≡ false → IsOpeningRefusal blocks before now why
     refused_unclean why now same unclean = subst (λ (f : ImageFault). IsOpeningRefusal blocks before now f) (sym same) (head, is_head, unclean)
@@ -129,14 +130,14 @@ module _ (tells honest : Bool) (before : Seen) (blocks : Blocks) (is : IsTold te
       closed = (head, is_head, clean)
 
       abbrev room : needed_blocks head.geometry ≤ middle.size
-      room = enough tells honest before blocks is middle head read
+      room = enough trust before blocks is middle head read
 
-      refused_window : (now : Seen) (why : ImageFault) → Fails tells honest middle now head why → IsOpeningRefusal blocks before now why
+      refused_window : (now : Seen) (why : ImageFault) → Fails trust middle now head why → IsOpeningRefusal blocks before now why
       refused_window now (Super fault) fails =
-          fault_shown tells honest middle now blocks is.told is.fair (one_there tells honest before blocks is middle head read) head room is_head (Super fault) fails
+          fault_shown trust middle now blocks is.told is.fair (one_there trust before blocks is middle head read) head room is_head (Super fault) fails
       refused_window now (Window sequence) fails =
-          (closed, fault_shown tells honest middle now blocks is.told is.fair (one_there tells honest before blocks is middle head read) head room is_head (Window sequence) fails)
-      refused_window now Device (journal, few, failed) = last_here tells honest before blocks is middle head read now (read_is_last tells honest 1 middle now journal failed)
+          (closed, fault_shown trust middle now blocks is.told is.fair (one_there trust before blocks is middle head read) head room is_head (Window sequence) fails)
+      refused_window now Device (journal, few, failed) = last_here trust before blocks is middle head read now (read_is_last trust 1 middle now journal failed)
       refused_window now Memory fails = closed
       refused_window now (Page at fault) fails = absurd fails
       refused_window now (Counter at point) fails = absurd fails
@@ -144,32 +145,32 @@ module _ (tells honest : Bool) (before : Seen) (blocks : Blocks) (is : IsTold te
       refused_window now (Counts at stored mapped) fails = absurd fails
       refused_window now Unclean fails = absurd fails
 
-      module _ (second : Seen) (window : WindowState) (window_read : IsWindowRead tells honest middle second head window) where
+      module _ (second : Seen) (window : WindowState) (window_read : IsWindowRead trust middle second head window) where
         abbrev here : Image
         here = image_of head blocks window.entries
 
         abbrev is_opened : IsOpened blocks here
-        is_opened = opened tells honest before blocks is middle head read second window window_read
+        is_opened = opened trust before blocks is middle head read second window window_read
 
-        shown : (now : Seen) (Says : Image → Type 0) → BothShow tells honest head window second now Says → Says here
+        shown : (now : Seen) (Says : Image → Type 0) → BothShow trust head window second now Says → Says here
         shown now Says both =
-            both_shown tells honest blocks is.told is.fair head window second now Says (accepted tells honest before blocks is middle head read) (one_behind tells honest before blocks is middle head read second window window_read)
-            (enough_behind tells honest before blocks is middle head read second window window_read) both
+            both_shown trust blocks is.told is.fair head window second now Says (accepted trust before blocks is middle head read) (one_behind trust before blocks is middle head read second window window_read)
+            (enough_behind trust before blocks is middle head read second window window_read) both
 
-        later : (now : Seen) → AuditWithFails tells honest head window second now Device → IsOpeningRefusal blocks before now Device
+        later : (now : Seen) → AuditWithFails trust head window second now Device → IsOpeningRefusal blocks before now Device
         later now fails =
-            last_here tells honest before blocks is middle head read now
-            (failed_after tells middle second now (window_untouched tells honest before blocks is middle head read second window window_read)
-            (audit_last tells honest head window second now fails))
+            last_here trust before blocks is middle head read now
+            (failed_after trust.tells middle second now (window_untouched trust before blocks is middle head read second window window_read)
+            (audit_last trust head window second now fails))
 
-        refused_with : (now : Seen) (why : ImageFault) → OpenWithFails tells honest head window second now why → IsOpeningRefusal blocks before now why
+        refused_with : (now : Seen) (why : ImageFault) → OpenWithFails trust head window second now why → IsOpeningRefusal blocks before now why
         refused_with now (Page at fault) (pages, pages_read, says) = (
           closed,
           (
             here,
             is_opened,
             says blocks
-                (all_shown tells honest blocks is.told is.fair head.geometry second now pages (looked_in_place blocks head (accepted tells honest before blocks is middle head read)) (one_behind tells honest before blocks is middle head read second window window_read) pages_read),
+                (all_shown trust blocks is.told is.fair head.geometry second now pages (looked_in_place blocks head (accepted trust before blocks is middle head read)) (one_behind trust before blocks is middle head read second window window_read) pages_read),
           ),
         )
         refused_with now (Counter at point) fails =
@@ -185,81 +186,81 @@ module _ (tells honest : Bool) (before : Seen) (blocks : Blocks) (is : IsTold te
         refused_with now (Window sequence) fails = absurd fails
         refused_with now Unclean fails = absurd fails
 
-        opens_right : (now : Seen) (start : Opened) → IsOpenedWith tells honest head window second now start → OpensRight blocks start
+        opens_right : (now : Seen) (start : Opened) → IsOpenedWith trust head window second now start → OpensRight blocks start
         opens_right now start both = (
           head,
           window.last,
           window.entries,
-          window_opens tells honest before blocks is middle head read second window window_read,
+          window_opens trust before blocks is middle head read second window window_read,
           clean,
           shown now (λ image. IsRight image head start) both,
         )
 
 -- The whole.
 
-module _ (tells honest : Bool) (before now : Seen) where
-  pub not_read : (why : ImageFault) → (IsTrue tells → length before.opening ≡ before.size) → HeadFails tells honest before now why → IsUntouched tells before now
-      → IsOpening tells honest before now (Err why)
+module _ (trust : Trust) (before now : Seen) where
+  pub not_read : (why : ImageFault) → (IsTrue trust.tells → length before.opening ≡ before.size) → HeadFails trust before now why → IsUntouched trust.tells before now
+      → IsOpening trust before now (Err why)
   not_read why told fails untouched = record {
     untouched = untouched;
     opened = tt;
     head = tt;
     fits = tt;
     fails = inl fails;
-    says = λ blocks is. refused_head tells honest before blocks is now why (told is.told) fails;
+    says = λ blocks is. refused_head trust before blocks is now why (told is.told) fails;
   }
 
-  pub not_closed : (head : Superblock) → IsHeadRead tells honest before now head → head.clean ≡ false → IsUntouched tells before now → IsOpening tells honest before now (Err Unclean)
+  pub not_closed : (head : Superblock) → IsHeadRead trust before now head → head.clean ≡ false → IsUntouched trust.tells before now → IsOpening trust before now (Err Unclean)
   not_closed head read unclean untouched = record {
     untouched = untouched;
     opened = tt;
     head = tt;
     fits = tt;
     fails = inr (inl (refl, (head, read, unclean)));
-    says = λ blocks is. refused_unclean tells honest before blocks is now head read Unclean now refl unclean;
+    says = λ blocks is. refused_unclean trust before blocks is now head read Unclean now refl unclean;
   }
 
-  pub no_window : (middle : Seen) (head : Superblock) (why : ImageFault) → IsHeadRead tells honest before middle head → head.clean ≡ true → Fails tells honest middle now head why
-      → IsUntouched tells before middle → IsUntouched tells middle now → IsOpening tells honest before now (Err why)
+  pub no_window : (middle : Seen) (head : Superblock) (why : ImageFault) → IsHeadRead trust before middle head → head.clean ≡ true → Fails trust middle now head why
+      → IsUntouched trust.tells before middle → IsUntouched trust.tells middle now → IsOpening trust before now (Err why)
   no_window middle head why read clean fails first second = record {
-    untouched = untouched_on tells before middle now first second;
+    untouched = untouched_on trust.tells before middle now first second;
     opened = tt;
     head = tt;
     fits = tt;
     fails = inr (inr (inl (head, middle, read, clean, fails)));
-    says = λ blocks is. refused_window tells honest before blocks is middle head read clean now why fails;
+    says = λ blocks is. refused_window trust before blocks is middle head read clean now why fails;
   }
 
-  module _ (middle second : Seen) (head : Superblock) (window : WindowState) (read : IsHeadRead tells honest before middle head) (clean : head.clean ≡ true)
-      (window_read : IsWindowRead tells honest middle second head window) (first : IsUntouched tells before middle) (next : IsUntouched tells middle second) (last : IsUntouched tells second now) where
-    abbrev opened_to : IsOpenedTo tells honest before second head window
+  module _ (middle second : Seen) (head : Superblock) (window : WindowState) (read : IsHeadRead trust before middle head) (clean : head.clean ≡ true)
+      (window_read : IsWindowRead trust middle second head window) (first : IsUntouched trust.tells before middle) (next : IsUntouched trust.tells middle second) (last : IsUntouched trust.tells second now) where
+    abbrev opened_to : IsOpenedTo trust before second head window
     opened_to = record { middle = middle; head_read = read; window_read = window_read }
 
-    all_untouched : IsUntouched tells before now
-    all_untouched = untouched_on tells before second now (untouched_on tells before middle second first next) last
+    all_untouched : IsUntouched trust.tells before now
+    all_untouched = untouched_on trust.tells before second now (untouched_on trust.tells before middle second first next) last
 
-    pub not_right : (why : ImageFault) → OpenWithFails tells honest head window second now why → IsOpening tells honest before now (Err why)
+    pub not_right : (why : ImageFault) → OpenWithFails trust head window second now why → IsOpening trust before now (Err why)
     not_right why fails = record {
       untouched = all_untouched;
       opened = tt;
       head = tt;
       fits = tt;
       fails = inr (inr (inr (head, window, second, opened_to, clean, fails)));
-      says = λ blocks is. refused_with tells honest before blocks is middle head read clean second window window_read now why fails;
+      says = λ blocks is. refused_with trust before blocks is middle head read clean second window window_read now why fails;
     }
 
-    pub was_opened : (start : Opened) → IsOpenedWith tells honest head window second now start → start.head ≡ head → Fits start → IsOpening tells honest before now (Ok start)
+    pub was_opened : (start : Opened) → IsOpenedWith trust head window second now start → start.head ≡ head → Fits start → IsOpening trust before now (Ok start)
     was_opened start both same fits = record {
       untouched = all_untouched;
       opened = (head, window, second, opened_to, clean, both);
       head = (read.block, subst (λ (h : Superblock). IsHead before.size read.block h) (sym same) read.is);
       fits = fits;
       fails = tt;
-      says = λ blocks is. opens_right tells honest before blocks is middle head read clean second window window_read now start both;
+      says = λ blocks is. opens_right trust before blocks is middle head read clean second window window_read now start both;
     }
 
 -- what holds of a refusal holds where it is passed on
-pub refused_as : (tells honest : Bool) (before now : Seen) (why : ImageFault) (result : Result Opened ImageFault) → IsErrAnd result (λ e. e ≡ why) → IsOpening tells honest before now (Err why)
-    → IsOpening tells honest before now result
-refused_as tells honest before now why (Ok x) is opening = absurd is
-refused_as tells honest before now why (Err e) is opening = subst (λ (f : ImageFault). IsOpening tells honest before now (Err f)) (sym is) opening
+pub refused_as : (trust : Trust) (before now : Seen) (why : ImageFault) (result : Result Opened ImageFault) → IsErrAnd result (λ e. e ≡ why) → IsOpening trust before now (Err why)
+    → IsOpening trust before now result
+refused_as trust before now why (Ok x) is opening = absurd is
+refused_as trust before now why (Err e) is opening = subst (λ (f : ImageFault). IsOpening trust before now (Err f)) (sym is) opening

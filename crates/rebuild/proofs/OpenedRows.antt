@@ -14,6 +14,7 @@ use Rattle.blk_base.specs.declared.place.Pbn.{Pbn}
 use Rattle.count_updates.specs.Numbers.{all_sectors}
 use Rattle.disk_model.specs.Log.{Blocks}
 use Rattle.disk_model.specs.Seen.{Seen}
+use Rattle.disk_model.specs.Trust.{Trust, trust_of}
 use Rattle.disk_model.proofs.SinceLaws.{untouched_yet}
 use Rattle.image_layout.specs.Opened.{super_of_image}
 use Rattle.image_layout.specs.declared.fault.SuperFault.TheVariants.{NotAnImage, Version}
@@ -136,49 +137,49 @@ module _ (contents : Contents) (at : Pbn) where
 
 -- By the reads.
 
-module _ (tells honest : Bool) (head : Superblock) (window : WindowState) (before now : Seen) where
+module _ (trust : Trust) (head : Superblock) (window : WindowState) (before now : Seen) where
   -- Counts: of each image that has what was read
-  right_count_read : (at : Pbn) (n : ℕ) (fails : OpenWithFails tells honest head window before now (Counts at n n))
+  right_count_read : (at : Pbn) (n : ℕ) (fails : OpenWithFails trust head window before now (Counts at n n))
       → (blocks : Blocks) → Shows blocks fails.0 → Holds head.geometry blocks fails.1 → ⊥
   right_count_read at n fails blocks shows holds = (fails.3 blocks shows holds).wrong.differ refl
 
   -- Memory, Window: as of an audit
-  no_memory_read : OpenWithFails tells honest head window before now Memory
+  no_memory_read : OpenWithFails trust head window before now Memory
   no_memory_read = tt
 
-  no_window_read : OpenWithFails tells honest head window before now (Window 7) → ⊥
+  no_window_read : OpenWithFails trust head window before now (Window 7) → ⊥
   no_window_read none = none
 
 -- Device: no count of faults rose
-none_failed : (tells honest : Bool) (head : Superblock) (window : WindowState) → OpenWithFails tells honest head window seen seen Device → ⊥
-none_failed tells honest head window fails = let rose = (audit_last tells honest head window seen seen fails).rose in omega (arith, rose)
+none_failed : (trust : Trust) (head : Superblock) (window : WindowState) → OpenWithFails trust head window seen seen Device → ⊥
+none_failed trust head window fails = let rose = (audit_last trust head window seen seen fails).rose in omega (arith, rose)
 
 -- Opened from the superblock on: one that says that the session was closed.
 module _ (opened : Opened) where
-  read_and_opened : (honest : Bool) → IsOpenedWith false honest (head_of true) no_entries seen seen opened → IsOpenedFrom false honest seen seen opened
+  read_and_opened : (honest : Bool) → IsOpenedWith (trust_of false honest) (head_of true) no_entries seen seen opened → IsOpenedFrom (trust_of false honest) seen seen opened
   read_and_opened honest with_it =
       (head_of true, no_entries, seen, record { middle = seen; head_read = head_is_read honest true; window_read = window_is_read honest true }, refl, with_it)
 
-  unclean_and_opened : (now : Seen) → IsOpenedFrom true true (with_head false) now opened → ⊥
+  unclean_and_opened : (now : Seen) → IsOpenedFrom (trust_of true true) (with_head false) now opened → ⊥
   unclean_and_opened now (head, window, middle, opened_to, clean, with_it) =
       let same = ap (λ (h : Superblock). h.clean) (head_there false opened_to.middle head opened_to.head_read) in absurd (cc (same, clean))
 
 -- Refusals: block 0 wasn't read; or it says that the session wasn't closed; or there is no window; or as above.
-refused_head : (honest : Bool) → OpeningFails false honest seen failed Device
+refused_head : (honest : Bool) → OpeningFails (trust_of false honest) seen failed Device
 refused_head honest = inl (next_failed honest 0)
 
-pub refused_unclean : (honest : Bool) → OpeningFails false honest seen seen Unclean
+pub refused_unclean : (honest : Bool) → OpeningFails (trust_of false honest) seen seen Unclean
 refused_unclean honest = inr (inl (refl, (head_of false, head_is_read honest false, refl)))
 
-refused_window : (honest : Bool) → OpeningFails false honest seen failed Device
+refused_window : (honest : Bool) → OpeningFails (trust_of false honest) seen failed Device
 refused_window honest = inr (inr (inl (head_of true, seen, head_is_read honest true, refl, ([], omega arith, next_failed honest 1))))
 
-refused_memory : (honest : Bool) → OpeningFails false honest seen seen Memory
+refused_memory : (honest : Bool) → OpeningFails (trust_of false honest) seen seen Memory
 refused_memory honest =
     inr (inr (inr (head_of true, no_entries, seen, record { middle = seen; head_read = head_is_read honest true; window_read = window_is_read honest true }, refl, tt)))
 
 -- Unclean: a closed one isn't refused so
-pub closed_isnt_unclean : (now : Seen) → OpeningFails true true (with_head true) now Unclean → ⊥
+pub closed_isnt_unclean : (now : Seen) → OpeningFails (trust_of true true) (with_head true) now Unclean → ⊥
 closed_isnt_unclean now fails = elim fails [
   | inl none ↦ none
   | inr behind ↦ elim behind [
@@ -188,7 +189,7 @@ closed_isnt_unclean now fails = elim fails [
 ]
 
 -- and one that isn't closed is refused for nothing behind that
-unclean_isnt_counted : (now : Seen) → OpeningFails true true (with_head false) now Memory → ⊥
+unclean_isnt_counted : (now : Seen) → OpeningFails (trust_of true true) (with_head false) now Memory → ⊥
 unclean_isnt_counted now fails = elim fails [
   | inl none ↦ none
   | inr behind ↦ elim behind [
@@ -222,7 +223,7 @@ module _ (blocks : Blocks) (head : Superblock) (accepted : super_of_image blocks
   unclean_has_no_window sequence is = unclean_image is.0
 
 -- The whole, of a device that doesn't tell: one that isn't closed is refused.
-unclean_opening : (honest : Bool) → IsOpening false honest seen seen (Err Unclean)
+unclean_opening : (honest : Bool) → IsOpening (trust_of false honest) seen seen (Err Unclean)
 unclean_opening honest = record {
   untouched = untouched_yet false seen;
   opened = tt;
@@ -233,21 +234,21 @@ unclean_opening honest = record {
 }
 
 -- opened, fails: of one whose superblock says otherwise
-unclean_is_opened : (now : Seen) (opened : Opened) → IsOpening true true (with_head false) now (Ok opened) → ⊥
+unclean_is_opened : (now : Seen) (opened : Opened) → IsOpening (trust_of true true) (with_head false) now (Ok opened) → ⊥
 unclean_is_opened now opened is = unclean_and_opened opened now is.opened
 
-closed_is_refused : (now : Seen) → IsOpening true true (with_head true) now (Err Unclean) → ⊥
+closed_is_refused : (now : Seen) → IsOpening (trust_of true true) (with_head true) now (Err Unclean) → ⊥
 closed_is_refused now is = closed_isnt_unclean now is.fails
 
 -- head
-opened_at_no_sequence : (honest : Bool) (opened : Opened) → opened.head.start ≡ 0 → IsOpening false honest seen seen (Ok opened) → ⊥
+opened_at_no_sequence : (honest : Bool) (opened : Opened) → opened.head.start ≡ 0 → IsOpening (trust_of false honest) seen seen (Ok opened) → ⊥
 opened_at_no_sequence honest opened none is = let start = is.head.1.start in omega (arith, none, start)
 
 -- fits
-opened_without_counters : (honest : Bool) (opened : Opened) → opened.head.geometry ≡ small → opened.counters.items ≡ [] → IsOpening false honest seen seen (Ok opened) → ⊥
+opened_without_counters : (honest : Bool) (opened : Opened) → opened.head.geometry ≡ small → opened.counters.items ≡ [] → IsOpening (trust_of false honest) seen seen (Ok opened) → ⊥
 opened_without_counters honest opened same none is =
     let size = is.fits.counters in let empty = ap length none in let slabs = ap (λ (g : Geometry). g.slabs * g.slab_blocks) same in omega (arith, size, empty, slabs)
 
 -- says
-nothing_is_said : (before now : Seen) (opened : Opened) → IsTold true true before [] → IsOpening true true before now (Ok opened) → ⊥
+nothing_is_said : (before now : Seen) (opened : Opened) → IsTold (trust_of true true) before [] → IsOpening (trust_of true true) before now (Ok opened) → ⊥
 nothing_is_said before now opened told is = nothing_is_opened opened (is.says [] told)

@@ -10,6 +10,7 @@ use Rattle.blk_base.specs.declared.place.Pbn.{Pbn}
 use Rattle.blk_base.specs.Forms.{pbn}
 use Rattle.blk_base.proofs.Example.{root}
 use Rattle.disk_model.specs.Log.{Blocks}
+use Rattle.disk_model.specs.Trust.{trust_of}
 use Rattle.image_layout.specs.Opened.{super_of_image}
 use Rattle.image_model.proofs.CountLaws.{one_number, one_stored}
 use Rattle.image_model.proofs.Example.{small}
@@ -107,9 +108,9 @@ another_was_made : (blocks : Blocks) → IsOpeningRefusal blocks seen called_aft
 another_was_made blocks failed = last_is_not failed
 
 -- nothing is written, whatever the answer is
-written_and_refused : IsOpening true true seen flushed (Err Memory) → ⊥
+written_and_refused : IsOpening (trust_of true true) seen flushed (Err Memory) → ⊥
 written_and_refused is = let since = is.untouched.reads refl in none_flushed since.0 since.1 since.2
 
 -- `Unclean` comes for what the superblock says, and not from a fault behind it
-unclean_behind : (head : Superblock) (window : _) → OpenWithFails true true head window seen seen Unclean → ⊥
+unclean_behind : (head : Superblock) (window : _) → OpenWithFails (trust_of true true) head window seen seen Unclean → ⊥
 unclean_behind head window fails = fails

@@ -17,6 +17,7 @@ use Rattle.disk_model.specs.declared.call.Failed.{Failed}
 use Rattle.disk_model.specs.Images.{HasOneImage, IsImage}
 use Rattle.disk_model.specs.Log.{Blocks}
 use Rattle.disk_model.specs.Seen.{Seen}
+use Rattle.disk_model.specs.Trust.{Trust, trust_of}
 use Rattle.disk_model.specs.Since.{reads_of}
 use Rattle.image_layout.specs.Superblock.{super_of}
 use Rattle.image_layout.specs.declared.fault.SuperFault.{SuperFault}
@@ -47,7 +48,7 @@ use Rattle.rebuild.specs.Acts.{IsStart}
 use Rattle.rebuild.specs.Outcomes.{Ends, HasEntries, IsAllMade, IsKeptSince, RecoversUnclean, UncleanFails, WritesAll, WritesNothing}
 
 -- The length of a window: that of a journal of zeros is 0, and that of a journal without slots isn't 1.
-pub none_of_zeros : (honest clean : Bool) → BothShow false honest (head_of clean) no_entries seen seen HasNoFault → HasEntries false honest (head_of clean) seen seen 0
+pub none_of_zeros : (honest clean : Bool) → BothShow (trust_of false honest) (head_of clean) no_entries seen seen HasNoFault → HasEntries (trust_of false honest) (head_of clean) seen seen 0
 none_of_zeros honest clean right = record {
   middle = seen;
   behind = seen;
@@ -64,12 +65,12 @@ only_none : (journal : Blocks) (window : WindowState) → length journal ≡ 0 �
 only_none [] window none is = (one_window (record small { journal = 0 }) 1 [] window.last 0 window.entries [] is.is_window window_of_none).1
 only_none (block ∷ journal) window none is = absurd (omega (arith, none))
 
-pub not_one : (tells honest : Bool) (now : Seen) → HasEntries tells honest without_journal seen now 1 → ⊥
-not_one tells honest now has =
+pub not_one : (trust : Trust) (now : Seen) → HasEntries trust without_journal seen now 1 → ⊥
+not_one trust now has =
     let size = ap length (only_none has.read.0 has.window has.read.1.count has.read.2) in let number = has.number in omega (arith, number, size)
 
 -- grows: what a device that tells has in its log stays there
-entries_without_log : (honest : Bool) (head : Superblock) (count : ℕ) → HasEntries true honest head flushed seen count → ⊥
+entries_without_log : (honest : Bool) (head : Superblock) (count : ℕ) → HasEntries (trust_of true honest) head flushed seen count → ⊥
 entries_without_log honest head count has =
     let reads = ap length (has.read.1.read.logged refl) in
     let more = ap length (has.grows refl).1 in
@@ -81,51 +82,51 @@ entries_without_log honest head count has =
     omega (arith, reads, more, first, second, third, fourth)
 
 -- stays, later: and it is that device, of which no count fell
-entries_of_other_size : (honest : Bool) (head : Superblock) (count : ℕ) → HasEntries false honest head seen (record seen { size = 3 }) count → ⊥
+entries_of_other_size : (honest : Bool) (head : Superblock) (count : ℕ) → HasEntries (trust_of false honest) head seen (record seen { size = 3 }) count → ⊥
 entries_of_other_size honest head count has =
     let size = has.stays.size in
     let first = has.read.1.read.stays.size in
-    let second = (both_read false honest head has.window has.middle has.behind HasNoFault has.right).stays.size in omega (arith, size, first, second)
+    let second = (both_read (trust_of false honest) head has.window has.middle has.behind HasNoFault has.right).stays.size in omega (arith, size, first, second)
 
-entries_with_fewer_faults : (honest : Bool) (head : Superblock) (count : ℕ) → HasEntries false honest head failed seen count → ⊥
+entries_with_fewer_faults : (honest : Bool) (head : Superblock) (count : ℕ) → HasEntries (trust_of false honest) head failed seen count → ⊥
 entries_with_fewer_faults honest head count has =
     let less = has.later.faults in
     let first = has.read.1.read.later.faults in
-    let second = (both_read false honest head has.window has.middle has.behind HasNoFault has.right).later.faults in omega (arith, less, first, second)
+    let second = (both_read (trust_of false honest) head has.window has.middle has.behind HasNoFault has.right).later.faults in omega (arith, less, first, second)
 
 -- right: an image that has what was read has no fault
-entries_of_a_faulty_image : (tells honest : Bool) (head : Superblock) (before now : Seen) (count : ℕ) (blocks : Blocks) (has : HasEntries tells honest head before now count)
+entries_of_a_faulty_image : (trust : Trust) (head : Superblock) (before now : Seen) (count : ℕ) (blocks : Blocks) (has : HasEntries trust head before now count)
     → (HasNoFault (image_of head blocks has.window.entries) → ⊥) → Shows blocks has.right.0 → Holds head.geometry blocks has.right.1 → ⊥
-entries_of_a_faulty_image tells honest head before now count blocks has faulty shows holds = faulty (has.right.3 blocks shows holds)
+entries_of_a_faulty_image trust head before now count blocks has faulty shows holds = faulty (has.right.3 blocks shows holds)
 
 -- Why an image isn't recovered. The journal isn't read; or it is, and the map or the counts aren't; or the last call failed.
-journal_failed : (honest : Bool) → UncleanFails false honest (head_of false) seen failed Device
+journal_failed : (honest : Bool) → UncleanFails (trust_of false honest) (head_of false) seen failed Device
 journal_failed honest = inl ([], omega arith, next_failed honest 1)
 
-no_memory_behind : (honest : Bool) → UncleanFails false honest (head_of false) seen seen Memory
+no_memory_behind : (honest : Bool) → UncleanFails (trust_of false honest) (head_of false) seen seen Memory
 no_memory_behind honest = inr (inl (seen, no_entries, window_is_read honest false, tt))
 
-pub write_failed : (tells honest : Bool) → UncleanFails tells honest (head_of false) seen call_failed Device
-write_failed tells honest = inr (inr (refl, last_is_failed tells))
+pub write_failed : (trust : Trust) → UncleanFails trust (head_of false) seen call_failed Device
+write_failed trust = inr (inr (refl, last_is_failed trust.tells))
 
 -- Device: no count of faults rose; or another call was made behind the one that failed
-module _ (tells honest : Bool) (head : Superblock) (before now : Seen) where
-  none_failed : before.faults + 1 ≤ 5 → now.faults ≤ before.faults → UncleanFails tells honest head before now Device → ⊥
-  none_failed few less fails = let rose = (unclean_last tells honest head before now fails).rose in omega (arith, few, less, rose)
+module _ (trust : Trust) (head : Superblock) (before now : Seen) where
+  none_failed : before.faults + 1 ≤ 5 → now.faults ≤ before.faults → UncleanFails trust head before now Device → ⊥
+  none_failed few less fails = let rose = (unclean_last trust head before now fails).rose in omega (arith, few, less, rose)
 
   -- Unclean, Counts: it mends what is unclean, and looks at no number of mappings
-  pub never_unclean : UncleanFails tells honest head before now Unclean → ⊥
+  pub never_unclean : UncleanFails trust head before now Unclean → ⊥
   never_unclean fails = elim fails [ inl none ↦ none | inr later ↦ elim later [ inl behind ↦ behind.3 | inr call ↦ absurd (cc call.0) ] ]
 
-  never_counts : UncleanFails tells honest head before now (Counts (pbn 86) 2 1) → ⊥
+  never_counts : UncleanFails trust head before now (Counts (pbn 86) 2 1) → ⊥
   never_counts fails = elim fails [ inl none ↦ none | inr later ↦ elim later [ inl behind ↦ behind.3 | inr call ↦ absurd (cc call.0) ] ]
 
   -- Super: that it is used up, and nothing else of a superblock that was read
-  never_no_image : UncleanFails tells honest head before now (Super NotAnImage) → ⊥
+  never_no_image : UncleanFails trust head before now (Super NotAnImage) → ⊥
   never_no_image fails = elim fails [ inl refused ↦ absurd (cc refused.2.0) | inr later ↦ elim later [ inl behind ↦ behind.3 | inr call ↦ absurd (cc call.0) ] ]
 
-went_on : (honest : Bool) (head : Superblock) → UncleanFails true honest head seen called_after Device → ⊥
-went_on honest head fails = last_is_not (unclean_last true honest head seen called_after fails)
+went_on : (honest : Bool) (head : Superblock) → UncleanFails (trust_of true honest) head seen called_after Device → ⊥
+went_on honest head fails = last_is_not (unclean_last (trust_of true honest) head seen called_after fails)
 
 -- Window: a journal without slots has no block that can't be replayed
 not_faulty : (journal : Blocks) → length journal ≡ 0 → IsFaulty (record small { journal = 0 }) 1 journal 7 → ⊥
@@ -135,8 +136,8 @@ not_faulty [] none is =
     let inside = is.inside in
     omega (arith, last, inside)
 
-no_window_fault : (tells honest : Bool) → UncleanFails tells honest without_journal seen seen (Window 7) → ⊥
-no_window_fault tells honest fails = elim fails [
+no_window_fault : (trust : Trust) → UncleanFails trust without_journal seen seen (Window 7) → ⊥
+no_window_fault trust fails = elim fails [
   | inl refused ↦ not_faulty refused.0 refused.1.count refused.2.1
   | inr later ↦ elim later [ inl behind ↦ behind.3 | inr call ↦ absurd (cc call.0) ]
 ]
@@ -248,7 +249,7 @@ lost_end blocks sound fault = log_lost blocks sound
 abbrev Blank : Image → Type 0
 Blank image = ArePuts image [] × (image.geometry ≡ small)
 
-all_is_written : WritesAll true true seen (with_all blank) Blank 7 (Ok tt)
+all_is_written : WritesAll (trust_of true true) seen (with_all blank) Blank 7 (Ok tt)
 all_is_written = record {
   stays = record { opening = refl; size = refl };
   later = record { faults = omega arith; unkept = omega arith };
@@ -268,27 +269,27 @@ abbrev any : Image → Type 0
 any image = Unit {0}
 
 -- ends: from a start on nothing was written
-none_is_written : (first : Seen) (blocks : Blocks) (start : IsStart true true first blocks) → WritesAll true true first first any start.to.sound.last (Ok tt) → ⊥
+none_is_written : (first : Seen) (blocks : Blocks) (start : IsStart (trust_of true true) first blocks) → WritesAll (trust_of true true) first first any start.to.sound.last (Ok tt) → ⊥
 none_is_written first blocks start writes =
     let all = writes.ends first blocks start [] (none_made (IsPut (image_in blocks start.to.sound)) first) tt refl in
     let size = ap (λ (l : List Call). length l) all.2 in
     omega (arith, size, length-append (recovery_calls (image_in blocks start.to.sound) start.to.sound.last all.0) first.log)
 
 -- stays, later, grows, failed
-other_size : (honest : Bool) (last : ℕ) → WritesAll false honest seen (record seen { size = 3 }) any last (Ok tt) → ⊥
+other_size : (honest : Bool) (last : ℕ) → WritesAll (trust_of false honest) seen (record seen { size = 3 }) any last (Ok tt) → ⊥
 other_size honest last writes = let size = writes.stays.size in omega (arith, size)
 
-fewer_faults : (honest : Bool) (last : ℕ) → WritesAll false honest failed seen any last (Ok tt) → ⊥
+fewer_faults : (honest : Bool) (last : ℕ) → WritesAll (trust_of false honest) failed seen any last (Ok tt) → ⊥
 fewer_faults honest last writes = let less = writes.later.faults in omega (arith, less)
 
-log_is_lost : (honest : Bool) (last : ℕ) → WritesAll true honest flushed seen any last (Ok tt) → ⊥
+log_is_lost : (honest : Bool) (last : ℕ) → WritesAll (trust_of true honest) flushed seen any last (Ok tt) → ⊥
 log_is_lost honest last writes =
     let since = writes.grows refl in let size = ap (λ (l : List Call). length l) since.1 in omega (arith, size, length-append since.0 (Flush true ∷ []))
 
-failed_for_nothing : (honest : Bool) (last : ℕ) (fault : Failed) → WritesAll false honest seen seen any last (Err fault) → ⊥
+failed_for_nothing : (honest : Bool) (last : ℕ) (fault : Failed) → WritesAll (trust_of false honest) seen seen any last (Err fault) → ⊥
 failed_for_nothing honest last fault writes = let rose = writes.failed.rose in omega (arith, rose)
 
-one_write_failed : (last : ℕ) (fault : Failed) → WritesAll true false seen call_failed any last (Err fault)
+one_write_failed : (last : ℕ) (fault : Failed) → WritesAll (trust_of true false) seen call_failed any last (Err fault)
 one_write_failed last fault = record {
   stays = record { opening = refl; size = refl };
   later = record { faults = omega arith; unkept = omega arith };
@@ -297,11 +298,11 @@ one_write_failed last fault = record {
   ends = λ first blocks start calls made needs same. let fair = start.fair in absurd (cc fair);
 }
 
-failed_and_went_on : (honest : Bool) (last : ℕ) (fault : Failed) → WritesAll true honest seen called_after any last (Err fault) → ⊥
+failed_and_went_on : (honest : Bool) (last : ℕ) (fault : Failed) → WritesAll (trust_of true honest) seen called_after any last (Err fault) → ⊥
 failed_and_went_on honest last fault writes = last_is_not writes.failed
 
 -- The whole, of a device that doesn't tell: an answer, and a refusal.
-unclean_recovered : (honest : Bool) → BothShow false honest (head_of false) no_entries seen seen HasNoFault → RecoversUnclean false honest (head_of false) seen seen (Ok 0)
+unclean_recovered : (honest : Bool) → BothShow (trust_of false honest) (head_of false) no_entries seen seen HasNoFault → RecoversUnclean (trust_of false honest) (head_of false) seen seen (Ok 0)
 unclean_recovered honest right = record {
   stays = record { opening = refl; size = refl };
   later = record { faults = omega arith; unkept = omega arith };
@@ -312,7 +313,7 @@ unclean_recovered honest right = record {
   ends = λ first blocks start untouched accepted. let told = start.told in absurd (cc told);
 }
 
-unclean_refused : (honest : Bool) → RecoversUnclean false honest (head_of false) seen failed (Err Device)
+unclean_refused : (honest : Bool) → RecoversUnclean (trust_of false honest) (head_of false) seen failed (Err Device)
 unclean_refused honest = record {
   stays = record { opening = refl; size = refl };
   later = record { faults = omega arith; unkept = omega arith };
@@ -325,29 +326,29 @@ unclean_refused honest = record {
 
 module _ (honest : Bool) (head : Superblock) (n : ℕ) where
   -- stays, later, grows
-  unclean_of_other_size : RecoversUnclean false honest head seen (record seen { size = 3 }) (Ok n) → ⊥
+  unclean_of_other_size : RecoversUnclean (trust_of false honest) head seen (record seen { size = 3 }) (Ok n) → ⊥
   unclean_of_other_size is = let size = is.stays.size in omega (arith, size)
 
-  unclean_with_fewer_faults : RecoversUnclean false honest head failed seen (Ok n) → ⊥
+  unclean_with_fewer_faults : RecoversUnclean (trust_of false honest) head failed seen (Ok n) → ⊥
   unclean_with_fewer_faults is = let less = is.later.faults in omega (arith, less)
 
-  unclean_without_log : RecoversUnclean true honest head flushed seen (Ok n) → ⊥
+  unclean_without_log : RecoversUnclean (trust_of true honest) head flushed seen (Ok n) → ⊥
   unclean_without_log is = let since = is.grows refl in let size = ap (λ (l : List Call). length l) since.1 in omega (arith, size, length-append since.0 (Flush true ∷ []))
 
   -- fails
-  unclean_never : RecoversUnclean false honest head seen seen (Err Unclean) → ⊥
-  unclean_never is = never_unclean false honest head seen seen is.fails
+  unclean_never : RecoversUnclean (trust_of false honest) head seen seen (Err Unclean) → ⊥
+  unclean_never is = never_unclean (trust_of false honest) head seen seen is.fails
 
   -- nothing
-  unclean_written : RecoversUnclean true honest head seen flushed (Err Memory) → ⊥
+  unclean_written : RecoversUnclean (trust_of true honest) head seen flushed (Err Memory) → ⊥
   unclean_written is = written_before is.nothing
 
 -- entries
-unclean_of_one : (tells honest : Bool) (now : Seen) → RecoversUnclean tells honest without_journal seen now (Ok 1) → ⊥
-unclean_of_one tells honest now is = not_one tells honest now is.entries
+unclean_of_one : (trust : Trust) (now : Seen) → RecoversUnclean trust without_journal seen now (Ok 1) → ⊥
+unclean_of_one trust now is = not_one trust now is.entries
 
 -- ends
-unclean_left : (first : Seen) (blocks : Blocks) (start : IsStart true true first blocks) (n : ℕ) → RecoversUnclean true true start.to.sound.head first first (Ok n) → ⊥
+unclean_left : (first : Seen) (blocks : Blocks) (start : IsStart (trust_of true true) first blocks) (n : ℕ) → RecoversUnclean (trust_of true true) start.to.sound.head first first (Ok n) → ⊥
 unclean_left first blocks start n is =
     let all = is.ends first blocks start (untouched_yet true first) start.to.sound.opens.accepted in
     let size = ap (λ (l : List Call). length l) all.2 in

@@ -13,6 +13,7 @@ use Rattle.disk_model.specs.Images.{IsMixOf}
 use Rattle.disk_model.specs.Log.{Blocks, block_at, contents, settled}
 use Rattle.disk_model.specs.OneImages.{HasOneImageIn}
 use Rattle.disk_model.specs.Seen.{Seen}
+use Rattle.disk_model.specs.Trust.{Trust, trust_of}
 use Rattle.disk_model.specs.Since.{WereRead}
 use Rattle.disk_model.specs.LogSteps.{FailedInLog}
 use Rattle.disk_model.proofs.ImageLaws.{all_weaker, settled_are_contents}
@@ -83,7 +84,7 @@ module _ (honest : Bool) (first : Seen) (image : Image) (start : IsPageStart hon
   parts_written page at (Flush _ ∷ calls) there each = absurd each.0
 
   module _ (tells : Bool) (before middle : Seen) (calls : List Call) (made : AreMade (IsPageCall image) first before calls) (at : Pbn) (given : List ℕ) (told : IsTrue tells)
-      (read : WereRead tells honest at.0 before middle (given ∷ [])) where
+      (read : WereRead (trust_of tells honest) at.0 before middle (given ∷ [])) where
     given_mix : IsMixOf (settled first.opening (calls ++ first.log) at.0) given
     given_mix =
         let place : at.0 + 0 ≡ at.0 = omega arith in
@@ -114,10 +115,10 @@ are_puts : (image : Image) (calls : List Call) → AllByRecursion (IsPageCall im
 are_puts image [] each = tt
 are_puts image (call ∷ calls) each = (is_put image call each.0, are_puts image calls each.1)
 
-module _ (tells honest : Bool) where
+module _ (trust : Trust) where
   -- They may be written behind calls of one.
-  pages_start : (first before : Seen) (blocks : Blocks) (start : IsStart tells honest first blocks) (calls : List Call) → AreMade (IsPut (image_in blocks start.to.sound)) first before calls
-      → IsPageStart honest before (image_in blocks start.to.sound)
+  pages_start : (first before : Seen) (blocks : Blocks) (start : IsStart trust first blocks) (calls : List Call) → AreMade (IsPut (image_in blocks start.to.sound)) first before calls
+      → IsPageStart trust.honest before (image_in blocks start.to.sound)
   pages_start first before blocks start calls made =
       let image = image_in blocks start.to.sound in
       let sound = start.to.sound in
@@ -140,8 +141,8 @@ module _ (tells honest : Bool) where
       }
 
   module _ (before now : Seen) (N : Image → Type 0) (D : Image → List Call → Type 0) where
-    pages_recover : (result : Result (Unit {0}) Failed) → Writes tells (page_writing honest) before now N D result
-        → ((image : Image) (more calls : List Call) → D image more → D image (more ++ calls)) → Writes tells (recovery tells honest) before now N D result
+    pages_recover : (result : Result (Unit {0}) Failed) → Writes trust.tells (page_writing trust.honest) before now N D result
+        → ((image : Image) (more calls : List Call) → D image more → D image (more ++ calls)) → Writes trust.tells (recovery trust) before now N D result
     pages_recover (Ok _) writes stay = λ told first from calls made has.
         let image = image_in from.0 from.1.to.sound in
         let went = writes told before (image, pages_start first before from.0 from.1 calls made) [] (none_made (IsPageCall image) before) has in
@@ -167,8 +168,8 @@ module _ (tells honest : Bool) where
           logged = subst (λ (log : List Call). FailedInLog log now.log (as_failed stopped.call) (Unit {0})) log stopped.logged;
         }
 
-    pub recovers_pages : (result : Result (Unit {0}) Failed) → Acts tells (page_writing honest) before now N D result
-        → ((image : Image) (more calls : List Call) → D image more → D image (more ++ calls)) → Acts tells (recovery tells honest) before now N D result
+    pub recovers_pages : (result : Result (Unit {0}) Failed) → Acts trust.tells (page_writing trust.honest) before now N D result
+        → ((image : Image) (more calls : List Call) → D image more → D image (more ++ calls)) → Acts trust.tells (recovery trust) before now N D result
     recovers_pages result acts stay = record {
       stays = acts.stays;
       later = acts.later;

@@ -4,6 +4,7 @@ use Rattle.blk_base.specs.declared.geometry.Super.{Super as Superblock}
 use Rattle.disk_model.specs.declared.call.Call.{Call}
 use Rattle.disk_model.specs.Log.{Blocks}
 use Rattle.disk_model.specs.Seen.{Seen}
+use Rattle.disk_model.specs.Trust.{Trust}
 use Rattle.disk_model.specs.Since.{IsUntouched}
 use Rattle.disk_model.proofs.SeenLaws.{later_on, stays_on}
 use Rattle.disk_model.proofs.SinceLaws.{untouched_on}
@@ -25,43 +26,43 @@ use Rattle.rebuild.specs.Recoveries.{IsRecovery, IsTold}
 use Rattle.rebuild.specs.declared.forms.Recovered.{Recovered}
 use Rattle.rebuild.specs.declared.forms.Recovered.TheVariants.{Clean, Entries}
 
-module _ (tells honest : Bool) (before : Seen) where
-  pub head_failed : (now : Seen) (why : ImageFault) → (IsTrue tells → length before.opening ≡ before.size) → HeadFails tells honest before now why → IsUntouched tells before now
-      → IsRecovery tells honest before now (Err why)
+module _ (trust : Trust) (before : Seen) where
+  pub head_failed : (now : Seen) (why : ImageFault) → (IsTrue trust.tells → length before.opening ≡ before.size) → HeadFails trust before now why → IsUntouched trust.tells before now
+      → IsRecovery trust before now (Err why)
   head_failed now why told fails untouched = record {
     stays = untouched.stays;
     later = untouched.later;
-    grows = untouched_grows tells before now untouched;
+    grows = untouched_grows trust.tells before now untouched;
     answers = tt;
     fails = inl fails;
     nothing = inr untouched;
-    says = λ blocks is. head_refused tells honest before blocks is now why (told is.told) fails;
-    stops = λ blocks is sound. untouched_kept tells before now blocks sound is.told is.one untouched;
+    says = λ blocks is. head_refused trust before blocks is now why (told is.told) fails;
+    stops = λ blocks is sound. untouched_kept trust.tells before now blocks sound is.told is.one untouched;
     closed = tt;
   }
 
-  pub was_clean : (now : Seen) (head : Superblock) → IsHeadRead tells honest before now head → head.clean ≡ true → IsUntouched tells before now → IsRecovery tells honest before now (Ok Clean)
+  pub was_clean : (now : Seen) (head : Superblock) → IsHeadRead trust before now head → head.clean ≡ true → IsUntouched trust.tells before now → IsRecovery trust before now (Ok Clean)
   was_clean now head read clean untouched = record {
     stays = untouched.stays;
     later = untouched.later;
-    grows = untouched_grows tells before now untouched;
+    grows = untouched_grows trust.tells before now untouched;
     answers = (head, read, clean, untouched);
     fails = tt;
     nothing = tt;
-    says = λ blocks is. clean_answer tells honest before blocks is now head read clean;
-    stops = λ blocks is sound. untouched_kept tells before now blocks sound is.told is.one untouched;
+    says = λ blocks is. clean_answer trust before blocks is now head read clean;
+    stops = λ blocks is sound. untouched_kept trust.tells before now blocks sound is.told is.one untouched;
     closed = λ blocks is. tt;
   }
 
-  module _ (middle now : Seen) (head : Superblock) (read : IsHeadRead tells honest before middle head) (unclean : head.clean ≡ false) (untouched : IsUntouched tells before middle)
+  module _ (middle now : Seen) (head : Superblock) (read : IsHeadRead trust before middle head) (unclean : head.clean ≡ false) (untouched : IsUntouched trust.tells before middle)
       (named : head.geometry.nonce < 2 ^ 64) where
-    accepted : (blocks : Blocks) → IsTold tells honest before blocks → super_of_image blocks ≡ Ok head
-    accepted blocks is = head_shown tells honest before middle blocks is.told is.fair is.one head read
+    accepted : (blocks : Blocks) → IsTold trust before blocks → super_of_image blocks ≡ Ok head
+    accepted blocks is = head_shown trust before middle blocks is.told is.fair is.one head read
 
-    same_head : (blocks : Blocks) → IsTold tells honest before blocks → (sound : IsSound blocks) → head ≡ sound.head
+    same_head : (blocks : Blocks) → IsTold trust before blocks → (sound : IsSound blocks) → head ≡ sound.head
     same_head blocks is sound = let here = accepted blocks is in let own = sound.opens.accepted in cc (here, own)
 
-    abbrev start_of : (blocks : Blocks) (is : IsTold tells honest before blocks) (sound : IsSound blocks) → IsStart tells honest before blocks
+    abbrev start_of : (blocks : Blocks) (is : IsTold trust before blocks) (sound : IsSound blocks) → IsStart trust before blocks
     start_of blocks is sound =
         let same = same_head blocks is sound in
         record {
@@ -75,18 +76,18 @@ module _ (tells honest : Bool) (before : Seen) where
           };
         }
 
-    pub was_recovered : (count : ℕ) → RecoversUnclean tells honest head middle now (Ok count) → IsRecovery tells honest before now (Ok (Entries count))
+    pub was_recovered : (count : ℕ) → RecoversUnclean trust head middle now (Ok count) → IsRecovery trust before now (Ok (Entries count))
     was_recovered count is_so = record {
       stays = stays_on before middle now untouched.stays is_so.stays;
       later = later_on before middle now untouched.later is_so.later;
-      grows = grows_on tells before middle now (untouched_grows tells before middle untouched) is_so.grows;
+      grows = grows_on trust.tells before middle now (untouched_grows trust.tells before middle untouched) is_so.grows;
       answers = (head, middle, read, unclean, is_so.entries);
       fails = tt;
       nothing = tt;
-      says = λ blocks is. entries_answer tells honest before blocks is middle head read now count unclean is_so.entries;
+      says = λ blocks is. entries_answer trust before blocks is middle head read now count unclean is_so.entries;
       stops = λ blocks is sound.
           let start = start_of blocks is sound in
-          all_kept tells honest before blocks start now (is_so.ends before blocks start untouched (accepted blocks is));
+          all_kept trust before blocks start now (is_so.ends before blocks start untouched (accepted blocks is));
       closed = λ blocks is sound.
           let start = start_of blocks is sound in
           let made = is_so.ends before blocks start untouched (accepted blocks is) in
@@ -100,21 +101,21 @@ module _ (tells honest : Bool) (before : Seen) where
           );
     }
 
-    pub was_refused : (why : ImageFault) → RecoversUnclean tells honest head middle now (Err why) → IsRecovery tells honest before now (Err why)
+    pub was_refused : (why : ImageFault) → RecoversUnclean trust head middle now (Err why) → IsRecovery trust before now (Err why)
     was_refused why is_so = record {
       stays = stays_on before middle now untouched.stays is_so.stays;
       later = later_on before middle now untouched.later is_so.later;
-      grows = grows_on tells before middle now (untouched_grows tells before middle untouched) is_so.grows;
+      grows = grows_on trust.tells before middle now (untouched_grows trust.tells before middle untouched) is_so.grows;
       answers = tt;
       fails = inr (head, middle, read, unclean, is_so.fails);
-      nothing = elim is_so.nothing [ inl device ↦ inl device | inr more ↦ inr (untouched_on tells before middle now untouched more) ];
-      says = λ blocks is. unclean_refused tells honest before blocks is middle head read now why unclean is_so.fails;
+      nothing = elim is_so.nothing [ inl device ↦ inl device | inr more ↦ inr (untouched_on trust.tells before middle now untouched more) ];
+      says = λ blocks is. unclean_refused trust before blocks is middle head read now why unclean is_so.fails;
       stops = λ blocks is sound. is_so.ends before blocks (start_of blocks is sound) untouched (accepted blocks is);
       closed = tt;
     }
 
 -- what holds of a refusal holds where it is passed on
-pub refused_as : (tells honest : Bool) (before now : Seen) (why : ImageFault) (result : Result Recovered ImageFault) → IsErrAnd result (λ e. e ≡ why) → IsRecovery tells honest before now (Err why)
-    → IsRecovery tells honest before now result
-refused_as tells honest before now why (Ok x) is recovery = absurd is
-refused_as tells honest before now why (Err e) is recovery = subst (λ (f : ImageFault). IsRecovery tells honest before now (Err f)) (sym is) recovery
+pub refused_as : (trust : Trust) (before now : Seen) (why : ImageFault) (result : Result Recovered ImageFault) → IsErrAnd result (λ e. e ≡ why) → IsRecovery trust before now (Err why)
+    → IsRecovery trust before now result
+refused_as trust before now why (Ok x) is recovery = absurd is
+refused_as trust before now why (Err e) is recovery = subst (λ (f : ImageFault). IsRecovery trust before now (Err f)) (sym is) recovery

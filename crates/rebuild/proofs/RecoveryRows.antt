@@ -16,6 +16,7 @@ use Rattle.disk_model.specs.declared.call.Call.TheVariants.{Write, Flush}
 use Rattle.disk_model.specs.Images.{HasOneImage, IsImage, IsMixOf}
 use Rattle.disk_model.specs.Log.{Blocks, block_at, contents}
 use Rattle.disk_model.specs.Seen.{Seen}
+use Rattle.disk_model.specs.Trust.{Trust, trust_of}
 use Rattle.disk_model.specs.Since.{reads_of}
 use Rattle.disk_model.proofs.LookedLaws.{one_in-all, one_in-unique}
 use Rattle.image_layout.specs.Opened.{super_of_image}
@@ -46,20 +47,20 @@ use Rattle.rebuild.specs.Recoveries.{Answers, AreStopsSound, IsAnswer, IsRecover
 use Rattle.rebuild.specs.declared.forms.Recovered.TheVariants.{Clean, Entries}
 
 -- Answers, of any device. Clean: block 0 was read, it says that the session was closed, and nothing was written.
-clean_read : (honest : Bool) → Answers false honest seen seen Clean
+clean_read : (honest : Bool) → Answers (trust_of false honest) seen seen Clean
 clean_read honest = (head_of true, head_is_read honest true, refl, untouched_yet false seen)
 
-nothing_read : (honest : Bool) (now : Seen) → Answers true honest now now Clean → ⊥
+nothing_read : (honest : Bool) (now : Seen) → Answers (trust_of true honest) now now Clean → ⊥
 nothing_read honest now (head, read, clean, untouched) = let more = ap length (read.read.logged refl) in omega (arith, more)
 
-clean_written : (honest : Bool) → Answers true honest seen flushed Clean → ⊥
+clean_written : (honest : Bool) → Answers (trust_of true honest) seen flushed Clean → ⊥
 clean_written honest (head, read, clean, untouched) = let since = untouched.reads refl in none_flushed since.0 since.1 since.2
 
 -- A device that tells and is honest, with a superblock in block 0.
 abbrev pub with_head : Bool → Seen
 with_head clean = record { opening = super_block (head_of clean) ∷ replicate 153 zero_block; size = 154; log = []; faults = 3; unkept = 0 }
 
-pub head_there : (clean : Bool) (now : Seen) (head : Superblock) → IsHeadRead true true (with_head clean) now head → head ≡ head_of clean
+pub head_there : (clean : Bool) (now : Seen) (head : Superblock) → IsHeadRead (trust_of true true) (with_head clean) now head → head ≡ head_of clean
 head_there clean now head read =
     let given = read.read.given in
     let block : read.block ≡ super_block (head_of clean) =
@@ -68,16 +69,16 @@ head_there clean now head read =
     let here = ap (λ (b : List ℕ). super_of b 154) block ∙ says_head clean in
     cc (says, here)
 
-unclean_isnt_clean : (now : Seen) → Answers true true (with_head false) now Clean → ⊥
+unclean_isnt_clean : (now : Seen) → Answers (trust_of true true) (with_head false) now Clean → ⊥
 unclean_isnt_clean now (head, read, clean, untouched) =
     let same = ap (λ (h : Superblock). h.clean) (head_there false now head read) in absurd (cc (same, clean))
 
 -- Entries: it says that the session wasn't closed, and the window has so many
-zeros_read : (honest : Bool) → BothShow false honest (head_of false) no_entries seen seen HasNoFault → Answers false honest seen seen (Entries 0)
+zeros_read : (honest : Bool) → BothShow (trust_of false honest) (head_of false) no_entries seen seen HasNoFault → Answers (trust_of false honest) seen seen (Entries 0)
 zeros_read honest right = (head_of false, seen, head_is_read honest false, refl, none_of_zeros honest false right)
 
 -- and both reads stand in the log of a device that tells
-entries_unread : (honest : Bool) (now : Seen) (count : ℕ) → Answers true honest now now (Entries count) → ⊥
+entries_unread : (honest : Bool) (now : Seen) (count : ℕ) → Answers (trust_of true honest) now now (Entries count) → ⊥
 entries_unread honest now count (head, middle, read, unclean, has) =
     let first = ap length (read.read.logged refl) in
     let journal = ap length (has.read.1.read.logged refl) in
@@ -89,26 +90,26 @@ entries_unread honest now count (head, middle, read, unclean, has) =
     let fifth = length-append goes_on.0 has.middle.log in
     omega (arith, first, journal, more, second, third, fourth, fifth)
 
-clean_isnt_unclean : (now : Seen) (count : ℕ) → Answers true true (with_head true) now (Entries count) → ⊥
+clean_isnt_unclean : (now : Seen) (count : ℕ) → Answers (trust_of true true) (with_head true) now (Entries count) → ⊥
 clean_isnt_unclean now count (head, middle, read, unclean, entries) =
     let same = ap (λ (h : Superblock). h.clean) (head_there true middle head read) in absurd (cc (same, unclean))
 
 -- Refusals, of any device: of the superblock, which wasn't read; or behind it.
-head_failed : (honest : Bool) → RecoverFails false honest seen failed Device
+head_failed : (honest : Bool) → RecoverFails (trust_of false honest) seen failed Device
 head_failed honest = inl (next_failed honest 0)
 
-pub behind_head : (honest : Bool) → RecoverFails false honest seen seen Memory
+pub behind_head : (honest : Bool) → RecoverFails (trust_of false honest) seen seen Memory
 behind_head honest = inr (head_of false, seen, head_is_read honest false, refl, inl tt)
 
 -- of an unclean one alone
-clean_fails : (now : Seen) → RecoverFails true true (with_head true) now Memory → ⊥
+clean_fails : (now : Seen) → RecoverFails (trust_of true true) (with_head true) now Memory → ⊥
 clean_fails now fails = elim fails [
   | inl none ↦ none
   | inr (head, middle, read, unclean, why) ↦ let same = ap (λ (h : Superblock). h.clean) (head_there true middle head read) in absurd (cc (same, unclean))
 ]
 
-pub never_refused_so : (tells honest : Bool) (before now : Seen) → RecoverFails tells honest before now Unclean → ⊥
-never_refused_so tells honest before now fails = elim fails [ inl none ↦ none | inr (head, middle, read, unclean, why) ↦ never_unclean tells honest head middle now why ]
+pub never_refused_so : (trust : Trust) (before now : Seen) → RecoverFails trust before now Unclean → ⊥
+never_refused_so trust before now fails = elim fails [ inl none ↦ none | inr (head, middle, read, unclean, why) ↦ never_unclean trust head middle now why ]
 
 -- Refusals by the image: of a clean one neither a window's fault nor a count's.
 module _ (blocks : Blocks) (head : Superblock) (accepted : super_of_image blocks ≡ Ok head) where
@@ -144,17 +145,17 @@ zero_whole : (b : ℕ) → b < 1 → length (block_at one_block b) ≡ 4096
 unfolding zero_block
 zero_whole b below = let first : b ≡ 0 = omega (arith, below) in rw first refl
 
-told_is : IsTold true true (opened one_block) one_block
+told_is : IsTold (trust_of true true) (opened one_block) one_block
 told_is = record { told = refl; fair = refl; one = one_in-all (looked_in one_block) one_block [] one_block (one_image-opening one_block zero_whole) }
 
-untold : (blocks : Blocks) → IsTold false true seen blocks → ⊥
+untold : (blocks : Blocks) → IsTold (trust_of false true) seen blocks → ⊥
 untold blocks is = let told = is.told in absurd (cc told)
 
-unfair : (blocks : Blocks) → IsTold true false seen blocks → ⊥
+unfair : (blocks : Blocks) → IsTold (trust_of true false) seen blocks → ⊥
 unfair blocks is = let fair = is.fair in absurd (cc fair)
 
 -- a write is pending, of which a stop may leave nothing
-pending : IsTold true true (record (opened one_block) { log = Write (pbn 0) [] true ∷ [] }) one_block → ⊥
+pending : IsTold (trust_of true true) (record (opened one_block) { log = Write (pbn 0) [] true ∷ [] }) one_block → ⊥
 pending is = let only = (is.one.only 0 (omega arith) (looked_first one_block)).0 in let whole = is.one.whole 0 (omega arith) in let size = ap length only in omega (arith, size, whole)
 
 -- Each way it ends: what a sound image says is kept, and of one that isn't sound nothing is said.
@@ -206,7 +207,7 @@ module _ (g : Geometry) (blocks : Blocks) (accepted : super_of_image blocks ≡ 
       (run.0, run.1, subst (λ (i : Image). IsRecovered i sound.last run.0) image (subst (λ (n : ℕ). IsRecovered (the_image g blocks) n run.0) last run.2))
 
 -- The whole, of a device that doesn't tell: an answer, and a refusal.
-clean_recovery : (honest : Bool) → IsRecovery false honest seen seen (Ok Clean)
+clean_recovery : (honest : Bool) → IsRecovery (trust_of false honest) seen seen (Ok Clean)
 clean_recovery honest = record {
   stays = record { opening = refl; size = refl };
   later = record { faults = omega arith; unkept = omega arith };
@@ -219,7 +220,7 @@ clean_recovery honest = record {
   closed = λ blocks is. let told = is.told in absurd (cc told);
 }
 
-refused_recovery : (honest : Bool) → IsRecovery false honest seen failed (Err Device)
+refused_recovery : (honest : Bool) → IsRecovery (trust_of false honest) seen failed (Err Device)
 refused_recovery honest = record {
   stays = record { opening = refl; size = refl };
   later = record { faults = omega arith; unkept = omega arith };
@@ -233,25 +234,25 @@ refused_recovery honest = record {
 }
 
 -- stays, later
-other_size : (honest : Bool) → IsRecovery false honest seen (record seen { size = 3 }) (Ok Clean) → ⊥
+other_size : (honest : Bool) → IsRecovery (trust_of false honest) seen (record seen { size = 3 }) (Ok Clean) → ⊥
 other_size honest is = let size = is.stays.size in omega (arith, size)
 
-fewer_faults : (honest : Bool) → IsRecovery false honest failed seen (Ok Clean) → ⊥
+fewer_faults : (honest : Bool) → IsRecovery (trust_of false honest) failed seen (Ok Clean) → ⊥
 fewer_faults honest is = let less = is.later.faults in omega (arith, less)
 
 -- answers, fails
-answered_unread : (honest : Bool) (now : Seen) → IsRecovery true honest now now (Ok Clean) → ⊥
+answered_unread : (honest : Bool) (now : Seen) → IsRecovery (trust_of true honest) now now (Ok Clean) → ⊥
 answered_unread honest now is = nothing_read honest now is.answers
 
-counted_unread : (honest : Bool) (now : Seen) (count : ℕ) → IsRecovery true honest now now (Ok (Entries count)) → ⊥
+counted_unread : (honest : Bool) (now : Seen) (count : ℕ) → IsRecovery (trust_of true honest) now now (Ok (Entries count)) → ⊥
 counted_unread honest now count is = entries_unread honest now count is.answers
 
-refused_as_unclean : (honest : Bool) → IsRecovery false honest seen seen (Err Unclean) → ⊥
-refused_as_unclean honest is = never_refused_so false honest seen seen is.fails
+refused_as_unclean : (honest : Bool) → IsRecovery (trust_of false honest) seen seen (Err Unclean) → ⊥
+refused_as_unclean honest is = never_refused_so (trust_of false honest) seen seen is.fails
 
 -- says, stops, closed: of an honest device, by its one image
-module _ (before now : Seen) (blocks : Blocks) (told : IsTold true true before blocks) where
-  clean_is_said : (head : Superblock) → super_of_image blocks ≡ Ok head → head.clean ≡ false → IsRecovery true true before now (Ok Clean) → ⊥
+module _ (before now : Seen) (blocks : Blocks) (told : IsTold (trust_of true true) before blocks) where
+  clean_is_said : (head : Superblock) → super_of_image blocks ≡ Ok head → head.clean ≡ false → IsRecovery (trust_of true true) before now (Ok Clean) → ⊥
   clean_is_said head accepted unclean is =
       let answer = is.says blocks told in
       let own = answer.1 in
@@ -259,14 +260,14 @@ module _ (before now : Seen) (blocks : Blocks) (told : IsTold true true before b
       let here = ap (λ (h : Superblock). h.clean) same in
       let clean = answer.2 in absurd (cc (here, clean, unclean))
 
-  refusal_is_said : IsRecovery true true before now (Err Unclean) → ⊥
+  refusal_is_said : IsRecovery (trust_of true true) before now (Err Unclean) → ⊥
   refusal_is_said is = is.says blocks told
 
 module _ (blocks : Blocks) (sound : IsSound blocks) (one : HasOneImage blocks [] blocks) where
-  told_here : IsTold true true (opened blocks) blocks
+  told_here : IsTold (trust_of true true) (opened blocks) blocks
   told_here = record { told = refl; fair = refl; one = one_in-all (looked_in blocks) blocks [] blocks one }
 
-  left_unclean : (count : ℕ) → sound.head.clean ≡ false → IsRecovery true true (opened blocks) (opened blocks) (Ok (Entries count)) → ⊥
+  left_unclean : (count : ℕ) → sound.head.clean ≡ false → IsRecovery (trust_of true true) (opened blocks) (opened blocks) (Ok (Entries count)) → ⊥
   left_unclean count unclean is = still_unclean blocks one sound count unclean (is.closed blocks told_here)
 
 -- stops: zeros were written over the superblock of a sound image, whatever is answered
@@ -286,7 +287,7 @@ zeros_stand : (block : List ℕ) (more : Blocks) → ((b : ℕ) → b < length (
 zeros_stand block more whole = record { size = refl; whole = zeros_whole block more whole; sectors = λ b below. zeros_mixed block more b }
 
 written_over : (block : List ℕ) (more : Blocks) → IsSound (block ∷ more) → HasOneImage (block ∷ more) [] (block ∷ more)
-    → IsRecovery true true (opened (block ∷ more)) (record (opened (block ∷ more)) { log = Write (pbn 0) zero_block true ∷ [] }) (Err Device) → ⊥
+    → IsRecovery (trust_of true true) (opened (block ∷ more)) (record (opened (block ∷ more)) { log = Write (pbn 0) zero_block true ∷ [] }) (Err Device) → ⊥
 written_over block more sound one is =
     let since = is.stops (block ∷ more) (record { told = refl; fair = refl; one = one_in-all (looked_in (block ∷ more)) (block ∷ more) [] (block ∷ more) one }) sound in
     let stands = subst (λ (log : List Call). IsImage (block ∷ more) log (zero_block ∷ more)) since.1 (zeros_stand block more one.whole) in

@@ -10,6 +10,7 @@ use Rattle.disk_model.specs.declared.call.Call.TheVariants.{Read, Write, Flush}
 use Rattle.disk_model.specs.Causes.{Rose}
 use Rattle.disk_model.specs.Log.{Blocks}
 use Rattle.disk_model.specs.Seen.{Seen}
+use Rattle.disk_model.specs.Trust.{trust_of}
 use Rattle.disk_model.specs.Since.{OnlyReads}
 use Rattle.disk_model.specs.LogSteps.{FailedInLog}
 use Rattle.disk_model.proofs.SinceLaws.{untouched_yet}
@@ -131,11 +132,11 @@ none_flushed (Write at bytes ok ∷ calls) same reads = reads
 log_grew : Grows true seen flushed
 log_grew = λ told. (Flush true ∷ [], refl)
 
-log_lost : IsRecovery true false flushed seen (Err Device) → ⊥
+log_lost : IsRecovery (trust_of true false) flushed seen (Err Device) → ⊥
 log_lost is = let since = is.grows refl in let size = ap (λ (log : List Call). length log) since.1 in omega (arith, size, length-append since.0 (Flush true ∷ []))
 
 -- nothing: after another refusal than a device's nothing was written
-written_and_refused : IsRecovery true true seen flushed (Err Memory) → ⊥
+written_and_refused : IsRecovery (trust_of true true) seen flushed (Err Memory) → ⊥
 written_and_refused is = elim is.nothing [
   | inl device ↦ absurd (cc device)
   | inr untouched ↦
@@ -145,7 +146,7 @@ written_and_refused is = elim is.nothing [
 
 -- A second recovery: an honest device has a closed image; it finds it closed, and writes nothing; or the last call
 -- failed
-not_honest : HasClosedImage true false seen → ⊥
+not_honest : HasClosedImage (trust_of true false) seen → ⊥
 not_honest has = let fair : false ≡ true = has.1.fair in absurd (cc fair)
 
 found_clean : FindsClosed true seen seen (Ok Clean)

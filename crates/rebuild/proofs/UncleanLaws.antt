@@ -11,6 +11,7 @@ use Rattle.disk_model.specs.declared.call.Call.TheVariants.{Flush}
 use Rattle.disk_model.specs.declared.call.Failed.{Failed}
 use Rattle.disk_model.specs.Log.{Blocks}
 use Rattle.disk_model.specs.Seen.{Seen}
+use Rattle.disk_model.specs.Trust.{Trust}
 use Rattle.disk_model.specs.Since.{IsUntouched}
 use Rattle.disk_model.proofs.SeenLaws.{later_on, stays_on}
 use Rattle.disk_model.proofs.SinceLaws.{untouched_on, were_only_read}
@@ -49,92 +50,92 @@ ends_failed blocks sound first now (Err _) is kept = kept
 
 -- Writing.
 
-pub blocks_failed : (tells honest : Bool) (before now : Seen) (N : Image → Type 0) (last : ℕ) (fault : Failed) (result : Result (Unit {0}) Failed) → IsErr result
-    → Acts tells (recovery tells honest) before now N AreBothDone (Err fault) → WritesAll tells honest before now N last result
-blocks_failed tells honest before now N last fault result is acts = record {
+pub blocks_failed : (trust : Trust) (before now : Seen) (N : Image → Type 0) (last : ℕ) (fault : Failed) (result : Result (Unit {0}) Failed) → IsErr result
+    → Acts trust.tells (recovery trust) before now N AreBothDone (Err fault) → WritesAll trust before now N last result
+blocks_failed trust before now N last fault result is acts = record {
   stays = acts.stays;
   later = acts.later;
   grows = acts.grows;
-  failed = on_err tells before now result acts.failed;
+  failed = on_err trust.tells before now result acts.failed;
   ends = λ first blocks start calls made has same.
       ends_failed blocks start.to.sound first now result is
-      (stopped_kept tells honest first blocks start now (acts.writes start.told first (blocks, start) calls made has));
+      (stopped_kept trust first blocks start now (acts.writes start.told first (blocks, start) calls made has));
 }
 
-module _ (tells honest : Bool) (before middle now : Seen) (N : Image → Type 0) (last : ℕ) where
+module _ (trust : Trust) (before middle now : Seen) (N : Image → Type 0) (last : ℕ) where
   abbrev closing : Geometry → List Call
   closing g = Flush true ∷ put 0 (super_block (recovered_super g last)) ∷ Flush true ∷ []
 
-  pub all_written : (g : Geometry) (result : Result (Unit {0}) Failed) → ((image : Image) → N image → image.geometry ≡ g) → Acts tells (recovery tells honest) before middle N AreBothDone (Ok tt)
-      → Makes tells middle now (closing g) result → WritesAll tells honest before now N last result
+  pub all_written : (g : Geometry) (result : Result (Unit {0}) Failed) → ((image : Image) → N image → image.geometry ≡ g) → Acts trust.tells (recovery trust) before middle N AreBothDone (Ok tt)
+      → Makes trust.tells middle now (closing g) result → WritesAll trust before now N last result
   all_written g result sizes acts makes =
-      let parts = made_stays tells middle now (closing g) result makes in record {
+      let parts = made_stays trust.tells middle now (closing g) result makes in record {
         stays = stays_on before middle now acts.stays parts.0;
         later = later_on before middle now acts.later parts.1;
-        grows = grows_on tells before middle now acts.grows (made_grows tells middle now (closing g) result makes);
-        failed = failed_on tells before middle now result acts.later acts.grows (makes_failed tells middle now (closing g) result makes);
+        grows = grows_on trust.tells before middle now acts.grows (made_grows trust.tells middle now (closing g) result makes);
+        failed = failed_on trust.tells before middle now result acts.later acts.grows (makes_failed trust.tells middle now (closing g) result makes);
         ends = λ first blocks start calls made has same.
             let image = image_in blocks start.to.sound in
             let went = acts.writes start.told first (blocks, start) calls made has in
             let are : ArePuts image (went.0 ++ calls) = record { each = went.1.each; pages = went.2.0; counters = went.2.1 } in
-            closes_to tells honest first blocks start middle now (went.0 ++ calls) went.1 are result
-            (subst (λ (n : ℕ). Makes tells middle now (Flush true ∷ put 0 (super_block (recovered_super image.geometry n)) ∷ Flush true ∷ []) result) (sym same)
-            (subst (λ (h : Geometry). Makes tells middle now (closing h) result) (sym (sizes image has)) makes));
+            closes_to trust first blocks start middle now (went.0 ++ calls) went.1 are result
+            (subst (λ (n : ℕ). Makes trust.tells middle now (Flush true ∷ put 0 (super_block (recovered_super image.geometry n)) ∷ Flush true ∷ []) result) (sym same)
+            (subst (λ (h : Geometry). Makes trust.tells middle now (closing h) result) (sym (sizes image has)) makes));
       }
 
 -- Reading.
 
-pub read_refused : (tells honest : Bool) (head : Superblock) (before now : Seen) (why : ImageFault) → UncleanFails tells honest head before now why → IsUntouched tells before now
-    → RecoversUnclean tells honest head before now (Err why)
-read_refused tells honest head before now why fails untouched = record {
+pub read_refused : (trust : Trust) (head : Superblock) (before now : Seen) (why : ImageFault) → UncleanFails trust head before now why → IsUntouched trust.tells before now
+    → RecoversUnclean trust head before now (Err why)
+read_refused trust head before now why fails untouched = record {
   stays = untouched.stays;
   later = untouched.later;
-  grows = untouched_grows tells before now untouched;
+  grows = untouched_grows trust.tells before now untouched;
   entries = tt;
   fails = fails;
   nothing = inr untouched;
   ends = λ first blocks start before_it accepted.
       let image = image_in blocks start.to.sound in
-      let made = read_made tells (recovery tells honest) image first first now [] start.told (none_made (IsPut image) first) (untouched_on tells first before now before_it untouched) in
-      made_kept tells honest first blocks start now (made.0 ++ []) made.1;
+      let made = read_made trust.tells (recovery trust) image first first now [] start.told (none_made (IsPut image) first) (untouched_on trust.tells first before now before_it untouched) in
+      made_kept trust first blocks start now (made.0 ++ []) made.1;
 }
 
-pub passed_as : (tells honest : Bool) (head : Superblock) (before now : Seen) (why : ImageFault) (result : Result ℕ ImageFault) → IsErrAnd result (λ e. e ≡ why)
-    → RecoversUnclean tells honest head before now (Err why) → RecoversUnclean tells honest head before now result
-passed_as tells honest head before now why (Ok x) is recovers = absurd is
-passed_as tells honest head before now why (Err e) is recovers = subst (λ (f : ImageFault). RecoversUnclean tells honest head before now (Err f)) (sym is) recovers
+pub passed_as : (trust : Trust) (head : Superblock) (before now : Seen) (why : ImageFault) (result : Result ℕ ImageFault) → IsErrAnd result (λ e. e ≡ why)
+    → RecoversUnclean trust head before now (Err why) → RecoversUnclean trust head before now result
+passed_as trust head before now why (Ok x) is recovers = absurd is
+passed_as trust head before now why (Err e) is recovers = subst (λ (f : ImageFault). RecoversUnclean trust head before now (Err f)) (sym is) recovers
 
 -- Both.
 
-module _ (tells honest : Bool) (head : Superblock) (before second third now : Seen) (window : WindowState) (changes : List (SlotId × Mapping)) (contents : Contents)
-    (read : IsWindowRead tells honest before second head window) (is : AreContents tells honest head window second third contents) (read_only : IsUntouched tells second third)
+module _ (trust : Trust) (head : Superblock) (before second third now : Seen) (window : WindowState) (changes : List (SlotId × Mapping)) (contents : Contents)
+    (read : IsWindowRead trust before second head window) (is : AreContents trust head window second third contents) (read_only : IsUntouched trust.tells second third)
     (newest : AreNewest window.entries changes) (room : needed_blocks head.geometry ≤ before.size) where
   abbrev Needs : Image → Type 0
   Needs = HasContents head.geometry changes contents.map.links.items contents.counts.counts.items contents.counts.sectors.items
 
-  window_read : IsUntouched tells before second
-  window_read = were_only_read tells honest 1 before second (reverse read.0) read.1.read
+  window_read : IsUntouched trust.tells before second
+  window_read = were_only_read trust 1 before second (reverse read.0) read.1.read
 
-  all_read : IsUntouched tells before third
-  all_read = untouched_on tells before second third window_read read_only
+  all_read : IsUntouched trust.tells before third
+  all_read = untouched_on trust.tells before second third window_read read_only
 
-  module _ (first : Seen) (blocks : Blocks) (start : IsStart tells honest first blocks) (before_it : IsUntouched tells first before) (accepted : super_of_image blocks ≡ Ok head) where
+  module _ (first : Seen) (blocks : Blocks) (start : IsStart trust first blocks) (before_it : IsUntouched trust.tells first before) (accepted : super_of_image blocks ≡ Ok head) where
     abbrev image : Image
     image = image_in blocks start.to.sound
 
     one_here : HasOneImageButIndex before.opening before.log blocks
-    one_here = still tells honest blocks start.told start.fair first before before_it start.to.one
+    one_here = still trust blocks start.told start.fair first before before_it start.to.one
 
     opens : Opens blocks head window.last window.entries
-    opens = window_shown tells honest before second blocks start.told start.fair one_here head room accepted window read
+    opens = window_shown trust before second blocks start.told start.fair one_here head room accepted window read
 
     one_there : HasOneImageButIndex second.opening second.log blocks
-    one_there = still tells honest blocks start.told start.fair before second window_read one_here
+    one_there = still trust blocks start.told start.fair before second window_read one_here
 
     needs : Needs image
     needs =
         let room_there : needed_blocks head.geometry ≤ second.size = let size = window_read.stays.size in omega (arith, size, room) in
-        let both = both_shown tells honest blocks start.told start.fair head window second third
+        let both = both_shown trust blocks start.told start.fair head window second third
         (λ i. HasMap i contents.map × HasCounts i contents.counts.counts.items contents.counts.sectors.items) accepted one_there room_there is.shown in
         subst Needs (image_alike blocks start.to.sound head window.last window.entries opens)
         (record { sizes = refl; newest = newest; links = both.0.links; counts = both.1 })
@@ -143,33 +144,33 @@ module _ (tells honest : Bool) (head : Superblock) (before second third now : Se
     last_is = sym (opened_alike blocks start.to.sound head window.last window.entries opens).1
 
     made : (reads : List Call) × AreMade (IsPut image) first third (reads ++ [])
-    made = read_made tells (recovery tells honest) image first first third [] start.told (none_made (IsPut image) first) (untouched_on tells first before third before_it all_read)
+    made = read_made trust.tells (recovery trust) image first first third [] start.told (none_made (IsPut image) first) (untouched_on trust.tells first before third before_it all_read)
 
-    ends_so : (result : Result (Unit {0}) Failed) → WritesAll tells honest third now Needs window.last result → Ends blocks start.to.sound first now result
+    ends_so : (result : Result (Unit {0}) Failed) → WritesAll trust third now Needs window.last result → Ends blocks start.to.sound first now result
     ends_so result writes = writes.ends first blocks start (made.0 ++ []) made.1 needs last_is
 
-  pub write_failed : (fault : Failed) → WritesAll tells honest third now Needs window.last (Err fault) → RecoversUnclean tells honest head before now (Err Device)
+  pub write_failed : (fault : Failed) → WritesAll trust third now Needs window.last (Err fault) → RecoversUnclean trust head before now (Err Device)
   write_failed fault writes = record {
     stays = stays_on before third now all_read.stays writes.stays;
     later = later_on before third now all_read.later writes.later;
-    grows = grows_on tells before third now (untouched_grows tells before third all_read) writes.grows;
+    grows = grows_on trust.tells before third now (untouched_grows trust.tells before third all_read) writes.grows;
     entries = tt;
-    fails = inr (inr (refl, failed_after tells before third now all_read writes.failed));
+    fails = inr (inr (refl, failed_after trust.tells before third now all_read writes.failed));
     nothing = inl refl;
     ends = λ first blocks start before_it accepted. ends_so first blocks start before_it accepted (Err fault) writes;
   }
 
-  pub unclean_recovered : WritesAll tells honest third now Needs window.last (Ok tt) → RecoversUnclean tells honest head before now (Ok contents.map.entries)
+  pub unclean_recovered : WritesAll trust third now Needs window.last (Ok tt) → RecoversUnclean trust head before now (Ok contents.map.entries)
   unclean_recovered writes = record {
     stays = stays_on before third now all_read.stays writes.stays;
     later = later_on before third now all_read.later writes.later;
-    grows = grows_on tells before third now (untouched_grows tells before third all_read) writes.grows;
+    grows = grows_on trust.tells before third now (untouched_grows trust.tells before third all_read) writes.grows;
     entries = record {
       middle = second;
       behind = third;
       window = window;
       read = read;
-      right = both_follow tells honest head window second third
+      right = both_follow trust head window second third
           (λ image. HasMap image contents.map × HasCounts image contents.counts.counts.items contents.counts.sectors.items) HasNoFault
           (λ image same has. record { pages = has.0.pages; stored = λ place inside. (_, has.1.stored place inside); unshared = has.0.unshared }) is.shown;
       stays = writes.stays;
@@ -184,18 +185,18 @@ module _ (tells honest : Bool) (head : Superblock) (before second third now : Se
 
   -- by the sizes of a layout, and a last sequence that was asked for
   writes_as : (g : Geometry) (last : ℕ) (result : Result (Unit {0}) Failed) → g ≡ head.geometry → last ≡ window.last
-      → WritesAll tells honest third now (HasContents g changes contents.map.links.items contents.counts.counts.items contents.counts.sectors.items) last result
-      → WritesAll tells honest third now Needs window.last result
+      → WritesAll trust third now (HasContents g changes contents.map.links.items contents.counts.counts.items contents.counts.sectors.items) last result
+      → WritesAll trust third now Needs window.last result
   writes_as g last result sizes same writes =
-      subst (λ (n : ℕ). WritesAll tells honest third now Needs n result) same
-      (subst (λ (h : Geometry). WritesAll tells honest third now (HasContents h changes contents.map.links.items contents.counts.counts.items contents.counts.sectors.items) last result) sizes writes)
+      subst (λ (n : ℕ). WritesAll trust third now Needs n result) same
+      (subst (λ (h : Geometry). WritesAll trust third now (HasContents h changes contents.map.links.items contents.counts.counts.items contents.counts.sectors.items) last result) sizes writes)
 
   pub write_failed_as : (g : Geometry) (last : ℕ) (fault : Failed) → g ≡ head.geometry → last ≡ window.last
-      → WritesAll tells honest third now (HasContents g changes contents.map.links.items contents.counts.counts.items contents.counts.sectors.items) last (Err fault)
-      → RecoversUnclean tells honest head before now (Err Device)
+      → WritesAll trust third now (HasContents g changes contents.map.links.items contents.counts.counts.items contents.counts.sectors.items) last (Err fault)
+      → RecoversUnclean trust head before now (Err Device)
   write_failed_as g last fault sizes same writes = write_failed fault (writes_as g last (Err fault) sizes same writes)
 
   pub recovered_as : (g : Geometry) (last : ℕ) → g ≡ head.geometry → last ≡ window.last
-      → WritesAll tells honest third now (HasContents g changes contents.map.links.items contents.counts.counts.items contents.counts.sectors.items) last (Ok tt)
-      → RecoversUnclean tells honest head before now (Ok contents.map.entries)
+      → WritesAll trust third now (HasContents g changes contents.map.links.items contents.counts.counts.items contents.counts.sectors.items) last (Ok tt)
+      → RecoversUnclean trust head before now (Ok contents.map.entries)
   recovered_as g last sizes same writes = unclean_recovered (writes_as g last (Ok tt) sizes same writes)

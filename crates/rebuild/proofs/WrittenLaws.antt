@@ -27,6 +27,7 @@ use Rattle.disk_model.specs.declared.call.Call.TheVariants.{Read, Write, Flush}
 use Rattle.disk_model.specs.Images.{IsMixOf}
 use Rattle.disk_model.specs.Log.{Blocks, block_at, settled}
 use Rattle.disk_model.specs.Seen.{Seen}
+use Rattle.disk_model.specs.Trust.{Trust}
 use Rattle.disk_model.specs.Since.{WereRead}
 use Rattle.disk_model.proofs.ImageLaws.{all_weaker, sector_of_mix, settled_are_contents}
 use Rattle.disk_model.proofs.LookedLaws.{one_in-settled}
@@ -185,7 +186,7 @@ puts_weaker P Q (Write at bytes ok ∷ calls) all each = (all at.0 bytes each.0,
 puts_weaker P Q (Read at bytes ok ∷ calls) all each = (tt, puts_weaker P Q calls all each.1)
 puts_weaker P Q (Flush ok ∷ calls) all each = (tt, puts_weaker P Q calls all each.1)
 
-module _ (tells honest : Bool) (first : Seen) (blocks : Blocks) (start : IsStart tells honest first blocks) where
+module _ (trust : Trust) (first : Seen) (blocks : Blocks) (start : IsStart trust first blocks) where
   abbrev image : Image
   image = image_in blocks start.to.sound
 
@@ -202,7 +203,7 @@ module _ (tells honest : Bool) (first : Seen) (blocks : Blocks) (start : IsStart
   settled_kinds P calls b was puts = settled_are_contents (P b) blocks calls b (contents_are P blocks calls b was puts)
 
   module _ (before middle : Seen) (calls : List Call) (made : AreMade (IsPut image) first before calls) (at : Pbn) (given : List ℕ)
-      (below : at.0 < length blocks) (read : WereRead tells honest at.0 before middle (given ∷ [])) where
+      (below : at.0 < length blocks) (read : WereRead trust at.0 before middle (given ∷ [])) where
     full_puts : AllByRecursion (Puts (IsFullBlock blocks sound start.to.named)) calls
     full_puts = puts_full blocks sound start.to.named calls made.each
 

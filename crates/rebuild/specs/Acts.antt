@@ -9,6 +9,7 @@ use Rattle.disk_model.specs.declared.call.Call.TheVariants.{Read, Write, Flush}
 use Rattle.disk_model.specs.declared.call.Failed.{Failed}
 use Rattle.disk_model.specs.Log.{Blocks, settled}
 use Rattle.disk_model.specs.Seen.{Seen, Stays, Later}
+use Rattle.disk_model.specs.Trust.{Trust}
 use Rattle.disk_model.specs.LogSteps.{FailedInLog}
 use Rattle.image_format.specs.Formats.{LastFailed}
 use Rattle.image_format.specs.Runs.{as_failed}
@@ -72,18 +73,18 @@ pub record Acts (tells : Bool) (w : Writing) (before now : Seen) (Needs : Image 
 -- Recovery.
 
 -- a device that tells and is honest, and that has an image to recover at this moment
-pub record IsStart (tells honest : Bool) (first : Seen) (blocks : Blocks) : Type 0 where
-  pub told : IsTrue tells
-  pub fair : IsTrue honest
+pub record IsStart (trust : Trust) (first : Seen) (blocks : Blocks) : Type 0 where
+  pub told : IsTrue trust.tells
+  pub fair : IsTrue trust.honest
   pub to : IsToRecover first.opening first.log blocks
 
 abbrev pub IsFlush : Call → Type 0
 IsFlush call = call ≡ Flush true
 
 -- from there on each call is a read or one of its writes, and one that fails may be a flush too
-abbrev pub recovery : Bool → Bool → Writing
-recovery tells honest = record {
-  From = λ first. (blocks : Blocks) × IsStart tells honest first blocks;
+abbrev pub recovery : Trust → Writing
+recovery trust = record {
+  From = λ first. (blocks : Blocks) × IsStart trust first blocks;
   image = λ first from. image_in from.0 from.1.to.sound;
   Kind = IsPut;
   reads = λ image at bytes ok. tt;

@@ -2,6 +2,7 @@
 use Rattle.std.specs.Prelude.{◌≡◌, Bool, Result, Ok, Err}
 use Rattle.disk_model.specs.Log.{Blocks}
 use Rattle.disk_model.specs.Seen.{Seen}
+use Rattle.disk_model.specs.Trust.{Trust}
 use Rattle.disk_model.specs.Since.{IsUntouched}
 use Rattle.image_format.specs.Formats.{LastFailed}
 use Rattle.image_model.specs.Sound.{IsSound}
@@ -13,8 +14,8 @@ use Rattle.rebuild.specs.declared.forms.Recovered.{Recovered}
 use Rattle.rebuild.specs.declared.forms.Recovered.TheVariants.{Clean}
 
 -- nothing is pending on the device, and its one image is sound and closed
-abbrev pub HasClosedImage : Bool → Bool → Seen → Type 0
-HasClosedImage tells honest now = (image : Blocks) × IsTold tells honest now image × IsSound image × IsCleanImage image
+abbrev pub HasClosedImage : Trust → Seen → Type 0
+HasClosedImage trust now = (image : Blocks) × IsTold trust now image × IsSound image × IsCleanImage image
 
 -- what is answered: that the image is closed, and nothing was written; or the last call failed
 abbrev pub FindsClosed : Bool → Seen → Seen → Result Recovered ImageFault → Type 0

@@ -1,5 +1,5 @@
 -- What is promised of the opening of an image whose last session was closed.
-use Rattle.std.specs.Prelude.{ℕ, ◌≡◌, ◌⊎◌, ◌≤◌, Bool, true, false, List, All, length, Result, Ok, Err, IfOk, IfErr}
+use Rattle.std.specs.Prelude.{ℕ, ◌≡◌, ◌⊎◌, ◌≤◌, true, false, List, All, length, Result, Ok, Err, IfOk, IfErr}
 use Rattle.audit.specs.Audits.{AuditWithFails, BothShow, IsOpenedTo}
 use Rattle.blk_base.specs.Counters.{limit_of}
 use Rattle.blk_base.specs.Limits.{IsGeometry}
@@ -13,6 +13,7 @@ use Rattle.block_map_tree.specs.OpenedTree.{IsOpened, all_trees}
 use Rattle.count_updates.specs.Numbers.{all_sectors}
 use Rattle.disk_model.specs.Log.{Blocks}
 use Rattle.disk_model.specs.Seen.{Seen}
+use Rattle.disk_model.specs.Trust.{Trust}
 use Rattle.disk_model.specs.Since.{IsUntouched}
 use Rattle.image_format.specs.Formats.{LastFailed}
 use Rattle.image_layout.specs.Opened.{IsHead, super_of_image}
@@ -69,30 +70,30 @@ CheckFails g contents other = ⊥
 -- By the reads.
 
 -- pages and slabs were read, and each image with this window that has what was read is right
-abbrev pub IsOpenedWith : Bool → Bool → Superblock → WindowState → Seen → Seen → Opened → Type 0
-IsOpenedWith tells honest head window before now opened = BothShow tells honest head window before now (λ image. IsRight image head opened)
+abbrev pub IsOpenedWith : Trust → Superblock → WindowState → Seen → Seen → Opened → Type 0
+IsOpenedWith trust head window before now opened = BothShow trust head window before now (λ image. IsRight image head opened)
 
 -- why there is nothing to start with: each such image has this fault; a read that failed, or want of memory
-abbrev pub OpenWithFails : Bool → Bool → Superblock → WindowState → Seen → Seen → ImageFault → Type 0
-OpenWithFails tells honest head window before now (Counts at stored mapped) =
-    BothShow tells honest head window before now (λ image. HasWrongCount image at stored mapped)
-OpenWithFails tells honest head window before now other = AuditWithFails tells honest head window before now other
+abbrev pub OpenWithFails : Trust → Superblock → WindowState → Seen → Seen → ImageFault → Type 0
+OpenWithFails trust head window before now (Counts at stored mapped) =
+    BothShow trust head window before now (λ image. HasWrongCount image at stored mapped)
+OpenWithFails trust head window before now other = AuditWithFails trust head window before now other
 
 -- block 0 was read, whose superblock says that the last session was closed, and then the journal, and then the rest
-abbrev pub IsOpenedFrom : Bool → Bool → Seen → Seen → Opened → Type 0
-IsOpenedFrom tells honest before now opened =
-    (head : Superblock) × (window : WindowState) × (middle : Seen) × IsOpenedTo tells honest before middle head window × (head.clean ≡ true)
-    × IsOpenedWith tells honest head window middle now opened
+abbrev pub IsOpenedFrom : Trust → Seen → Seen → Opened → Type 0
+IsOpenedFrom trust before now opened =
+    (head : Superblock) × (window : WindowState) × (middle : Seen) × IsOpenedTo trust before middle head window × (head.clean ≡ true)
+    × IsOpenedWith trust head window middle now opened
 
 -- why there is nothing to start with: block 0 is no superblock; or it says that the last session wasn't closed; or it was
 -- read, and there is no window; or both were read, and then as above
-abbrev pub OpeningFails : Bool → Bool → Seen → Seen → ImageFault → Type 0
-OpeningFails tells honest before now why =
-    HeadFails tells honest before now why
-    ⊎ ((why ≡ Unclean) × ((head : Superblock) × IsHeadRead tells honest before now head × (head.clean ≡ false)))
-    ⊎ ((head : Superblock) × (middle : Seen) × IsHeadRead tells honest before middle head × (head.clean ≡ true) × Fails tells honest middle now head why)
-    ⊎ ((head : Superblock) × (window : WindowState) × (middle : Seen) × IsOpenedTo tells honest before middle head window × (head.clean ≡ true)
-    × OpenWithFails tells honest head window middle now why)
+abbrev pub OpeningFails : Trust → Seen → Seen → ImageFault → Type 0
+OpeningFails trust before now why =
+    HeadFails trust before now why
+    ⊎ ((why ≡ Unclean) × ((head : Superblock) × IsHeadRead trust before now head × (head.clean ≡ false)))
+    ⊎ ((head : Superblock) × (middle : Seen) × IsHeadRead trust before middle head × (head.clean ≡ true) × Fails trust middle now head why)
+    ⊎ ((head : Superblock) × (window : WindowState) × (middle : Seen) × IsOpenedTo trust before middle head window × (head.clean ≡ true)
+    × OpenWithFails trust head window middle now why)
 
 -- By the one image of an honest device on which nothing is pending but in the index.
 
@@ -124,12 +125,12 @@ abbrev pub HasItsHead : ℕ → Opened → Type 0
 HasItsHead size opened = (block : List ℕ) × IsHead size block opened.head
 
 -- what opening an image promises of any device, and of an honest one
-pub record IsOpening (tells honest : Bool) (before now : Seen) (result : Result Opened ImageFault) : Type 0 where
+pub record IsOpening (trust : Trust) (before now : Seen) (result : Result Opened ImageFault) : Type 0 where
   -- of any device
-  pub untouched : IsUntouched tells before now
-  pub opened : IfOk result (IsOpenedFrom tells honest before now)
+  pub untouched : IsUntouched trust.tells before now
+  pub opened : IfOk result (IsOpenedFrom trust before now)
   pub head : IfOk result (HasItsHead before.size)
   pub fits : IfOk result Fits
-  pub fails : IfErr result (OpeningFails tells honest before now)
+  pub fails : IfErr result (OpeningFails trust before now)
   -- of an honest one, by its one image
-  pub says : (blocks : Blocks) → IsTold tells honest before blocks → IsOpeningResult blocks before now result
+  pub says : (blocks : Blocks) → IsTold trust before blocks → IsOpeningResult blocks before now result

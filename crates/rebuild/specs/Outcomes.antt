@@ -6,6 +6,7 @@ use Rattle.blk_base.specs.declared.geometry.Super.{Super as Superblock}
 use Rattle.disk_model.specs.declared.call.Call.{Call}
 use Rattle.disk_model.specs.declared.call.Failed.{Failed}
 use Rattle.disk_model.specs.Seen.{Later, Seen, Stays}
+use Rattle.disk_model.specs.Trust.{Trust}
 use Rattle.disk_model.specs.Log.{Blocks}
 use Rattle.disk_model.specs.Since.{IsUntouched, SinceThen}
 use Rattle.image_format.specs.Formats.{LastFailed}
@@ -24,24 +25,24 @@ use Rattle.rebuild.specs.Acts.{AreMade, Grows, IsStart}
 
 -- The journal was read, and its window has so many entries; then the map and the counts were, and each image with this
 -- window that has what was read has no fault. This is that moment, or a later one of the same device.
-pub record HasEntries (tells honest : Bool) (head : Superblock) (before now : Seen) (count : ℕ) : Type 0 where
+pub record HasEntries (trust : Trust) (head : Superblock) (before now : Seen) (count : ℕ) : Type 0 where
   pub middle : Seen
   pub behind : Seen
   pub window : WindowState
-  pub read : IsWindowRead tells honest before middle head window
-  pub right : BothShow tells honest head window middle behind HasNoFault
+  pub read : IsWindowRead trust before middle head window
+  pub right : BothShow trust head window middle behind HasNoFault
   pub stays : Stays behind now
   pub later : Later behind now
-  pub grows : Grows tells behind now
+  pub grows : Grows trust.tells behind now
   pub number : count ≡ length window.entries
 
 -- Why an image isn't recovered whose superblock was read: its journal has no window; or it was read, and then the first
 -- fault of the map and the counts was; or the last call failed.
-abbrev pub UncleanFails : Bool → Bool → Superblock → Seen → Seen → ImageFault → Type 0
-UncleanFails tells honest head before now why =
-    Fails tells honest before now head why
-    ⊎ ((middle : Seen) × (window : WindowState) × IsWindowRead tells honest before middle head window × AuditWithFails tells honest head window middle now why)
-    ⊎ ((why ≡ Device) × LastFailed tells before now)
+abbrev pub UncleanFails : Trust → Superblock → Seen → Seen → ImageFault → Type 0
+UncleanFails trust head before now why =
+    Fails trust before now head why
+    ⊎ ((middle : Seen) × (window : WindowState) × IsWindowRead trust before middle head window × AuditWithFails trust head window middle now why)
+    ⊎ ((why ≡ Device) × LastFailed trust.tells before now)
 
 -- nothing was written, but where a call failed
 abbrev pub WritesNothing : Bool → Seen → Seen → ImageFault → Type 0
@@ -65,21 +66,21 @@ Ends blocks sound first now (Err _) = IsKeptSince blocks sound first now
 
 -- What writing all of an image answers: where it fails, its last call failed. From each start on, after reads and where the
 -- image has what is needed and this last sequence, it ends so.
-pub record WritesAll (tells honest : Bool) (before now : Seen) (Needs : Image → Type 0) (last : ℕ) (result : Result (Unit {0}) Failed) : Type 0 where
+pub record WritesAll (trust : Trust) (before now : Seen) (Needs : Image → Type 0) (last : ℕ) (result : Result (Unit {0}) Failed) : Type 0 where
   pub stays : Stays before now
   pub later : Later before now
-  pub grows : Grows tells before now
-  pub failed : OnErr result (LastFailed tells before now)
-  pub ends : (first : Seen) (blocks : Blocks) (start : IsStart tells honest first blocks) (calls : List Call) → AreMade (IsPut (image_in blocks start.to.sound)) first before calls
+  pub grows : Grows trust.tells before now
+  pub failed : OnErr result (LastFailed trust.tells before now)
+  pub ends : (first : Seen) (blocks : Blocks) (start : IsStart trust first blocks) (calls : List Call) → AreMade (IsPut (image_in blocks start.to.sound)) first before calls
       → Needs (image_in blocks start.to.sound) → start.to.sound.last ≡ last → Ends blocks start.to.sound first now result
 
 -- what recovering an image answers whose superblock was read and says that its last session wasn't closed
-pub record RecoversUnclean (tells honest : Bool) (head : Superblock) (before now : Seen) (result : Result ℕ ImageFault) : Type 0 where
+pub record RecoversUnclean (trust : Trust) (head : Superblock) (before now : Seen) (result : Result ℕ ImageFault) : Type 0 where
   pub stays : Stays before now
   pub later : Later before now
-  pub grows : Grows tells before now
-  pub entries : IfOk result (HasEntries tells honest head before now)
-  pub fails : IfErr result (UncleanFails tells honest head before now)
-  pub nothing : IfErr result (WritesNothing tells before now)
-  pub ends : (first : Seen) (blocks : Blocks) (start : IsStart tells honest first blocks) → IsUntouched tells first before → super_of_image blocks ≡ Ok head
+  pub grows : Grows trust.tells before now
+  pub entries : IfOk result (HasEntries trust head before now)
+  pub fails : IfErr result (UncleanFails trust head before now)
+  pub nothing : IfErr result (WritesNothing trust.tells before now)
+  pub ends : (first : Seen) (blocks : Blocks) (start : IsStart trust first blocks) → IsUntouched trust.tells first before → super_of_image blocks ≡ Ok head
       → Ends blocks start.to.sound first now result

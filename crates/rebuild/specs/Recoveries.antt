@@ -1,10 +1,11 @@
 -- What is promised of the recovery of an image.
-use Rattle.std.specs.Prelude.{ℕ, ◌≡◌, ◌⊎◌, Bool, IsTrue, true, false, List, length, Result, Ok, Err, IfOk, IfErr}
+use Rattle.std.specs.Prelude.{ℕ, ◌≡◌, ◌⊎◌, IsTrue, true, false, List, length, Result, Ok, Err, IfOk, IfErr}
 use Rattle.audit.specs.Reports.{HasNoFault}
 use Rattle.blk_base.specs.declared.geometry.Super.{Super as Superblock}
 use Rattle.blk_base.specs.declared.journal_entry.CommittedEntry.{CommittedEntry}
 use Rattle.disk_model.specs.Log.{Blocks}
 use Rattle.disk_model.specs.Seen.{Later, Seen, Stays}
+use Rattle.disk_model.specs.Trust.{Trust}
 use Rattle.disk_model.specs.Since.{IsUntouched}
 use Rattle.image_format.specs.Formats.{LastFailed}
 use Rattle.image_layout.specs.Opened.{super_of_image}
@@ -24,16 +25,16 @@ use Rattle.rebuild.specs.declared.forms.Recovered.TheVariants.{Clean, Entries}
 
 -- what it answers: block 0 was read, and its superblock says that the last session was closed, and then nothing was
 -- written; or that it wasn't, and then the journal was read, whose window has so many entries
-abbrev pub Answers : Bool → Bool → Seen → Seen → Recovered → Type 0
-Answers tells honest before now Clean = (head : Superblock) × IsHeadRead tells honest before now head × (head.clean ≡ true) × IsUntouched tells before now
-Answers tells honest before now (Entries count) =
-    (head : Superblock) × (middle : Seen) × IsHeadRead tells honest before middle head × (head.clean ≡ false) × HasEntries tells honest head middle now count
+abbrev pub Answers : Trust → Seen → Seen → Recovered → Type 0
+Answers trust before now Clean = (head : Superblock) × IsHeadRead trust before now head × (head.clean ≡ true) × IsUntouched trust.tells before now
+Answers trust before now (Entries count) =
+    (head : Superblock) × (middle : Seen) × IsHeadRead trust before middle head × (head.clean ≡ false) × HasEntries trust head middle now count
 
 -- why there is none: block 0 is no superblock, or wasn't read; or the last session wasn't closed, and then as above
-abbrev pub RecoverFails : Bool → Bool → Seen → Seen → ImageFault → Type 0
-RecoverFails tells honest before now why =
-    HeadFails tells honest before now why
-    ⊎ ((head : Superblock) × (middle : Seen) × IsHeadRead tells honest before middle head × (head.clean ≡ false) × UncleanFails tells honest head middle now why)
+abbrev pub RecoverFails : Trust → Seen → Seen → ImageFault → Type 0
+RecoverFails trust before now why =
+    HeadFails trust before now why
+    ⊎ ((head : Superblock) × (middle : Seen) × IsHeadRead trust before middle head × (head.clean ≡ false) × UncleanFails trust head middle now why)
 
 -- Of an honest device on which nothing is pending but in the index: by its one image.
 
@@ -76,21 +77,21 @@ LeavesClosed blocks now (Entries count) =
     (sound : IsSound blocks) → (image : Blocks) × HasOneImageButIndex now.opening now.log image × IsRecovered (image_in blocks sound) sound.last image
 
 -- the one image, the index aside, of a device that tells and is honest
-pub record IsTold (tells honest : Bool) (seen : Seen) (blocks : Blocks) : Type 0 where
-  pub told : IsTrue tells
-  pub fair : IsTrue honest
+pub record IsTold (trust : Trust) (seen : Seen) (blocks : Blocks) : Type 0 where
+  pub told : IsTrue trust.tells
+  pub fair : IsTrue trust.honest
   pub one : HasOneImageButIndex seen.opening seen.log blocks
 
 -- what a recovery promises of any device, and of an honest one
-pub record IsRecovery (tells honest : Bool) (before now : Seen) (result : Result Recovered ImageFault) : Type 0 where
+pub record IsRecovery (trust : Trust) (before now : Seen) (result : Result Recovered ImageFault) : Type 0 where
   -- of any device
   pub stays : Stays before now
   pub later : Later before now
-  pub grows : Grows tells before now
-  pub answers : IfOk result (Answers tells honest before now)
-  pub fails : IfErr result (RecoverFails tells honest before now)
-  pub nothing : IfErr result (WritesNothing tells before now)
+  pub grows : Grows trust.tells before now
+  pub answers : IfOk result (Answers trust before now)
+  pub fails : IfErr result (RecoverFails trust before now)
+  pub nothing : IfErr result (WritesNothing trust.tells before now)
   -- of an honest one, by its one image
-  pub says : (blocks : Blocks) → IsTold tells honest before blocks → IsResult blocks before now result
-  pub stops : (blocks : Blocks) → IsTold tells honest before blocks → AreStopsSound blocks before now
-  pub closed : IfOk result (λ recovered. (blocks : Blocks) → IsTold tells honest before blocks → LeavesClosed blocks now recovered)
+  pub says : (blocks : Blocks) → IsTold trust before blocks → IsResult blocks before now result
+  pub stops : (blocks : Blocks) → IsTold trust before blocks → AreStopsSound blocks before now
+  pub closed : IfOk result (λ recovered. (blocks : Blocks) → IsTold trust before blocks → LeavesClosed blocks now recovered)

@@ -28,7 +28,7 @@ use std::alloc::Global;
 /// with its first fault, over the whole image, in this order: `Super`, `Window`, `Page`, `Counter`, `SharedPage`, `Counts`.
 /// `Device` comes only where a read failed, and `Memory` only for want of memory.
 pub fn open_clean<D: Disk>(alloc: Global, device: &mut D) -> Result<Opened, ImageFault>
-    ensures { IsOpening D.tells D.honest (D.seen device.old) (D.seen device.new) result }
+    ensures { IsOpening D.trust (D.seen device.old) (D.seen device.new) result }
 {
     let head = read_head(device)?;
     check_closed(&head)?;
@@ -62,14 +62,14 @@ fn open_with<D: Disk>(
     requires room { needed_blocks head.now.geometry ≤ (D.seen device.old).size }
     requires window { (journal : Blocks) × IsWindowOf head.now journal window.now }
     ensures opened { IfOk result
-        (IsOpenedWith D.tells D.honest head.now window.now (D.seen device.old)
+        (IsOpenedWith D.trust head.now window.now (D.seen device.old)
         (D.seen device.new)) }
     ensures head { IfOk result (λ opened. opened.head ≡ head.now) }
     ensures fits { IfOk result Fits }
     ensures fault { IfErr result
-        (OpenWithFails D.tells D.honest head.now window.now (D.seen device.old)
+        (OpenWithFails D.trust head.now window.now (D.seen device.old)
         (D.seen device.new)) }
-    ensures untouched { IsUntouched D.tells (D.seen device.old) (D.seen device.new) }
+    ensures untouched { IsUntouched D.trust.tells (D.seen device.old) (D.seen device.new) }
 {
     let contents = read_contents(alloc, head, window, device)?;
     check_counts(alloc, &Layout::of(&head.geometry), &contents)?;

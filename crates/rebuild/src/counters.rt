@@ -19,7 +19,7 @@ pub(crate) fn put_slabs<D: Disk>(
     requires room { needed_blocks layout.now.geometry ≤ (D.seen device.old).size }
     requires counts { length counts.now.counts.items ≡ data_blocks layout.now.geometry }
     requires sectors { length counts.now.sectors.items ≡ all_sectors layout.now.geometry }
-    ensures { Acts D.tells (recovery D.tells D.honest) (D.seen device.old) (D.seen device.new)
+    ensures { Acts D.trust.tells (recovery D.trust) (D.seen device.old) (D.seen device.new)
         (HasTheseCounts layout.now.geometry counts.now.counts.items counts.now.sectors.items)
         (AreSlabsDone layout.now.geometry counts.now.sectors.items layout.now.geometry.slabs)
         result }
@@ -41,7 +41,7 @@ fn put_slab<D: Disk>(
     requires inside { slab < layout.now.geometry.slabs }
     requires counts { length counts.now.counts.items ≡ data_blocks layout.now.geometry }
     requires sectors { length counts.now.sectors.items ≡ all_sectors layout.now.geometry }
-    ensures { Acts D.tells (recovery D.tells D.honest) (D.seen device.old) (D.seen device.new)
+    ensures { Acts D.trust.tells (recovery D.trust) (D.seen device.old) (D.seen device.new)
         (HasTheseCounts layout.now.geometry counts.now.counts.items counts.now.sectors.items)
         (IsSlabDone layout.now.geometry counts.now.sectors.items slab
         (references_of layout.now.geometry)) result }
@@ -64,7 +64,7 @@ fn put_block<D: Disk>(
     requires inside { IsPlace layout.now.geometry (ReferenceBlock slab i) }
     requires counts { length counts.now.counts.items ≡ data_blocks layout.now.geometry }
     requires sectors { length counts.now.sectors.items ≡ all_sectors layout.now.geometry }
-    ensures { Acts D.tells (recovery D.tells D.honest) (D.seen device.old) (D.seen device.new)
+    ensures { Acts D.trust.tells (recovery D.trust) (D.seen device.old) (D.seen device.new)
         (HasTheseCounts layout.now.geometry counts.now.counts.items counts.now.sectors.items)
         (IsBlockDone layout.now.geometry counts.now.sectors.items slab i) result }
 {
@@ -87,7 +87,7 @@ fn write_block<D: Disk>(
     requires inside { IsPlace layout.now.geometry (ReferenceBlock slab i) }
     requires counts { length counts.now.counts.items ≡ data_blocks layout.now.geometry }
     requires sectors { length counts.now.sectors.items ≡ all_sectors layout.now.geometry }
-    ensures { Acts D.tells (recovery D.tells D.honest) (D.seen device.old) (D.seen device.new)
+    ensures { Acts D.trust.tells (recovery D.trust) (D.seen device.old) (D.seen device.new)
         (HasTheseCounts layout.now.geometry counts.now.counts.items counts.now.sectors.items)
         (IsBlockDone layout.now.geometry counts.now.sectors.items slab i) result }
 {

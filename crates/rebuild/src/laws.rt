@@ -1,6 +1,7 @@
-ghost use Rattle.std.specs.Prelude.{Bool, Result, Ok};
+ghost use Rattle.std.specs.Prelude.{Result, Ok};
 ghost use Rattle.disk_model.specs.Log.{Blocks};
 ghost use Rattle.disk_model.specs.Seen.{Seen};
+ghost use Rattle.disk_model.specs.Trust.{Trust};
 ghost use Rattle.image_model.specs.Sound.{IsSound};
 ghost use Rattle.image_model.specs.declared.fault.ImageFault.{ImageFault};
 ghost use Rattle.rebuild.specs.Again.{FindsClosed, HasClosedImage};
@@ -11,13 +12,13 @@ ghost use Rattle.rebuild.specs.declared.forms.Recovered.{Recovered};
 /// pending, and its one image is sound and closed. A second recovery answers `Clean` and writes nothing; or it answers
 /// `Device`, and the last call failed.
 pub fn recovered_once_for_all()
-    ensures closed { (tells honest : Bool) (before now : Seen) (blocks : Blocks)
-        (recovered : Recovered) → IsTold tells honest before blocks → IsSound blocks
-        → IsRecovery tells honest before now (Ok recovered) → HasClosedImage tells honest now }
-    ensures again { (tells honest : Bool) (before middle now : Seen) (blocks : Blocks)
+    ensures closed { (trust : Trust) (before now : Seen) (blocks : Blocks)
+        (recovered : Recovered) → IsTold trust before blocks → IsSound blocks
+        → IsRecovery trust before now (Ok recovered) → HasClosedImage trust now }
+    ensures again { (trust : Trust) (before middle now : Seen) (blocks : Blocks)
         (recovered : Recovered) (result : Result Recovered ImageFault)
-        → IsTold tells honest before blocks → IsSound blocks →
-        IsRecovery tells honest before middle (Ok recovered) →
-        IsRecovery tells honest middle now result
-        → FindsClosed tells middle now result }
+        → IsTold trust before blocks → IsSound blocks →
+        IsRecovery trust before middle (Ok recovered) →
+        IsRecovery trust middle now result
+        → FindsClosed trust.tells middle now result }
 {}

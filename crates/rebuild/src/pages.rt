@@ -20,7 +20,8 @@ pub fn put_pages<D: Disk>(
 ) -> Result<(), Failed>
     requires room { needed_blocks layout.now.geometry ≤ (D.seen device.old).size }
     requires inside { All (λ link. link.at.0 < (D.seen device.old).size) links.now }
-    ensures { Acts D.tells (page_writing D.honest) (D.seen device.old) (D.seen device.new)
+    ensures { Acts D.trust.tells (page_writing D.trust.honest)
+        (D.seen device.old) (D.seen device.new)
         (HasPages layout.now.geometry changes.now links.now) ArePagesDone result }
 {
     put_roots(device, layout, changes)?;
@@ -30,7 +31,8 @@ pub fn put_pages<D: Disk>(
 // Writes those of the roots.
 fn put_roots<D: Disk>(device: &mut D, layout: &Layout, changes: &Changes) -> Result<(), Failed>
     requires { needed_blocks layout.now.geometry ≤ (D.seen device.old).size }
-    ensures { Acts D.tells (page_writing D.honest) (D.seen device.old) (D.seen device.new)
+    ensures { Acts D.trust.tells (page_writing D.trust.honest)
+        (D.seen device.old) (D.seen device.new)
         (HasRoots layout.now.geometry changes.now)
         (AreRootsDone layout.now.geometry changes.now TREES) result }
 {
@@ -44,7 +46,8 @@ fn put_roots<D: Disk>(device: &mut D, layout: &Layout, changes: &Changes) -> Res
 // Writes those of these pages.
 fn put_links<D: Disk>(device: &mut D, changes: &Changes, links: &[Link]) -> Result<(), Failed>
     requires { All (λ link. link.at.0 < (D.seen device.old).size) links.now }
-    ensures { Acts D.tells (page_writing D.honest) (D.seen device.old) (D.seen device.new)
+    ensures { Acts D.trust.tells (page_writing D.trust.honest)
+        (D.seen device.old) (D.seen device.new)
         (HasLinks changes.now links.now) (AreLinksDone changes.now links.now) result }
 {
     for link in links {
@@ -57,7 +60,8 @@ fn put_links<D: Disk>(device: &mut D, changes: &Changes, links: &[Link]) -> Resu
 // It is read again, and not kept since the map was read: so no page stays in memory.
 fn put_page<D: Disk>(device: &mut D, changes: &Changes, link: Link) -> Result<(), Failed>
     requires { link.at.0 < (D.seen device.old).size }
-    ensures { Acts D.tells (page_writing D.honest) (D.seen device.old) (D.seen device.new)
+    ensures { Acts D.trust.tells (page_writing D.trust.honest)
+        (D.seen device.old) (D.seen device.new)
         (HasPage changes.now link) (IsPageDone changes.now link) result }
 {
     if !has_changes(link.page, changes) {
@@ -69,7 +73,8 @@ fn put_page<D: Disk>(device: &mut D, changes: &Changes, link: Link) -> Result<()
 // Reads the block of a page, puts the changes into its slots, and writes it.
 fn write_page<D: Disk>(device: &mut D, changes: &Changes, link: Link) -> Result<(), Failed>
     requires { link.at.0 < (D.seen device.old).size }
-    ensures { Acts D.tells (page_writing D.honest) (D.seen device.old) (D.seen device.new)
+    ensures { Acts D.trust.tells (page_writing D.trust.honest)
+        (D.seen device.old) (D.seen device.new)
         (HasPage changes.now link) (IsPageDone changes.now link) result }
 {
     let mut block = read_block(device, link.at)?;

@@ -27,7 +27,7 @@ use std::alloc::Global;
 /// is stopped, what is left is sound and says the same, and each block but the superblock's, the pages' and the counters'
 /// has the bytes that it had. So a second recovery gives the same.
 pub fn recover<D: Disk>(alloc: Global, device: &mut D) -> Result<Recovered, ImageFault>
-    ensures { IsRecovery D.tells D.honest (D.seen device.old) (D.seen device.new) result }
+    ensures { IsRecovery D.trust (D.seen device.old) (D.seen device.new) result }
 {
     let head = read_head(device)?;
     // Looked at for the proof alone: it fits 64 bits, so that it is read back.

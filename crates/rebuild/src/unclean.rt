@@ -29,7 +29,7 @@ pub(crate) fn recover_unclean<D: Disk>(
     requires below { head.now.start < 2 ^ 54 }
     requires room { needed_blocks head.now.geometry ≤ (D.seen device.old).size }
     requires unclean { head.now.clean ≡ false }
-    ensures { RecoversUnclean D.tells D.honest head.now (D.seen device.old)
+    ensures { RecoversUnclean D.trust head.now (D.seen device.old)
         (D.seen device.new) result }
 {
     let window = read_window(alloc, head, device)?;
@@ -58,7 +58,7 @@ fn write_contents<D: Disk>(
     requires sectors { length contents.now.counts.sectors.items ≡ all_sectors layout.now.geometry }
     requires form { HasForm layout.now.geometry contents.now.map.links.items
         contents.now.map.slots.items }
-    ensures { WritesAll D.tells D.honest (D.seen device.old) (D.seen device.new)
+    ensures { WritesAll D.trust (D.seen device.old) (D.seen device.new)
         (HasContents layout.now.geometry changes.now contents.now.map.links.items
         contents.now.counts.counts.items contents.now.counts.sectors.items) last result }
 {
@@ -78,7 +78,7 @@ fn write_blocks<D: Disk>(
     requires sectors { length contents.now.counts.sectors.items ≡ all_sectors layout.now.geometry }
     requires form { HasForm layout.now.geometry contents.now.map.links.items
         contents.now.map.slots.items }
-    ensures { Acts D.tells (recovery D.tells D.honest) (D.seen device.old) (D.seen device.new)
+    ensures { Acts D.trust.tells (recovery D.trust) (D.seen device.old) (D.seen device.new)
         (HasContents layout.now.geometry changes.now contents.now.map.links.items
         contents.now.counts.counts.items contents.now.counts.sectors.items)
         AreBothDone result }

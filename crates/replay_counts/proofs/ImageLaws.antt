@@ -31,6 +31,7 @@ use Rattle.slab_codec.specs.declared.forms.SlabEntry.{SlabEntry}
 use Rattle.slab_reading.specs.Found.{IsFound}
 use Rattle.image_model.specs.declared.fault.ImageFault.TheVariants.{Counter}
 use Rattle.disk_model.specs.Seen.{Seen}
+use Rattle.disk_model.specs.Trust.{Trust}
 use Rattle.slab_reading.specs.Reads.{read_of, SlabsRead}
 use Rattle.slab_reading.specs.Slabs.{first_of_slab, blocks_per_slab, SlabKeeps, IsOf}
 use Rattle.replay_counts.specs.Recovered.{AreCountsRead, CountsFail, HasCounts, Holds, IsCountedFrom, IsInSector, no_points}
@@ -241,20 +242,20 @@ module _ (g : Geometry) (blocks : Blocks) (window : List CommittedEntry) (reads 
   }
 
 -- What was counted once all slabs were read.
-module _ (tells honest : Bool) (g h : Geometry) (same : g ≡ h) (window : List CommittedEntry) (before now : Seen) (first : List Update) (counters : List ℕ) (commits : List Point) (updates updates' : List Update)
+module _ (trust : Trust) (g h : Geometry) (same : g ≡ h) (window : List CommittedEntry) (before now : Seen) (first : List Update) (counters : List ℕ) (commits : List Point) (updates updates' : List Update)
     (listed : (at point : ℕ) → Lists first at point ↔ ((committed : CommittedEntry) × Contains window committed × Updates committed (record { 0 = at }) point))
-    (reads : List Blocks) (count : length reads ≡ g.slabs) (read : SlabsRead tells honest g before now reads) (found : IsFound g reads first (found_lists counters commits updates))
+    (reads : List Blocks) (count : length reads ≡ g.slabs) (read : SlabsRead trust g before now reads) (found : IsFound g reads first (found_lists counters commits updates))
     (permuted : IsPermutation updates updates') where
   again : IsFound g reads first (found_lists counters commits updates')
   again = found_again g reads first counters commits updates updates' permuted found
 
   pub counts_read : (counts : List ℕ) (sectors : List SectorPoints) → IsCountedFrom g (found_lists counters commits updates') counts sectors
-      → AreCountsRead tells honest h (reverse window) before now counts sectors
+      → AreCountsRead trust h (reverse window) before now counts sectors
   counts_read counts sectors from =
-      subst (λ (sizes : Geometry). AreCountsRead tells honest sizes (reverse window) before now counts sectors) same
+      subst (λ (sizes : Geometry). AreCountsRead trust sizes (reverse window) before now counts sectors) same
       (reads, record { count = count; read = read }, λ blocks holds. has_counts g blocks window reads first counters commits updates' count holds listed again counts sectors from)
 
-  pub fault_read : (at : Pbn) (point : Point) → Leaves g (found_lists counters commits updates') at.0 point.0 → CountsFail tells honest h (reverse window) before now (Counter at point)
+  pub fault_read : (at : Pbn) (point : Point) → Leaves g (found_lists counters commits updates') at.0 point.0 → CountsFail trust h (reverse window) before now (Counter at point)
   fault_read at point leaves =
-      subst (λ (sizes : Geometry). CountsFail tells honest sizes (reverse window) before now (Counter at point)) same
+      subst (λ (sizes : Geometry). CountsFail trust sizes (reverse window) before now (Counter at point)) same
       (reads, record { count = count; read = read }, λ blocks holds. has_fault g blocks window reads first counters commits updates' count holds listed again at point.0 leaves)

@@ -13,6 +13,7 @@ use Rattle.count_updates.specs.FoundLists.{found_lists}
 use Rattle.disk_model.specs.declared.call.Call.TheVariants.{Flush}
 use Rattle.disk_model.specs.Log.{Blocks}
 use Rattle.disk_model.specs.Seen.{Seen}
+use Rattle.disk_model.specs.Trust.{Trust, trust_of}
 use Rattle.image_layout.specs.declared.fault.SuperFault.TheVariants.{NotAnImage}
 use Rattle.image_model.proofs.CountLaws.{one_stored}
 use Rattle.image_model.proofs.CountRows.{kept_is, updated}
@@ -68,45 +69,45 @@ not_applied counts has =
     let most = points.applied.most 1536 (omega (arith, none)) (1, omega arith, refl, inl kept_is) in omega (arith, most)
 
 -- What is read: by a device that doesn't tell which calls were made.
-no_slab_read : (tells honest : Bool) → AreSlabsRead tells honest slabless seen seen []
-no_slab_read tells honest = record { count = refl; read = refl }
+no_slab_read : (trust : Trust) → AreSlabsRead trust slabless seen seen []
+no_slab_read trust = record { count = refl; read = refl }
 
 -- count, read
-slab_left_out : (tells honest : Bool) → AreSlabsRead tells honest small seen seen [] → ⊥
-slab_left_out tells honest are = let count = are.count in omega (arith, count)
+slab_left_out : (trust : Trust) → AreSlabsRead trust small seen seen [] → ⊥
+slab_left_out trust are = let count = are.count in omega (arith, count)
 
-flushed_too : (tells honest : Bool) → AreSlabsRead tells honest slabless seen (record seen { log = Flush true ∷ [] }) [] → ⊥
-flushed_too tells honest are = let same = ap (λ (s : Seen). length s.log) are.read in omega (arith, same)
+flushed_too : (trust : Trust) → AreSlabsRead trust slabless seen (record seen { log = Flush true ∷ [] }) [] → ⊥
+flushed_too trust are = let same = ap (λ (s : Seen). length s.log) are.read in omega (arith, same)
 
 -- Each image that has what was read has these counts.
-no_counts_read : (tells honest : Bool) (window : List CommittedEntry) → AreCountsRead tells honest slabless window seen seen [] []
-no_counts_read tells honest window = ([], no_slab_read tells honest, λ blocks holds. no_counts blocks window)
+no_counts_read : (trust : Trust) (window : List CommittedEntry) → AreCountsRead trust slabless window seen seen [] []
+no_counts_read trust window = ([], no_slab_read trust, λ blocks holds. no_counts blocks window)
 
-a_count_read : (tells honest : Bool) (window : List CommittedEntry) (before now : Seen) → AreCountsRead tells honest slabless window before now (5 ∷ []) [] → ⊥
-a_count_read tells honest window before now (reads, are, has) =
+a_count_read : (trust : Trust) (window : List CommittedEntry) (before now : Seen) → AreCountsRead trust slabless window before now (5 ∷ []) [] → ⊥
+a_count_read trust window before now (reads, are, has) =
     let size = (has [] (λ slab i below inside. absurd (omega (arith, below)))).blocks in omega (arith, size)
 
 -- Why there are none. Counter: a count of each such image leaves its range; without slabs there is none
-no_counter : (tells honest : Bool) (window : List CommittedEntry) (before now : Seen) → CountsFail tells honest slabless window before now (Counter (pbn 86) (record { 0 = 512 })) → ⊥
-no_counter tells honest window before now (reads, are, fault) =
+no_counter : (trust : Trust) (window : List CommittedEntry) (before now : Seen) → CountsFail trust slabless window before now (Counter (pbn 86) (record { 0 = 512 })) → ⊥
+no_counter trust window before now (reads, are, fault) =
     let inside = (fault [] (λ slab i below within. absurd (omega (arith, below)))).inside.0 in omega (arith, inside)
 
 -- Device: a read failed
-fails_device : (honest : Bool) (window : List CommittedEntry) → CountsFail false honest small window seen failed Device
+fails_device : (honest : Bool) (window : List CommittedEntry) → CountsFail (trust_of false honest) small window seen failed Device
 fails_device honest window = ([], omega arith, seen, refl, ([], omega arith, next_failed honest 149))
 
-fails_for_nothing : (tells honest : Bool) (window : List CommittedEntry) → CountsFail tells honest small window seen seen Device → ⊥
-fails_for_nothing tells honest window ([], few, middle, same, fails) =
-    let is = subst (λ (m : Seen). SlabFailed tells honest small 0 m seen) same fails in let rose = is.2.rose in omega (arith, rose)
-fails_for_nothing tells honest window (read ∷ reads, few, middle, older, fails) = omega (arith, few)
+fails_for_nothing : (trust : Trust) (window : List CommittedEntry) → CountsFail trust small window seen seen Device → ⊥
+fails_for_nothing trust window ([], few, middle, same, fails) =
+    let is = subst (λ (m : Seen). SlabFailed trust small 0 m seen) same fails in let rose = is.2.rose in omega (arith, rose)
+fails_for_nothing trust window (read ∷ reads, few, middle, older, fails) = omega (arith, few)
 
 -- Memory at any time, and no other
-module _ (tells honest : Bool) (g : Geometry) (window : List CommittedEntry) (before now : Seen) where
-  fails_memory : CountsFail tells honest g window before now Memory
+module _ (trust : Trust) (g : Geometry) (window : List CommittedEntry) (before now : Seen) where
+  fails_memory : CountsFail trust g window before now Memory
   fails_memory = tt
 
-  fails_otherwise : (CountsFail tells honest g window before now (Super NotAnImage) → ⊥) × (CountsFail tells honest g window before now (Window 7) → ⊥)
-      × (CountsFail tells honest g window before now (Counts (pbn 86) 2 1) → ⊥) × (CountsFail tells honest g window before now Unclean → ⊥)
+  fails_otherwise : (CountsFail trust g window before now (Super NotAnImage) → ⊥) × (CountsFail trust g window before now (Window 7) → ⊥)
+      × (CountsFail trust g window before now (Counts (pbn 86) 2 1) → ⊥) × (CountsFail trust g window before now Unclean → ⊥)
   fails_otherwise = ((λ none. none), (λ none. none), (λ none. none), (λ none. none))
 
 -- Counted from lists: of no blocks and no sectors nothing.
@@ -135,7 +136,7 @@ head = record { geometry = slabless; clean = false; start = 1 }
 abbrev pub no_entries : WindowState
 no_entries = record { last = 0; entries = [] }
 
-window_read : (honest : Bool) → IsWindowRead false honest seen seen head no_entries
+window_read : (honest : Bool) → IsWindowRead (trust_of false honest) seen seen head no_entries
 window_read honest = (
   zero_journal,
   record {
@@ -162,21 +163,21 @@ window_read honest = (
   },
 )
 
-counts_of : (honest : Bool) → AreCountsOf false honest head seen seen [] []
-counts_of honest = (seen, no_entries, window_read honest, no_counts_read false honest [])
+counts_of : (honest : Bool) → AreCountsOf (trust_of false honest) head seen seen [] []
+counts_of honest = (seen, no_entries, window_read honest, no_counts_read (trust_of false honest) [])
 
-a_count_of : (tells honest : Bool) (before now : Seen) → AreCountsOf tells honest head before now (5 ∷ []) [] → ⊥
-a_count_of tells honest before now (middle, window, read, counts) = a_count_read tells honest window.entries middle now counts
+a_count_of : (trust : Trust) (before now : Seen) → AreCountsOf trust head before now (5 ∷ []) [] → ⊥
+a_count_of trust before now (middle, window, read, counts) = a_count_read trust window.entries middle now counts
 
 -- Why there are none: the journal isn't read; or it is, and then as above.
-journal_failed : (honest : Bool) → CountingFails false honest head seen failed Device
+journal_failed : (honest : Bool) → CountingFails (trust_of false honest) head seen failed Device
 journal_failed honest = inl ([], omega arith, next_failed honest 1)
 
-slabs_failed : (honest : Bool) → CountingFails false honest head seen seen Memory
+slabs_failed : (honest : Bool) → CountingFails (trust_of false honest) head seen seen Memory
 slabs_failed honest = inr (seen, no_entries, window_read honest, tt)
 
-counting_otherwise : (tells honest : Bool) (before now : Seen) → CountingFails tells honest head before now Unclean → ⊥
-counting_otherwise tells honest before now fails = elim fails [ inl none ↦ none | inr behind ↦ behind.3 ]
+counting_otherwise : (trust : Trust) (before now : Seen) → CountingFails trust head before now Unclean → ⊥
+counting_otherwise trust before now fails = elim fails [ inl none ↦ none | inr behind ↦ behind.3 ]
 
-counting_no_counter : (tells honest : Bool) (before now : Seen) → CountingFails tells honest head before now (Counter (pbn 86) (record { 0 = 512 })) → ⊥
-counting_no_counter tells honest before now fails = elim fails [ inl none ↦ none | inr behind ↦ no_counter tells honest behind.1.entries behind.0 now behind.3 ]
+counting_no_counter : (trust : Trust) (before now : Seen) → CountingFails trust head before now (Counter (pbn 86) (record { 0 = 512 })) → ⊥
+counting_no_counter trust before now fails = elim fails [ inl none ↦ none | inr behind ↦ no_counter trust behind.1.entries behind.0 now behind.3 ]

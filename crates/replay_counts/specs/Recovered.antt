@@ -1,5 +1,5 @@
 -- What the counts of an image are.
-use Rattle.std.specs.Prelude.{ℕ, ◌≡◌, ◌⊎◌, ◌+◌, ◌*◌, ◌<◌, Bool, List, length, get_or, slice_index, Ok}
+use Rattle.std.specs.Prelude.{ℕ, ◌≡◌, ◌⊎◌, ◌+◌, ◌*◌, ◌<◌, List, length, get_or, slice_index, Ok}
 use Rattle.blk_base.specs.Counters.{sectors_per_slab, sector_of_offset}
 use Rattle.blk_base.specs.declared.geometry.Geometry.{Geometry}
 use Rattle.blk_base.specs.declared.geometry.Super.{Super as Superblock}
@@ -13,6 +13,7 @@ use Rattle.count_updates.specs.Numbers.{all_sectors, block_number}
 use Rattle.count_updates.specs.FoundLists.{FoundLists}
 use Rattle.disk_model.specs.Log.{Blocks, block_at}
 use Rattle.disk_model.specs.Seen.{Seen}
+use Rattle.disk_model.specs.Trust.{Trust}
 use Rattle.image_model.specs.Counts.{IsUpdate, Stores, commit_at}
 use Rattle.image_model.specs.Faults.{IsCountFault}
 use Rattle.image_model.specs.Maps.{Image, image_with}
@@ -53,29 +54,29 @@ Holds g blocks reads =
     (slab i : ℕ) → slab < g.slabs → i < blocks_per_slab g → block_at blocks (first_of_slab g slab + i) ≡ block_at (read_of reads slab) i
 
 -- all slabs were read, and nothing else was done
-pub record AreSlabsRead (tells honest : Bool) (g : Geometry) (before now : Seen) (reads : List Blocks) : Type 0 where
+pub record AreSlabsRead (trust : Trust) (g : Geometry) (before now : Seen) (reads : List Blocks) : Type 0 where
   pub count : length reads ≡ g.slabs
-  pub read : SlabsRead tells honest g before now reads
+  pub read : SlabsRead trust g before now reads
 
 -- All slabs were read, and each image that has what was read has these counts.
-abbrev pub AreCountsRead : Bool → Bool → Geometry → List CommittedEntry → Seen → Seen → List ℕ → List SectorPoints → Type 0
-AreCountsRead tells honest g window before now counts sectors =
-    (reads : List Blocks) × AreSlabsRead tells honest g before now reads
+abbrev pub AreCountsRead : Trust → Geometry → List CommittedEntry → Seen → Seen → List ℕ → List SectorPoints → Type 0
+AreCountsRead trust g window before now counts sectors =
+    (reads : List Blocks) × AreSlabsRead trust g before now reads
     × ((blocks : Blocks) → Holds g blocks reads → HasCounts (image_with g blocks window) counts sectors)
 
 -- Why there are none: a count of each such image leaves its range, a read failed, or want of memory.
-abbrev pub CountsFail : Bool → Bool → Geometry → List CommittedEntry → Seen → Seen → ImageFault → Type 0
-CountsFail tells honest g window before now (Counter at point) =
-    (reads : List Blocks) × AreSlabsRead tells honest g before now reads
+abbrev pub CountsFail : Trust → Geometry → List CommittedEntry → Seen → Seen → ImageFault → Type 0
+CountsFail trust g window before now (Counter at point) =
+    (reads : List Blocks) × AreSlabsRead trust g before now reads
     × ((blocks : Blocks) → Holds g blocks reads → IsCountFault (image_with g blocks window) at point.0)
-CountsFail tells honest g window before now Device = ReadFailed tells honest g before now
-CountsFail tells honest g window before now Memory = Unit {0}
-CountsFail tells honest g window before now (Super fault) = ⊥
-CountsFail tells honest g window before now (Window sequence) = ⊥
-CountsFail tells honest g window before now (Page at fault) = ⊥
-CountsFail tells honest g window before now (SharedPage at) = ⊥
-CountsFail tells honest g window before now (Counts at stored mapped) = ⊥
-CountsFail tells honest g window before now Unclean = ⊥
+CountsFail trust g window before now Device = ReadFailed trust g before now
+CountsFail trust g window before now Memory = Unit {0}
+CountsFail trust g window before now (Super fault) = ⊥
+CountsFail trust g window before now (Window sequence) = ⊥
+CountsFail trust g window before now (Page at fault) = ⊥
+CountsFail trust g window before now (SharedPage at) = ⊥
+CountsFail trust g window before now (Counts at stored mapped) = ⊥
+CountsFail trust g window before now Unclean = ⊥
 
 -- each sector's two points
 pub record ArePaired (commits applied : List Point) (sectors : List SectorPoints) : Type 0 where
@@ -90,13 +91,13 @@ pub record IsCountedFrom (g : Geometry) (found : FoundLists) (counts : List ℕ)
   pub paired : ArePaired found.commits applied sectors
 
 -- The window was read, and then the slabs, and each image that has what was read has these counts.
-abbrev pub AreCountsOf : Bool → Bool → Superblock → Seen → Seen → List ℕ → List SectorPoints → Type 0
-AreCountsOf tells honest head before now counts sectors =
-    (middle : Seen) × (window : WindowState) × IsWindowRead tells honest before middle head window
-    × AreCountsRead tells honest head.geometry window.entries middle now counts sectors
+abbrev pub AreCountsOf : Trust → Superblock → Seen → Seen → List ℕ → List SectorPoints → Type 0
+AreCountsOf trust head before now counts sectors =
+    (middle : Seen) × (window : WindowState) × IsWindowRead trust before middle head window
+    × AreCountsRead trust head.geometry window.entries middle now counts sectors
 
 -- why there are none: there is no window, or it was read and then there are no counts
-abbrev pub CountingFails : Bool → Bool → Superblock → Seen → Seen → ImageFault → Type 0
-CountingFails tells honest head before now why =
-    Fails tells honest before now head why
-    ⊎ ((middle : Seen) × (window : WindowState) × IsWindowRead tells honest before middle head window × CountsFail tells honest head.geometry window.entries middle now why)
+abbrev pub CountingFails : Trust → Superblock → Seen → Seen → ImageFault → Type 0
+CountingFails trust head before now why =
+    Fails trust before now head why
+    ⊎ ((middle : Seen) × (window : WindowState) × IsWindowRead trust before middle head window × CountsFail trust head.geometry window.entries middle now why)

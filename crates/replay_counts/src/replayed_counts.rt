@@ -35,14 +35,14 @@ pub fn counts_with<D: Disk>(
     requires room { needed_blocks head.now.geometry ≤ (D.seen device.old).size }
     requires halves { All (λ committed. committed.point.0 % 2 ≡ 0) window.now }
     ensures counts { IfOk result (λ counts.
-        AreCountsRead D.tells D.honest head.now.geometry (reverse window.now)
+        AreCountsRead D.trust head.now.geometry (reverse window.now)
         (D.seen device.old) (D.seen device.new) counts.counts.items counts.sectors.items) }
     ensures limit { IfOk result (λ counts.
         All (λ count. count ≤ limit_of head.now.geometry) counts.counts.items) }
     ensures fault { IfErr result
-        (CountsFail D.tells D.honest head.now.geometry (reverse window.now) (D.seen device.old)
+        (CountsFail D.trust head.now.geometry (reverse window.now) (D.seen device.old)
         (D.seen device.new)) }
-    ensures untouched { IsUntouched D.tells (D.seen device.old) (D.seen device.new) }
+    ensures untouched { IsUntouched D.trust.tells (D.seen device.old) (D.seen device.new) }
 {
     let layout = Layout::of(&head.geometry);
     let Ok(updates) = updates_of_window(alloc, window) else {

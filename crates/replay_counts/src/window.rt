@@ -25,11 +25,11 @@ pub fn counts<D: Disk>(
     requires below { head.now.start < 2 ^ 54 }
     requires room { needed_blocks head.now.geometry ≤ (D.seen device.old).size }
     ensures counts { IfOk result (λ counts.
-        AreCountsOf D.tells D.honest head.now (D.seen device.old) (D.seen device.new)
+        AreCountsOf D.trust head.now (D.seen device.old) (D.seen device.new)
         counts.counts.items counts.sectors.items) }
     ensures fault { IfErr result
-        (CountingFails D.tells D.honest head.now (D.seen device.old) (D.seen device.new)) }
-    ensures untouched { IsUntouched D.tells (D.seen device.old) (D.seen device.new) }
+        (CountingFails D.trust head.now (D.seen device.old) (D.seen device.new)) }
+    ensures untouched { IsUntouched D.trust.tells (D.seen device.old) (D.seen device.new) }
 {
     let window = read_window(alloc, head, device)?;
     match counts_with(alloc, head, window.entries(), device) {

@@ -10,6 +10,7 @@ use Rattle.disk_model.proofs.SinceLaws.{were_only_read}
 use Rattle.disk_model.specs.Images.{IsMixOf}
 use Rattle.disk_model.specs.Log.{Blocks, settled}
 use Rattle.disk_model.specs.Seen.{Seen}
+use Rattle.disk_model.specs.Trust.{Trust}
 use Rattle.disk_model.specs.Since.{IsUntouched}
 use Rattle.image_layout.specs.Opened.{super_of_image}
 use Rattle.image_model.proofs.LookedLaws.{looked_high, looked_in_place, looked_place}
@@ -32,19 +33,19 @@ page_is_looked_at : (g : Geometry) (at : Pbn) → IsPageBlock g at → IsTrue (i
 page_is_looked_at g at (inl data_block) = looked_high g at.0 (data_block_high g at.0 data_block)
 page_is_looked_at g at (inr (tree, below, same)) = subst (λ (b : ℕ). IsTrue (is_looked_at g b)) (sym same) (looked_place g (Root tree) below tt)
 
-module _ (tells honest : Bool) (image : Blocks) (told : IsTrue tells) (fair : IsTrue honest) where
+module _ (trust : Trust) (image : Blocks) (told : IsTrue trust.tells) (fair : IsTrue trust.honest) where
   -- it still has this image where blocks were read alone
-  still : (before now : Seen) → IsUntouched tells before now → HasOneImageButIndex before.opening before.log image → HasOneImageButIndex now.opening now.log image
+  still : (before now : Seen) → IsUntouched trust.tells before now → HasOneImageButIndex before.opening before.log image → HasOneImageButIndex now.opening now.log image
   still before now untouched one =
       subst (λ (opening : Blocks). HasOneImageButIndex opening now.log image) (sym untouched.stays.opening)
       (one_in-since (looked_in image) before.opening before.log now.log image (untouched.reads told) one)
 
   pub all_shown : (g : Geometry) (before now : Seen) (reads : List Reading) → ((b : ℕ) → IsTrue (is_looked_at g b) → IsTrue (looked_in image b))
-      → HasOneImageButIndex before.opening before.log image → BlocksRead tells honest g before now reads → Shows image reads
+      → HasOneImageButIndex before.opening before.log image → BlocksRead trust g before now reads → Shows image reads
   all_shown g before now [] looks one read = tt
   all_shown g before now (reading ∷ older) looks one read =
       let middle = read.0 in
-      let here = still before middle (blocks_untouched tells honest g before middle older read.1) one in
+      let here = still before middle (blocks_untouched trust g before middle older read.1) one in
       let size = read.2.told told in
       let inside = read.3 in
       let below : reading.at.0 < length middle.opening = omega (arith, size, inside) in
@@ -55,15 +56,15 @@ module _ (tells honest : Bool) (image : Blocks) (told : IsTrue tells) (fair : Is
 
   module _ (before now : Seen) (head : Superblock) (one : HasOneImageButIndex before.opening before.log image) (room : needed_blocks head.geometry ≤ before.size)
       (accepted : super_of_image image ≡ Ok head) where
-    found_shown : (middle : Seen) (window : WindowState) (Says : Image → Type 0) → IsWindowRead tells honest before middle head window
-        → IsFound tells honest head.geometry window.entries middle now Says → Opens image head window.last window.entries × Says (image_of head image window.entries)
+    found_shown : (middle : Seen) (window : WindowState) (Says : Image → Type 0) → IsWindowRead trust before middle head window
+        → IsFound trust head.geometry window.entries middle now Says → Opens image head window.last window.entries × Says (image_of head image window.entries)
     found_shown middle window Says read found =
-        let journal = were_only_read tells honest 1 before middle _ read.1.read in (
-          window_shown tells honest before middle image told fair one head room accepted window read,
+        let journal = were_only_read trust 1 before middle _ read.1.read in (
+          window_shown trust before middle image told fair one head room accepted window read,
           found.2 image (all_shown head.geometry middle now found.0 (looked_in_place image head accepted) (still before middle journal one) found.1),
         )
 
-    pub map_shown : (map : RecoveredMap) → IsReplayed tells honest head before now map → HasMapOf image head map
+    pub map_shown : (map : RecoveredMap) → IsReplayed trust head before now map → HasMapOf image head map
     map_shown map (middle, window, read, is) =
         let shown = found_shown middle window (λ i. HasMap i map) read is.found in
         record {
@@ -76,7 +77,7 @@ module _ (tells honest : Bool) (image : Blocks) (told : IsTrue tells) (fair : Is
     opened : (window : WindowState) → Opens image head window.last window.entries → IsOpened image (image_of head image window.entries)
     opened window opens = record { head = head; last = window.last; opens = opens; is_image = refl }
 
-    no_map : (middle : Seen) (window : WindowState) (why : ImageFault) → IsWindowRead tells honest before middle head window → MapFails tells honest head.geometry window.entries middle now why
+    no_map : (middle : Seen) (window : WindowState) (why : ImageFault) → IsWindowRead trust before middle head window → MapFails trust head.geometry window.entries middle now why
         → IsMapFault image why
     no_map middle window (Page at fault) read fails =
         let shown = found_shown middle window (λ i. IsPageFault i at fault) read fails in (image_of head image window.entries, opened window shown.0, shown.1)
@@ -91,9 +92,9 @@ module _ (tells honest : Bool) (image : Blocks) (told : IsTrue tells) (fair : Is
     no_map middle window (Counts at stored mapped) read fails = absurd fails
     no_map middle window Unclean read fails = absurd fails
 
-    no_window : (why : ImageFault) → Fails tells honest before now head why → IsMapFault image why
-    no_window (Super fault) fails = fault_shown tells honest before now image told fair one head room accepted (Super fault) fails
-    no_window (Window sequence) fails = fault_shown tells honest before now image told fair one head room accepted (Window sequence) fails
+    no_window : (why : ImageFault) → Fails trust before now head why → IsMapFault image why
+    no_window (Super fault) fails = fault_shown trust before now image told fair one head room accepted (Super fault) fails
+    no_window (Window sequence) fails = fault_shown trust before now image told fair one head room accepted (Window sequence) fails
     no_window Device fails = tt
     no_window Memory fails = tt
     no_window (Page at fault) fails = absurd fails
@@ -102,6 +103,6 @@ module _ (tells honest : Bool) (image : Blocks) (told : IsTrue tells) (fair : Is
     no_window (Counts at stored mapped) fails = absurd fails
     no_window Unclean fails = absurd fails
 
-    pub fault_of_map : (why : ImageFault) → ReplayFails tells honest head before now why → IsMapFault image why
+    pub fault_of_map : (why : ImageFault) → ReplayFails trust head before now why → IsMapFault image why
     fault_of_map why (inl fails) = no_window why fails
     fault_of_map why (inr (middle, window, read, fails)) = no_map middle window why read fails

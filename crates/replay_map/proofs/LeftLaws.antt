@@ -10,6 +10,7 @@ use Rattle.blk_base.specs.declared.place.Pbn.{Pbn}
 use Rattle.blk_base.specs.declared.sizes.TheConstants.{PAGE_SLOTS}
 use Rattle.blk_base.specs.Pages.{page_below}
 use Rattle.disk_model.specs.Seen.{Seen}
+use Rattle.disk_model.specs.Trust.{Trust}
 use Rattle.image_model.specs.Maps.{Image, target_of}
 use Rattle.replay_map.proofs.FormLaws.{slot_passed, slot_walked}
 use Rattle.replay_map.proofs.SlotLaws.{passed_slot, target_stands, walked_slot}
@@ -201,16 +202,16 @@ abbrev KnownTo : Geometry → Link → List Mapping → ℕ → Found → Found 
 KnownTo g top mappings slots old new image = IsLinked image top → WalkedUpTo image top.page slots old new × IsReadAs image (head_at g top) mappings
 
 -- what a walk found before the link at a place of a list, and which links are left
-pub record IsWalked (tells honest : Bool) (g : Geometry) (changes : List (SlotId × Mapping)) (top : Link) (before now : Seen) (old new : Found) (place end : ℕ) : Type 0 where
+pub record IsWalked (trust : Trust) (g : Geometry) (changes : List (SlotId × Mapping)) (top : Link) (before now : Seen) (old new : Found) (place end : ℕ) : Type 0 where
   pub mappings : List Mapping
   pub leading : AreLeading g mappings
   pub slot : ℕ
   pub left : AreLeft top.page mappings new.links.items place end slot
-  pub shown : IsShown tells honest g changes before now (KnownTo g top mappings slot old new)
+  pub shown : IsShown trust g changes before now (KnownTo g top mappings slot old new)
   pub form : HasVisited g top.page mappings slot old new
 
 -- what is known at the link at a place of a list: which slot leads there, and that those in front of it were walked over
-pub record AtLink (tells honest : Bool) (g : Geometry) (changes : List (SlotId × Mapping)) (top : Link) (before now : Seen) (old new : Found) (place : ℕ) : Type 0 where
+pub record AtLink (trust : Trust) (g : Geometry) (changes : List (SlotId × Mapping)) (top : Link) (before now : Seen) (old new : Found) (place : ℕ) : Type 0 where
   pub mappings : List Mapping
   pub slot : ℕ
   pub at : Pbn
@@ -218,29 +219,29 @@ pub record AtLink (tells honest : Bool) (g : Geometry) (changes : List (SlotId �
   pub stands : IsPageBlock g at
   pub leads : target_of (slice_index_or mappings slot Unmapped) ≡ Some at
   pub is : (d : Link) → slice_index_or new.links.items place d ≡ record { page = page_below top.page slot; at = at }
-  pub shown : IsShown tells honest g changes before now (KnownTo g top mappings slot old new)
+  pub shown : IsShown trust g changes before now (KnownTo g top mappings slot old new)
 
-module _ (tells honest : Bool) (g : Geometry) (changes : List (SlotId × Mapping)) (top : Link) (inner : 0 < top.page.level) where
+module _ (trust : Trust) (g : Geometry) (changes : List (SlotId × Mapping)) (top : Link) (inner : 0 < top.page.level) where
   -- so many slots lead nowhere
   passed_slots : (mappings : List Mapping) (slot n : ℕ) → slot + n ≤ PAGE_SLOTS → ((i : ℕ) → slot ≤ i → i < slot + n → target_of (slice_index_or mappings i Unmapped) ≡ None) → (before now : Seen) (old new : Found)
-      → IsShown tells honest g changes before now (KnownTo g top mappings slot old new) → HasVisited g top.page mappings slot old new
-      → IsShown tells honest g changes before now (KnownTo g top mappings (slot + n) old new) × HasVisited g top.page mappings (slot + n) old new
+      → IsShown trust g changes before now (KnownTo g top mappings slot old new) → HasVisited g top.page mappings slot old new
+      → IsShown trust g changes before now (KnownTo g top mappings (slot + n) old new) × HasVisited g top.page mappings (slot + n) old new
   passed_slots mappings slot zero inside none before now old new shown form =
-      subst (λ (k : ℕ). IsShown tells honest g changes before now (KnownTo g top mappings k old new) × HasVisited g top.page mappings k old new) (let same : slot ≡ slot + 0 = omega arith in same) (shown, form)
+      subst (λ (k : ℕ). IsShown trust g changes before now (KnownTo g top mappings k old new) × HasVisited g top.page mappings k old new) (let same : slot ≡ slot + 0 = omega arith in same) (shown, form)
   passed_slots mappings slot (suc n) inside none before now old new shown form =
       let here : slot < PAGE_SLOTS = omega (arith, inside) in
-      subst (λ (k : ℕ). IsShown tells honest g changes before now (KnownTo g top mappings k old new) × HasVisited g top.page mappings k old new) (let next : slot + 1 + n ≡ slot + suc n = omega arith in next)
+      subst (λ (k : ℕ). IsShown trust g changes before now (KnownTo g top mappings k old new) × HasVisited g top.page mappings k old new) (let next : slot + 1 + n ≡ slot + suc n = omega arith in next)
       (passed_slots mappings (slot + 1) n (omega (arith, inside)) (λ i from below. none i (omega (arith, from)) (omega (arith, below))) before now old new
-      (passed_slot tells honest g changes top mappings slot here inner before now old new (none slot (omega arith) (omega arith)) shown)
+      (passed_slot trust g changes top mappings slot here inner before now old new (none slot (omega arith) (omega arith)) shown)
       (slot_passed g top.page mappings slot old new here form))
 
   -- at first the page alone
   pub begun : (mappings : List Mapping) (before now : Seen) (old new : Found) → AreLeading g mappings → new.links.items ≡ old.links.items ++ links_in top.page mappings PAGE_SLOTS
-      → IsShown tells honest g changes before now (KnownTo g top mappings 0 old new) → HasVisited g top.page mappings 0 old new
-      → IsWalked tells honest g changes top before now old new (length old.links.items) (length new.links.items)
+      → IsShown trust g changes before now (KnownTo g top mappings 0 old new) → HasVisited g top.page mappings 0 old new
+      → IsWalked trust g changes top before now old new (length old.links.items) (length new.links.items)
   begun mappings before now old new leading is shown form = record { mappings = mappings; leading = leading; slot = 0; left = all_left top.page mappings old.links.items new.links.items is; shown = shown; form = form }
 
-  module _ (before middle : Seen) (old found : Found) (place end : ℕ) (walked : IsWalked tells honest g changes top before middle old found place end) (more : place < end) where
+  module _ (before middle : Seen) (old found : Found) (place end : ℕ) (walked : IsWalked trust g changes top before middle old found place end) (more : place < end) where
     abbrev mappings : List Mapping
     mappings = walked.mappings
 
@@ -272,15 +273,15 @@ module _ (tells honest : Bool) (g : Geometry) (changes : List (SlotId × Mapping
         ∙ ap (λ (k : ℕ). slice_index_or (below ∷ rest) k d) none
 
     -- the slots in front of it lead nowhere
-    passed : IsShown tells honest g changes before middle (KnownTo g top mappings next.next old found) × HasVisited g top.page mappings next.next old found
+    passed : IsShown trust g changes before middle (KnownTo g top mappings next.next old found) × HasVisited g top.page mappings next.next old found
     passed =
         let from = next.from in
         let in_page = inside in
         let far : walked.slot + (next.next - walked.slot) ≡ next.next = omega (arith, from) in
-        subst (λ (k : ℕ). IsShown tells honest g changes before middle (KnownTo g top mappings k old found) × HasVisited g top.page mappings k old found) far
+        subst (λ (k : ℕ). IsShown trust g changes before middle (KnownTo g top mappings k old found) × HasVisited g top.page mappings k old found) far
         (passed_slots mappings walked.slot (next.next - walked.slot) (omega (arith, far, in_page)) (λ i least most. next.none i least (omega (arith, most, far))) before middle old found walked.shown walked.form)
 
-    pub at_link : AtLink tells honest g changes top before middle old found place
+    pub at_link : AtLink trust g changes top before middle old found place
     at_link = record {
       mappings = mappings;
       slot = next.next;
@@ -293,15 +294,15 @@ module _ (tells honest : Bool) (g : Geometry) (changes : List (SlotId × Mapping
     }
 
     -- the walk below it
-    walked_below : (now : Seen) (new : Found) → IsShown tells honest g changes middle now (λ image. IsLinked image below → WalkedUnder image below.page found new)
-        → AddsForm g (λ page. page ≡ below.page) (IsUnder below.page) found new → IsWalked tells honest g changes top before now old new (place + 1) end
+    walked_below : (now : Seen) (new : Found) → IsShown trust g changes middle now (λ image. IsLinked image below → WalkedUnder image below.page found new)
+        → AddsForm g (λ page. page ≡ below.page) (IsUnder below.page) found new → IsWalked trust g changes top before now old new (place + 1) end
     unfolding rest
     walked_below now new shown form = record {
       mappings = mappings;
       leading = walked.leading;
       slot = next.next + 1;
       left = left_on;
-      shown = walked_slot tells honest g changes top mappings next.next inside inner below next.at (ap target_of next.leads) refl before middle now old found new passed.0 shown;
+      shown = walked_slot trust g changes top mappings next.next inside inner below next.at (ap target_of next.leads) refl before middle now old found new passed.0 shown;
       form = slot_walked g top.page mappings next.next below next.at old found new inner inside next.leads refl passed.1 form;
     }
       where
@@ -330,19 +331,19 @@ module _ (tells honest : Bool) (g : Geometry) (changes : List (SlotId × Mapping
         })
 
     pub walked_more : (now : Seen) (new : Found) (link : Link) → link ≡ slice_index_or found.links.items place link
-        → IsShown tells honest g changes middle now (λ image. IsLinked image link → WalkedUnder image link.page found new)
-        → AddsForm g (λ page. page ≡ link.page) (IsUnder link.page) found new → IsWalked tells honest g changes top before now old new (place + 1) end
+        → IsShown trust g changes middle now (λ image. IsLinked image link → WalkedUnder image link.page found new)
+        → AddsForm g (λ page. page ≡ link.page) (IsUnder link.page) found new → IsWalked trust g changes top before now old new (place + 1) end
     walked_more now new link is shown form =
         let same : link ≡ below = is ∙ is_below link in
-        walked_below now new (subst (λ (l : Link). IsShown tells honest g changes middle now (λ image. IsLinked image l → WalkedUnder image l.page found new)) same shown)
+        walked_below now new (subst (λ (l : Link). IsShown trust g changes middle now (λ image. IsLinked image l → WalkedUnder image l.page found new)) same shown)
         (subst (λ (l : Link). AddsForm g (λ page. page ≡ l.page) (IsUnder l.page) found new) same form)
 
   -- at the end no slot is left
-  pub all_passed : (before now : Seen) (old new : Found) (place end : ℕ) (walked : IsWalked tells honest g changes top before now old new place end) → end ≤ place
-      → IsShown tells honest g changes before now (KnownTo g top walked.mappings PAGE_SLOTS old new) × HasVisited g top.page walked.mappings PAGE_SLOTS old new
+  pub all_passed : (before now : Seen) (old new : Found) (place end : ℕ) (walked : IsWalked trust g changes top before now old new place end) → end ≤ place
+      → IsShown trust g changes before now (KnownTo g top walked.mappings PAGE_SLOTS old new) × HasVisited g top.page walked.mappings PAGE_SLOTS old new
   all_passed before now old new place end walked ended =
       let ends = walked.left.ends in
       let all = walked.left.all in
       let none = no_link top.page walked.mappings walked.slot walked.left.count (omega (arith, ends, ended)) in
-      subst (λ (k : ℕ). IsShown tells honest g changes before now (KnownTo g top walked.mappings k old new) × HasVisited g top.page walked.mappings k old new) all
+      subst (λ (k : ℕ). IsShown trust g changes before now (KnownTo g top walked.mappings k old new) × HasVisited g top.page walked.mappings k old new) all
       (passed_slots walked.mappings walked.slot walked.left.count (omega (arith, all)) none before now old new walked.shown walked.form)

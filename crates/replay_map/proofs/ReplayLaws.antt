@@ -4,6 +4,7 @@ use Rattle.blk_base.specs.declared.geometry.Geometry.{Geometry}
 use Rattle.blk_base.specs.declared.journal_entry.CommittedEntry.{CommittedEntry}
 use Rattle.blk_base.specs.declared.place.Mapping.{Mapping}
 use Rattle.disk_model.specs.Seen.{Seen}
+use Rattle.disk_model.specs.Trust.{Trust}
 use Rattle.image_model.specs.Faults.{IsPageFault, IsShareFault}
 use Rattle.image_model.specs.Maps.{Image, ArePagesGood, image_with}
 use Rattle.image_model.specs.declared.fault.ImageFault.{ImageFault}
@@ -14,12 +15,12 @@ use Rattle.replay_map.specs.Reads.{IsShown}
 use Rattle.replay_map.specs.Replayed.{IsFound, MapFails}
 use Rattle.replay_map.specs.declared.changes.SlotId.{SlotId}
 
-module _ (tells honest : Bool) (g : Geometry) (changes : List (SlotId × Mapping)) (window : List CommittedEntry) (newest : AreNewest window changes) (before now : Seen) where
-  pub found_by : (Says Tells : Image → Type 0) → IsShown tells honest g changes before now Says → ((image : Image) → Says image → Tells image) → IsFound tells honest g window before now Tells
+module _ (trust : Trust) (g : Geometry) (changes : List (SlotId × Mapping)) (window : List CommittedEntry) (newest : AreNewest window changes) (before now : Seen) where
+  pub found_by : (Says Tells : Image → Type 0) → IsShown trust g changes before now Says → ((image : Image) → Says image → Tells image) → IsFound trust g window before now Tells
   found_by Says Tells shown tell =
       (shown.0, shown.1, λ blocks shows. tell (image_with g blocks window) (shown.2 (image_with g blocks window) (record { geometry = refl; newest = newest; shows = shows })))
 
-  pub fails_by : (why : ImageFault) → FindFails tells honest g changes before now why → MapFails tells honest g window before now why
+  pub fails_by : (why : ImageFault) → FindFails trust g changes before now why → MapFails trust g window before now why
   fails_by (Page at fault) fails = found_by (λ image. IsPageFault image at fault) (λ image. IsPageFault image at fault) fails (λ image is. is)
   fails_by (SharedPage at) fails = found_by (λ image. ArePagesGood image × IsShareFault image at) (λ image. ArePagesGood image × IsShareFault image at) fails (λ image is. is)
   fails_by Device fails = fails

@@ -15,6 +15,7 @@ use Rattle.blk_base.specs.Forms.{page, pbn}
 use Rattle.blk_base.proofs.Example.{root}
 use Rattle.byte_fields.specs.Fields.{number_at}
 use Rattle.disk_model.specs.Log.{Blocks, block_at}
+use Rattle.disk_model.specs.Trust.{trust_of}
 use Rattle.image_model.proofs.EmptyLaws.{all_counted, blank_slot, no_tree_page, not_shared, pages_good, root_says, the_image}
 use Rattle.image_model.proofs.Example.{small}
 use Rattle.image_model.proofs.MapRows.{bad_head, image, remap, with_root}
@@ -147,45 +148,45 @@ map_mapped map none is =
 image_is : (image_with small [] []).geometry ≡ small
 image_is = refl
 
-found_is : IsFound false false small [] (seen_with 0) (seen_with 0) (λ image. image.geometry ≡ small)
+found_is : IsFound (trust_of false false) small [] (seen_with 0) (seen_with 0) (λ image. image.geometry ≡ small)
 found_is = ([], refl, λ blocks shows. refl)
 
 -- of the window's own image
-found_window : IsFound false false small (remap 5 Zero ∷ []) (seen_with 0) (seen_with 0) (λ image. image.window ≡ remap 5 Zero ∷ [])
+found_window : IsFound (trust_of false false) small (remap 5 Zero ∷ []) (seen_with 0) (seen_with 0) (λ image. image.window ≡ remap 5 Zero ∷ [])
 found_window = ([], refl, λ blocks shows. refl)
 
-found_since : (Says : Image → Type 0) → IsFound false false small [] (seen_with 1) (seen_with 0) Says → ⊥
-found_since Says found = let later = (blocks_untouched false false small (seen_with 1) (seen_with 0) found.0 found.1).later.faults in omega (arith, later)
+found_since : (Says : Image → Type 0) → IsFound (trust_of false false) small [] (seen_with 1) (seen_with 0) Says → ⊥
+found_since Says found = let later = (blocks_untouched (trust_of false false) small (seen_with 1) (seen_with 0) found.0 found.1).later.faults in omega (arith, later)
 
-map_read : (map : RecoveredMap) → map.last ≡ 5 → map.entries ≡ 0 → IsFound false false small [] (seen_with 0) (seen_with 0) (λ image. HasMap image map)
-    → IsMapRead false false small (no_entries 5) (seen_with 0) (seen_with 0) map
+map_read : (map : RecoveredMap) → map.last ≡ 5 → map.entries ≡ 0 → IsFound (trust_of false false) small [] (seen_with 0) (seen_with 0) (λ image. HasMap image map)
+    → IsMapRead (trust_of false false) small (no_entries 5) (seen_with 0) (seen_with 0) map
 map_read map last entries found = record { last = last; entries = entries; found = found }
 
-map_read_last : (map : RecoveredMap) → map.last ≡ 6 → IsMapRead false false small (no_entries 5) (seen_with 0) (seen_with 0) map → ⊥
+map_read_last : (map : RecoveredMap) → map.last ≡ 6 → IsMapRead (trust_of false false) small (no_entries 5) (seen_with 0) (seen_with 0) map → ⊥
 map_read_last map last read = let same = read.last in omega (arith, last, same)
 
-map_read_entries : (map : RecoveredMap) → map.entries ≡ 1 → IsMapRead false false small (no_entries 5) (seen_with 0) (seen_with 0) map → ⊥
+map_read_entries : (map : RecoveredMap) → map.entries ≡ 1 → IsMapRead (trust_of false false) small (no_entries 5) (seen_with 0) (seen_with 0) map → ⊥
 map_read_entries map entries read = let same = read.entries in omega (arith, entries, same)
 
-map_read_found : (map : RecoveredMap) → IsMapRead false false small (no_entries 5) (seen_with 1) (seen_with 0) map → ⊥
+map_read_found : (map : RecoveredMap) → IsMapRead (trust_of false false) small (no_entries 5) (seen_with 1) (seen_with 0) map → ⊥
 map_read_found map read = found_since (λ image. HasMap image map) read.found
 
-map_fails_by_device : MapFails false false small [] (seen_with 0) (seen_with 1) Device
+map_fails_by_device : MapFails (trust_of false false) small [] (seen_with 0) (seen_with 1) Device
 map_fails_by_device = read_fails
 
-map_fails_by_device_alone : MapFails false false small [] (seen_with 0) (seen_with 0) Device → ⊥
+map_fails_by_device_alone : MapFails (trust_of false false) small [] (seen_with 0) (seen_with 0) Device → ⊥
 map_fails_by_device_alone failed = read_fails_rose failed
 
-map_fails_by_memory : MapFails false false small [] (seen_with 0) (seen_with 0) Memory
+map_fails_by_memory : MapFails (trust_of false false) small [] (seen_with 0) (seen_with 0) Memory
 map_fails_by_memory = tt
 
-map_fails_by_page : MapFails false false small [] (seen_with 1) (seen_with 0) (Page (pbn 9) Header) → ⊥
+map_fails_by_page : MapFails (trust_of false false) small [] (seen_with 1) (seen_with 0) (Page (pbn 9) Header) → ⊥
 map_fails_by_page failed = found_since (λ image. IsPageFault image (pbn 9) Header) failed
 
-map_fails_by_share : MapFails false false small [] (seen_with 1) (seen_with 0) (SharedPage (pbn 85)) → ⊥
+map_fails_by_share : MapFails (trust_of false false) small [] (seen_with 1) (seen_with 0) (SharedPage (pbn 85)) → ⊥
 map_fails_by_share failed = found_since (λ image. ArePagesGood image × IsShareFault image (pbn 85)) failed
 
-map_fails_by_counter : MapFails false false small [] (seen_with 0) (seen_with 0) (Counter (pbn 85) (record { 0 = 0 })) → ⊥
+map_fails_by_counter : MapFails (trust_of false false) small [] (seen_with 0) (seen_with 0) (Counter (pbn 85) (record { 0 = 0 })) → ⊥
 map_fails_by_counter failed = failed
 
 -- With the window.
@@ -194,14 +195,14 @@ abbrev head : Superblock
 head = record { geometry = small; clean = false; start = 1 }
 
 -- what was replayed was read since
-replayed_since : (map : RecoveredMap) → IsReplayed false false head (seen_with 1) (seen_with 0) map → ⊥
+replayed_since : (map : RecoveredMap) → IsReplayed (trust_of false false) head (seen_with 1) (seen_with 0) map → ⊥
 replayed_since map (middle, window, read, found) =
     let journal = read.1.read.later.faults in
-    let pages = (blocks_untouched false false small middle (seen_with 0) found.found.0 found.found.1).later.faults in
+    let pages = (blocks_untouched (trust_of false false) small middle (seen_with 0) found.found.0 found.found.1).later.faults in
     omega (arith, journal, pages)
 
 -- a read of the journal failed
-replay_fails_by_device : ReplayFails false false head (seen_with 0) (seen_with 1) Device
+replay_fails_by_device : ReplayFails (trust_of false false) head (seen_with 0) (seen_with 1) Device
 replay_fails_by_device = inl (
   [],
   omega arith,
@@ -214,7 +215,7 @@ replay_fails_by_device = inl (
   },
 )
 
-replay_fails_by_counter : ReplayFails false false head (seen_with 0) (seen_with 1) (Counter (pbn 85) (record { 0 = 0 })) → ⊥
+replay_fails_by_counter : ReplayFails (trust_of false false) head (seen_with 0) (seen_with 1) (Counter (pbn 85) (record { 0 = 0 })) → ⊥
 replay_fails_by_counter (inl failed) = failed
 replay_fails_by_counter (inr failed) = failed.3
 
@@ -253,20 +254,20 @@ found_as found = (refl, refl, refl)
 map_found_pages : (found : Found) → IsMapFound (with_root zero_block []) found → ⊥
 map_found_pages found is = map_pages (map_with found 5 4) (is 5 4)
 
-find_fails_by_device : FindFails false false small [] (seen_with 0) (seen_with 1) Device
+find_fails_by_device : FindFails (trust_of false false) small [] (seen_with 0) (seen_with 1) Device
 find_fails_by_device = read_fails
 
-find_fails_by_device_alone : FindFails false false small [] (seen_with 0) (seen_with 0) Device → ⊥
+find_fails_by_device_alone : FindFails (trust_of false false) small [] (seen_with 0) (seen_with 0) Device → ⊥
 find_fails_by_device_alone failed = read_fails_rose failed
 
-find_fails_by_memory : FindFails false false small [] (seen_with 0) (seen_with 0) Memory
+find_fails_by_memory : FindFails (trust_of false false) small [] (seen_with 0) (seen_with 0) Memory
 find_fails_by_memory = tt
 
-find_fails_by_page : FindFails false false small [] (seen_with 1) (seen_with 0) (Page (pbn 9) Header) → ⊥
+find_fails_by_page : FindFails (trust_of false false) small [] (seen_with 1) (seen_with 0) (Page (pbn 9) Header) → ⊥
 find_fails_by_page failed = shown_since (λ image. IsPageFault image (pbn 9) Header) failed
 
-find_fails_by_share : FindFails false false small [] (seen_with 1) (seen_with 0) (SharedPage (pbn 85)) → ⊥
+find_fails_by_share : FindFails (trust_of false false) small [] (seen_with 1) (seen_with 0) (SharedPage (pbn 85)) → ⊥
 find_fails_by_share failed = shown_since (λ image. ArePagesGood image × IsShareFault image (pbn 85)) failed
 
-find_fails_by_counter : FindFails false false small [] (seen_with 0) (seen_with 0) (Counter (pbn 85) (record { 0 = 0 })) → ⊥
+find_fails_by_counter : FindFails (trust_of false false) small [] (seen_with 0) (seen_with 0) (Counter (pbn 85) (record { 0 = 0 })) → ⊥
 find_fails_by_counter failed = failed

@@ -8,6 +8,7 @@ use Rattle.blk_base.specs.declared.place.Mapping.TheVariants.{Unmapped, Zero, At
 use Rattle.blk_base.specs.declared.place.Pbn.{Pbn}
 use Rattle.blk_base.specs.declared.sizes.TheConstants.{PAGE_SLOTS}
 use Rattle.disk_model.specs.Seen.{Seen}
+use Rattle.disk_model.specs.Trust.{Trust}
 use Rattle.image_model.specs.Maps.{Image, target_of}
 use Rattle.image_model.specs.Windows.{LeadsToData}
 use Rattle.image_model.specs.declared.fault.ImageFault.{ImageFault}
@@ -34,7 +35,7 @@ pub page_inside : (g : Geometry) (at : Pbn) (size : ℕ) → needed_blocks g ≤
 page_inside g at size room (inl is) = let inside = data_block_inside g at.0 is in omega (arith, inside, room)
 page_inside g at size room (inr (tree, below, stands)) = omega (arith, below, stands, room)
 
-module _ (tells honest : Bool) (g : Geometry) (changes : List (SlotId × Mapping)) (top : Link) (mappings : List Mapping) (slot : ℕ) (inside : slot < PAGE_SLOTS)
+module _ (trust : Trust) (g : Geometry) (changes : List (SlotId × Mapping)) (top : Link) (mappings : List Mapping) (slot : ℕ) (inside : slot < PAGE_SLOTS)
     (inner : 0 < top.page.level) where
   -- what is known before a slot
   abbrev pub Known : ℕ → Found → Found → Image → Type 0
@@ -43,10 +44,10 @@ module _ (tells honest : Bool) (g : Geometry) (changes : List (SlotId × Mapping
   abbrev mapping : Mapping
   mapping = slice_index_or mappings slot Unmapped
 
-  pub passed_slot : (before middle : Seen) (first old : Found) → target_of mapping ≡ None → IsShown tells honest g changes before middle (Known slot first old)
-      → IsShown tells honest g changes before middle (Known (slot + 1) first old)
+  pub passed_slot : (before middle : Seen) (first old : Found) → target_of mapping ≡ None → IsShown trust g changes before middle (Known slot first old)
+      → IsShown trust g changes before middle (Known (slot + 1) first old)
   passed_slot before middle first old none known =
-      shown_as tells honest g changes before middle (Known slot first old) (Known (slot + 1) first old) known
+      shown_as trust g changes before middle (Known slot first old) (Known (slot + 1) first old) known
       (λ image knows linked.
       let has = knows linked in
       (slot_passed image top linked slot inside inner mapping (has.1.each slot inside) first old none has.0, has.1))
@@ -56,21 +57,21 @@ module _ (tells honest : Bool) (g : Geometry) (changes : List (SlotId × Mapping
     below_linked first old image knows linked =
         subst (λ (l : Link). IsLinked image l) (sym same) (child_linked image top linked slot inside inner mapping ((knows linked).1.each slot inside) at leads)
 
-    pub walked_slot : (before middle now : Seen) (first old new : Found) → IsShown tells honest g changes before middle (Known slot first old)
-        → IsShown tells honest g changes middle now (λ image. IsLinked image below → WalkedUnder image below.page old new)
-        → IsShown tells honest g changes before now (Known (slot + 1) first new)
+    pub walked_slot : (before middle now : Seen) (first old new : Found) → IsShown trust g changes before middle (Known slot first old)
+        → IsShown trust g changes middle now (λ image. IsLinked image below → WalkedUnder image below.page old new)
+        → IsShown trust g changes before now (Known (slot + 1) first new)
     walked_slot before middle now first old new known shown =
-        shown_on tells honest g changes before middle now (Known slot first old) (λ image. IsLinked image below → WalkedUnder image below.page old new) (Known (slot + 1) first new) known shown
+        shown_on trust g changes before middle now (Known slot first old) (λ image. IsLinked image below → WalkedUnder image below.page old new) (Known (slot + 1) first new) known shown
         (λ image knows walks linked.
         let has = knows linked in
         let walked = subst (λ (l : Link). WalkedUnder image l.page old new) same (walks (below_linked first old image knows linked)) in
         (slot_walked image top linked slot inside inner mapping (has.1.each slot inside) first old new has.0 walked, has.1))
 
-    pub failed_slot : (before middle now : Seen) (first old : Found) (why : ImageFault) → IsShown tells honest g changes before middle (Known slot first old)
-        → WalkFails tells honest g changes middle now (λ image. IsLinked image below) (IsUnder below.page) why
-        → WalkFails tells honest g changes before now (λ image. IsLinked image top) (IsUnder top.page) why
+    pub failed_slot : (before middle now : Seen) (first old : Found) (why : ImageFault) → IsShown trust g changes before middle (Known slot first old)
+        → WalkFails trust g changes middle now (λ image. IsLinked image below) (IsUnder below.page) why
+        → WalkFails trust g changes before now (λ image. IsLinked image top) (IsUnder top.page) why
     failed_slot before middle now first old why known fails =
-        fails_behind tells honest g changes before middle now (Known slot first old) (λ image. IsLinked image below) (λ image. IsLinked image top) (IsUnder below.page) (IsUnder top.page) why known
+        fails_behind trust g changes before middle now (Known slot first old) (λ image. IsLinked image below) (λ image. IsLinked image top) (IsUnder below.page) (IsUnder top.page) why known
         (below_linked first old)
         (λ image at fault knows linked is.
         let has = knows linked in

@@ -8,6 +8,7 @@ use Rattle.blk_base.specs.declared.sizes.TheConstants.{PAGE_SLOTS, TREES}
 use Rattle.blk_base.specs.declared.place.Mapping.{Mapping}
 use Rattle.blk_base.specs.Pages.{above, root_page}
 use Rattle.disk_model.specs.Seen.{Seen}
+use Rattle.disk_model.specs.Trust.{Trust}
 use Rattle.image_model.proofs.MapLaws.{page_in_range}
 use Rattle.image_model.specs.Faults.{IsPageFault}
 use Rattle.image_model.specs.Maps.{Image, ArePagesGood, IsGoodPage, linked_at, page_at, put_last}
@@ -176,25 +177,25 @@ module _ (image : Image) where
 
 -- What walks over trees show.
 
-module _ (tells honest : Bool) (g : Geometry) (changes : List (SlotId × Mapping)) (some : 1 ≤ g.height) (tree : ℕ) (root : Link) (inside : tree < TREES) (is_root : IsRoot g tree root)
-    (before middle now : Seen) (first old new : Found) (known : IsShown tells honest g changes before middle (λ image. WalkedTrees image tree first old)) where
+module _ (trust : Trust) (g : Geometry) (changes : List (SlotId × Mapping)) (some : 1 ≤ g.height) (tree : ℕ) (root : Link) (inside : tree < TREES) (is_root : IsRoot g tree root)
+    (before middle now : Seen) (first old new : Found) (known : IsShown trust g changes before middle (λ image. WalkedTrees image tree first old)) where
   of_image : (image : Image) → image.geometry ≡ g → (1 ≤ image.geometry.height) × IsRoot image.geometry tree root
   of_image image same = (subst (λ (sizes : Geometry). 1 ≤ sizes.height) (sym same) some, subst (λ (sizes : Geometry). IsRoot sizes tree root) (sym same) is_root)
 
-  pub one_tree_more : IsShown tells honest g changes middle now (λ image. IsLinked image root → WalkedUnder image root.page old new)
-      → IsShown tells honest g changes before now (λ image. WalkedTrees image (tree + 1) first new)
+  pub one_tree_more : IsShown trust g changes middle now (λ image. IsLinked image root → WalkedUnder image root.page old new)
+      → IsShown trust g changes before now (λ image. WalkedTrees image (tree + 1) first new)
   one_tree_more shown =
-      sized_on tells honest g changes before middle now (λ image. WalkedTrees image tree first old) (λ image. IsLinked image root → WalkedUnder image root.page old new)
+      sized_on trust g changes before middle now (λ image. WalkedTrees image tree first old) (λ image. IsLinked image root → WalkedUnder image root.page old new)
       (λ image. WalkedTrees image (tree + 1) first new) known shown
       (λ image same knows walks.
       let of = of_image image same in
       tree_walked image of.0 tree root inside of.1 first old new knows (walks (root_linked image of.0 tree root inside of.1)))
 
-  pub tree_fails : (why : ImageFault) → WalkFails tells honest g changes middle now (λ image. IsLinked image root) (IsUnder root.page) why
-      → WalkFails tells honest g changes before now (λ image. Unit {0}) (IsInTrees TREES) why
+  pub tree_fails : (why : ImageFault) → WalkFails trust g changes middle now (λ image. IsLinked image root) (IsUnder root.page) why
+      → WalkFails trust g changes before now (λ image. Unit {0}) (IsInTrees TREES) why
   tree_fails why fails =
-      fails_behind tells honest g changes before middle now (λ image. WalkedTrees image tree first old × (image.geometry ≡ g)) (λ image. IsLinked image root) (λ image. Unit {0}) (IsUnder root.page) (IsInTrees TREES) why
-      (sized tells honest g changes before middle (λ image. WalkedTrees image tree first old) known)
+      fails_behind trust g changes before middle now (λ image. WalkedTrees image tree first old × (image.geometry ≡ g)) (λ image. IsLinked image root) (λ image. Unit {0}) (IsUnder root.page) (IsInTrees TREES) why
+      (sized trust g changes before middle (λ image. WalkedTrees image tree first old) known)
       (λ image knows here. let of = of_image image knows.1 in root_linked image of.0 tree root inside of.1)
       (λ image at fault knows here is. let of = of_image image knows.1 in tree_fault image of.0 tree root inside of.1 first old at fault knows.0 is)
       fails

@@ -13,6 +13,7 @@ use Rattle.blk_base.specs.declared.sizes.TheConstants.{PAGE_SLOTS}
 use Rattle.byte_fields.specs.Fields.{number_at}
 use Rattle.disk_model.proofs.SeenLaws.{later_yet, stays_yet}
 use Rattle.disk_model.specs.Seen.{Seen}
+use Rattle.disk_model.specs.Trust.{trust_of}
 use Rattle.disk_model.specs.Since.{WereRead}
 use Rattle.disk_model.specs.declared.call.Call.{Call}
 use Rattle.disk_model.specs.declared.call.Call.TheVariants.{Read}
@@ -50,7 +51,7 @@ use Rattle.journal_window.proofs.Rows.{seen_with}
 abbrev pub zeros_at : ℕ → Reading
 zeros_at n = record { at = pbn n; bytes = zero_block }
 
-was_read : (n : ℕ) → WereRead false false n (seen_with 0) (seen_with 0) (zero_block ∷ [])
+was_read : (n : ℕ) → WereRead (trust_of false false) n (seen_with 0) (seen_with 0) (zero_block ∷ [])
 unfolding zero_block
 was_read n = record {
   told = λ told. absurd (cc told);
@@ -79,29 +80,29 @@ page_block_not_count : IsPageBlock small (pbn 149) → ⊥
 page_block_not_count (inl is) = let stands = is.stands in let inside = is.inside in omega (arith, stands, inside)
 page_block_not_count (inr (tree, below, stands)) = omega (arith, below, stands)
 
-read_one : BlocksRead false false small (seen_with 0) (seen_with 0) (zeros_at 9 ∷ [])
+read_one : BlocksRead (trust_of false false) small (seen_with 0) (seen_with 0) (zeros_at 9 ∷ [])
 read_one = (seen_with 0, refl, was_read 9, omega arith, inr (0, omega arith, refl))
 
-read_whole : BlocksRead false false small (seen_with 0) (seen_with 0) (record { at = pbn 9; bytes = 0 ∷ [] } ∷ []) → ⊥
+read_whole : BlocksRead (trust_of false false) small (seen_with 0) (seen_with 0) (record { at = pbn 9; bytes = 0 ∷ [] } ∷ []) → ⊥
 read_whole read = let size = read.2.given.0 in omega (arith, size)
 
 abbrev short : Seen
 short = record { opening = []; size = 80; log = []; faults = 0; unkept = 0 }
 
-read_of_device : BlocksRead false false small short short (zeros_at 86 ∷ []) → ⊥
+read_of_device : BlocksRead (trust_of false false) small short short (zeros_at 86 ∷ []) → ⊥
 read_of_device read =
     let size = ap (λ (s : Seen). s.size) read.1 in
     let inside = read.3 in
     omega (arith, size, inside)
 
 -- block 69 has the index
-read_of_pages : BlocksRead false false small (seen_with 0) (seen_with 0) (zeros_at 69 ∷ []) → ⊥
+read_of_pages : BlocksRead (trust_of false false) small (seen_with 0) (seen_with 0) (zeros_at 69 ∷ []) → ⊥
 read_of_pages read = page_block_not_index read.4
 
-read_nothing_else : BlocksRead false false small (seen_with 0) (seen_with 1) [] → ⊥
+read_nothing_else : BlocksRead (trust_of false false) small (seen_with 0) (seen_with 1) [] → ⊥
 read_nothing_else same = let faults = ap (λ (s : Seen). s.faults) same in omega (arith, faults)
 
-pub read_fails : ReadFails false false small (seen_with 0) (seen_with 1)
+pub read_fails : ReadFails (trust_of false false) small (seen_with 0) (seen_with 1)
 read_fails = (
   [],
   seen_with 0,
@@ -118,14 +119,14 @@ read_fails = (
 )
 
 -- the count of faults rose
-pub read_fails_rose : ReadFails false false small (seen_with 0) (seen_with 0) → ⊥
+pub read_fails_rose : ReadFails (trust_of false false) small (seen_with 0) (seen_with 0) → ⊥
 read_fails_rose failed = let rose = failed.4.rose in omega (arith, rose)
 
 -- a device that tells, of which a read of this block failed, and nothing else was done
 abbrev failed_at : ℕ → Seen
 failed_at n = record { opening = []; size = 154; log = Read (pbn n) zero_block false ∷ []; faults = 1; unkept = 0 }
 
-read_fails_of_root : ReadFails true false small (seen_with 0) (failed_at 9)
+read_fails_of_root : ReadFails (trust_of true false) small (seen_with 0) (failed_at 9)
 read_fails_of_root = (
   [],
   seen_with 0,
@@ -142,7 +143,7 @@ read_fails_of_root = (
 )
 
 -- what failed is a read of a block at which a page may stand
-read_fails_of_pages : ReadFails true false small (seen_with 0) (failed_at 69) → ⊥
+read_fails_of_pages : ReadFails (trust_of true false) small (seen_with 0) (failed_at 69) → ⊥
 read_fails_of_pages (reads, middle, at, read, failed, stands) = elim (failed.logged refl).1 [
   | inl same ↦
       let place : 69 ≡ at.0 + 0 = ap place_in same in
@@ -179,12 +180,12 @@ has_reads_shows : HasReads small [] (zeros_at 86 ∷ []) (image []) → ⊥
 unfolding zero_block
 has_reads_shows has = let size : 2 ≡ 4096 = ap length has.shows.0 in omega (arith, size)
 
-shown_is : IsShown false false small [] (seen_with 0) (seen_with 0) (λ image. image.geometry ≡ small)
+shown_is : IsShown (trust_of false false) small [] (seen_with 0) (seen_with 0) (λ image. image.geometry ≡ small)
 shown_is = ([], refl, λ image has. has.geometry)
 
 -- what was read was read since
-pub shown_since : (Says : Image → Type 0) → IsShown false false small [] (seen_with 1) (seen_with 0) Says → ⊥
-shown_since Says shown = let later = (blocks_untouched false false small (seen_with 1) (seen_with 0) shown.0 shown.1).later.faults in omega (arith, later)
+pub shown_since : (Says : Image → Type 0) → IsShown (trust_of false false) small [] (seen_with 1) (seen_with 0) Says → ⊥
+shown_since Says shown = let later = (blocks_untouched (trust_of false false) small (seen_with 1) (seen_with 0) shown.0 shown.1).later.faults in omega (arith, later)
 
 abbrev third : SlotId
 third = record { page = root; slot = 3 }
@@ -498,19 +499,19 @@ root_of_other_tree is = let same : 0 ≡ 1 = ap (λ (p : PageId). p.tree) is.0 i
 root_elsewhere : IsRoot small 1 (record { page = page 1 1 0; at = pbn 9 }) → ⊥
 root_elsewhere is = let same = is.1 in omega (arith, same)
 
-fails_by_device : WalkFails false false small [] (seen_with 0) (seen_with 1) (λ image. Unit {0}) (IsInTrees 60) Device
+fails_by_device : WalkFails (trust_of false false) small [] (seen_with 0) (seen_with 1) (λ image. Unit {0}) (IsInTrees 60) Device
 fails_by_device = read_fails
 
-fails_by_device_alone : WalkFails false false small [] (seen_with 0) (seen_with 0) (λ image. Unit {0}) (IsInTrees 60) Device → ⊥
+fails_by_device_alone : WalkFails (trust_of false false) small [] (seen_with 0) (seen_with 0) (λ image. Unit {0}) (IsInTrees 60) Device → ⊥
 fails_by_device_alone failed = read_fails_rose failed
 
-fails_by_memory : WalkFails false false small [] (seen_with 0) (seen_with 0) (λ image. Unit {0}) (IsInTrees 60) Memory
+fails_by_memory : WalkFails (trust_of false false) small [] (seen_with 0) (seen_with 0) (λ image. Unit {0}) (IsInTrees 60) Memory
 fails_by_memory = tt
 
-fails_by_page : (image : Image) → WalkFails false false small [] (seen_with 1) (seen_with 0) (λ image. Unit {0}) (IsInTrees 60) (Page (pbn 9) Header) → ⊥
+fails_by_page : (image : Image) → WalkFails (trust_of false false) small [] (seen_with 1) (seen_with 0) (λ image. Unit {0}) (IsInTrees 60) (Page (pbn 9) Header) → ⊥
 fails_by_page image failed = shown_since (λ image. Unit {0} → IsFirstFault image (IsInTrees 60) (pbn 9) Header) failed
 
-fails_by_counter : WalkFails false false small [] (seen_with 0) (seen_with 0) (λ image. Unit {0}) (IsInTrees 60) (Counter (pbn 9) (record { 0 = 0 })) → ⊥
+fails_by_counter : WalkFails (trust_of false false) small [] (seen_with 0) (seen_with 0) (λ image. Unit {0}) (IsInTrees 60) (Counter (pbn 9) (record { 0 = 0 })) → ⊥
 fails_by_counter failed = failed
 
 -- Shared blocks.

@@ -7,6 +7,7 @@ use Rattle.blk_base.specs.declared.place.PageId.{PageId}
 use Rattle.blk_base.specs.declared.place.Pbn.{Pbn}
 use Rattle.blk_base.specs.declared.sizes.TheConstants.{PAGE_SLOTS}
 use Rattle.disk_model.specs.Seen.{Seen}
+use Rattle.disk_model.specs.Trust.{Trust}
 use Rattle.image_model.specs.Faults.{HasFault}
 use Rattle.image_model.specs.Maps.{Image, IsGoodPage, page_at, says, target_of}
 use Rattle.image_model.specs.Pages.{IsAhead}
@@ -27,23 +28,23 @@ use Rattle.replay_map.specs.declared.found.Found.{Found}
 use Rattle.replay_map.specs.declared.links.Link.{Link}
 
 -- why a walk behind another one fails, of which something is known
-pub fails_behind : (tells honest : Bool) (g : Geometry) (changes : List (SlotId × Mapping)) (before middle now : Seen) (Known There All-there : Image → Type 0)
+pub fails_behind : (trust : Trust) (g : Geometry) (changes : List (SlotId × Mapping)) (before middle now : Seen) (Known There All-there : Image → Type 0)
     (Over All : PageId → Type 0) (why : ImageFault)
-    → IsShown tells honest g changes before middle Known
+    → IsShown trust g changes before middle Known
     → ((image : Image) → Known image → All-there image → There image)
     → ((image : Image) (at : Pbn) (fault : PageFault) → Known image → All-there image → IsFirstFault image Over at fault → IsFirstFault image All at fault)
-    → WalkFails tells honest g changes middle now There Over why → WalkFails tells honest g changes before now All-there All why
-fails_behind tells honest g changes before middle now Known There All-there Over All (Page at fault) known there among fails =
-    shown_on tells honest g changes before middle now Known (λ image. There image → IsFirstFault image Over at fault) (λ image. All-there image → IsFirstFault image All at fault)
+    → WalkFails trust g changes middle now There Over why → WalkFails trust g changes before now All-there All why
+fails_behind trust g changes before middle now Known There All-there Over All (Page at fault) known there among fails =
+    shown_on trust g changes before middle now Known (λ image. There image → IsFirstFault image Over at fault) (λ image. All-there image → IsFirstFault image All at fault)
     known fails (λ image knows is stands. among image at fault knows stands (is (there image knows stands)))
-fails_behind tells honest g changes before middle now Known There All-there Over All Device known there among fails = failed_behind tells honest g changes before middle now Known known fails
-fails_behind tells honest g changes before middle now Known There All-there Over All Memory known there among fails = tt
-fails_behind tells honest g changes before middle now Known There All-there Over All (Super fault) known there among fails = absurd fails
-fails_behind tells honest g changes before middle now Known There All-there Over All (Window sequence) known there among fails = absurd fails
-fails_behind tells honest g changes before middle now Known There All-there Over All (Counter at point) known there among fails = absurd fails
-fails_behind tells honest g changes before middle now Known There All-there Over All (SharedPage at) known there among fails = absurd fails
-fails_behind tells honest g changes before middle now Known There All-there Over All (Counts at stored mapped) known there among fails = absurd fails
-fails_behind tells honest g changes before middle now Known There All-there Over All Unclean known there among fails = absurd fails
+fails_behind trust g changes before middle now Known There All-there Over All Device known there among fails = failed_behind trust g changes before middle now Known known fails
+fails_behind trust g changes before middle now Known There All-there Over All Memory known there among fails = tt
+fails_behind trust g changes before middle now Known There All-there Over All (Super fault) known there among fails = absurd fails
+fails_behind trust g changes before middle now Known There All-there Over All (Window sequence) known there among fails = absurd fails
+fails_behind trust g changes before middle now Known There All-there Over All (Counter at point) known there among fails = absurd fails
+fails_behind trust g changes before middle now Known There All-there Over All (SharedPage at) known there among fails = absurd fails
+fails_behind trust g changes before middle now Known There All-there Over All (Counts at stored mapped) known there among fails = absurd fails
+fails_behind trust g changes before middle now Known There All-there Over All Unclean known there among fails = absurd fails
 
 module _ (image : Image) (top : Link) (there : IsLinked image top) where
   -- a leaf alone was walked over

@@ -1,8 +1,9 @@
 -- What the pages of an image give together, by its changes.
-use Rattle.std.specs.Prelude.{ℕ, Bool, List}
+use Rattle.std.specs.Prelude.{ℕ, List}
 use Rattle.blk_base.specs.declared.geometry.Geometry.{Geometry}
 use Rattle.blk_base.specs.declared.place.Mapping.{Mapping}
 use Rattle.disk_model.specs.Seen.{Seen}
+use Rattle.disk_model.specs.Trust.{Trust}
 use Rattle.image_model.specs.Faults.{IsPageFault, IsShareFault}
 use Rattle.image_model.specs.Maps.{Image, ArePagesGood}
 use Rattle.image_model.specs.declared.fault.ImageFault.{ImageFault}
@@ -22,13 +23,13 @@ abbrev pub IsMapFound : Image → Found → Type 0
 IsMapFound image found = (last entries : ℕ) → HasMap image (map_with found last entries)
 
 -- why there is none: the first page that can't be read; or else the least shared block; a read that failed, or want of memory
-abbrev pub FindFails : Bool → Bool → Geometry → List (SlotId × Mapping) → Seen → Seen → ImageFault → Type 0
-FindFails tells honest g changes before now (Page at fault) = IsShown tells honest g changes before now (λ image. IsPageFault image at fault)
-FindFails tells honest g changes before now (SharedPage at) = IsShown tells honest g changes before now (λ image. ArePagesGood image × IsShareFault image at)
-FindFails tells honest g changes before now Device = ReadFails tells honest g before now
-FindFails tells honest g changes before now Memory = Unit {0}
-FindFails tells honest g changes before now (Super fault) = ⊥
-FindFails tells honest g changes before now (Window sequence) = ⊥
-FindFails tells honest g changes before now (Counter at point) = ⊥
-FindFails tells honest g changes before now (Counts at stored mapped) = ⊥
-FindFails tells honest g changes before now Unclean = ⊥
+abbrev pub FindFails : Trust → Geometry → List (SlotId × Mapping) → Seen → Seen → ImageFault → Type 0
+FindFails trust g changes before now (Page at fault) = IsShown trust g changes before now (λ image. IsPageFault image at fault)
+FindFails trust g changes before now (SharedPage at) = IsShown trust g changes before now (λ image. ArePagesGood image × IsShareFault image at)
+FindFails trust g changes before now Device = ReadFails trust g before now
+FindFails trust g changes before now Memory = Unit {0}
+FindFails trust g changes before now (Super fault) = ⊥
+FindFails trust g changes before now (Window sequence) = ⊥
+FindFails trust g changes before now (Counter at point) = ⊥
+FindFails trust g changes before now (Counts at stored mapped) = ⊥
+FindFails trust g changes before now Unclean = ⊥

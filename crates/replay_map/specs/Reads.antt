@@ -1,5 +1,5 @@
 -- The blocks that were read from a device, in any order, and what they show of an image.
-use Rattle.std.specs.Prelude.{ℕ, ◌≡◌, ◌⊎◌, ◌<◌, ◌^◌, Bool, List, [], ◌∷◌, Some, slice_index_or}
+use Rattle.std.specs.Prelude.{ℕ, ◌≡◌, ◌⊎◌, ◌<◌, ◌^◌, List, [], ◌∷◌, Some, slice_index_or}
 use Rattle.blk_base.specs.Regions.{IsDataBlock, Root, block_of}
 use Rattle.blk_base.specs.declared.geometry.Geometry.{Geometry}
 use Rattle.blk_base.specs.declared.place.Mapping.{Mapping}
@@ -9,6 +9,7 @@ use Rattle.blk_base.specs.declared.place.Pbn.{Pbn}
 use Rattle.blk_base.specs.declared.sizes.TheConstants.{PAGE_SLOTS, TREES}
 use Rattle.disk_model.specs.Log.{Blocks, block_at}
 use Rattle.disk_model.specs.Seen.{Seen}
+use Rattle.disk_model.specs.Trust.{Trust}
 use Rattle.disk_model.specs.Since.{WereRead, NextFailed}
 use Rattle.image_model.specs.Maps.{Image}
 use Rattle.image_model.specs.Windows.{LeadsToData}
@@ -26,16 +27,16 @@ IsPageBlock g at = IsDataBlock g at.0 ⊎ ((tree : ℕ) × (tree < TREES) × (at
 
 -- these blocks of the device, at which pages may stand, were read one after the other, and nothing else was done; the last
 -- one stands first
-abbrev pub BlocksRead : Bool → Bool → Geometry → Seen → Seen → List Reading → Type 0
-BlocksRead tells honest g before now [] = now ≡ before
-BlocksRead tells honest g before now (reading ∷ older) =
-    (middle : Seen) × BlocksRead tells honest g before middle older × WereRead tells honest reading.at.0 middle now (reading.bytes ∷ []) × (reading.at.0 < middle.size)
+abbrev pub BlocksRead : Trust → Geometry → Seen → Seen → List Reading → Type 0
+BlocksRead trust g before now [] = now ≡ before
+BlocksRead trust g before now (reading ∷ older) =
+    (middle : Seen) × BlocksRead trust g before middle older × WereRead trust reading.at.0 middle now (reading.bytes ∷ []) × (reading.at.0 < middle.size)
     × IsPageBlock g reading.at
 
 -- they were read, and then a read of one more failed
-abbrev pub ReadFails : Bool → Bool → Geometry → Seen → Seen → Type 0
-ReadFails tells honest g before now =
-    (reads : List Reading) × (middle : Seen) × (at : Pbn) × BlocksRead tells honest g before middle reads × NextFailed tells honest at.0 middle now [] × IsPageBlock g at
+abbrev pub ReadFails : Trust → Geometry → Seen → Seen → Type 0
+ReadFails trust g before now =
+    (reads : List Reading) × (middle : Seen) × (at : Pbn) × BlocksRead trust g before middle reads × NextFailed trust at.0 middle now [] × IsPageBlock g at
 
 -- an image has these blocks where they were read
 abbrev pub Shows : Blocks → List Reading → Type 0
@@ -49,9 +50,9 @@ pub record HasReads (g : Geometry) (changes : List (SlotId × Mapping)) (reads :
   pub shows : Shows image.blocks reads
 
 -- blocks were read, and this holds of each image that has what was read
-abbrev pub IsShown : Bool → Bool → Geometry → List (SlotId × Mapping) → Seen → Seen → (Image → Type 0) → Type 0
-IsShown tells honest g changes before now Says =
-    (reads : List Reading) × BlocksRead tells honest g before now reads × ((image : Image) → HasReads g changes reads image → Says image)
+abbrev pub IsShown : Trust → Geometry → List (SlotId × Mapping) → Seen → Seen → (Image → Type 0) → Type 0
+IsShown trust g changes before now Says =
+    (reads : List Reading) × BlocksRead trust g before now reads × ((image : Image) → HasReads g changes reads image → Says image)
 
 -- the changes lead to data blocks alone (levels of pages are below 256)
 abbrev pub LeadToData : Geometry → List (SlotId × Mapping) → Type 0

@@ -1,5 +1,5 @@
 -- What replaying the block map of an image finds.
-use Rattle.std.specs.Prelude.{ℕ, ◌≡◌, ◌⊎◌, ◌+◌, ◌<◌, ◌==◌, ◌↔◌, Bool, List, length, IsSome, Some, Contains}
+use Rattle.std.specs.Prelude.{ℕ, ◌≡◌, ◌⊎◌, ◌+◌, ◌<◌, ◌==◌, ◌↔◌, List, length, IsSome, Some, Contains}
 use Rattle.blk_base.specs.declared.geometry.Geometry.{Geometry}
 use Rattle.blk_base.specs.declared.geometry.Super.{Super as Superblock}
 use Rattle.blk_base.specs.declared.journal_entry.CommittedEntry.{CommittedEntry}
@@ -7,6 +7,7 @@ use Rattle.blk_base.specs.declared.place.Pbn.{Pbn}
 use Rattle.blk_base.specs.declared.sizes.TheConstants.{PAGE_SLOTS}
 use Rattle.disk_model.specs.Log.{Blocks}
 use Rattle.disk_model.specs.Seen.{Seen}
+use Rattle.disk_model.specs.Trust.{Trust}
 use Rattle.image_model.specs.Counts.{mapped_below}
 use Rattle.image_model.specs.Faults.{IsImageFault, IsOpened, IsPageFault, IsShareFault}
 use Rattle.image_model.specs.Maps.{Image, ArePagesGood, mapping_of, page_at, put_last, image_with}
@@ -53,34 +54,34 @@ pub record HasMap (image : Image) (map : RecoveredMap) : Type 0 where
 -- By what was read.
 
 -- blocks were read, and this holds of each image with this window that has what was read
-abbrev pub IsFound : Bool → Bool → Geometry → List CommittedEntry → Seen → Seen → (Image → Type 0) → Type 0
-IsFound tells honest g window before now Says =
-    (reads : List Reading) × BlocksRead tells honest g before now reads × ((blocks : Blocks) → Shows blocks reads → Says (image_with g blocks window))
+abbrev pub IsFound : Trust → Geometry → List CommittedEntry → Seen → Seen → (Image → Type 0) → Type 0
+IsFound trust g window before now Says =
+    (reads : List Reading) × BlocksRead trust g before now reads × ((blocks : Blocks) → Shows blocks reads → Says (image_with g blocks window))
 
 -- The window has this last sequence and so many entries, and each image with this window that has what was read has this map.
-pub record IsMapRead (tells honest : Bool) (g : Geometry) (window : WindowState) (before now : Seen) (map : RecoveredMap) : Type 0 where
+pub record IsMapRead (trust : Trust) (g : Geometry) (window : WindowState) (before now : Seen) (map : RecoveredMap) : Type 0 where
   pub last : map.last ≡ window.last
   pub entries : map.entries ≡ length window.entries
-  pub found : IsFound tells honest g window.entries before now (λ image. HasMap image map)
+  pub found : IsFound trust g window.entries before now (λ image. HasMap image map)
 
 -- Why there is no map: the first page of each such image that can't be read; or where there is none, the least block that
 -- has both a page and the data of an address; a read that failed, or want of memory.
-abbrev pub MapFails : Bool → Bool → Geometry → List CommittedEntry → Seen → Seen → ImageFault → Type 0
-MapFails tells honest g window before now (Page at fault) = IsFound tells honest g window before now (λ image. IsPageFault image at fault)
-MapFails tells honest g window before now (SharedPage at) = IsFound tells honest g window before now (λ image. ArePagesGood image × IsShareFault image at)
-MapFails tells honest g window before now Device = ReadFails tells honest g before now
-MapFails tells honest g window before now Memory = Unit {0}
-MapFails tells honest g window before now (Super fault) = ⊥
-MapFails tells honest g window before now (Window sequence) = ⊥
-MapFails tells honest g window before now (Counter at point) = ⊥
-MapFails tells honest g window before now (Counts at stored mapped) = ⊥
-MapFails tells honest g window before now Unclean = ⊥
+abbrev pub MapFails : Trust → Geometry → List CommittedEntry → Seen → Seen → ImageFault → Type 0
+MapFails trust g window before now (Page at fault) = IsFound trust g window before now (λ image. IsPageFault image at fault)
+MapFails trust g window before now (SharedPage at) = IsFound trust g window before now (λ image. ArePagesGood image × IsShareFault image at)
+MapFails trust g window before now Device = ReadFails trust g before now
+MapFails trust g window before now Memory = Unit {0}
+MapFails trust g window before now (Super fault) = ⊥
+MapFails trust g window before now (Window sequence) = ⊥
+MapFails trust g window before now (Counter at point) = ⊥
+MapFails trust g window before now (Counts at stored mapped) = ⊥
+MapFails trust g window before now Unclean = ⊥
 
 -- The window was read, and then pages, and they show this map.
-abbrev pub IsReplayed : Bool → Bool → Superblock → Seen → Seen → RecoveredMap → Type 0
-IsReplayed tells honest head before now map =
-    (middle : Seen) × (window : WindowState) × IsWindowRead tells honest before middle head window
-    × IsMapRead tells honest head.geometry window middle now map
+abbrev pub IsReplayed : Trust → Superblock → Seen → Seen → RecoveredMap → Type 0
+IsReplayed trust head before now map =
+    (middle : Seen) × (window : WindowState) × IsWindowRead trust before middle head window
+    × IsMapRead trust head.geometry window middle now map
 
 -- The image of these blocks can be opened, and this is its map, with the last sequence and the length of its window.
 pub record HasMapOf (blocks : Blocks) (head : Superblock) (map : RecoveredMap) : Type 0 where
@@ -95,7 +96,7 @@ IsMapFault blocks (SharedPage at) = (image : Image) × IsOpened blocks image × 
 IsMapFault blocks other = IsImageFault blocks other
 
 -- why there is none: there is no window, or it was read and then there is no map
-abbrev pub ReplayFails : Bool → Bool → Superblock → Seen → Seen → ImageFault → Type 0
-ReplayFails tells honest head before now why =
-    Fails tells honest before now head why
-    ⊎ ((middle : Seen) × (window : WindowState) × IsWindowRead tells honest before middle head window × MapFails tells honest head.geometry window.entries middle now why)
+abbrev pub ReplayFails : Trust → Superblock → Seen → Seen → ImageFault → Type 0
+ReplayFails trust head before now why =
+    Fails trust before now head why
+    ⊎ ((middle : Seen) × (window : WindowState) × IsWindowRead trust before middle head window × MapFails trust head.geometry window.entries middle now why)

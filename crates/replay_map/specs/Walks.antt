@@ -1,5 +1,5 @@
 -- What a walk over pages of an image finds.
-use Rattle.std.specs.Prelude.{ℕ, ◌≡◌, ◌⊎◌, ◌+◌, ◌/◌, ◌^◌, ◌<◌, ◌↔◌, Bool, List, Some, Contains}
+use Rattle.std.specs.Prelude.{ℕ, ◌≡◌, ◌⊎◌, ◌+◌, ◌/◌, ◌^◌, ◌<◌, ◌↔◌, List, Some, Contains}
 use Rattle.blk_base.specs.Regions.{Root, block_of}
 use Rattle.blk_base.specs.declared.geometry.Geometry.{Geometry}
 use Rattle.blk_base.specs.declared.place.Mapping.{Mapping}
@@ -7,6 +7,7 @@ use Rattle.blk_base.specs.declared.place.PageId.{PageId}
 use Rattle.blk_base.specs.declared.place.Pbn.{Pbn}
 use Rattle.blk_base.specs.declared.sizes.TheConstants.{PAGE_SLOTS}
 use Rattle.disk_model.specs.Seen.{Seen}
+use Rattle.disk_model.specs.Trust.{Trust}
 use Rattle.image_model.specs.Faults.{HasFault}
 use Rattle.image_model.specs.Maps.{Image, IsGoodPage, page_at, put_last}
 use Rattle.image_model.specs.Pages.{IsAhead}
@@ -106,14 +107,14 @@ abbrev pub IsRoot : Geometry → ℕ → Link → Type 0
 IsRoot g tree link = (link.page ≡ root_page g tree) × (link.at.0 ≡ block_of g (Root tree))
 
 -- why a walk ends early: a page has a fault, a read failed, or want of memory
-abbrev pub WalkFails : Bool → Bool → Geometry → List (SlotId × Mapping) → Seen → Seen → (Image → Type 0) → (PageId → Type 0) → ImageFault → Type 0
-WalkFails tells honest g changes before now There Over (Page at fault) =
-    IsShown tells honest g changes before now (λ image. There image → IsFirstFault image Over at fault)
-WalkFails tells honest g changes before now There Over Device = ReadFails tells honest g before now
-WalkFails tells honest g changes before now There Over Memory = Unit {0}
-WalkFails tells honest g changes before now There Over (Super fault) = ⊥
-WalkFails tells honest g changes before now There Over (Window sequence) = ⊥
-WalkFails tells honest g changes before now There Over (Counter at point) = ⊥
-WalkFails tells honest g changes before now There Over (SharedPage at) = ⊥
-WalkFails tells honest g changes before now There Over (Counts at stored mapped) = ⊥
-WalkFails tells honest g changes before now There Over Unclean = ⊥
+abbrev pub WalkFails : Trust → Geometry → List (SlotId × Mapping) → Seen → Seen → (Image → Type 0) → (PageId → Type 0) → ImageFault → Type 0
+WalkFails trust g changes before now There Over (Page at fault) =
+    IsShown trust g changes before now (λ image. There image → IsFirstFault image Over at fault)
+WalkFails trust g changes before now There Over Device = ReadFails trust g before now
+WalkFails trust g changes before now There Over Memory = Unit {0}
+WalkFails trust g changes before now There Over (Super fault) = ⊥
+WalkFails trust g changes before now There Over (Window sequence) = ⊥
+WalkFails trust g changes before now There Over (Counter at point) = ⊥
+WalkFails trust g changes before now There Over (SharedPage at) = ⊥
+WalkFails trust g changes before now There Over (Counts at stored mapped) = ⊥
+WalkFails trust g changes before now There Over Unclean = ⊥

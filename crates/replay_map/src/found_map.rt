@@ -24,15 +24,15 @@ pub(crate) fn find_map<D: Disk>(
     requires room { needed_blocks layout.now.geometry ≤ (D.seen device.old).size }
     requires data { LeadToData layout.now.geometry changes.now }
     ensures map { IfOk result (λ found.
-        IsShown D.tells D.honest layout.now.geometry changes.now (D.seen device.old)
+        IsShown D.trust layout.now.geometry changes.now (D.seen device.old)
         (D.seen device.new)
         (λ image. IsMapFound image found)) }
     ensures form { IfOk result (λ found.
         HasForm layout.now.geometry found.links.items found.slots.items) }
     ensures fault { IfErr result
-        (FindFails D.tells D.honest layout.now.geometry changes.now (D.seen device.old)
+        (FindFails D.trust layout.now.geometry changes.now (D.seen device.old)
         (D.seen device.new)) }
-    ensures untouched { IsUntouched D.tells (D.seen device.old) (D.seen device.new) }
+    ensures untouched { IsUntouched D.trust.tells (D.seen device.old) (D.seen device.new) }
 {
     let mut found = Found {
         links: Vec::new(alloc),

@@ -32,11 +32,11 @@ pub fn replay<D: Disk>(
     requires below { head.now.start < 2 ^ 54 }
     requires room { needed_blocks head.now.geometry ≤ (D.seen device.old).size }
     ensures map { IfOk result
-        (IsReplayed D.tells D.honest head.now (D.seen device.old) (D.seen device.new)) }
+        (IsReplayed D.trust head.now (D.seen device.old) (D.seen device.new)) }
     ensures form { IfOk result (λ map. HasForm head.now.geometry map.links.items map.slots.items) }
     ensures fault { IfErr result
-        (ReplayFails D.tells D.honest head.now (D.seen device.old) (D.seen device.new)) }
-    ensures untouched { IsUntouched D.tells (D.seen device.old) (D.seen device.new) }
+        (ReplayFails D.trust head.now (D.seen device.old) (D.seen device.new)) }
+    ensures untouched { IsUntouched D.trust.tells (D.seen device.old) (D.seen device.new) }
 {
     let window = read_window(alloc, head, device)?;
     match replay_with(alloc, head, &window, device) {
@@ -62,13 +62,13 @@ pub fn replay_with<D: Disk>(
     requires room { needed_blocks head.now.geometry ≤ (D.seen device.old).size }
     requires window { (journal : Blocks) × IsWindowOf head.now journal window.now }
     ensures map { IfOk result
-        (IsMapRead D.tells D.honest head.now.geometry window.now (D.seen device.old)
+        (IsMapRead D.trust head.now.geometry window.now (D.seen device.old)
         (D.seen device.new)) }
     ensures form { IfOk result (λ map. HasForm head.now.geometry map.links.items map.slots.items) }
     ensures fault { IfErr result
-        (MapFails D.tells D.honest head.now.geometry window.now.entries (D.seen device.old)
+        (MapFails D.trust head.now.geometry window.now.entries (D.seen device.old)
         (D.seen device.new)) }
-    ensures untouched { IsUntouched D.tells (D.seen device.old) (D.seen device.new) }
+    ensures untouched { IsUntouched D.trust.tells (D.seen device.old) (D.seen device.new) }
 {
     let Ok(changes) = Changes::of(alloc, window.entries()) else {
         return Err(ImageFault::Memory);
@@ -92,13 +92,13 @@ pub fn replay_changes<D: Disk>(
     requires window { (journal : Blocks) × IsWindowOf head.now journal window.now }
     requires newest { AreNewest window.now.entries changes.now }
     ensures map { IfOk result
-        (IsMapRead D.tells D.honest head.now.geometry window.now (D.seen device.old)
+        (IsMapRead D.trust head.now.geometry window.now (D.seen device.old)
         (D.seen device.new)) }
     ensures form { IfOk result (λ map. HasForm head.now.geometry map.links.items map.slots.items) }
     ensures fault { IfErr result
-        (MapFails D.tells D.honest head.now.geometry window.now.entries (D.seen device.old)
+        (MapFails D.trust head.now.geometry window.now.entries (D.seen device.old)
         (D.seen device.new)) }
-    ensures untouched { IsUntouched D.tells (D.seen device.old) (D.seen device.new) }
+    ensures untouched { IsUntouched D.trust.tells (D.seen device.old) (D.seen device.new) }
 {
     let Found {
         links,

@@ -32,17 +32,17 @@ pub(crate) fn walk_trees<D: Disk>(
     requires room { needed_blocks layout.now.geometry ≤ (D.seen device.old).size }
     requires data { LeadToData layout.now.geometry changes.now }
     ensures walked { OnOk result
-        (IsShown D.tells D.honest layout.now.geometry changes.now (D.seen device.old)
+        (IsShown D.trust layout.now.geometry changes.now (D.seen device.old)
         (D.seen device.new)
         (λ image. WalkedTrees image TREES found.old found.new)) }
     ensures form { OnOk result
         (AddsForm layout.now.geometry (IsRootPage layout.now.geometry)
         (IsInTrees TREES) found.old found.new) }
     ensures fault { IfErr result
-        (WalkFails D.tells D.honest layout.now.geometry changes.now (D.seen device.old)
+        (WalkFails D.trust layout.now.geometry changes.now (D.seen device.old)
         (D.seen device.new)
         (λ image. Unit {0}) (IsInTrees TREES)) }
-    ensures untouched { IsUntouched D.tells (D.seen device.old) (D.seen device.new) }
+    ensures untouched { IsUntouched D.trust.tells (D.seen device.old) (D.seen device.new) }
 {
     let mut mappings = Mappings::new();
     for tree in 0..TREES {
@@ -72,17 +72,17 @@ fn walk<D: Disk>(
     requires low { top.page.level ≤ 2 }
     requires place { IsInTree layout.now.geometry top.page }
     ensures walked { OnOk result
-        (IsShown D.tells D.honest layout.now.geometry changes.now (D.seen device.old)
+        (IsShown D.trust layout.now.geometry changes.now (D.seen device.old)
         (D.seen device.new)
         (λ image. IsLinked image top → WalkedUnder image top.page found.old found.new)) }
     ensures form { OnOk result
         (AddsForm layout.now.geometry (λ page. page ≡ top.page)
         (IsUnder top.page) found.old found.new) }
     ensures fault { IfErr result
-        (WalkFails D.tells D.honest layout.now.geometry changes.now (D.seen device.old)
+        (WalkFails D.trust layout.now.geometry changes.now (D.seen device.old)
         (D.seen device.new)
         (λ image. IsLinked image top) (IsUnder top.page)) }
-    ensures untouched { IsUntouched D.tells (D.seen device.old) (D.seen device.new) }
+    ensures untouched { IsUntouched D.trust.tells (D.seen device.old) (D.seen device.new) }
 {
     let first = found.links.len();
     visit(alloc, layout, changes, device, top, found, page)?;
@@ -112,7 +112,7 @@ fn visit<D: Disk>(
     requires few { 0 < top.page.level → top.page.index < PAGE_SLOTS }
     requires place { IsInTree layout.now.geometry top.page }
     ensures walked { OnOk result
-        (IsShown D.tells D.honest layout.now.geometry changes.now (D.seen device.old)
+        (IsShown D.trust layout.now.geometry changes.now (D.seen device.old)
         (D.seen device.new)
         (λ image.
         IsLinked image top →
@@ -125,10 +125,10 @@ fn visit<D: Disk>(
         (0 < top.page.level →
         found.new.links.items ≡ found.old.links.items ++ links_in top.page into.new PAGE_SLOTS) }
     ensures fault { IfErr result
-        (WalkFails D.tells D.honest layout.now.geometry changes.now (D.seen device.old)
+        (WalkFails D.trust layout.now.geometry changes.now (D.seen device.old)
         (D.seen device.new)
         (λ image. IsLinked image top) (IsUpTo top.page 0)) }
-    ensures untouched { IsUntouched D.tells (D.seen device.old) (D.seen device.new) }
+    ensures untouched { IsUntouched D.trust.tells (D.seen device.old) (D.seen device.new) }
 {
     let page = PageHead {
         geometry: layout.geometry,
@@ -154,15 +154,15 @@ fn read_linked<D: Disk>(
     requires stands { IsPageBlock page.now.geometry page.now.at }
     requires data { LeadToData page.now.geometry changes.now }
     ensures read { OnOk result
-        (IsShown D.tells D.honest page.now.geometry changes.now (D.seen device.old)
+        (IsShown D.trust page.now.geometry changes.now (D.seen device.old)
         (D.seen device.new)
         (λ image. IsReadAs image page.now into.new)) }
     ensures data { OnOk result (AreLeading page.now.geometry into.new) }
     ensures fault { IfErr result
-        (WalkFails D.tells D.honest page.now.geometry changes.now (D.seen device.old)
+        (WalkFails D.trust page.now.geometry changes.now (D.seen device.old)
         (D.seen device.new)
         (λ image. IsLinked image (link_to page.now)) (IsUpTo page.now.page 0)) }
-    ensures untouched { IsUntouched D.tells (D.seen device.old) (D.seen device.new) }
+    ensures untouched { IsUntouched D.trust.tells (D.seen device.old) (D.seen device.new) }
 {
     let Ok(block) = read_block(device, page.at) else {
         return Err(ImageFault::Device);

@@ -135,10 +135,9 @@ struct Large;
 
 impl Disk for Large {
     ghost use Rattle.std.specs.Prelude.{[], false};
+    ghost use Rattle.disk_model.specs.Trust.{trust_of};
 
-    ghost tells = { false };
-
-    ghost honest = { false };
+    ghost trust = { trust_of false false };
 
     ghost seen = { λ d. record { opening = []; size = 65537; log = []; faults = 0; unkept = 0 } };
 

@@ -3,6 +3,7 @@
 use Rattle.std.proofs.Common.{◌≡◌, Bool, List, [], ◌∷◌, ◌++◌, refl, ap, inl, inr, arith}
 use Rattle.disk_model.specs.Numbers.{next_state, number_in}
 use Rattle.disk_model.specs.Seen.{Seen}
+use Rattle.disk_model.specs.Trust.{Trust}
 use Rattle.core_model.specs.declared.zones.Zone.{Zone}
 use Rattle.core_model.specs.Trace.{Says}
 use Rattle.core_model.proofs.rows.WorkedTraces.{sizes}
@@ -30,41 +31,41 @@ second_turn = record { ready = event.Step 0 ∷ []; are_ready = ready (desk 1 (l
 abbrev steps : List Event
 steps = event.Step 0 ∷ event.Step 0 ∷ []
 
-module _ (tells honest : Bool) (seen : Seen) where
+module _ (trust : Trust) (seen : Seen) where
   -- Drives
-  two_turns : Drives tells honest sizes steps (driving 0 core_0 seen) (driving (next_state (next_state 0)) core_2 seen) (Says (line_of 1) ∷ Says (line_of 0) ∷ [])
+  two_turns : Drives trust sizes steps (driving 0 core_0 seen) (driving (next_state (next_state 0)) core_2 seen) (Says (line_of 1) ∷ Says (line_of 0) ∷ [])
   two_turns = (
     vdo core_1 seen,
     Says (line_of 0) ∷ [],
     Says (line_of 1) ∷ [],
     undone 0 [] (omega arith),
     first_turn,
-    inl (first_step tells honest seen),
-    (vdo core_2 seen, Says (line_of 1) ∷ [], [], undone 1 (line_of 0 ∷ []) (omega arith), second_turn, inl (second_step tells honest seen), (refl, refl), refl),
+    inl (first_step trust seen),
+    (vdo core_2 seen, Says (line_of 1) ∷ [], [], undone 1 (line_of 0 ∷ []) (omega arith), second_turn, inl (second_step trust seen), (refl, refl), refl),
     refl,
   )
 
-  two_turns-in_no_other_order : Drives tells honest sizes steps (driving 0 core_0 seen) (driving (next_state (next_state 0)) core_2 seen) (Says (line_of 0) ∷ Says (line_of 1) ∷ []) → ⊥
+  two_turns-in_no_other_order : Drives trust sizes steps (driving 0 core_0 seen) (driving (next_state (next_state 0)) core_2 seen) (Says (line_of 0) ∷ Says (line_of 1) ∷ []) → ⊥
   two_turns-in_no_other_order (between, first, later, isnt, turn, one, rest, is) =
-      let number = played_first tells honest (oldest 0 later) seen between first one in
+      let number = played_first trust (oldest 0 later) seen between first one in
       let said : 1 ≡ oldest 0 (later ++ first) = ap (oldest 0) is in
       absurd (omega (arith, number, said, oldest_on 0 later first))
 
   -- PlaysUntilDone
-  two_events : PlaysUntilDone tells honest sizes steps (vdo core_0 seen) (vdo core_2 seen) (Says (line_of 1) ∷ Says (line_of 0) ∷ [])
+  two_events : PlaysUntilDone trust sizes steps (vdo core_0 seen) (vdo core_2 seen) (Says (line_of 1) ∷ Says (line_of 0) ∷ [])
   two_events = inr (
     vdo core_1 seen,
     Says (line_of 0) ∷ [],
     Says (line_of 1) ∷ [],
     undone 0 [] (omega arith),
-    inl (first_step tells honest seen),
-    inr (vdo core_2 seen, Says (line_of 1) ∷ [], [], undone 1 (line_of 0 ∷ []) (omega arith), inl (second_step tells honest seen), (refl, refl), refl),
+    inl (first_step trust seen),
+    inr (vdo core_2 seen, Says (line_of 1) ∷ [], [], undone 1 (line_of 0 ∷ []) (omega arith), inl (second_step trust seen), (refl, refl), refl),
     refl,
   )
 
-  two_events-in_no_other_order : PlaysUntilDone tells honest sizes steps (vdo core_0 seen) (vdo core_2 seen) (Says (line_of 0) ∷ Says (line_of 1) ∷ []) → ⊥
+  two_events-in_no_other_order : PlaysUntilDone trust sizes steps (vdo core_0 seen) (vdo core_2 seen) (Says (line_of 0) ∷ Says (line_of 1) ∷ []) → ⊥
   two_events-in_no_other_order (inl (is, same, nothing)) = undone 0 [] (omega arith) is
   two_events-in_no_other_order (inr (between, first, later, isnt, one, rest, is)) =
-      let number = played_first tells honest (oldest 0 later) seen between first one in
+      let number = played_first trust (oldest 0 later) seen between first one in
       let said : 1 ≡ oldest 0 (later ++ first) = ap (oldest 0) is in
       absurd (omega (arith, number, said, oldest_on 0 later first))

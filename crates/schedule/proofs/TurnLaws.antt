@@ -7,6 +7,7 @@ use Rattle.std.proofs.lemmas.Nat.{div-mul-add, mul-le}
 use Rattle.std.proofs.lemmas.List.{append-nil, drop_all, map-append}
 use Rattle.std.proofs.lemmas.Option.{same_Some, slice_get_within}
 use Rattle.disk_model.specs.Numbers.{next_state, number_in}
+use Rattle.disk_model.specs.Trust.{Trust}
 use Rattle.data_vio.specs.declared.sizes.Sizes.{Sizes}
 use Rattle.core_model.specs.declared.zones.Zone.{Zone}
 use Rattle.core_model.specs.Trace.{Trace}
@@ -226,67 +227,67 @@ module _ (sizes : Sizes) (zones : List Zone) where
   rows_all left items none l = let few = l.few in (rows_to left items l (length zones) few (λ m below. none m)).1
 
 -- a turn after others
-pub drives_further : (tells honest : Bool) (sizes : Sizes) (events more : List Event) (a b c : Driving) (early late : Trace)
-    → Drives tells honest sizes events a b early → Drives tells honest sizes more b c late → Drives tells honest sizes (events ++ more) a c (late ++ early)
-drives_further tells honest sizes [] more a b c early late (same, none) drives =
+pub drives_further : (trust : Trust) (sizes : Sizes) (events more : List Event) (a b c : Driving) (early late : Trace)
+    → Drives trust sizes events a b early → Drives trust sizes more b c late → Drives trust sizes (events ++ more) a c (late ++ early)
+drives_further trust sizes [] more a b c early late (same, none) drives =
     let all : late ++ early ≡ late = ap (λ (t : Trace). late ++ t) none ∙ append-nil late in
-    subst (λ (t : Trace). Drives tells honest sizes more a c t) (sym all) (subst (λ (d : Driving). Drives tells honest sizes more d c late) same drives)
-drives_further tells honest sizes (e ∷ events) more a b c early late (between, first, later, undone, turn, one, rest, is) drives =
+    subst (λ (t : Trace). Drives trust sizes more a c t) (sym all) (subst (λ (d : Driving). Drives trust sizes more d c late) same drives)
+drives_further trust sizes (e ∷ events) more a b c early late (between, first, later, undone, turn, one, rest, is) drives =
     let next : Driving = record { state = next_state a.state; vdo = between } in
-    let further = drives_further tells honest sizes events more next b c later late rest drives in
+    let further = drives_further trust sizes events more next b c later late rest drives in
     let all : late ++ early ≡ (late ++ later) ++ first = ap (λ (t : Trace). late ++ t) is ∙ sym (append_assoc late later first) in
     (between, first, late ++ later, undone, turn, one, further, all)
 
 -- what turns make of a core, their events do
-pub driven_plays : (tells honest : Bool) (sizes : Sizes) (events : List Event) (old new : Driving) (made : Trace)
-    → Drives tells honest sizes events old new made → Plays tells honest sizes events old.vdo new.vdo made
-driven_plays tells honest sizes [] old new made (same, none) = (ap (λ (d : Driving). d.vdo) same, none)
-driven_plays tells honest sizes (e ∷ events) old new made (between, first, later, undone, turn, one, rest, is) =
-    (between, first, later, one, driven_plays tells honest sizes events (record { state = next_state old.state; vdo = between }) new later rest, is)
+pub driven_plays : (trust : Trust) (sizes : Sizes) (events : List Event) (old new : Driving) (made : Trace)
+    → Drives trust sizes events old new made → Plays trust sizes events old.vdo new.vdo made
+driven_plays trust sizes [] old new made (same, none) = (ap (λ (d : Driving). d.vdo) same, none)
+driven_plays trust sizes (e ∷ events) old new made (between, first, later, undone, turn, one, rest, is) =
+    (between, first, later, one, driven_plays trust sizes events (record { state = next_state old.state; vdo = between }) new later rest, is)
 
-pub driven_leads : (tells honest : Bool) (sizes : Sizes) (events : List Event) (old new : Driving) (made : Trace)
-    → Drives tells honest sizes events old new made → LeadsBy tells honest sizes old.vdo new.vdo made
-driven_leads tells honest sizes events old new made drives =
-    plays_lead tells honest sizes events old.vdo new.vdo made (driven_plays tells honest sizes events old new made drives)
+pub driven_leads : (trust : Trust) (sizes : Sizes) (events : List Event) (old new : Driving) (made : Trace)
+    → Drives trust sizes events old new made → LeadsBy trust sizes old.vdo new.vdo made
+driven_leads trust sizes events old new made drives =
+    plays_lead trust sizes events old.vdo new.vdo made (driven_plays trust sizes events old new made drives)
 
 -- what is played until a core is done is a first part of the events
-abbrev pub PlaysPart : Bool → Bool → Sizes → List Event → Vdo → Vdo → Trace → Type 0
-PlaysPart tells honest sizes events old new made = (played left : List Event) × (events ≡ played ++ left) × Plays tells honest sizes played old new made
+abbrev pub PlaysPart : Trust → Sizes → List Event → Vdo → Vdo → Trace → Type 0
+PlaysPart trust sizes events old new made = (played left : List Event) × (events ≡ played ++ left) × Plays trust sizes played old new made
 
-pub part_plays : (tells honest : Bool) (sizes : Sizes) (events : List Event) (old new : Vdo) (made : Trace)
-    → PlaysUntilDone tells honest sizes events old new made → PlaysPart tells honest sizes events old new made
-part_plays tells honest sizes [] old new made (same, none) = ([], [], refl, (same, none))
-part_plays tells honest sizes (e ∷ events) old new made (inl (done, same, none)) = ([], e ∷ events, refl, (same, none))
-part_plays tells honest sizes (e ∷ events) old new made (inr (between, first, later, undone, one, rest, all)) =
-    let (played, left, is, plays) = part_plays tells honest sizes events between new later rest in
+pub part_plays : (trust : Trust) (sizes : Sizes) (events : List Event) (old new : Vdo) (made : Trace)
+    → PlaysUntilDone trust sizes events old new made → PlaysPart trust sizes events old new made
+part_plays trust sizes [] old new made (same, none) = ([], [], refl, (same, none))
+part_plays trust sizes (e ∷ events) old new made (inl (done, same, none)) = ([], e ∷ events, refl, (same, none))
+part_plays trust sizes (e ∷ events) old new made (inr (between, first, later, undone, one, rest, all)) =
+    let (played, left, is, plays) = part_plays trust sizes events between new later rest in
     (e ∷ played, left, ap (λ (es : List Event). e ∷ es) is, (between, first, later, one, plays, all))
 
-pub part_leads : (tells honest : Bool) (sizes : Sizes) (events : List Event) (old new : Vdo) (made : Trace)
-    → PlaysUntilDone tells honest sizes events old new made → LeadsBy tells honest sizes old new made
-part_leads tells honest sizes events old new made until =
-    let (played, left, is, plays) = part_plays tells honest sizes events old new made until in
-    plays_lead tells honest sizes played old new made plays
+pub part_leads : (trust : Trust) (sizes : Sizes) (events : List Event) (old new : Vdo) (made : Trace)
+    → PlaysUntilDone trust sizes events old new made → LeadsBy trust sizes old new made
+part_leads trust sizes events old new made until =
+    let (played, left, is, plays) = part_plays trust sizes events old new made until in
+    plays_lead trust sizes played old new made plays
 
 -- an event before those that are left, where the core isn't done
-pub next_until : (tells honest : Bool) (sizes : Sizes) (events : List Event) (n : ℕ) (d : Event) (a b last : Vdo)
-    → n < length events → (IsDone a.zones → ⊥) → ((first : Trace) × PlaysOne tells honest sizes (get_or events n d) a b first)
-    → ((later : Trace) × PlaysUntilDone tells honest sizes (drop (n + 1) events) b last later)
-    → (made : Trace) × PlaysUntilDone tells honest sizes (drop n events) a last made
-next_until tells honest sizes events n d a b last within undone (first, one) (later, rest) =
+pub next_until : (trust : Trust) (sizes : Sizes) (events : List Event) (n : ℕ) (d : Event) (a b last : Vdo)
+    → n < length events → (IsDone a.zones → ⊥) → ((first : Trace) × PlaysOne trust sizes (get_or events n d) a b first)
+    → ((later : Trace) × PlaysUntilDone trust sizes (drop (n + 1) events) b last later)
+    → (made : Trace) × PlaysUntilDone trust sizes (drop n events) a last made
+next_until trust sizes events n d a b last within undone (first, one) (later, rest) =
     let next : n + 1 ≡ suc n = omega arith in
-    let left = subst (λ (m : ℕ). PlaysUntilDone tells honest sizes (drop m events) b last later) next rest in (
+    let left = subst (λ (m : ℕ). PlaysUntilDone trust sizes (drop m events) b last later) next rest in (
       later ++ first,
-      subst (λ (es : List Event). PlaysUntilDone tells honest sizes es a last (later ++ first)) (sym (drop-cons events n d within)) (inr (b, first, later, undone, one, left, refl)),
+      subst (λ (es : List Event). PlaysUntilDone trust sizes es a last (later ++ first)) (sym (drop-cons events n d within)) (inr (b, first, later, undone, one, left, refl)),
     )
 
 -- no more is played of a core that is done
-pub done_until : (tells honest : Bool) (sizes : Sizes) (events : List Event) (a : Vdo) → IsDone a.zones
-    → (made : Trace) × PlaysUntilDone tells honest sizes events a a made
-done_until tells honest sizes [] a done = ([], (refl, refl))
-done_until tells honest sizes (e ∷ events) a done = ([], inl (done, refl, refl))
+pub done_until : (trust : Trust) (sizes : Sizes) (events : List Event) (a : Vdo) → IsDone a.zones
+    → (made : Trace) × PlaysUntilDone trust sizes events a a made
+done_until trust sizes [] a done = ([], (refl, refl))
+done_until trust sizes (e ∷ events) a done = ([], inl (done, refl, refl))
 
 -- nor where no event is left
-pub none_until : (tells honest : Bool) (sizes : Sizes) (events : List Event) (n : ℕ) (a : Vdo) → length events ≤ n
-    → (made : Trace) × PlaysUntilDone tells honest sizes (drop n events) a a made
-none_until tells honest sizes events n a past =
-    ([], subst (λ (es : List Event). PlaysUntilDone tells honest sizes es a a []) (sym (drop_all n events past)) (refl, refl))
+pub none_until : (trust : Trust) (sizes : Sizes) (events : List Event) (n : ℕ) (a : Vdo) → length events ≤ n
+    → (made : Trace) × PlaysUntilDone trust sizes (drop n events) a a made
+none_until trust sizes events n a past =
+    ([], subst (λ (es : List Event). PlaysUntilDone trust sizes es a a []) (sym (drop_all n events past)) (refl, refl))

@@ -3,6 +3,7 @@ use Rattle.std.proofs.Common.{ℕ, suc, ◌≡◌, ◌∙◌, ◌++◌, Bool, So
 use Rattle.std.proofs.lemmas.Option.{same_Some}
 use Rattle.disk_model.specs.Numbers.{next_state, number_in}
 use Rattle.disk_model.specs.Seen.{Seen}
+use Rattle.disk_model.specs.Trust.{Trust}
 use Rattle.data_vio.specs.declared.items.Item.{Item}
 use Rattle.data_vio.specs.declared.sizes.Sizes.{Sizes}
 use Rattle.core_model.specs.declared.zones.Zone.{Zone}
@@ -135,8 +136,8 @@ module _ (sizes : Sizes) (keeps : ZoneData) where
   received (a ∷ b ∷ rest) = length b.ports.inbox
 
   -- the move, and what it leaves
-  plays : (tells honest : Bool) (seen : Seen) → PlaysOne tells honest sizes (event.Move 0 1) (vdo (zones keeps) seen) (vdo (moved keeps) seen) []
-  plays tells honest seen = inl (
+  plays : (trust : Trust) (seen : Seen) → PlaysOne trust sizes (event.Move 0 1) (vdo (zones keeps) seen) (vdo (moved keeps) seen) []
+  plays trust seen = inl (
     record {
       source = sender keeps one;
       target = receiver [];
@@ -151,95 +152,95 @@ module _ (sizes : Sizes) (keeps : ZoneData) where
     refl,
   )
 
-  makes_nothing : (tells honest : Bool) (before : Seen) (new : Vdo) (made : Trace)
-      → PlaysOne tells honest sizes (event.Move 0 1) (vdo (zones keeps) before) new made → made ≡ []
-  makes_nothing tells honest before new made (inl (moves, silent, nothing)) = nothing
-  makes_nothing tells honest before new made (inr (none, same, nothing)) = nothing
+  makes_nothing : (trust : Trust) (before : Seen) (new : Vdo) (made : Trace)
+      → PlaysOne trust sizes (event.Move 0 1) (vdo (zones keeps) before) new made → made ≡ []
+  makes_nothing trust before new made (inl (moves, silent, nothing)) = nothing
+  makes_nothing trust before new made (inr (none, same, nothing)) = nothing
 
-  brings_one : (tells honest : Bool) (before : Seen) (new : Vdo) (made : Trace)
-      → PlaysOne tells honest sizes (event.Move 0 1) (vdo (zones keeps) before) new made → received new.zones ≡ 1
-  brings_one tells honest before new made (inl (moves, silent, nothing)) =
+  brings_one : (trust : Trust) (before : Seen) (new : Vdo) (made : Trace)
+      → PlaysOne trust sizes (event.Move 0 1) (vdo (zones keeps) before) new made → received new.zones ≡ 1
+  brings_one trust before new made (inl (moves, silent, nothing)) =
       let target : receiver [] ≡ moves.target = same_Some _ _ moves.had_target in
       let source : sender keeps one ≡ moves.source = same_Some _ _ moves.had_source in
       let part : one ≡ moves.part = same_Some _ _ (subst (λ (z : Zone). slice_get z.ports.outboxes 1 ≡ Some moves.part) (sym source) moves.outbox) in
       ap received moves.has ∙ ap (λ (z : Zone). length (z.ports.inbox ++ moves.part)) (sym target) ∙ ap length (sym part)
-  brings_one tells honest before new made (inr (none, same, nothing)) = absurd (move_to_second none)
+  brings_one trust before new made (inr (none, same, nothing)) = absurd (move_to_second none)
 
-module _ (tells honest : Bool) (sizes : Sizes) (seen : Seen) where
+module _ (trust : Trust) (sizes : Sizes) (seen : Seen) where
   -- Drives: no turn changes nothing
-  no_turn : Drives tells honest sizes [] (driving 7 (zones undone) seen) (driving 7 (zones undone) seen) []
+  no_turn : Drives trust sizes [] (driving 7 (zones undone) seen) (driving 7 (zones undone) seen) []
   no_turn = (refl, refl)
 
-  no_turn-of_the_state : Drives tells honest sizes [] (driving 7 (zones undone) seen) (driving 8 (zones undone) seen) [] → ⊥
+  no_turn-of_the_state : Drives trust sizes [] (driving 7 (zones undone) seen) (driving 8 (zones undone) seen) [] → ⊥
   no_turn-of_the_state d = let same = ap (λ (new : Driving). new.state) d.0 in absurd (omega (arith, same))
 
-  no_turn-of_the_zones : Drives tells honest sizes [] (driving 7 (zones undone) seen) (driving 7 (moved undone) seen) [] → ⊥
+  no_turn-of_the_zones : Drives trust sizes [] (driving 7 (zones undone) seen) (driving 7 (moved undone) seen) [] → ⊥
   no_turn-of_the_zones d = let same = ap (λ (new : Driving). received sizes undone new.vdo.zones) d.0 in absurd (omega (arith, same))
 
-  no_turn-of_the_device : Drives tells honest sizes [] (driving 7 (zones undone) seen) (driving 7 (zones undone) (record seen { faults = suc seen.faults })) [] → ⊥
+  no_turn-of_the_device : Drives trust sizes [] (driving 7 (zones undone) seen) (driving 7 (zones undone) (record seen { faults = suc seen.faults })) [] → ⊥
   no_turn-of_the_device d = let same = ap (λ (new : Driving). new.vdo.seen.faults) d.0 in absurd (omega (arith, same))
 
-  no_turn-of_the_trace : Drives tells honest sizes [] (driving 7 (zones undone) seen) (driving 7 (zones undone) seen) (Seals ∷ []) → ⊥
+  no_turn-of_the_trace : Drives trust sizes [] (driving 7 (zones undone) seen) (driving 7 (zones undone) seen) (Seals ∷ []) → ⊥
   no_turn-of_the_trace d = let nothing = d.1 in absurd cc
 
   -- a turn takes its event, and steps the state, where the core isn't done
-  one_turn : Drives tells honest sizes (event.Move 0 1 ∷ []) (driving 0 (zones undone) seen) (driving (next_state 0) (moved undone) seen) []
-  one_turn = (vdo (moved undone) seen, [], [], isnt_done, first_turn sizes undone, plays sizes undone tells honest seen, (refl, refl), refl)
+  one_turn : Drives trust sizes (event.Move 0 1 ∷ []) (driving 0 (zones undone) seen) (driving (next_state 0) (moved undone) seen) []
+  one_turn = (vdo (moved undone) seen, [], [], isnt_done, first_turn sizes undone, plays sizes undone trust seen, (refl, refl), refl)
 
-  one_turn-of_a_core_that_is_done : Drives tells honest sizes (event.Move 0 1 ∷ []) (driving 0 (zones done) seen) (driving (next_state 0) (moved done) seen) [] → ⊥
+  one_turn-of_a_core_that_is_done : Drives trust sizes (event.Move 0 1 ∷ []) (driving 0 (zones done) seen) (driving (next_state 0) (moved done) seen) [] → ⊥
   one_turn-of_a_core_that_is_done (between, first, later, isnt, turn, one, rest, is) = isnt is_done
 
   one_turn-not_another : (new : List Zone) (made : Trace)
-      → Drives tells honest sizes (event.Step 0 ∷ []) (driving 0 (zones undone) seen) (driving (next_state 0) new seen) made → ⊥
+      → Drives trust sizes (event.Step 0 ∷ []) (driving 0 (zones undone) seen) (driving (next_state 0) new seen) made → ⊥
   one_turn-not_another new made (between, first, later, isnt, turn, one, rest, is) = first_turn-not_another_place sizes undone turn
 
-  one_turn-of_the_zones : Drives tells honest sizes (event.Move 0 1 ∷ []) (driving 0 (zones undone) seen) (driving (next_state 0) (zones undone) seen) [] → ⊥
+  one_turn-of_the_zones : Drives trust sizes (event.Move 0 1 ∷ []) (driving 0 (zones undone) seen) (driving (next_state 0) (zones undone) seen) [] → ⊥
   one_turn-of_the_zones (between, first, later, isnt, turn, one, rest, is) =
-      let brought = brings_one sizes undone tells honest seen between first one in
+      let brought = brings_one sizes undone trust seen between first one in
       let same = ap (λ (new : Driving). received sizes undone new.vdo.zones) rest.0 in
       absurd (omega (arith, brought, same))
 
-  one_turn-of_the_state : Drives tells honest sizes (event.Move 0 1 ∷ []) (driving 0 (zones undone) seen) (driving 0 (moved undone) seen) [] → ⊥
+  one_turn-of_the_state : Drives trust sizes (event.Move 0 1 ∷ []) (driving 0 (zones undone) seen) (driving 0 (moved undone) seen) [] → ⊥
   unfolding next_state
   one_turn-of_the_state (between, first, later, isnt, turn, one, rest, is) = let same = ap (λ (new : Driving). new.state) rest.0 in absurd (omega (arith, same))
 
-  one_turn-of_the_trace : Drives tells honest sizes (event.Move 0 1 ∷ []) (driving 0 (zones undone) seen) (driving (next_state 0) (moved undone) seen) (Seals ∷ []) → ⊥
+  one_turn-of_the_trace : Drives trust sizes (event.Move 0 1 ∷ []) (driving 0 (zones undone) seen) (driving (next_state 0) (moved undone) seen) (Seals ∷ []) → ⊥
   one_turn-of_the_trace (between, first, later, isnt, turn, one, rest, is) =
-      let early = makes_nothing sizes undone tells honest seen between first one in
+      let early = makes_nothing sizes undone trust seen between first one in
       let nothing : Seals ∷ [] ≡ [] = is ∙ ap (λ (t : Trace). t ++ first) rest.1 ∙ early in
       absurd cc
 
   -- PlaysUntilDone: no event changes nothing
-  no_event : PlaysUntilDone tells honest sizes [] (vdo (zones undone) seen) (vdo (zones undone) seen) []
+  no_event : PlaysUntilDone trust sizes [] (vdo (zones undone) seen) (vdo (zones undone) seen) []
   no_event = (refl, refl)
 
-  no_event-of_the_zones : PlaysUntilDone tells honest sizes [] (vdo (zones undone) seen) (vdo (moved undone) seen) [] → ⊥
+  no_event-of_the_zones : PlaysUntilDone trust sizes [] (vdo (zones undone) seen) (vdo (moved undone) seen) [] → ⊥
   no_event-of_the_zones p = let same = ap (λ (new : Vdo). received sizes undone new.zones) p.0 in absurd (omega (arith, same))
 
-  no_event-of_the_device : PlaysUntilDone tells honest sizes [] (vdo (zones undone) seen) (vdo (zones undone) (record seen { faults = suc seen.faults })) [] → ⊥
+  no_event-of_the_device : PlaysUntilDone trust sizes [] (vdo (zones undone) seen) (vdo (zones undone) (record seen { faults = suc seen.faults })) [] → ⊥
   no_event-of_the_device p = let same = ap (λ (new : Vdo). new.seen.faults) p.0 in absurd (omega (arith, same))
 
-  no_event-of_the_trace : PlaysUntilDone tells honest sizes [] (vdo (zones undone) seen) (vdo (zones undone) seen) (Seals ∷ []) → ⊥
+  no_event-of_the_trace : PlaysUntilDone trust sizes [] (vdo (zones undone) seen) (vdo (zones undone) seen) (Seals ∷ []) → ⊥
   no_event-of_the_trace p = let nothing = p.1 in absurd cc
 
   -- an event is played where the core isn't done, and only there
-  one_event : PlaysUntilDone tells honest sizes (event.Move 0 1 ∷ []) (vdo (zones undone) seen) (vdo (moved undone) seen) []
-  one_event = inr (vdo (moved undone) seen, [], [], isnt_done, plays sizes undone tells honest seen, (refl, refl), refl)
+  one_event : PlaysUntilDone trust sizes (event.Move 0 1 ∷ []) (vdo (zones undone) seen) (vdo (moved undone) seen) []
+  one_event = inr (vdo (moved undone) seen, [], [], isnt_done, plays sizes undone trust seen, (refl, refl), refl)
 
-  one_event-not_left_out : PlaysUntilDone tells honest sizes (event.Move 0 1 ∷ []) (vdo (zones undone) seen) (vdo (zones undone) seen) [] → ⊥
+  one_event-not_left_out : PlaysUntilDone trust sizes (event.Move 0 1 ∷ []) (vdo (zones undone) seen) (vdo (zones undone) seen) [] → ⊥
   one_event-not_left_out (inl (is, same, nothing)) = isnt_done is
   one_event-not_left_out (inr (between, first, later, isnt, played, (same, nothing), is)) =
-      let brought = brings_one sizes undone tells honest seen between first played in
+      let brought = brings_one sizes undone trust seen between first played in
       let stays = ap (λ (new : Vdo). received sizes undone new.zones) same in
       absurd (omega (arith, brought, stays))
 
-  no_event_once_done : PlaysUntilDone tells honest sizes (event.Move 0 1 ∷ []) (vdo (zones done) seen) (vdo (zones done) seen) []
+  no_event_once_done : PlaysUntilDone trust sizes (event.Move 0 1 ∷ []) (vdo (zones done) seen) (vdo (zones done) seen) []
   no_event_once_done = inl (is_done, refl, refl)
 
-  no_event_once_done-not_played : PlaysUntilDone tells honest sizes (event.Move 0 1 ∷ []) (vdo (zones done) seen) (vdo (moved done) seen) [] → ⊥
+  no_event_once_done-not_played : PlaysUntilDone trust sizes (event.Move 0 1 ∷ []) (vdo (zones done) seen) (vdo (moved done) seen) [] → ⊥
   no_event_once_done-not_played (inl (is, same, nothing)) = let stays = ap (λ (new : Vdo). received sizes done new.zones) same in absurd (omega (arith, stays))
   no_event_once_done-not_played (inr (between, first, later, isnt, played, rest, is)) = isnt is_done
 
-  no_event_once_done-of_the_trace : PlaysUntilDone tells honest sizes (event.Move 0 1 ∷ []) (vdo (zones done) seen) (vdo (zones done) seen) (Seals ∷ []) → ⊥
+  no_event_once_done-of_the_trace : PlaysUntilDone trust sizes (event.Move 0 1 ∷ []) (vdo (zones done) seen) (vdo (zones done) seen) (Seals ∷ []) → ⊥
   no_event_once_done-of_the_trace (inl (is, same, nothing)) = absurd cc
   no_event_once_done-of_the_trace (inr (between, first, later, isnt, played, rest, is)) = isnt is_done

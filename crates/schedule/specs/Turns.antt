@@ -1,7 +1,8 @@
 -- The turns of a core: which event each of them takes, and what becomes of the core.
-use Rattle.std.specs.Prelude.{ℕ, zero, suc, ◌≡◌, ◌⊎◌, ◌+◌, ◌-◌, ◌*◌, ◌/◌, ◌%◌, Bool, ltb, if◌then◌else◌, Some, List, [], ◌∷◌, ◌++◌, length, slice_get}
+use Rattle.std.specs.Prelude.{ℕ, zero, suc, ◌≡◌, ◌⊎◌, ◌+◌, ◌-◌, ◌*◌, ◌/◌, ◌%◌, ltb, if◌then◌else◌, Some, List, [], ◌∷◌, ◌++◌, length, slice_get}
 use Rattle.disk_model.specs.Numbers.{next_state, number_in}
 use Rattle.disk_model.specs.Seen.{Seen}
+use Rattle.disk_model.specs.Trust.{Trust}
 use Rattle.data_vio.specs.declared.sizes.Sizes.{Sizes}
 use Rattle.core_model.specs.declared.zones.Zone.{Zone}
 use Rattle.core_model.specs.Trace.{Trace}
@@ -42,17 +43,17 @@ driving state zones seen = record { state = state; vdo = record { zones = zones;
 
 -- turns one after another, each of a core that isn't done and with the next state of the row, and what happens by them, that
 -- of a later one in front
-abbrev pub Drives : Bool → Bool → Sizes → List Event → Driving → Driving → Trace → Type 0
-Drives tells honest sizes [] old new made = (new ≡ old) × (made ≡ [])
-Drives tells honest sizes (e ∷ events) old new made =
+abbrev pub Drives : Trust → Sizes → List Event → Driving → Driving → Trace → Type 0
+Drives trust sizes [] old new made = (new ≡ old) × (made ≡ [])
+Drives trust sizes (e ∷ events) old new made =
     (between : Vdo) × (first later : Trace) × (IsDone old.vdo.zones → ⊥) × IsTurn sizes old.vdo.zones old.state e
-    × PlaysOne tells honest sizes e old.vdo between first
-    × Drives tells honest sizes events (record { state = next_state old.state; vdo = between }) new later × (made ≡ later ++ first)
+    × PlaysOne trust sizes e old.vdo between first
+    × Drives trust sizes events (record { state = next_state old.state; vdo = between }) new later × (made ≡ later ++ first)
 
 -- events one after another, up to the first before which the core is done, and what happens by them
-abbrev pub PlaysUntilDone : Bool → Bool → Sizes → List Event → Vdo → Vdo → Trace → Type 0
-PlaysUntilDone tells honest sizes [] old new made = (new ≡ old) × (made ≡ [])
-PlaysUntilDone tells honest sizes (e ∷ events) old new made =
+abbrev pub PlaysUntilDone : Trust → Sizes → List Event → Vdo → Vdo → Trace → Type 0
+PlaysUntilDone trust sizes [] old new made = (new ≡ old) × (made ≡ [])
+PlaysUntilDone trust sizes (e ∷ events) old new made =
     (IsDone old.zones × (new ≡ old) × (made ≡ []))
-    ⊎ ((between : Vdo) × (first later : Trace) × (IsDone old.zones → ⊥) × PlaysOne tells honest sizes e old between first
-    × PlaysUntilDone tells honest sizes events between new later × (made ≡ later ++ first))
+    ⊎ ((between : Vdo) × (first later : Trace) × (IsDone old.zones → ⊥) × PlaysOne trust sizes e old between first
+    × PlaysUntilDone trust sizes events between new later × (made ≡ later ++ first))

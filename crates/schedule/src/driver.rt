@@ -19,7 +19,7 @@ pub fn drive<R: Wait, D: Disk>(rt: &R, core: &mut Core, schedule: &mut Schedule,
     ensures stays { Stays (D.seen device.old) (D.seen device.new) }
     ensures sizes { core.new.sizes ≡ core.old.sizes }
     ensures drives { (events : List Event) × (made : Trace)
-        × Drives D.tells D.honest core.old.sizes events
+        × Drives D.trust core.old.sizes events
         (driving schedule.old core.old.zones (D.seen device.old))
         (driving schedule.new core.new.zones (D.seen device.new)) made }
     ensures done { IsDone core.new.zones }

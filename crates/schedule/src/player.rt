@@ -15,7 +15,7 @@ pub fn play<D: Disk>(core: &mut Core, events: &[Event], device: &mut D)
     ensures stays { Stays (D.seen device.old) (D.seen device.new) }
     ensures sizes { core.new.sizes ≡ core.old.sizes }
     ensures plays { (made : Trace)
-        × PlaysUntilDone D.tells D.honest core.old.sizes events.now
+        × PlaysUntilDone D.trust core.old.sizes events.now
         (vdo core.old.zones (D.seen device.old)) (vdo core.new.zones (D.seen device.new)) made }
 {
     for event in events {

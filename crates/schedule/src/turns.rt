@@ -45,7 +45,7 @@ impl Schedule {
         ensures sizes { core.new.sizes ≡ core.old.sizes }
         ensures drives { (IsDone core.old.zones → ⊥)
             → (events : List Event) × (made : Trace)
-            × Drives D.tells D.honest core.old.sizes events
+            × Drives D.trust core.old.sizes events
             (driving self.old core.old.zones (D.seen device.old))
             (driving self.new core.new.zones (D.seen device.new)) made }
     {

@@ -18,6 +18,7 @@ use Rattle.count_updates.proofs.PointLaws.{made}
 use Rattle.count_updates.specs.FoundLists.{found_lists}
 use Rattle.disk_model.specs.Log.{Blocks}
 use Rattle.disk_model.specs.Seen.{Seen}
+use Rattle.disk_model.specs.Trust.{Trust}
 use Rattle.slab_codec.specs.declared.forms.SlabEntry.{SlabEntry}
 use Rattle.slab_reading.specs.Found.{Took, IsFound}
 use Rattle.image_model.specs.declared.fault.ImageFault.{ImageFault}
@@ -129,18 +130,18 @@ module _ (g : Geometry) (reads : List Blocks) (read : Blocks) (first : List Upda
   }
 
 -- a slab that isn't read behind others
-pub slabs_fail : (tells honest : Bool) (g : Geometry) (reads : List Blocks) (slab : ℕ) (before middle now : Seen) (why : ImageFault) → length reads ≡ slab → slab < g.slabs
-    → SlabsRead tells honest g before middle reads → SlabFails tells honest g slab middle now why → SlabsFail tells honest g before now why
-slabs_fail tells honest g reads slab before middle now Device count below read fails =
-    (reads, omega (arith, count, below), middle, read, subst (λ (s : ℕ). SlabFailed tells honest g s middle now) (sym count) fails)
-slabs_fail tells honest g reads slab before middle now Memory count below read fails = tt
-slabs_fail tells honest g reads slab before middle now (Super fault) count below read fails = absurd fails
-slabs_fail tells honest g reads slab before middle now (Window sequence) count below read fails = absurd fails
-slabs_fail tells honest g reads slab before middle now (Page at fault) count below read fails = absurd fails
-slabs_fail tells honest g reads slab before middle now (Counter at point) count below read fails = absurd fails
-slabs_fail tells honest g reads slab before middle now (SharedPage at) count below read fails = absurd fails
-slabs_fail tells honest g reads slab before middle now (Counts at stored mapped) count below read fails = absurd fails
-slabs_fail tells honest g reads slab before middle now Unclean count below read fails = absurd fails
+pub slabs_fail : (trust : Trust) (g : Geometry) (reads : List Blocks) (slab : ℕ) (before middle now : Seen) (why : ImageFault) → length reads ≡ slab → slab < g.slabs
+    → SlabsRead trust g before middle reads → SlabFails trust g slab middle now why → SlabsFail trust g before now why
+slabs_fail trust g reads slab before middle now Device count below read fails =
+    (reads, omega (arith, count, below), middle, read, subst (λ (s : ℕ). SlabFailed trust g s middle now) (sym count) fails)
+slabs_fail trust g reads slab before middle now Memory count below read fails = tt
+slabs_fail trust g reads slab before middle now (Super fault) count below read fails = absurd fails
+slabs_fail trust g reads slab before middle now (Window sequence) count below read fails = absurd fails
+slabs_fail trust g reads slab before middle now (Page at fault) count below read fails = absurd fails
+slabs_fail trust g reads slab before middle now (Counter at point) count below read fails = absurd fails
+slabs_fail trust g reads slab before middle now (SharedPage at) count below read fails = absurd fails
+slabs_fail trust g reads slab before middle now (Counts at stored mapped) count below read fails = absurd fails
+slabs_fail trust g reads slab before middle now Unclean count below read fails = absurd fails
 
 -- what holds of an error holds of it where it is passed on
 pub passed_on : {T : Type 0} (result : Result T ImageFault) (Is : ImageFault → Type 0) (why : ImageFault) → IsErrAnd result (λ e. e ≡ why) → Is why → IfErr result Is

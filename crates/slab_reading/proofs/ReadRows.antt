@@ -11,6 +11,7 @@ use Rattle.disk_model.specs.declared.call.Call.{Call}
 use Rattle.disk_model.specs.declared.call.Call.TheVariants.{Read}
 use Rattle.disk_model.specs.Log.{Blocks}
 use Rattle.disk_model.specs.Seen.{Seen}
+use Rattle.disk_model.specs.Trust.{Trust, trust_of}
 use Rattle.image_layout.specs.declared.fault.SuperFault.TheVariants.{NotAnImage}
 use Rattle.image_model.proofs.CountLaws.{none_in_nothing}
 use Rattle.image_model.proofs.Example.{small}
@@ -26,7 +27,7 @@ use Rattle.count_updates.specs.FoundLists.{found_lists}
 abbrev pub zero_slab : Blocks
 zero_slab = replicate 5 zero_block
 
-slab_read : (honest : Bool) → IsSlabRead false honest small 0 seen seen zero_slab
+slab_read : (honest : Bool) → IsSlabRead (trust_of false honest) small 0 seen seen zero_slab
 slab_read honest = record {
   count = refl;
   reads = record {
@@ -39,11 +40,11 @@ slab_read honest = record {
 }
 
 -- count
-four_read : (honest : Bool) → IsSlabRead false honest small 0 seen seen (replicate 4 zero_block) → ⊥
+four_read : (honest : Bool) → IsSlabRead (trust_of false honest) small 0 seen seen (replicate 4 zero_block) → ⊥
 four_read honest is = let count = is.count in omega (arith, count)
 
 -- reads: each gave a block
-short_block : (honest : Bool) → IsSlabRead false honest small 0 seen seen (replicate 4 zero_block ++ (0 ∷ []) ∷ []) → ⊥
+short_block : (honest : Bool) → IsSlabRead (trust_of false honest) small 0 seen seen (replicate 4 zero_block ++ (0 ∷ []) ∷ []) → ⊥
 short_block honest is = let size = is.reads.given.0 in omega (arith, size)
 
 -- and from where the slab's blocks are: here a slab has one block, which stands at 149
@@ -53,7 +54,7 @@ tiny = record small { slab_journal = 0 }
 one_block : blocks_per_slab tiny ≡ 1
 one_block = refl
 
-read_elsewhere : (honest : Bool) (read : Blocks) → IsSlabRead true honest tiny 0 seen (record seen { log = Read (pbn 150) zero_block true ∷ [] }) read → ⊥
+read_elsewhere : (honest : Bool) (read : Blocks) → IsSlabRead (trust_of true honest) tiny 0 seen (record seen { log = Read (pbn 150) zero_block true ∷ [] }) read → ⊥
 read_elsewhere honest [] is = let count = is.count in omega (arith, count)
 read_elsewhere honest (block ∷ other ∷ more) is = let count = is.count in omega (arith, count)
 read_elsewhere honest (block ∷ []) is = let at = ap first_at (is.reads.logged refl) in omega (arith, at)
@@ -63,39 +64,39 @@ read_elsewhere honest (block ∷ []) is = let at = ap first_at (is.reads.logged 
     first_at other = 0
 
 -- A read failed: the slab has one more block.
-slab_failed : (honest : Bool) → SlabFailed false honest small 0 seen failed
+slab_failed : (honest : Bool) → SlabFailed (trust_of false honest) small 0 seen failed
 slab_failed honest = ([], omega arith, next_failed honest 149)
 
-failed_for_nothing : (tells honest : Bool) (g : Geometry) (slab : ℕ) → SlabFailed tells honest g slab seen seen → ⊥
-failed_for_nothing tells honest g slab (blocks, few, fails) = let rose = fails.rose in omega (arith, rose)
+failed_for_nothing : (trust : Trust) (g : Geometry) (slab : ℕ) → SlabFailed trust g slab seen seen → ⊥
+failed_for_nothing trust g slab (blocks, few, fails) = let rose = fails.rose in omega (arith, rose)
 
 abbrev blockless : Geometry
 blockless = record small { slab_blocks = 0; slab_journal = 0 }
 
-failed_behind_all : (tells honest : Bool) (before now : Seen) → SlabFailed tells honest blockless 0 before now → ⊥
-failed_behind_all tells honest before now (blocks, few, fails) = omega (arith, few)
+failed_behind_all : (trust : Trust) (before now : Seen) → SlabFailed trust blockless 0 before now → ⊥
+failed_behind_all trust before now (blocks, few, fails) = omega (arith, few)
 
 -- Why a slab isn't read: that, or want of memory; and nothing else
-fails_device : (honest : Bool) → SlabFails false honest small 0 seen failed Device
+fails_device : (honest : Bool) → SlabFails (trust_of false honest) small 0 seen failed Device
 fails_device = slab_failed
 
-fails_memory : (tells honest : Bool) (before now : Seen) → SlabFails tells honest small 0 before now Memory
-fails_memory tells honest before now = tt
+fails_memory : (trust : Trust) (before now : Seen) → SlabFails trust small 0 before now Memory
+fails_memory trust before now = tt
 
-fails_no_device : (tells honest : Bool) → SlabFails tells honest small 0 seen seen Device → ⊥
-fails_no_device tells honest = failed_for_nothing tells honest small 0
+fails_no_device : (trust : Trust) → SlabFails trust small 0 seen seen Device → ⊥
+fails_no_device trust = failed_for_nothing trust small 0
 
-module _ (tells honest : Bool) (before now : Seen) where
-  fails_otherwise : (SlabFails tells honest small 0 before now (Super NotAnImage) → ⊥) × (SlabFails tells honest small 0 before now (Window 7) → ⊥)
-      × (SlabFails tells honest small 0 before now (Counter (pbn 86) (record { 0 = 512 })) → ⊥) × (SlabFails tells honest small 0 before now (Counts (pbn 86) 2 1) → ⊥)
-      × (SlabFails tells honest small 0 before now Unclean → ⊥)
+module _ (trust : Trust) (before now : Seen) where
+  fails_otherwise : (SlabFails trust small 0 before now (Super NotAnImage) → ⊥) × (SlabFails trust small 0 before now (Window 7) → ⊥)
+      × (SlabFails trust small 0 before now (Counter (pbn 86) (record { 0 = 512 })) → ⊥) × (SlabFails trust small 0 before now (Counts (pbn 86) 2 1) → ⊥)
+      × (SlabFails trust small 0 before now Unclean → ⊥)
   fails_otherwise = ((λ none. none), (λ none. none), (λ none. none), (λ none. none), (λ none. none))
 
 -- Slabs, one after the other: the newest stands first, and is the one behind the others.
-slabs_read : (honest : Bool) → SlabsRead false honest small seen seen (zero_slab ∷ [])
+slabs_read : (honest : Bool) → SlabsRead (trust_of false honest) small seen seen (zero_slab ∷ [])
 slabs_read honest = (seen, refl, slab_read honest)
 
-slab_left_out : (honest : Bool) → SlabsRead false honest small seen seen ([] ∷ []) → ⊥
+slab_left_out : (honest : Bool) → SlabsRead (trust_of false honest) small seen seen ([] ∷ []) → ⊥
 slab_left_out honest (middle, older, is) = let count = is.count in omega (arith, count)
 
 abbrev two : Geometry
@@ -104,7 +105,7 @@ two = record tiny { slabs = 2 }
 second_is_elsewhere : first_of_slab two 1 ≡ 214
 second_is_elsewhere = refl
 
-first_at_second : (honest : Bool) (read : Blocks) → SlabsRead true honest two seen (record seen { log = Read (pbn 214) zero_block true ∷ [] }) (read ∷ []) → ⊥
+first_at_second : (honest : Bool) (read : Blocks) → SlabsRead (trust_of true honest) two seen (record seen { log = Read (pbn 214) zero_block true ∷ [] }) (read ∷ []) → ⊥
 first_at_second honest [] (middle, none, is) = let count = is.count in omega (arith, count)
 first_at_second honest (block ∷ other ∷ more) (middle, none, is) = let count = is.count in omega (arith, count)
 first_at_second honest (block ∷ []) (middle, none, is) = let at = ap first_at (is.reads.logged refl) in omega (arith, at)
@@ -114,30 +115,30 @@ first_at_second honest (block ∷ []) (middle, none, is) = let at = ap first_at 
     first_at other = 0
 
 -- One of them isn't read: of a device of one slab the first.
-one_failed : (honest : Bool) → ReadFailed false honest small seen failed
+one_failed : (honest : Bool) → ReadFailed (trust_of false honest) small seen failed
 one_failed honest = ([], omega arith, seen, refl, slab_failed honest)
 
-none_failed : (tells honest : Bool) → ReadFailed tells honest small seen seen → ⊥
-none_failed tells honest ([], few, middle, same, fails) = failed_for_nothing tells honest small 0 (subst (λ (m : Seen). SlabFailed tells honest small 0 m seen) same fails)
-none_failed tells honest (read ∷ reads, few, middle, older, fails) = omega (arith, few)
+none_failed : (trust : Trust) → ReadFailed trust small seen seen → ⊥
+none_failed trust ([], few, middle, same, fails) = failed_for_nothing trust small 0 (subst (λ (m : Seen). SlabFailed trust small 0 m seen) same fails)
+none_failed trust (read ∷ reads, few, middle, older, fails) = omega (arith, few)
 
-failed_behind_last : (tells honest : Bool) (before now : Seen) → ReadFailed tells honest (record small { slabs = 0 }) before now → ⊥
-failed_behind_last tells honest before now (reads, few, middle, read, fails) = omega (arith, few)
+failed_behind_last : (trust : Trust) (before now : Seen) → ReadFailed trust (record small { slabs = 0 }) before now → ⊥
+failed_behind_last trust before now (reads, few, middle, read, fails) = omega (arith, few)
 
 -- Why slabs aren't read.
-slabs_fail_device : (honest : Bool) → SlabsFail false honest small seen failed Device
+slabs_fail_device : (honest : Bool) → SlabsFail (trust_of false honest) small seen failed Device
 slabs_fail_device = one_failed
 
-slabs_fail_memory : (tells honest : Bool) (before now : Seen) → SlabsFail tells honest small before now Memory
-slabs_fail_memory tells honest before now = tt
+slabs_fail_memory : (trust : Trust) (before now : Seen) → SlabsFail trust small before now Memory
+slabs_fail_memory trust before now = tt
 
-slabs_fail_no_device : (tells honest : Bool) → SlabsFail tells honest small seen seen Device → ⊥
+slabs_fail_no_device : (trust : Trust) → SlabsFail trust small seen seen Device → ⊥
 slabs_fail_no_device = none_failed
 
-module _ (tells honest : Bool) (before now : Seen) where
-  slabs_fail_otherwise : (SlabsFail tells honest small before now (Super NotAnImage) → ⊥) × (SlabsFail tells honest small before now (Window 7) → ⊥)
-      × (SlabsFail tells honest small before now (Counter (pbn 86) (record { 0 = 512 })) → ⊥) × (SlabsFail tells honest small before now (Counts (pbn 86) 2 1) → ⊥)
-      × (SlabsFail tells honest small before now Unclean → ⊥)
+module _ (trust : Trust) (before now : Seen) where
+  slabs_fail_otherwise : (SlabsFail trust small before now (Super NotAnImage) → ⊥) × (SlabsFail trust small before now (Window 7) → ⊥)
+      × (SlabsFail trust small before now (Counter (pbn 86) (record { 0 = 512 })) → ⊥) × (SlabsFail trust small before now (Counts (pbn 86) 2 1) → ⊥)
+      × (SlabsFail trust small before now Unclean → ⊥)
   slabs_fail_otherwise = ((λ none. none), (λ none. none), (λ none. none), (λ none. none), (λ none. none))
 
 -- What a slab's reference blocks say: the counter of a data block, behind the commit point of its sector.

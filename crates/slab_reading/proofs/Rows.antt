@@ -8,6 +8,7 @@ use Rattle.count_updates.proofs.PointLaws.{made as one}
 use Rattle.count_updates.specs.FoundLists.{found_lists}
 use Rattle.disk_model.specs.Log.{Blocks, block_at}
 use Rattle.disk_model.specs.Seen.{Seen}
+use Rattle.disk_model.specs.Trust.{trust_of}
 use Rattle.disk_model.specs.declared.call.Call.TheVariants.{Flush}
 use Rattle.image_model.proofs.CountLaws.{none_in_nothing}
 use Rattle.image_model.proofs.CountRows.{holds, journaled}
@@ -43,14 +44,14 @@ read_of_none = refl
 abbrev seen : Seen
 seen = record { opening = []; size = 154; log = []; faults = 0; unkept = 0 }
 
-none_read : SlabsRead true true small seen seen []
+none_read : SlabsRead (trust_of true true) small seen seen []
 none_read = refl
 
 -- nothing else was done
-not_flushed : SlabsRead true true small seen (record seen { log = Flush true ∷ [] }) [] → ⊥
+not_flushed : SlabsRead (trust_of true true) small seen (record seen { log = Flush true ∷ [] }) [] → ⊥
 not_flushed is = let same = ap (λ (s : Seen). length s.log) is in omega (arith, same)
 
-too_few_read : IsSlabRead true true small 0 seen seen (zero_block ∷ []) → ⊥
+too_few_read : IsSlabRead (trust_of true true) small 0 seen seen (zero_block ∷ []) → ⊥
 too_few_read is = let count = is.count in omega (arith, count)
 
 -- A sector that is valid, and its entry; a block of zeros has none.

@@ -27,12 +27,12 @@ pub(crate) fn read_slab<D: Disk>(
     requires inside { slab < layout.now.geometry.slabs }
     requires room { needed_blocks layout.now.geometry ≤ (D.seen device.old).size }
     ensures read { IfOk result (λ read.
-        IsSlabRead D.tells D.honest layout.now.geometry slab (D.seen device.old)
+        IsSlabRead D.trust layout.now.geometry slab (D.seen device.old)
         (D.seen device.new) read.items) }
     ensures fault { IfErr result
-        (SlabFails D.tells D.honest layout.now.geometry slab (D.seen device.old)
+        (SlabFails D.trust layout.now.geometry slab (D.seen device.old)
         (D.seen device.new)) }
-    ensures untouched { IsUntouched D.tells (D.seen device.old) (D.seen device.new) }
+    ensures untouched { IsUntouched D.trust.tells (D.seen device.old) (D.seen device.new) }
 {
     let first = layout.reference_block(slab, 0);
     match read_blocks(alloc, device, first, blocks_per_slab(layout)) {

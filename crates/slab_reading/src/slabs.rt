@@ -31,12 +31,12 @@ pub fn read_slabs<D: Disk>(
     requires no_counters { found.old.counters.items ≡ [] }
     requires no_commits { found.old.commits.items ≡ [] }
     ensures found { OnOk result ((reads : List Blocks) × (length reads ≡ layout.now.geometry.slabs)
-        × SlabsRead D.tells D.honest layout.now.geometry (D.seen device.old)
+        × SlabsRead D.trust layout.now.geometry (D.seen device.old)
         (D.seen device.new) reads
         × IsFound layout.now.geometry reads found.old.updates.items (lists_of found.new)) }
     ensures fault { IfErr result
-        (SlabsFail D.tells D.honest layout.now.geometry (D.seen device.old) (D.seen device.new)) }
-    ensures untouched { IsUntouched D.tells (D.seen device.old) (D.seen device.new) }
+        (SlabsFail D.trust layout.now.geometry (D.seen device.old) (D.seen device.new)) }
+    ensures untouched { IsUntouched D.trust.tells (D.seen device.old) (D.seen device.new) }
 {
     for slab in 0..layout.geometry.slabs {
         add_slab(alloc, device, layout, slab, found)?;
@@ -56,13 +56,13 @@ fn add_slab<D: Disk>(
     requires room { needed_blocks layout.now.geometry ≤ (D.seen device.old).size }
     ensures taken { OnOk result
         ((read : Blocks)
-        × IsSlabRead D.tells D.honest layout.now.geometry slab (D.seen device.old)
+        × IsSlabRead D.trust layout.now.geometry slab (D.seen device.old)
         (D.seen device.new) read
         × Took layout.now.geometry slab read (lists_of found.old) (lists_of found.new)) }
     ensures fault { IfErr result
-        (SlabFails D.tells D.honest layout.now.geometry slab (D.seen device.old)
+        (SlabFails D.trust layout.now.geometry slab (D.seen device.old)
         (D.seen device.new)) }
-    ensures untouched { IsUntouched D.tells (D.seen device.old) (D.seen device.new) }
+    ensures untouched { IsUntouched D.trust.tells (D.seen device.old) (D.seen device.new) }
 {
     let read = read_slab(alloc, device, layout, slab)?;
     let Ok(()) = take_slab(layout, slab, read.as_slice(), found) else {

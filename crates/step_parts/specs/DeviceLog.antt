@@ -5,6 +5,7 @@ use Rattle.disk_model.specs.declared.call.Call.TheVariants.{Read}
 use Rattle.disk_model.specs.Images.{IsMixOf}
 use Rattle.disk_model.specs.Log.{Blocks, settled}
 use Rattle.disk_model.specs.Seen.{Seen, Stays}
+use Rattle.disk_model.specs.Trust.{Trust}
 use Rattle.core_model.specs.Trace.{Trace, Calls, Fails, Harms, calls}
 
 -- how many calls failed, and how many of these found no memory for a place in the log
@@ -43,10 +44,10 @@ GivesSettled opening log (other ∷ t) = GivesSettled opening log t
 -- calls in its log, and where it is honest its reads gave what was settled. Its count of faults rose with each call that
 -- failed, and its count of those without a place in the log with each that isn't kept there. A device that isn't called is
 -- as it was.
-pub record HasCalled (tells honest : Bool) (before after : Seen) (made : Trace) : Type 0 where
+pub record HasCalled (trust : Trust) (before after : Seen) (made : Trace) : Type 0 where
   pub stays : Stays before after
-  pub log : IsTrue tells → after.log ≡ calls made ++ before.log
-  pub given : IsTrue tells → IsTrue honest → GivesSettled before.opening before.log made
+  pub log : IsTrue trust.tells → after.log ≡ calls made ++ before.log
+  pub given : IsTrue trust.tells → IsTrue trust.honest → GivesSettled before.opening before.log made
   pub faults : RoseBy (failed_calls made) before.faults after.faults
   pub unkept : RoseBy (lost_calls made) before.unkept after.unkept
   pub idle : has_calls made ≡ false → after ≡ before

@@ -12,6 +12,7 @@ use Rattle.byte_fields.specs.Fields.{number_at}
 use Rattle.disk_model.specs.declared.call.Call.{Call}
 use Rattle.disk_model.specs.declared.call.Call.TheVariants.{Read}
 use Rattle.disk_model.specs.Seen.{Seen}
+use Rattle.disk_model.specs.Trust.{Trust, trust_of}
 use Rattle.uds_chapters.specs.declared.entry.Record.{Record}
 use Rattle.uds_chapters.specs.Chapters.{Numbered}
 use Rattle.uds_chapters.proofs.PageLaws.{page_read}
@@ -236,10 +237,10 @@ failed_once = record device { log = Read (record { 0 = 69 }) [] false ∷ []; fa
 abbrev read_then : List ℕ → Seen
 read_then bytes = record failed_once { log = Read (record { 0 = 70 }) bytes true ∷ Read (record { 0 = 69 }) [] false ∷ [] }
 
-a_failed_read : ReadOne true false 69 device failed_once None
+a_failed_read : ReadOne (trust_of true false) 69 device failed_once None
 a_failed_read = record { stays = record { opening = refl; size = refl }; later = record { faults = omega arith; unkept = omega arith }; given = tt; rose = omega arith; logged = λ told. ([], inl refl) }
 
-a_read : (bytes : List ℕ) → length bytes ≡ 4096 → ReadOne true false 70 failed_once (read_then bytes) (Some bytes)
+a_read : (bytes : List ℕ) → length bytes ≡ 4096 → ReadOne (trust_of true false) 70 failed_once (read_then bytes) (Some bytes)
 a_read bytes whole = record {
   told = λ told. refl;
   stays = record { opening = refl; size = refl };
@@ -248,12 +249,12 @@ a_read bytes whole = record {
   logged = λ told. refl;
 }
 
-both_reads : (bytes : List ℕ) → length bytes ≡ 4096 → ReadEach true false 69 device (read_then bytes) (None ∷ Some bytes ∷ [])
+both_reads : (bytes : List ℕ) → length bytes ≡ 4096 → ReadEach (trust_of true false) 69 device (read_then bytes) (None ∷ Some bytes ∷ [])
 both_reads bytes whole = (failed_once, a_failed_read, (read_then bytes, a_read bytes whole, refl))
 
 -- IsLoading: before the first block nothing is read
-loading : (tells honest : Bool) (before : Seen) → IsLoading small tells honest before before 0 (book_of [])
-loading tells honest before = record {
+loading : (trust : Trust) (before : Seen) → IsLoading small trust before before 0 (book_of [])
+loading trust before = record {
   reads = [];
   count = refl;
   each = refl;
@@ -275,10 +276,10 @@ loading tells honest before = record {
 }
 
 -- count, each: a block that wasn't read
-a_block_left_out : (honest : Bool) (before : Seen) (book : Book) → before.faults ≡ 3 → IsLoading small true honest before before 1 book → ⊥
+a_block_left_out : (honest : Bool) (before : Seen) (book : Book) → before.faults ≡ 3 → IsLoading small (trust_of true honest) before before 1 book → ⊥
 a_block_left_out honest before book faults is = by_reads is.reads is.count is.each
   where
-    by_reads : (reads : List (Option (List ℕ))) → length reads ≡ 1 → ReadEach true honest 69 before before reads → ⊥
+    by_reads : (reads : List (Option (List ℕ))) → length reads ≡ 1 → ReadEach (trust_of true honest) 69 before before reads → ⊥
     by_reads [] count each = omega (arith, count)
     by_reads (None ∷ []) count (middle, failed, same) = let rose = failed.rose in omega (arith, rose, faults, ap (λ (s : Seen). s.faults) same)
     by_reads (Some bytes ∷ []) count (middle, read, same) =
@@ -288,15 +289,15 @@ a_block_left_out honest before book faults is = by_reads is.reads is.count is.ea
     by_reads (one ∷ other ∷ more) count each = omega (arith, count)
 
 -- loaded
-loading_with_a_due_page : (tells honest : Bool) (before now : Seen) (block : ℕ) (page : DuePage) → IsLoading small tells honest before now block (record (book_of []) { due = page ∷ [] }) → ⊥
-loading_with_a_due_page tells honest before now block page is = let none = is.loaded.due in absurd (cc none)
+loading_with_a_due_page : (trust : Trust) (before now : Seen) (block : ℕ) (page : DuePage) → IsLoading small trust before now block (record (book_of []) { due = page ∷ [] }) → ⊥
+loading_with_a_due_page trust before now block page is = let none = is.loaded.due in absurd (cc none)
 
 -- few, small and untouched follow from what was read and loaded; they are what the reading goes on with
-more_chapters_than_pages : (tells honest : Bool) (before now : Seen) → IsLoading small tells honest before now 0 (book_of (chapter 4 [] ∷ [])) → ⊥
-more_chapters_than_pages tells honest before now is = omega (arith, is.few 0)
+more_chapters_than_pages : (trust : Trust) (before now : Seen) → IsLoading small trust before now 0 (book_of (chapter 4 [] ∷ [])) → ⊥
+more_chapters_than_pages trust before now is = omega (arith, is.few 0)
 
-more_records_than_pages_have : (tells honest : Bool) (before now : Seen) → IsLoading small tells honest before now 4 (book_of (chapter 5 (one 1 85 ∷ []) ∷ [])) → ⊥
-more_records_than_pages_have tells honest before now is = omega (arith, is.small 0 (chapter 0 []) (omega arith))
+more_records_than_pages_have : (trust : Trust) (before now : Seen) → IsLoading small trust before now 4 (book_of (chapter 5 (one 1 85 ∷ []) ∷ [])) → ⊥
+more_records_than_pages_have trust before now is = omega (arith, is.small 0 (chapter 0 []) (omega arith))
 
-of_another_device : (tells honest : Bool) (before now : Seen) (block : ℕ) (book : Book) → before.size ≡ 154 → now.size ≡ 3 → IsLoading small tells honest before now block book → ⊥
-of_another_device tells honest before now block book was now_is is = let size = is.untouched.stays.size in omega (arith, size, was, now_is)
+of_another_device : (trust : Trust) (before now : Seen) (block : ℕ) (book : Book) → before.size ≡ 154 → now.size ≡ 3 → IsLoading small trust before now block book → ⊥
+of_another_device trust before now block book was now_is is = let size = is.untouched.stays.size in omega (arith, size, was, now_is)

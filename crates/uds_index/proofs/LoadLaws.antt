@@ -12,6 +12,7 @@ use Rattle.blk_base.specs.declared.place.Pbn.{Pbn}
 use Rattle.blk_base.specs.declared.geometry.Geometry.{Geometry}
 use Rattle.blk_base.specs.Regions.{first_index_of}
 use Rattle.disk_model.specs.Seen.{Seen}
+use Rattle.disk_model.specs.Trust.{Trust}
 use Rattle.disk_model.specs.Since.{IsUntouched}
 use Rattle.disk_model.proofs.SinceLaws.{untouched_yet, untouched_on}
 use Rattle.byte_fields.specs.Fields.{number_at}
@@ -146,19 +147,19 @@ are_pages_on nonce places block (Some bytes ∷ reads) read pages more are last 
     next : ArePages nonce places (block + length (Some bytes ∷ reads)) (read ∷ []) more → ArePages nonce places (suc block + length reads) (read ∷ []) more
     next last = subst (λ (n : ℕ). ArePages nonce places n (read ∷ []) more) (further block (length reads)) last
 
-reads_on : (tells honest : Bool) (at : ℕ) (before middle now : Seen) (reads : List (Option (List ℕ))) (read : Option (List ℕ))
-    → ReadEach tells honest at before middle reads → ReadOne tells honest (at + length reads) middle now read
-    → ReadEach tells honest at before now (reads ++ read ∷ [])
-reads_on tells honest at before middle now [] read none last =
-    (now, subst (λ (s : Seen). ReadOne tells honest at s now read) none (subst (λ (n : ℕ). ReadOne tells honest n middle now read) (nothing at) last), refl)
+reads_on : (trust : Trust) (at : ℕ) (before middle now : Seen) (reads : List (Option (List ℕ))) (read : Option (List ℕ))
+    → ReadEach trust at before middle reads → ReadOne trust (at + length reads) middle now read
+    → ReadEach trust at before now (reads ++ read ∷ [])
+reads_on trust at before middle now [] read none last =
+    (now, subst (λ (s : Seen). ReadOne trust at s now read) none (subst (λ (n : ℕ). ReadOne trust n middle now read) (nothing at) last), refl)
   where
     nothing : (n : ℕ) → n + 0 ≡ n
     nothing n = omega arith
-reads_on tells honest at before middle now (first ∷ reads) read each last = (
+reads_on trust at before middle now (first ∷ reads) read each last = (
   each.0,
   each.1,
-  reads_on tells honest (suc at) each.0 middle now reads read each.2
-      (subst (λ (n : ℕ). ReadOne tells honest n middle now read) (further at (length reads)) last),
+  reads_on trust (suc at) each.0 middle now reads read each.2
+      (subst (λ (n : ℕ). ReadOne trust n middle now read) (further at (length reads)) last),
 )
   where
     further : (b n : ℕ) → b + suc n ≡ suc b + n
@@ -301,10 +302,10 @@ page_read g number bytes (Some page) some none = some
 
 -- One block after the other.
 
-pub loading_start : (g : Geometry) (tells honest : Bool) (seen : Seen) (first : ℕ) (book : Book)
+pub loading_start : (g : Geometry) (trust : Trust) (seen : Seen) (first : ℕ) (book : Book)
     → book ≡ record { nonce = g.nonce; first = first; places = g.index / 4; kept = []; unclosed = []; due = [] } → first ≡ first_index_of g + 0
-    → IsLoading g tells honest seen seen 0 book
-loading_start g tells honest seen first book is at = subst (λ (b : Book). IsLoading g tells honest seen seen 0 b) (sym is) (record {
+    → IsLoading g trust seen seen 0 book
+loading_start g trust seen first book is at = subst (λ (b : Book). IsLoading g trust seen seen 0 b) (sym is) (record {
   reads = [];
   count = refl;
   each = refl;
@@ -322,57 +323,57 @@ loading_start g tells honest seen first book is at = subst (λ (b : Book). IsLoa
   };
   few = λ place. omega arith;
   small = λ k d inside. absurd (omega (arith, inside));
-  untouched = untouched_yet tells seen;
+  untouched = untouched_yet trust.tells seen;
 })
 
 one_read_more : (reads : List (Option (List ℕ))) (read : Option (List ℕ)) (n : ℕ) → length reads ≡ n → length (reads ++ read ∷ []) ≡ n + 1
 one_read_more reads read n count = let both = length-append reads (read ∷ []) in omega (arith, both, count)
 
-pub loading_none : (g : Geometry) (tells honest : Bool) (before middle now : Seen) (block : ℕ) (book : Book) (read : Option (List ℕ))
-    → IsLoading g tells honest before middle block book → ReadOne tells honest (first_index_of g + block) middle now read
-    → IsPageRead g block read None → IsUntouched tells middle now → IsLoading g tells honest before now (block + 1) book
-loading_none g tells honest before middle now block book read was one is untouched = record {
+pub loading_none : (g : Geometry) (trust : Trust) (before middle now : Seen) (block : ℕ) (book : Book) (read : Option (List ℕ))
+    → IsLoading g trust before middle block book → ReadOne trust (first_index_of g + block) middle now read
+    → IsPageRead g block read None → IsUntouched trust.tells middle now → IsLoading g trust before now (block + 1) book
+loading_none g trust before middle now block book read was one is untouched = record {
   reads = was.reads ++ read ∷ [];
   count = one_read_more was.reads read block was.count;
-  each = reads_on tells honest (first_index_of g) before middle now was.reads read was.each
-      (subst (λ (n : ℕ). ReadOne tells honest (first_index_of g + n) middle now read) (sym was.count) one);
+  each = reads_on trust (first_index_of g) before middle now was.reads read was.each
+      (subst (λ (n : ℕ). ReadOne trust (first_index_of g + n) middle now read) (sym was.count) one);
   loaded = book_none g was.reads read book was.loaded (subst (λ (n : ℕ). IsPageRead g n read None) (sym was.count) is);
   few = λ place. let few = was.few place in omega (arith, few);
   small = λ k d inside. let small = was.small k d inside in omega (arith, small);
-  untouched = untouched_on tells before middle now was.untouched untouched;
+  untouched = untouched_on trust.tells before middle now was.untouched untouched;
 }
 
 -- the place of a page's chapter is that of its block
-page_place : (g : Geometry) (tells honest : Bool) (before middle : Seen) (block : ℕ) (book : Book) (bytes : List ℕ) (page : Loaded)
-    → IsLoading g tells honest before middle block book → Holds g.nonce (g.index / 4) block bytes page → page.number % book.places ≡ block / 4
-page_place g tells honest before middle block book bytes page was holds = ap (λ (n : ℕ). page.number % n) was.loaded.places ∙ holds.place
+page_place : (g : Geometry) (trust : Trust) (before middle : Seen) (block : ℕ) (book : Book) (bytes : List ℕ) (page : Loaded)
+    → IsLoading g trust before middle block book → Holds g.nonce (g.index / 4) block bytes page → page.number % book.places ≡ block / 4
+page_place g trust before middle block book bytes page was holds = ap (λ (n : ℕ). page.number % n) was.loaded.places ∙ holds.place
 
-pub few_records : (g : Geometry) (tells honest : Bool) (before middle : Seen) (block : ℕ) (book : Book) (bytes : List ℕ) (page : Loaded)
-    → IsLoading g tells honest before middle block book → Holds g.nonce (g.index / 4) block bytes page
+pub few_records : (g : Geometry) (trust : Trust) (before middle : Seen) (block : ℕ) (book : Book) (bytes : List ℕ) (page : Loaded)
+    → IsLoading g trust before middle block book → Holds g.nonce (g.index / 4) block bytes page
     → length (records_of page.number book.kept) + length page.records ≤ 680
-few_records g tells honest before middle block book bytes page was holds =
-    let place = page_place g tells honest before middle block book bytes page was holds in
+few_records g trust before middle block book bytes page was holds =
+    let place = page_place g trust before middle block book bytes page was holds in
     let small = small_records book.places block page.number book.kept was.small in
     let few = holds.decodes.few in
     omega (arith, place, small, few)
 
-pub few_chapters : (g : Geometry) (tells honest : Bool) (before middle : Seen) (block : ℕ) (book : Book) (bytes : List ℕ) (page : Loaded)
-    → IsLoading g tells honest before middle block book → Holds g.nonce (g.index / 4) block bytes page
+pub few_chapters : (g : Geometry) (trust : Trust) (before middle : Seen) (block : ℕ) (book : Book) (bytes : List ℕ) (page : Loaded)
+    → IsLoading g trust before middle block book → Holds g.nonce (g.index / 4) block bytes page
     → count_at (place_of_chapter book.places) (page.number % book.places) book.kept < 4
-few_chapters g tells honest before middle block book bytes page was holds =
-    let place = page_place g tells honest before middle block book bytes page was holds in
+few_chapters g trust before middle block book bytes page was holds =
+    let place = page_place g trust before middle block book bytes page was holds in
     let few = was.few (page.number % book.places) in
     omega (arith, place, few)
 
-pub loading_page : (g : Geometry) (tells honest : Bool) (before middle now : Seen) (block : ℕ) (book new : Book) (read : Option (List ℕ)) (page : Loaded)
-    → IsLoading g tells honest before middle block book → ReadOne tells honest (first_index_of g + block) middle now read
-    → IsPageRead g block read (Some page) → IsUntouched tells middle now
-    → KeepsPage page.number page.records book.kept new.kept → new ≡ record book { kept = new.kept } → IsLoading g tells honest before now (block + 1) new
-loading_page g tells honest before middle now block book new read page was one is untouched keeps same = record {
+pub loading_page : (g : Geometry) (trust : Trust) (before middle now : Seen) (block : ℕ) (book new : Book) (read : Option (List ℕ)) (page : Loaded)
+    → IsLoading g trust before middle block book → ReadOne trust (first_index_of g + block) middle now read
+    → IsPageRead g block read (Some page) → IsUntouched trust.tells middle now
+    → KeepsPage page.number page.records book.kept new.kept → new ≡ record book { kept = new.kept } → IsLoading g trust before now (block + 1) new
+loading_page g trust before middle now block book new read page was one is untouched keeps same = record {
   reads = was.reads ++ read ∷ [];
   count = one_read_more was.reads read block was.count;
-  each = reads_on tells honest (first_index_of g) before middle now was.reads read was.each
-      (subst (λ (n : ℕ). ReadOne tells honest (first_index_of g + n) middle now read) (sym was.count) one);
+  each = reads_on trust (first_index_of g) before middle now was.reads read was.each
+      (subst (λ (n : ℕ). ReadOne trust (first_index_of g + n) middle now read) (sym was.count) one);
   loaded = book_page g was.reads read page book new was.loaded (subst (λ (n : ℕ). IsPageRead g n read (Some page)) (sym was.count) is) keeps same;
   few = λ place. subst (λ (b : Book). count_at (place_of_chapter b.places) place b.kept ≤ block + 1 - 4 * place) (sym same)
       (subst (λ (ks : List Numbered). count_at (place_of_chapter book.places) place ks ≤ block + 1 - 4 * place) (sym keeps.kept)
@@ -381,11 +382,11 @@ loading_page g tells honest before middle now block book new read page was one i
       (subst (λ (ks : List Numbered). All (IsSmall book.places (block + 1)) ks) (sym keeps.kept)
       (all_with (IsSmall book.places (block + 1)) (IsSmall book.places block) keeps.chapter book.kept was.loaded.newest_first own
       (λ other apart small. omega (arith, small)) was.small));
-  untouched = untouched_on tells before middle now was.untouched untouched;
+  untouched = untouched_on trust.tells before middle now was.untouched untouched;
 }
   where
     place_is : page.number % book.places ≡ block / 4
-    place_is = let held = held_by g block read page is in page_place g tells honest before middle block book held.0 page was held.2
+    place_is = let held = held_by g block read page is in page_place g trust before middle block book held.0 page was held.2
 
     own : IsSmall book.places (block + 1) keeps.chapter
     own = let holds = (held_by g block read page is).2 in

@@ -8,6 +8,7 @@ use Rattle.blk_base.specs.Regions.{first_index_of}
 use Rattle.byte_fields.specs.Fields.{number_at}
 use Rattle.disk_model.specs.declared.call.Call.TheVariants.{Read}
 use Rattle.disk_model.specs.Seen.{Seen}
+use Rattle.disk_model.specs.Trust.{trust_of}
 use Rattle.uds_chapters.specs.declared.entry.Record.{Record}
 use Rattle.uds_chapters.specs.Chapters.{Numbered}
 use Rattle.uds_chapters.specs.Pages.{page_bytes, IsPage}
@@ -113,25 +114,25 @@ a_chapter_left_out = λ has. false≢true has
 
 -- reads of a device that tells
 a_read_of_another_block : (honest : Bool) (before now : Seen) (bytes : List ℕ) → now.log ≡ Read (record { 0 = 70 }) bytes true ∷ before.log
-    → ¬ ReadOne true honest 69 before now (Some bytes)
+    → ¬ ReadOne (trust_of true honest) 69 before now (Some bytes)
 a_read_of_another_block honest before now bytes other = λ one.
     let logged = one.logged refl in
     let same : ◌≡◌ {A = Pbn} (record { 0 = 70 }) (record { 0 = 69 }) = cc in
     let numbers : ◌≡◌ {A = ℕ} 70 69 = ap (λ (at : Pbn). at.0) same in
     omega (arith, numbers)
 
-a_failure_without_a_cause : (before now : Seen) → before.faults ≡ 3 → now.faults ≡ 3 → ¬ ReadOne false false 69 before now None
+a_failure_without_a_cause : (before now : Seen) → before.faults ≡ 3 → now.faults ≡ 3 → ¬ ReadOne (trust_of false false) 69 before now None
 a_failure_without_a_cause before now was is = λ one. let rose = one.rose in omega (arith, rose, was, is)
 
 -- it is the same device, and no count fell: a block that isn't read can't be made up for by what was done before
-a_read_of_another_device : (before now : Seen) (read : Option (List ℕ)) → before.size ≡ 154 → now.size ≡ 3 → ¬ ReadOne false false 69 before now read
+a_read_of_another_device : (before now : Seen) (read : Option (List ℕ)) → before.size ≡ 154 → now.size ≡ 3 → ¬ ReadOne (trust_of false false) 69 before now read
 a_read_of_another_device before now None was is = λ one. let size = one.stays.size in omega (arith, size, was, is)
 a_read_of_another_device before now (Some bytes) was is = λ one. let size = one.stays.size in omega (arith, size, was, is)
 
-a_count_that_fell : (before now : Seen) (bytes : List ℕ) → before.unkept ≡ 1 → now.unkept ≡ 0 → ¬ ReadOne false false 69 before now (Some bytes)
+a_count_that_fell : (before now : Seen) (bytes : List ℕ) → before.unkept ≡ 1 → now.unkept ≡ 0 → ¬ ReadOne (trust_of false false) 69 before now (Some bytes)
 a_count_that_fell before now bytes was is = λ one. let less = one.later.unkept in omega (arith, less, was, is)
 
-nothing_more_is_read : (before now : Seen) → now.faults ≢ before.faults → ¬ ReadEach false false 69 before now []
+nothing_more_is_read : (before now : Seen) → now.faults ≢ before.faults → ¬ ReadEach (trust_of false false) 69 before now []
 nothing_more_is_read before now apart = λ is. apart (ap (λ (s : Seen). s.faults) is)
 
 -- a chapter among others: in front of older ones, and in place of that with its number

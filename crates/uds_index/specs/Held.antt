@@ -1,9 +1,10 @@
 -- How a page that was read comes to the chapters that are kept.
-use Rattle.std.specs.Prelude.{ℕ, ◌≡◌, ◌+◌, ◌*◌, ◌-◌, ◌/◌, ◌%◌, ◌<◌, ◌≤◌, slice_index_or, Bool, List, [], ◌∷◌, All, Option, None, Some, nat_eq, nat_le, if◌then◌else◌, length}
+use Rattle.std.specs.Prelude.{ℕ, ◌≡◌, ◌+◌, ◌*◌, ◌-◌, ◌/◌, ◌%◌, ◌<◌, ◌≤◌, slice_index_or, List, [], ◌∷◌, All, Option, None, Some, nat_eq, nat_le, if◌then◌else◌, length}
 use Rattle.std.specs.Option.{option_or}
 use Rattle.blk_base.specs.declared.geometry.Geometry.{Geometry}
 use Rattle.blk_base.specs.Regions.{first_index_of}
 use Rattle.disk_model.specs.Seen.{Seen}
+use Rattle.disk_model.specs.Trust.{Trust}
 use Rattle.disk_model.specs.Since.{IsUntouched}
 use Rattle.uds_chapters.specs.declared.entry.Record.{Record}
 use Rattle.uds_chapters.specs.Chapters.{Numbered, location_of}
@@ -53,14 +54,14 @@ abbrev pub IsSmall : ℕ → ℕ → Numbered → Type 0
 IsSmall places block chapter = length chapter.records ≤ 170 * (block - 4 * (chapter.number % places))
 
 -- the index blocks before this one were read, once each and in rising order, and what they hold is kept
-pub record IsLoading (g : Geometry) (tells honest : Bool) (before now : Seen) (block : ℕ) (book : Book) : Type 0 where
+pub record IsLoading (g : Geometry) (trust : Trust) (before now : Seen) (block : ℕ) (book : Book) : Type 0 where
   pub reads : List (Option (List ℕ))
   pub count : length reads ≡ block
-  pub each : ReadEach tells honest (first_index_of g) before now reads
+  pub each : ReadEach trust (first_index_of g) before now reads
   pub loaded : IsLoadedBook g reads book
   pub few : (place : ℕ) → count_at (place_of_chapter book.places) place book.kept ≤ block - 4 * place
   pub small : All (IsSmall book.places block) book.kept
-  pub untouched : IsUntouched tells before now
+  pub untouched : IsUntouched trust.tells before now
 
 -- the first of these chapters, of which the newest stands first, that isn't newer than the number, stands here
 pub record IsPlaceAmong (number : ℕ) (kept : List Numbered) (place : ℕ) : Type 0 where

@@ -6,6 +6,7 @@ use Rattle.blk_base.specs.declared.place.Pbn.{Pbn}
 use Rattle.blk_base.specs.declared.geometry.Geometry.{Geometry}
 use Rattle.blk_base.specs.Regions.{first_index_of}
 use Rattle.disk_model.specs.Seen.{Seen}
+use Rattle.disk_model.specs.Trust.{Trust}
 use Rattle.disk_model.specs.Since.{WereRead, NextFailed}
 use Rattle.uds_chapters.specs.declared.entry.Record.{Record}
 use Rattle.uds_chapters.specs.Chapters.{Numbered, location_of}
@@ -73,12 +74,12 @@ pub record IsLoadedBook (g : Geometry) (reads : List (Option (List ℕ))) (book 
   pub due : book.due ≡ []
 
 -- one read of a block: it gave these bytes, or it failed
-abbrev pub ReadOne : Bool → Bool → ℕ → Seen → Seen → Option (List ℕ) → Type 0
-ReadOne tells honest at before now None = NextFailed tells honest at before now []
-ReadOne tells honest at before now (Some bytes) = WereRead tells honest at before now (bytes ∷ [])
+abbrev pub ReadOne : Trust → ℕ → Seen → Seen → Option (List ℕ) → Type 0
+ReadOne trust at before now None = NextFailed trust at before now []
+ReadOne trust at before now (Some bytes) = WereRead trust at before now (bytes ∷ [])
 
 -- one read of each block from this number on, in rising order, and nothing else
-abbrev pub ReadEach : Bool → Bool → ℕ → Seen → Seen → List (Option (List ℕ)) → Type 0
-ReadEach tells honest at before now [] = now ≡ before
-ReadEach tells honest at before now (read ∷ reads) =
-    (middle : Seen) × ReadOne tells honest at before middle read × ReadEach tells honest (suc at) middle now reads
+abbrev pub ReadEach : Trust → ℕ → Seen → Seen → List (Option (List ℕ)) → Type 0
+ReadEach trust at before now [] = now ≡ before
+ReadEach trust at before now (read ∷ reads) =
+    (middle : Seen) × ReadOne trust at before middle read × ReadEach trust (suc at) middle now reads

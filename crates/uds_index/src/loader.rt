@@ -44,14 +44,14 @@ impl Uds {
         requires room { needed_blocks geometry.now ≤ (D.seen device.old).size }
         ensures book { IfOk result (λ uds.
             (reads : List (Option (List ℕ))) × (length reads ≡ geometry.now.index)
-            × ReadEach D.tells D.honest (first_index_of geometry.now) (D.seen device.old)
+            × ReadEach D.trust (first_index_of geometry.now) (D.seen device.old)
             (D.seen device.new) reads
             × IsLoadedBook geometry.now reads uds.book) }
         ensures rests { IfOk result (λ uds.
             uds
             ≡ record { book = uds.book; cached = []; asked = None; given = []; unread = false }) }
         ensures err { OnErr result (D.seen device.new ≡ D.seen device.old) }
-        ensures untouched { IsUntouched D.tells (D.seen device.old) (D.seen device.new) }
+        ensures untouched { IsUntouched D.trust.tells (D.seen device.old) (D.seen device.new) }
     {
         let layout = Layout::of(geometry);
         let pages = NonZeroUsize::new(cache as usize).unwrap_or(NonZeroUsize::MIN);
@@ -73,11 +73,11 @@ fn load_volume<D: Disk>(
     requires room { needed_blocks layout.now.geometry ≤ (D.seen device.old).size }
     ensures book { IfOk result (λ book.
         (reads : List (Option (List ℕ))) × (length reads ≡ layout.now.geometry.index)
-        × ReadEach D.tells D.honest (first_index_of layout.now.geometry) (D.seen device.old)
+        × ReadEach D.trust (first_index_of layout.now.geometry) (D.seen device.old)
         (D.seen device.new) reads
         × IsLoadedBook layout.now.geometry reads book) }
     ensures err { OnErr result (D.seen device.new ≡ D.seen device.old) }
-    ensures untouched { IsUntouched D.tells (D.seen device.old) (D.seen device.new) }
+    ensures untouched { IsUntouched D.trust.tells (D.seen device.old) (D.seen device.new) }
 {
     let geometry = &layout.geometry;
     let first = layout.index_block(0);
@@ -95,10 +95,10 @@ fn load_page<D: Disk>(device: &mut D, layout: &Layout, number: u32) -> Option<Lo
     requires inside { number < layout.now.geometry.index }
     requires room { needed_blocks layout.now.geometry ≤ (D.seen device.old).size }
     ensures read { (read : Option (List ℕ))
-        × ReadOne D.tells D.honest (first_index_of layout.now.geometry + number) (D.seen device.old)
+        × ReadOne D.trust (first_index_of layout.now.geometry + number) (D.seen device.old)
         (D.seen device.new) read
         × IsPageRead layout.now.geometry number read (option_map loaded_page result) }
-    ensures untouched { IsUntouched D.tells (D.seen device.old) (D.seen device.new) }
+    ensures untouched { IsUntouched D.trust.tells (D.seen device.old) (D.seen device.new) }
 {
     match read_block(device, layout.index_block(number)) {
         Ok(block) => held_page(

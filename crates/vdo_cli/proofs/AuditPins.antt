@@ -9,6 +9,7 @@ use Rattle.blk_base.specs.Forms.{pbn as at}
 use Rattle.disk_model.specs.declared.call.Call.{Call}
 use Rattle.disk_model.specs.declared.call.Call.TheVariants.{Read, Write, Flush}
 use Rattle.disk_model.specs.Seen.{Seen}
+use Rattle.disk_model.specs.Trust.{trust_of}
 use Rattle.disk_model.specs.Since.{IsUntouched, OnlyReads}
 use Rattle.disk_model.proofs.StreamPins.{sink}
 use Rattle.image_layout.specs.declared.fault.SuperFault.TheVariants.{NotAnImage}
@@ -20,7 +21,7 @@ use Rattle.command_text.specs.Audits.{report_text}
 use Rattle.vdo_cli.specs.declared.fault.Fault.{Fault}
 use Rattle.vdo_cli.specs.declared.fault.Fault.TheVariants as fault
 use Rattle.vdo_cli.specs.Inspections.{Looks, TellsReport, told_as}
-use Rattle.vdo_cli.specs.Outsides.{Outside, no_report, outcome, outside, trust}
+use Rattle.vdo_cli.specs.Outsides.{Outside, no_report, outcome, outside}
 use Rattle.vdo_cli.specs.Results.{TellsResult}
 use Rattle.vdo_cli.specs.Texts.{fault_text}
 use Rattle.vdo_cli.proofs.CommandPins.{audit_words}
@@ -44,7 +45,7 @@ counter_is_told block point = refl
 
 -- what an audit does, and the two parts that it may end with
 abbrev Audits : Seen → Seen → Result Report ImageFault → Type 0
-Audits before after result = Looks (trust true false) (IsAudited true false before after) before after result
+Audits before after result = Looks (trust_of true false) (IsAudited (trust_of true false) before after) before after result
 
 parts : {before after : Outside} {status : ℕ} {report : RunReport} {ended : Option Fault} → Ends audit_words before after status report ended
     → Parts Audits (TellsReport true) told_as before after (outcome status report ended)
@@ -113,7 +114,7 @@ image-not_of_counts before after block stored mapped ends = elim (parts ends) [
 ]
   where
     of_counts : (why : ImageFault) → Some (fault.Image (image.Counts block stored mapped)) ≡ Some (told_as why)
-        → AuditFails true false before.device after.device why → ⊥
+        → AuditFails (trust_of true false) before.device after.device why → ⊥
     of_counts image.Device same cause = absurd cc
     of_counts image.Memory same cause = absurd cc
     of_counts (image.Super why) same cause = absurd cc
@@ -197,7 +198,7 @@ report-not_an_image_s_fault : (found : Report) (status : ℕ) (why : ImageFault)
 report-not_an_image_s_fault found status why held tells = tells.1
 
 -- Told. The image was audited, and its report was put
-module _ (before after : Seen) (found : Report) (audited : IsAudited true false before after found) (untouched : IsUntouched true before after) where
+module _ (before after : Seen) (found : Report) (audited : IsAudited (trust_of true false) before after found) (untouched : IsUntouched true before after) where
   told-clean : found.differs.items ≡ [] → Ends audit_words (outside before (source [] 0) (sink [] 0)) (outside after (source [] 0) (sink (report_text found) 0)) 0 no_report None
   told-clean none = record {
     result = Ok found;

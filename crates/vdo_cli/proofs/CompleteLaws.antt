@@ -123,9 +123,9 @@ served_low desk = elim (cases_Bool (some_full desk)) [ inl full ↦ rw full (ome
 -- The run.
 
 module _ (s : Setting) (before after : Outside) (outcome : Outcome) (blocks : Blocks) (sound : IsSound blocks)
-    (told : IsTold s.device.tells s.device.honest before.device blocks) (none : NoneRose before after) where
+    (told : IsTold s.device before.device blocks) (none : NoneRose before after) where
   -- it wasn't recovered: only memory can have run out
-  not_recovered : (why : ImageFault) → IsRecovery s.device.tells s.device.honest before.device after.device (Err why) → why ≡ image.Memory
+  not_recovered : (why : ImageFault) → IsRecovery s.device before.device after.device (Err why) → why ≡ image.Memory
   not_recovered (image.Super fault) is = absurd (never blocks sound (image.Super fault) (is.says blocks told) (λ same. absurd (cc same)) (λ same. absurd (cc same)) (λ same. absurd (cc same)))
   not_recovered (image.Window n) is = absurd (never blocks sound (image.Window n) (is.says blocks told).1 (λ same. absurd (cc same)) (λ same. absurd (cc same)) (λ same. absurd (cc same)))
   not_recovered (image.Page at fault) is = absurd (never blocks sound (image.Page at fault) (is.says blocks told).1 (λ same. absurd (cc same)) (λ same. absurd (cc same)) (λ same. absurd (cc same)))
@@ -138,8 +138,8 @@ module _ (s : Setting) (before after : Outside) (outcome : Outcome) (blocks : Bl
 
   -- nor was it opened
   module _ (recovered : Option ℕ) (why : ImageFault) (is : IsNotOpened s.device before.device after.device recovered why) where
-    left : IsLeft blocks sound s.device.tells s.device.honest is.middle
-    left = left_by s.device.tells s.device.honest before.device is.middle blocks sound is.found told is.recovery
+    left : IsLeft blocks sound s.device is.middle
+    left = left_by s.device before.device is.middle blocks sound is.found told is.recovery
 
     abbrev Refused : ImageFault → Type 0
     Refused fault = IsOpeningRefusal left.left is.middle after.device fault
@@ -281,7 +281,7 @@ module _ (s : Setting) (before after : Outside) (outcome : Outcome) (blocks : Bl
     -- the image that was opened is of the same sizes
     same_logical : (found : Recovered) (start : Opened) (now : Seen) → IsReady s.device before.device now found start → start.head.geometry.logical ≡ sound.head.geometry.logical
     same_logical found start now ready =
-        let left = left_by s.device.tells s.device.honest before.device ready.middle blocks sound found told ready.recovery in
+        let left = left_by s.device before.device ready.middle blocks sound found told ready.recovery in
         ap (λ (h : Super). h.geometry.logical) (sym (head_of_sound left.left left.is_sound start (ready.opening.says left.left left.is_told)))
         ∙ ap (λ (g : Geometry). g.logical) left.geometry
 
@@ -307,14 +307,14 @@ module _ (s : Setting) (before after : Outside) (outcome : Outcome) (blocks : Bl
     seeded_complete ends = seeded_by outcome.fault refl ends.ends
 
 pub run_complete : (s : Setting) (words : List (List ℕ)) (schedule : ℕ) (script : Script) (before after : Outside) (outcome : Outcome) (blocks : Blocks) → IsSound blocks
-    → IsTold s.device.tells s.device.honest before.device blocks → IsTrue s.source_tells → served_of words ≡ Some (served.Script schedule) → whole_script before.source.left ≡ Ok script
+    → IsTold s.device before.device blocks → IsTrue s.source_tells → served_of words ≡ Some (served.Script schedule) → whole_script before.source.left ≡ Ok script
     → NoneRose before after → EndsSo s words before after outcome → IsComplete script outcome
 run_complete s words schedule script before after outcome blocks sound told tells asked valid none ends =
     script_complete s before after outcome blocks sound told none schedule script tells valid
     (subst (λ (what : Option Served). EndsAs s what before after outcome) asked ends)
 
 pub workload_complete : (s : Setting) (words : List (List ℕ)) (options : WorkloadOptions) (before after : Outside) (outcome : Outcome) (blocks : Blocks) (sound : IsSound blocks)
-    → IsTold s.device.tells s.device.honest before.device blocks → served_of words ≡ Some (served.Workload options)
+    → IsTold s.device before.device blocks → served_of words ≡ Some (served.Workload options)
     → NoneRose before after → EndsSo s words before after outcome → IsComplete (requests_for options sound.head.geometry.logical) outcome
 workload_complete s words options before after outcome blocks sound told asked none ends =
     seeded_complete s before after outcome blocks sound told none options

@@ -6,6 +6,7 @@ use Rattle.crash_images.specs.Shows.{IsPickRefused, PickFails, ShowsNothing}
 use Rattle.disk_model.specs.Log.{Blocks}
 use Rattle.disk_model.specs.Memory.{Memory, fresh, seen_of}
 use Rattle.disk_model.specs.Seen.{Seen, Stays}
+use Rattle.disk_model.specs.Trust.{trust_of}
 use Rattle.image_model.proofs.FaultLaws.{no_fault}
 use Rattle.image_model.specs.Faults.{IsImageFault}
 use Rattle.image_model.specs.Sound.{IsSound}
@@ -39,11 +40,11 @@ OfNoImage why = (why ≡ image.Device) ⊎ (why ≡ image.Memory)
 of_image : (blocks : Blocks) (sound : IsSound blocks) (why : ImageFault) → (why ≡ image.Unclean → ⊥) → IsImageFault blocks why → OfNoImage why
 of_image blocks sound why other fault = elim (no_fault blocks sound why fault) [ inl same ↦ inl same | inr (inl same) ↦ absurd (other same) | inr (inr same) ↦ inr same ]
 
-module _ (picked : Blocks) (own : IsSound picked) (told : IsTold true true (seen_of (fresh picked)) picked) where
+module _ (picked : Blocks) (own : IsSound picked) (told : IsTold (trust_of true true) (seen_of (fresh picked)) picked) where
   abbrev made : Seen
   made = seen_of (fresh picked)
 
-  not_recovered : (now : Seen) (why : ImageFault) → IsRecovery true true made now (Err why) → OfNoImage why
+  not_recovered : (now : Seen) (why : ImageFault) → IsRecovery (trust_of true true) made now (Err why) → OfNoImage why
   not_recovered now (image.Super fault) is = of_image picked own (image.Super fault) (λ same. absurd (cc same)) (is.says picked told)
   not_recovered now (image.Window n) is = of_image picked own (image.Window n) (λ same. absurd (cc same)) (is.says picked told).1
   not_recovered now (image.Page at fault) is = of_image picked own (image.Page at fault) (λ same. absurd (cc same)) (is.says picked told).1
@@ -57,19 +58,19 @@ module _ (picked : Blocks) (own : IsSound picked) (told : IsTold true true (seen
   same_size : (middle : Seen) → Stays made middle → length middle.opening ≡ middle.size
   same_size middle stays = ap (λ (blocks : Blocks). length blocks) stays.opening ∙ sym stays.size
 
-  shows_nothing : (now : Seen) (why : ImageFault) → ShowsNothing true true made now why → OfNoImage why
+  shows_nothing : (now : Seen) (why : ImageFault) → ShowsNothing (trust_of true true) made now why → OfNoImage why
   shows_nothing now why (inl recovery) = not_recovered now why recovery
   shows_nothing now why (inr (inl lacks)) =
       let after = left picked own told lacks.middle lacks.found lacks.recovery in
-      audit_refused true true lacks.middle after.left after.is_told after.is_sound now why (same_size lacks.middle lacks.recovery.stays) lacks.cause
+      audit_refused (trust_of true true) lacks.middle after.left after.is_told after.is_sound now why (same_size lacks.middle lacks.recovery.stays) lacks.cause
   shows_nothing now why (inr (inr lacks)) =
       let after = left picked own told lacks.middle lacks.found lacks.recovery in
-      values_refused true true lacks.middle lacks.behind now after.left lacks.report why after.is_told (same_size lacks.middle lacks.recovery.stays) lacks.audited lacks.untouched lacks.cause
+      values_refused (trust_of true true) lacks.middle lacks.behind now after.left lacks.report why after.is_told (same_size lacks.middle lacks.recovery.stays) lacks.audited lacks.untouched lacks.cause
 
 -- The whole.
 
 module _ (s : Setting) (options : CrashOptions) (before after : Outside) (outcome : Outcome) (blocks : Blocks) (sound : IsSound blocks)
-    (told : IsTold s.device.tells s.device.honest before.device blocks) (late : HasSequencesLeft blocks sound) (none : NoneRose before after) where
+    (told : IsTold s.device before.device blocks) (late : HasSequencesLeft blocks sound) (none : NoneRose before after) where
   module _ (copy : Memory) (run : RunsOnCopy (input_setting_of s) options outcome.report (inputs_of before) (inputs_of after) copy) where
     refused_for : (why : ImageFault) → (why ≡ image.Device → ⊥) → IsPickRefused copy options.image why → why ≡ image.Memory
     refused_for why other refused =
@@ -159,7 +160,7 @@ module _ (s : Setting) (options : CrashOptions) (before after : Outside) (outcom
     ended_by None there not = not_run not
 
 pub crash_complete : (s : Setting) (words : List (List ℕ)) (options : CrashOptions) (script : Script) (before after : Outside) (outcome : Outcome) (blocks : Blocks) (sound : IsSound blocks)
-    → IsTold s.device.tells s.device.honest before.device blocks → HasSequencesLeft blocks sound → before.device.size ≤ 65536 → IsTrue s.source_tells
+    → IsTold s.device before.device blocks → HasSequencesLeft blocks sound → before.device.size ≤ 65536 → IsTrue s.source_tells
     → served_of words ≡ Some (served.Crash options) → whole_script before.source.left ≡ Ok script → NoneRose before after → EndsSo s words before after outcome → IsCrashComplete script outcome
 crash_complete s words options script before after outcome blocks sound told late few tells asked valid none ends =
     ended_by s options before after outcome blocks sound told late none script few tells valid outcome.copy refl

@@ -20,6 +20,7 @@ use Rattle.disk_model.specs.Log.{Blocks}
 use Rattle.disk_model.specs.Memory.{Memory, fresh, seen_of}
 use Rattle.disk_model.specs.Picks.{counted_log}
 use Rattle.disk_model.specs.Seen.{Seen}
+use Rattle.disk_model.specs.Trust.{trust_of}
 use Rattle.image_model.specs.Looked.{looked_in}
 use Rattle.image_model.specs.Sound.{IsSound}
 use Rattle.rebuild.specs.Recoveries.{IsRecovery, IsTold}
@@ -37,7 +38,7 @@ use Rattle.vdo_cli.proofs.RecoveredImages.{IsLeft, left_by, still_told, unready_
 -- The image that was picked.
 
 -- a stop of a run on a copy leaves sound images, of the sizes that there were
-module _ (first copy : Memory) (blocks : Blocks) (sound : IsSound blocks) (told : IsTold true true (seen_of first) blocks) (late : HasSequencesLeft blocks sound) (empty : first.log ≡ []) where
+module _ (first copy : Memory) (blocks : Blocks) (sound : IsSound blocks) (told : IsTold (trust_of true true) (seen_of first) blocks) (late : HasSequencesLeft blocks sound) (empty : first.log ≡ []) where
   abbrev IsOne : Blocks → Type 0
   IsOne picked = (own : IsSound picked) × (own.head.geometry ≡ sound.head.geometry)
 
@@ -76,18 +77,18 @@ same_map : {X Y : Type 0} (f g : X → Y) → ((x : X) → f x ≡ g x) → (xs 
 same_map f g same [] = refl
 same_map f g same (x ∷ xs) = ap₂ (λ y ys. y ∷ ys) (same x) (same_map f g same xs)
 
-module _ (picked : Blocks) (own : IsSound picked) (told : IsTold true true (seen_of (fresh picked)) picked) where
+module _ (picked : Blocks) (own : IsSound picked) (told : IsTold (trust_of true true) (seen_of (fresh picked)) picked) where
   abbrev made : Seen
   made = seen_of (fresh picked)
 
-  pub left : (middle : Seen) (found : Recovered) → IsRecovery true true made middle (Ok found) → IsLeft picked own true true middle
-  left middle found recovery = left_by true true made middle picked own found told recovery
+  pub left : (middle : Seen) (found : Recovered) → IsRecovery (trust_of true true) made middle (Ok found) → IsLeft picked own (trust_of true true) middle
+  left middle found recovery = left_by (trust_of true true) made middle picked own found told recovery
 
-  module _ (middle : Seen) (after : IsLeft picked own true true middle) where
+  module _ (middle : Seen) (after : IsLeft picked own (trust_of true true) middle) where
     -- values that were read of the image are its values
-    module _ (script : Script) (now : Seen) (there : IsTold true true now after.left) (values : List AddressValue) (are : AreValues true true script now values) where
+    module _ (script : Script) (now : Seen) (there : IsTold (trust_of true true) now after.left) (values : List AddressValue) (are : AreValues (trust_of true true) script now values) where
       right : AreAddresses script after.is_sound.head.geometry.logical (map address_of values) × (values ≡ map (value_in (image_in after.left after.is_sound)) (map address_of values))
-      right = sound_values true true script now after.left values there after.is_sound are
+      right = sound_values (trust_of true true) script now after.left values there after.is_sound are
 
       same_value : (at : Lba) → value_in (image_in after.left after.is_sound) at ≡ value_in (image_in picked own) at
       same_value at = ap (λ (block : List ℕ). record { at = at; block = block }) (after.values at.0)
@@ -98,12 +99,12 @@ module _ (picked : Blocks) (own : IsSound picked) (told : IsTold true true (seen
       pub values_right : values ≡ map (value_in (image_in picked own)) (map address_of values)
       values_right = right.1 ∙ same_map (value_in (image_in after.left after.is_sound)) (value_in (image_in picked own)) same_value (map address_of values)
 
-  pub shown_right : (script : Script) (shown : Shown) → IsShown true true script made shown
+  pub shown_right : (script : Script) (shown : Shown) → IsShown (trust_of true true) script made shown
       → (addresses : List Lba) × AreAddresses script own.head.geometry.logical addresses × (shown.values.items ≡ map (value_in (image_in picked own)) addresses) × (shown.audit.differs.items ≡ [])
   shown_right script shown is =
       let after = left is.middle shown.recovery is.recovery in
-      let none = no_difference true true is.middle after.left after.is_told after.is_sound is.behind shown.audit is.audited in
-      let there = still_told true true is.middle is.behind after.left after.is_told is.untouched in (
+      let none = no_difference (trust_of true true) is.middle after.left after.is_told after.is_sound is.behind shown.audit is.audited in
+      let there = still_told (trust_of true true) is.middle is.behind after.left after.is_told is.untouched in (
         map address_of shown.values.items,
         values_named is.middle after script is.behind there shown.values.items is.values,
         values_right is.middle after script is.behind there shown.values.items is.values,
@@ -113,7 +114,7 @@ module _ (picked : Blocks) (own : IsSound picked) (told : IsTold true true (seen
 -- The whole.
 
 -- a device that is made of a picked image has that one image
-pub picked_told : (copy : Memory) (number : ℕ) (picked : Blocks) → IsPickOf copy number picked → IsTold true true (seen_of (fresh picked)) picked
+pub picked_told : (copy : Memory) (number : ℕ) (picked : Blocks) → IsPickOf copy number picked → IsTold (trust_of true true) (seen_of (fresh picked)) picked
 picked_told copy number picked is = record {
   told = refl;
   fair = refl;
@@ -123,7 +124,7 @@ picked_told copy number picked is = record {
 }
 
 module _ (s : Setting) (options : CrashOptions) (before after : Outside) (outcome : Outcome) (copy : Memory) (blocks : Blocks) (sound : IsSound blocks)
-    (told : IsTold s.device.tells s.device.honest before.device blocks) (late : HasSequencesLeft blocks sound) (run : RunsOnCopy (input_setting_of s) options outcome.report (inputs_of before) (inputs_of after) copy) where
+    (told : IsTold s.device before.device blocks) (late : HasSequencesLeft blocks sound) (run : RunsOnCopy (input_setting_of s) options outcome.report (inputs_of before) (inputs_of after) copy) where
   abbrev first : Memory
   first = run.first
 
@@ -160,6 +161,6 @@ module _ (s : Setting) (options : CrashOptions) (before after : Outside) (outcom
       }
 
 pub crash_shows_sound : (s : Setting) (options : CrashOptions) (before after : Outside) (outcome : Outcome) (copy : Memory) (blocks : Blocks) (sound : IsSound blocks)
-    → IsTold s.device.tells s.device.honest before.device blocks → HasSequencesLeft blocks sound → (told : IsCrashTold s options before after outcome copy)
+    → IsTold s.device before.device blocks → HasSequencesLeft blocks sound → (told : IsCrashTold s options before after outcome copy)
     → ShowsSound sound.head.geometry outcome.report.requests copy told.shows.picked told.shown
 crash_shows_sound s options before after outcome copy blocks sound is late told = shows_sound s options before after outcome copy blocks sound is late told.run told.shown told.shows

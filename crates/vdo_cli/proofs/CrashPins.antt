@@ -6,6 +6,7 @@ use Rattle.crash_images.specs.Shows.{IsPickShown, PickFails}
 use Rattle.crash_images.specs.declared.shown.Shown.{Shown}
 use Rattle.disk_model.specs.Memory.{Memory}
 use Rattle.disk_model.specs.Seen.{Seen}
+use Rattle.disk_model.specs.Trust.{trust_of}
 use Rattle.disk_model.specs.Since.{IsUntouched}
 use Rattle.disk_model.proofs.StreamPins.{sink}
 use Rattle.image_layout.specs.declared.fault.LayoutFault.TheVariants.{TooLargeToCrash}
@@ -17,7 +18,7 @@ use Rattle.vdo_cli.specs.declared.fault.Fault.{Fault}
 use Rattle.vdo_cli.specs.declared.fault.Fault.TheVariants as fault
 use Rattle.vdo_cli.specs.declared.words.Served.TheVariants as served
 use Rattle.vdo_cli.specs.Crashes.{CopyFails, HasCopyOf, IsCrashComplete, IsOnDevice, RunsOnCopy, TellsAudit, not_shown_text, shown_text, unserved}
-use Rattle.vdo_cli.specs.Outsides.{Outside, input_setting_of, inputs, no_report, outcome, outcome_with, outside, trust}
+use Rattle.vdo_cli.specs.Outsides.{Outside, input_setting_of, inputs, no_report, outcome, outcome_with, outside}
 use Rattle.vdo_cli.specs.Runs.{EndsSo}
 use Rattle.vdo_cli.specs.Texts.{fault_status, fault_text}
 use Rattle.vdo_cli.proofs.CommandPins.{crash_of, crash_words}
@@ -55,10 +56,10 @@ not_run-not_another_status after ends =
     omega (arith, status)
 
 -- CopyFails: not of a device with few blocks, and of no fault of an image
-small-not_too_large : (before after : Seen) → before.size ≡ 65536 → CopyFails (trust true true) before after (fault.Layout (TooLargeToCrash 65536)) → ⊥
+small-not_too_large : (before after : Seen) → before.size ≡ 65536 → CopyFails (trust_of true true) before after (fault.Layout (TooLargeToCrash 65536)) → ⊥
 small-not_too_large before after size fails = let many = fails.1 in omega (arith, many, size)
 
-never_an_image : (before after : Seen) → CopyFails (trust true true) before after no_image → ⊥
+never_an_image : (before after : Seen) → CopyFails (trust_of true true) before after no_image → ⊥
 never_an_image before after fails = fails
 
 -- unserved: the requests, and nothing of them

@@ -14,6 +14,7 @@ use Rattle.disk_model.specs.declared.call.Call.{Call}
 use Rattle.disk_model.specs.declared.call.Call.TheVariants.{Write, Flush}
 use Rattle.disk_model.specs.Log.{Blocks}
 use Rattle.disk_model.specs.Seen.{Seen}
+use Rattle.disk_model.specs.Trust.{Trust, trust_of}
 use Rattle.data_vio.specs.declared.sizes.Sizes.{Sizes}
 use Rattle.core_model.specs.PageLinks.{opened_page}
 use Rattle.core_model.specs.Sessions.{Session}
@@ -43,7 +44,6 @@ use Rattle.vdo_model.specs.declared.report.RunReport.{RunReport}
 use Rattle.vdo_model.proofs.Example.{of_a}
 use Rattle.zone_counts.specs.Zone.{Zone as Counters}
 use Rattle.vdo_cli.specs.Openings.{IsReady}
-use Rattle.vdo_cli.specs.Outsides.{trust}
 use Rattle.vdo_cli.specs.Sessions.{HasStray, IsDriven, IsOver, IsReported, run_sizes, task}
 use Rattle.vdo_cli.specs.Stops.{Happens}
 use Rattle.vdo_cli.proofs.EmptyScript.{AreFirst, empty_driven, empty_happens, empty_report, empty_reported, still_report}
@@ -51,16 +51,16 @@ use Rattle.vdo_cli.proofs.PlayPins.{device}
 use Rattle.vdo_cli.proofs.SessionLaws.{answered, turns_call, turns_lead}
 
 -- Accepted: of an image that is ready and links no page, all three parts of the session of no request.
-module _ (schedule : ℕ) (found : Recovered) (start : Opened) (before opened : Seen) (ready : IsReady (trust true true) before opened found start)
+module _ (schedule : ℕ) (found : Recovered) (start : Opened) (before opened : Seen) (ready : IsReady (trust_of true true) before opened found start)
     (unlinked : (page : PageId) → opened_page start.pages.items page ≡ None) (counts : Counters) (first : AreFirst start counts) (named : start.head.geometry.nonce < 2 ^ 64) where
-  driven-empty : IsDriven (trust true true) schedule (task start no_requests) [] opened opened
-  driven-empty = empty_driven true true schedule found start before opened ready unlinked counts first
+  driven-empty : IsDriven (trust_of true true) schedule (task start no_requests) [] opened opened
+  driven-empty = empty_driven (trust_of true true) schedule found start before opened ready unlinked counts first
 
   reported-empty : IsReported start (still_report start) [] opened opened
-  reported-empty = empty_reported true true schedule found start before opened ready unlinked counts first
+  reported-empty = empty_reported (trust_of true true) schedule found start before opened ready unlinked counts first
 
   happens-empty : Happens [] (still_report start) before opened opened
-  happens-empty = empty_happens true true schedule found start before opened ready unlinked counts first named refl
+  happens-empty = empty_happens (trust_of true true) schedule found start before opened ready unlinked counts first named refl
 
 -- IsDriven. By schedule 7 over some image.
 abbrev session_over : Opened → Script → Session
@@ -87,20 +87,20 @@ begins_done : (s : Session) (zones : List Zone) → s.script ≡ no_requests →
 begins_done s [] none first = absurd (omega (arith, first.count))
 begins_done s (zone ∷ zones) none first = done_by s (zone ∷ zones) zone zone.keeps refl refl none (first.each 0 zone refl).own
 
-makes_nothing : (tells honest : Bool) (sizes : Sizes) (events : List Event) (old new : Driving) (made : Trace) → IsDone old.vdo.zones
-    → Drives tells honest sizes events old new made → made ≡ []
-makes_nothing tells honest sizes [] old new made done (same, nothing) = nothing
-makes_nothing tells honest sizes (e ∷ events) old new made done (between, early, late, undone, turn, one, rest, is) = absurd (undone done)
+makes_nothing : (trust : Trust) (sizes : Sizes) (events : List Event) (old new : Driving) (made : Trace) → IsDone old.vdo.zones
+    → Drives trust sizes events old new made → made ≡ []
+makes_nothing trust sizes [] old new made done (same, nothing) = nothing
+makes_nothing trust sizes (e ∷ events) old new made done (between, early, late, undone, turn, one, rest, is) = absurd (undone done)
 
-driven-empty_no_more : (start : Opened) (before after : Seen) → IsDriven (trust true false) 7 (task start no_requests) (Seals ∷ []) before after → ⊥
+driven-empty_no_more : (start : Opened) (before after : Seen) → IsDriven (trust_of true false) 7 (task start no_requests) (Seals ∷ []) before after → ⊥
 driven-empty_no_more start before after driven =
     let done = begins_done (session_over start no_requests) driven.first refl (driven.begins (session_over start no_requests) (is_over start no_requests)) in
     let old = driving 7 driven.first before in
     let new = driving driven.state driven.last after in
-    let nothing = makes_nothing true false (run_sizes start.head) driven.events old new (Seals ∷ []) done driven.drives in
+    let nothing = makes_nothing (trust_of true false) (run_sizes start.head) driven.events old new (Seals ∷ []) done driven.drives in
     absurd cc
 
-module _ (start : Opened) (script : Script) (trace : Trace) (before after : Seen) (driven : IsDriven (trust true false) 7 (task start script) trace before after) where
+module _ (start : Opened) (script : Script) (trace : Trace) (before after : Seen) (driven : IsDriven (trust_of true false) 7 (task start script) trace before after) where
   -- the first core is one of the session: it has zones
   driven-not_from_no_zone : driven.first ≡ [] → ⊥
   driven-not_from_no_zone none = let first = driven.begins (session_over start script) (is_over start script) in omega (arith, first.count, ap length none)
@@ -108,7 +108,7 @@ module _ (start : Opened) (script : Script) (trace : Trace) (before after : Seen
   -- the turns begin with the number of this schedule; without any the core stays as it is, and nothing happens; and a core
   -- that is done takes none
   abbrev Led : List Event → Type 0
-  Led events = Drives true false (run_sizes start.head) events (driving 7 driven.first before) (driving driven.state driven.last after) trace
+  Led events = Drives (trust_of true false) (run_sizes start.head) events (driving 7 driven.first before) (driving driven.state driven.last after) trace
 
   driven-not_by_schedule_8 : driven.events ≡ [] → driven.state ≡ 8 → ⊥
   driven-not_by_schedule_8 none is = let led : Led [] = subst Led none driven.drives in omega (arith, ap (λ (d : Driving). d.state) led.0, is)
@@ -128,16 +128,16 @@ module _ (start : Opened) (script : Script) (trace : Trace) (before after : Seen
 
   driven-not_without_an_answer : CanBegin (run_sizes start.head) script start → (w : Writer) → IsSome (request_at script w) → answer_of (lines trace) w ≡ None → ⊥
   driven-not_without_an_answer can w asked none =
-      let leads = turns_lead true false (run_sizes start.head) 7 driven.state driven.events driven.first driven.last before after trace driven.drives in
-      let called = turns_call true false (run_sizes start.head) 7 driven.state driven.events driven.first driven.last before after trace driven.drives in
-      let all = answered true false start script driven.first driven.last trace before after can driven.begins leads driven.done called in
+      let leads = turns_lead (trust_of true false) (run_sizes start.head) 7 driven.state driven.events driven.first driven.last before after trace driven.drives in
+      let called = turns_call (trust_of true false) (run_sizes start.head) 7 driven.state driven.events driven.first driven.last before after trace driven.drives in
+      let all = answered (trust_of true false) start script driven.first driven.last trace before after can driven.begins leads driven.done called in
       let has : IsSome (answer_of (lines trace) w) = all w asked in
       absurd (let unanswered = rw none at has in cc)
 
 -- the device has the calls that happened, and no other
-driven-not_called_besides : (start : Opened) (script : Script) (opening : Blocks) → IsDriven (trust true false) 7 (task start script) [] (device opening [] 0 0) (device opening (Flush true ∷ []) 0 0) → ⊥
+driven-not_called_besides : (start : Opened) (script : Script) (opening : Blocks) → IsDriven (trust_of true false) 7 (task start script) [] (device opening [] 0 0) (device opening (Flush true ∷ []) 0 0) → ⊥
 driven-not_called_besides start script opening driven =
-    let called = turns_call true false (run_sizes start.head) 7 driven.state driven.events driven.first driven.last (device opening [] 0 0) (device opening (Flush true ∷ []) 0 0) [] driven.drives in
+    let called = turns_call (trust_of true false) (run_sizes start.head) 7 driven.state driven.events driven.first driven.last (device opening [] 0 0) (device opening (Flush true ∷ []) 0 0) [] driven.drives in
     let size = ap length (called.log refl) in
     omega (arith, size)
 

@@ -19,6 +19,7 @@ use Rattle.core_model.specs.Sessions.{Session}
 use Rattle.core_model.specs.Start.{IsFirst, IsFirstData, IsFirstZone, first_log}
 use Rattle.core_model.specs.Steps.{rests}
 use Rattle.disk_model.specs.Seen.{Seen}
+use Rattle.disk_model.specs.Trust.{Trust}
 use Rattle.disk_model.specs.Streams.{SourceSeen}
 use Rattle.plain_laws.specs.Sums.{Each}
 use Rattle.rebuild.specs.declared.forms.Recovered.{Recovered}
@@ -40,7 +41,7 @@ use Rattle.vdo_cli.specs.Endings.{RunsSession}
 use Rattle.vdo_cli.specs.Openings.{IsReady}
 use Rattle.vdo_cli.specs.Sessions.{IsDriven, IsOver, IsReported, run_sizes, task}
 use Rattle.vdo_cli.specs.Stops.{Happens}
-use Rattle.vdo_cli.specs.Outsides.{input_setting, inputs, trust}
+use Rattle.vdo_cli.specs.Outsides.{input_setting, inputs}
 use Rattle.vdo_cli.proofs.BareTrees.{bare, bare_is}
 use Rattle.vdo_cli.proofs.ScriptLaws.{can_begin}
 use Rattle.vdo_cli.proofs.SessionLaws.{happens, plays, reported}
@@ -145,8 +146,8 @@ module _ (start : Opened) (script : Script) (counts : Counters) where
 pub first_done : (start : Opened) (counts : Counters) → IsDone (first_zones start no_requests counts)
 first_done start counts = record { zone = _; desk = _; had = refl; keeps = refl; full = refl }
 
-pub not_called : (tells honest : Bool) (seen : Seen) → HasCalled tells honest seen seen []
-not_called tells honest seen = record {
+pub not_called : (trust : Trust) (seen : Seen) → HasCalled trust seen seen []
+not_called trust seen = record {
   stays = record { opening = refl; size = refl };
   log = λ told. refl;
   given = λ told fair. tt;
@@ -160,7 +161,7 @@ no_request : (P : Request → Type 0) → AllByRecursion (AllByRecursion P) no_r
 no_request P = (tt, (tt, (tt, (tt, (tt, (tt, (tt, (tt, (tt, (tt, (tt, (tt, (tt, (tt, (tt, (tt, tt))))))))))))))))
 
 -- Over an image that is ready and links no page.
-module _ (tells honest : Bool) (schedule : ℕ) (found : Recovered) (start : Opened) (before opened : Seen) (ready : IsReady (trust tells honest) before opened found start)
+module _ (trust : Trust) (schedule : ℕ) (found : Recovered) (start : Opened) (before opened : Seen) (ready : IsReady trust before opened found start)
     (unlinked : (page : PageId) → opened_page start.pages.items page ≡ None) (counts : Counters) (first : AreFirst start counts) where
   pub can : CanBegin (run_sizes start.head) no_requests start
   can = can_begin _ start no_requests ready.opening.head ready.opening.fits (record { rows = refl; few = omega arith; writes = no_request IsServed })
@@ -172,7 +173,7 @@ module _ (tells honest : Bool) (schedule : ℕ) (found : Recovered) (start : Ope
   begins = first_begins start no_requests counts can.geometry unlinked first
 
   -- a core begins and is done, tells a report of no request, and calls no device
-  pub empty_driven : IsDriven (trust tells honest) schedule (task start no_requests) [] opened opened
+  pub empty_driven : IsDriven trust schedule (task start no_requests) [] opened opened
   empty_driven = record {
     first = zones;
     last = zones;
@@ -185,22 +186,22 @@ module _ (tells honest : Bool) (schedule : ℕ) (found : Recovered) (start : Ope
 
   pub empty_reported : IsReported start (still_report start) [] opened opened
   empty_reported =
-      reported tells honest start no_requests zones zones [] opened opened can
-      begins rests (first_done start counts) (not_called tells honest opened)
+      reported trust start no_requests zones zones [] opened opened can
+      begins rests (first_done start counts) (not_called trust opened)
 
   module _ (named : start.head.geometry.nonce < 2 ^ 64) where
-    pub empty_happens : IsTrue tells → Happens [] (still_report start) before opened opened
+    pub empty_happens : IsTrue trust.tells → Happens [] (still_report start) before opened opened
     empty_happens =
-        happens tells honest start no_requests zones zones [] opened opened can
-        begins rests (first_done start counts) (not_called tells honest opened) before found ready named
+        happens trust start no_requests zones zones [] opened opened can
+        begins rests (first_done start counts) (not_called trust opened) before found ready named
 
     pub empty_plays : (source_tells : Bool) (source rest : SourceSeen) → (IsTrue source_tells → whole_script source.left ≡ Ok no_requests) → (IsTrue source_tells → rest.left ≡ [])
-        → RunsSession (input_setting tells honest source_tells) schedule found (still_report start) (inputs before source) (inputs opened rest)
+        → RunsSession (input_setting trust source_tells) schedule found (still_report start) (inputs before source) (inputs opened rest)
     empty_plays source_tells source rest script_is whole = record {
       start = start;
       serves =
-          plays tells honest start no_requests zones zones [] opened opened can
-          begins rests (first_done start counts) (not_called tells honest opened) before found ready named schedule schedule []
+          plays trust start no_requests zones zones [] opened opened can
+          begins rests (first_done start counts) (not_called trust opened) before found ready named schedule schedule []
           (record { opening = refl; size = refl }) (refl, refl);
       script_is = script_is;
       to_its_end = whole;

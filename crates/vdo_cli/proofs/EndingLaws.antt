@@ -2,6 +2,7 @@
 use Rattle.std.proofs.Common.{ℕ, ◌≡◌, Bool, List, [], Option, Some, None, Result, Ok, Err, inl, inr}
 use Rattle.blk_base.specs.declared.geometry.Geometry.{Geometry}
 use Rattle.disk_model.specs.Seen.{Seen}
+use Rattle.disk_model.specs.Trust.{Trust}
 use Rattle.disk_model.specs.Streams.{Puts, SinkSeen}
 use Rattle.image_model.specs.declared.fault.ImageFault.{ImageFault}
 use Rattle.image_model.specs.declared.fault.ImageFault.TheVariants as image
@@ -13,7 +14,7 @@ use Rattle.vdo_cli.specs.declared.fault.Fault.TheVariants as fault
 use Rattle.vdo_cli.specs.Endings.{PlayFails}
 use Rattle.vdo_cli.specs.NewImages.{IsMade, IsMadeOrNot, IsNotMade}
 use Rattle.vdo_cli.specs.Inspections.{TellsReport, told_as}
-use Rattle.vdo_cli.specs.Outsides.{InputSetting, Inputs, Outcome, Outside, PutsOrFails, Setting, Tells, Trust, input_setting_of, inputs_of, outcome}
+use Rattle.vdo_cli.specs.Outsides.{InputSetting, Inputs, Outcome, Outside, PutsOrFails, Setting, Tells, input_setting_of, inputs_of, outcome}
 use Rattle.vdo_cli.specs.Runs.{NotBegun, PlayedOut, RunsScript}
 use Rattle.vdo_cli.specs.Workloads.{EndsWorkloadBy, WorkloadFails, WorkloadNotBegun, WorkloadServed}
 use Rattle.vdo_words.specs.declared.commands.WorkloadOptions.{WorkloadOptions}

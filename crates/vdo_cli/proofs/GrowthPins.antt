@@ -4,6 +4,7 @@ use Rattle.std.proofs.Common.{ℕ, ◌≡◌, ◌⊎◌, true, false, List, [], 
 use Rattle.blk_base.specs.Forms.{pbn as at}
 use Rattle.disk_model.specs.declared.call.Call.TheVariants.{Read, Flush}
 use Rattle.disk_model.specs.Seen.{Seen}
+use Rattle.disk_model.specs.Trust.{trust_of}
 use Rattle.disk_model.specs.Since.{IsUntouched}
 use Rattle.disk_model.proofs.StreamPins.{sink}
 use Rattle.image_layout.specs.declared.fault.Field.TheVariants.{Slabs}
@@ -45,7 +46,7 @@ told_mapped : grow_told_as (growth.Mapped (record { 0 = 5 })) ≡ fault.Grow (gr
 told_mapped = refl
 
 -- Image. There is none, nothing was done,
-refused : IsGrowing true false 2000 2 begins.device begins.device (Err (growth.Image (image.Super NotAnImage)))
+refused : IsGrowing (trust_of true false) 2000 2 begins.device begins.device (Err (growth.Image (image.Super NotAnImage)))
 refused = record {
   stays = pins.untouched.stays;
   later = pins.untouched.later;
@@ -60,20 +61,20 @@ refused = record {
 
 -- and the line says so
 image-refused : Ends grow_words begins (bare [] (7 ∷ []) (fault_text no_image) 0) 4 no_report (Some no_image)
-image-refused = pins.refused (IsGrowing true false 2000 2) grown_text grow_told_as begins.device (growth.Image (image.Super NotAnImage)) refused
+image-refused = pins.refused (IsGrowing (trust_of true false) 2000 2) grown_text grow_told_as begins.device (growth.Image (image.Super NotAnImage)) refused
 
 image-not_another_status : (after : Outside) → Ends grow_words begins after 0 no_report (Some no_image) → ⊥
-image-not_another_status = pins.refused-not_another_status (IsGrowing true false 2000 2) grown_text grow_told_as
+image-not_another_status = pins.refused-not_another_status (IsGrowing (trust_of true false) 2000 2) grown_text grow_told_as
 
 -- a refused image isn't written
 image-not_written : (held : List ℕ) → Ends grow_words begins (bare (Flush true ∷ []) (7 ∷ []) held 0) 4 no_report (Some no_image) → ⊥
-image-not_written = pins.refused-not_written (IsGrowing true false 2000 2) grown_text grow_told_as nothing
+image-not_written = pins.refused-not_written (IsGrowing (trust_of true false) 2000 2) grown_text grow_told_as nothing
   where
-    nothing : (why : GrowFault) → IsGrowing true false 2000 2 begins.device flushed (Err why) → (grow_told_as why ≡ fault.Device) ⊎ IsUntouched true begins.device flushed
+    nothing : (why : GrowFault) → IsGrowing (trust_of true false) 2000 2 begins.device flushed (Err why) → (grow_told_as why ≡ fault.Device) ⊎ IsUntouched true begins.device flushed
     nothing why is = elim is.nothing [ inl device ↦ inl (ap grow_told_as device) | inr reads ↦ inr reads ]
 
 -- Device. The last call failed,
-failed_so : IsGrowing true false 2000 2 begins.device failed (Err (growth.Image image.Device))
+failed_so : IsGrowing (trust_of true false) 2000 2 begins.device failed (Err (growth.Image image.Device))
 failed_so = record {
   stays = record { opening = refl; size = refl };
   later = record { faults = omega arith; unkept = omega arith };
@@ -88,34 +89,34 @@ failed_so = record {
 
 -- and the line says so
 device-failed : Ends grow_words begins (outside failed (source (7 ∷ []) 0) (sink (codes "device fault\n") 0)) 3 no_report (Some fault.Device)
-device-failed = pins.refused (IsGrowing true false 2000 2) grown_text grow_told_as failed (growth.Image image.Device) failed_so
+device-failed = pins.refused (IsGrowing (trust_of true false) 2000 2) grown_text grow_told_as failed (growth.Image image.Device) failed_so
 
 -- The script isn't looked at
 script-not_taken : (held : List ℕ) (status : ℕ) (report : RunReport) (ended : Option Fault) → Ends grow_words begins (bare [] [] held 0) status report ended → ⊥
-script-not_taken held status report ended = pins.not_taken (IsGrowing true false 2000 2) (TellsResult true (λ found. Tells true (grown_text found)) grow_told_as) held (outcome status report ended)
+script-not_taken held status report ended = pins.not_taken (IsGrowing (trust_of true false) 2000 2) (TellsResult true (λ found. Tells true (grown_text found)) grow_told_as) held (outcome status report ended)
 
 script-not_failed : (held : List ℕ) (status : ℕ) (report : RunReport) (ended : Option Fault)
     → Ends grow_words begins (outside begins.device (source (7 ∷ []) 1) (sink held 0)) status report ended → ⊥
-script-not_failed held status report ended = pins.not_source_failed (IsGrowing true false 2000 2) (TellsResult true (λ found. Tells true (grown_text found)) grow_told_as) held (outcome status report ended)
+script-not_failed held status report ended = pins.not_source_failed (IsGrowing (trust_of true false) 2000 2) (TellsResult true (λ found. Tells true (grown_text found)) grow_told_as) held (outcome status report ended)
 
 -- Told. The image has grown, and the line was put, with status 0;
-told-put : (before after : Seen) (found : Grown) → IsGrowing true false 2000 2 before after (Ok found)
+told-put : (before after : Seen) (found : Grown) → IsGrowing (trust_of true false) 2000 2 before after (Ok found)
     → Ends grow_words (outside before (source [] 0) (sink [] 0)) (outside after (source [] 0) (sink (grown_text found) 0)) 0 no_report None
-told-put = pins.put (IsGrowing true false 2000 2) grown_text grow_told_as
+told-put = pins.put (IsGrowing (trust_of true false) 2000 2) grown_text grow_told_as
 
 -- or a part of it, with 7
-told-part : (before after : Seen) (found : Grown) → IsGrowing true false 2000 2 before after (Ok found) → (n : ℕ)
+told-part : (before after : Seen) (found : Grown) → IsGrowing (trust_of true false) 2000 2 before after (Ok found) → (n : ℕ)
     → Ends grow_words (outside before (source [] 0) (sink [] 0)) (outside after (source [] 0) (sink (take n (grown_text found)) 1)) 7 no_report (Some fault.Sink)
-told-part = pins.put_part (IsGrowing true false 2000 2) grown_text grow_told_as
+told-part = pins.put_part (IsGrowing (trust_of true false) 2000 2) grown_text grow_told_as
 
 told-not_another_status : (before after : Outside) (report : RunReport) → Ends grow_words before after 4 report None → ⊥
-told-not_another_status = pins.put-not_another_status (IsGrowing true false 2000 2) grown_text grow_told_as 4 (omega arith)
+told-not_another_status = pins.put-not_another_status (IsGrowing (trust_of true false) 2000 2) grown_text grow_told_as 4 (omega arith)
 
 told-not_reported : (before after : Outside) → Ends grow_words before after 0 some_report None → ⊥
-told-not_reported = pins.not_reported (IsGrowing true false 2000 2) (λ found. Tells true (grown_text found)) grow_told_as
+told-not_reported = pins.not_reported (IsGrowing (trust_of true false) 2000 2) (λ found. Tells true (grown_text found)) grow_told_as
 
 told-not_silent : (before after : Seen) → Ends grow_words (outside before (source [] 0) (sink [] 0)) (outside after (source [] 0) (sink [] 0)) 0 no_report None → ⊥
-told-not_silent = pins.put-not_silent (IsGrowing true false 2000 2) grown_text grow_told_as some
+told-not_silent = pins.put-not_silent (IsGrowing (trust_of true false) 2000 2) grown_text grow_told_as some
   where
     some : (found : Grown) → [] ≡ grown_text found → ⊥
     some found put = let first : ◌≡◌ {A = ℕ} 0 103 = ap first_of put in omega (arith, first)

@@ -6,12 +6,12 @@ use Rattle.disk_model.specs.declared.call.Call.{Call}
 use Rattle.disk_model.specs.Images.{HasOneImage, IsImage}
 use Rattle.disk_model.specs.Log.{Blocks}
 use Rattle.disk_model.specs.Seen.{Seen}
+use Rattle.disk_model.specs.Trust.{trust_of}
 use Rattle.image_model.specs.Looked.{looked_in}
 use Rattle.image_model.specs.Sound.{IsSound}
 use Rattle.rebuild.specs.Recoveries.{IsTold}
 use Rattle.session_seams.specs.Sequences.{CanBegin, next_start}
 use Rattle.vdo_cli.specs.Onward.{IsJustMade, LeavesRunnable}
-use Rattle.vdo_cli.specs.Outsides.{trust}
 use Rattle.vdo_cli.proofs.NextRuns.{made_told}
 use Rattle.vdo_cli.proofs.PlayPins.{device}
 
@@ -29,22 +29,22 @@ module _ (image : Blocks) (can : CanBegin 5 image) where
   nothing_before [] (call ∷ prefix) same = absurd (cc same)
   nothing_before (call ∷ later) prefix same = absurd (cc same)
 
-  leaves-itself : LeavesRunnable (trust true true) 5 (device image [] 0 0) (device image [] 0 0)
+  leaves-itself : LeavesRunnable (trust_of true true) 5 (device image [] 0 0) (device image [] 0 0)
   leaves-itself later prefix parts stop is =
       let here : IsImage image [] stop = subst (λ (log : List Call). IsImage image (log ++ []) stop) (nothing_before later prefix parts) is in
       let one = one_image-opening image can.whole in
       let same : stop ≡ image = one_image-unique image [] image stop one here in
-      let told : IsTold true true (device image [] 0 0) image = record { told = refl; fair = refl; one = one_in-all (looked_in image) image [] image one } in (
+      let told : IsTold (trust_of true true) (device image [] 0 0) image = record { told = refl; fair = refl; one = one_in-all (looked_in image) image [] image one } in (
         subst (CanBegin 5) (sym same) can,
-        λ made just. made_told true true (device image [] 0 0) made image stop told (subst (λ (b : Blocks). HasOneImage b [] b) (sym same) one) just,
+        λ made just. made_told (trust_of true true) (device image [] 0 0) made image stop told (subst (λ (b : Blocks). HasOneImage b [] b) (sym same) one) just,
       )
 
 -- refused: a moment leaves an image that isn't sound, or on which fewer sequences are left
 module _ (before after : Seen) (later prefix : List Call) (stop : Blocks) (parts : after.log ≡ later ++ (prefix ++ before.log)) (is : IsImage before.opening (prefix ++ before.log) stop) where
-  leaves-not_unsound : LeavesRunnable (trust true true) 5 before after → (IsSound stop → ⊥) → ⊥
+  leaves-not_unsound : LeavesRunnable (trust_of true true) 5 before after → (IsSound stop → ⊥) → ⊥
   leaves-not_unsound leaves never = let next = leaves later prefix parts stop is in never next.0.sound
 
-  leaves-not_used_up : LeavesRunnable (trust true true) 5 before after → ((own : IsSound stop) → next_start stop own ≡ 2 ^ 54) → ⊥
+  leaves-not_used_up : LeavesRunnable (trust_of true true) 5 before after → ((own : IsSound stop) → next_start stop own ≡ 2 ^ 54) → ⊥
   leaves-not_used_up leaves used =
       let next = leaves later prefix parts stop is in
       let late = next.0.late in

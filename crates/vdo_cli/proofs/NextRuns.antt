@@ -5,6 +5,7 @@ use Rattle.disk_model.specs.declared.call.Call.{Call}
 use Rattle.disk_model.specs.Images.{HasOneImage}
 use Rattle.disk_model.specs.Log.{Blocks}
 use Rattle.disk_model.specs.Seen.{Seen}
+use Rattle.disk_model.specs.Trust.{Trust}
 use Rattle.disk_model.proofs.LookedLaws.{one_in-all}
 use Rattle.image_model.specs.Looked.{HasOneImageButIndex, looked_in}
 use Rattle.image_model.specs.Maps.{value_of}
@@ -27,9 +28,9 @@ use Rattle.vdo_cli.specs.Workloads.{EndsWorkload, EndsWorkloadBy}
 use Rattle.vdo_words.specs.declared.commands.WorkloadOptions.{WorkloadOptions}
 
 -- of a device that is made of an image nothing else is known
-pub made_told : (tells honest : Bool) (before made : Seen) (first image : Blocks) → IsTold tells honest before first → HasOneImage image [] image → IsJustMade image made
-    → IsTold tells honest made image
-made_told tells honest before made first image told one just = record {
+pub made_told : (trust : Trust) (before made : Seen) (first image : Blocks) → IsTold trust before first → HasOneImage image [] image → IsJustMade image made
+    → IsTold trust made image
+made_told trust before made first image told one just = record {
   told = told.told;
   fair = told.fair;
   one =
@@ -37,12 +38,12 @@ made_told tells honest before made first image told one just = record {
       (subst (λ (log : List Call). HasOneImageButIndex image log image) (sym just.1) (one_in-all (looked_in image) image [] image one));
 }
 
-module _ (s : Setting) (left : ℕ) (before after : Outside) (image : Blocks) (told : IsTold s.device.tells s.device.honest before.device image) (can : CanBegin (2 ^ 18 + left) image) where
+module _ (s : Setting) (left : ℕ) (before after : Outside) (image : Blocks) (told : IsTold s.device before.device image) (can : CanBegin (2 ^ 18 + left) image) where
   abbrev Leaves : Type 0
   Leaves = LeavesRunnable s.device left before.device after.device
 
-  to_next : (stop : Blocks) → HasOneImage stop [] stop × CanBegin left stop → CanBegin left stop × ((made : Seen) → IsJustMade stop made → IsTold s.device.tells s.device.honest made stop)
-  to_next stop next = (next.1, λ made just. made_told s.device.tells s.device.honest before.device made image stop told next.0 just)
+  to_next : (stop : Blocks) → HasOneImage stop [] stop × CanBegin left stop → CanBegin left stop × ((made : Seen) → IsJustMade stop made → IsTold s.device made stop)
+  to_next stop next = (next.1, λ made just. made_told s.device before.device made image stop told next.0 just)
 
   -- where no session was begun
   kept_leaves : KeepsImage s.device before.device after.device → Leaves

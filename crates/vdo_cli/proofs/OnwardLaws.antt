@@ -4,6 +4,7 @@ use Rattle.blk_base.specs.declared.geometry.Geometry.{Geometry}
 use Rattle.blk_base.specs.declared.opened.Opened.{Opened}
 use Rattle.disk_model.specs.declared.call.Call.{Call}
 use Rattle.disk_model.specs.Seen.{Seen}
+use Rattle.disk_model.specs.Trust.{Trust}
 use Rattle.disk_model.specs.Since.{IsUntouched}
 use Rattle.disk_model.proofs.SeenLaws.{stays_on}
 use Rattle.core_model.specs.Trace.{calls}
@@ -18,7 +19,7 @@ use Rattle.vdo_cli.specs.declared.words.Served.TheVariants as served
 use Rattle.vdo_cli.specs.Commands.{served_of}
 use Rattle.vdo_cli.specs.NewImages.{MakesImage}
 use Rattle.vdo_cli.specs.Openings.{IsUnready}
-use Rattle.vdo_cli.specs.Outsides.{Outcome, Outside, Setting, Trust}
+use Rattle.vdo_cli.specs.Outsides.{Outcome, Outside, Setting}
 use Rattle.vdo_cli.specs.Runs.{EndsAs, EndsSo, NotBegun, PlayedOut, RunsScriptBy}
 use Rattle.vdo_cli.specs.Endings.{ServesRequests}
 use Rattle.vdo_cli.specs.Workloads.{EndsWorkloadBy, WorkloadNotBegun, WorkloadServed}
@@ -38,19 +39,19 @@ goes_on tells first middle last old new = record {
       (newer.0 ++ older.0, newer.1 ∙ ap (λ (log : List Call). newer.0 ++ log) older.1 ∙ sym (append_assoc newer.0 older.0 first.log));
 }
 
-recovered : (tells honest : Bool) (before middle after : Seen) (result : Result Recovered ImageFault) → IsRecovery tells honest before middle result → IsUntouched tells middle after → GoesOn tells before after
-recovered tells honest before middle after result recovery reads =
-    goes_on tells before middle after (record { stays = recovery.stays; calls = recovery.grows }) (untouched tells middle after reads)
+recovered : (trust : Trust) (before middle after : Seen) (result : Result Recovered ImageFault) → IsRecovery trust before middle result → IsUntouched trust.tells middle after → GoesOn trust.tells before after
+recovered trust before middle after result recovery reads =
+    goes_on trust.tells before middle after (record { stays = recovery.stays; calls = recovery.grows }) (untouched trust.tells middle after reads)
 
 pub not_ready : (trust : Trust) (before after : Seen) (recovered_so : Option ℕ) (why : ImageFault) → IsUnready trust before after recovered_so why → GoesOn trust.tells before after
 not_ready trust before after recovered_so why (inl is) = record { stays = is.recovery.stays; calls = is.recovery.grows }
-not_ready trust before after recovered_so why (inr is) = recovered trust.tells trust.honest before is.middle after (Ok is.found) is.recovery is.opening.untouched
+not_ready trust before after recovered_so why (inr is) = recovered trust before is.middle after (Ok is.found) is.recovery is.opening.untouched
 
 not_begun : (s : Setting) (before after : Outside) (ends : Outcome) (why : Fault)
     → NotBegun s before after ends why → GoesOn s.device.tells before.device after.device
 not_begun s before after ends why fails = elim fails.cause [
   | inl on_image ↦ not_ready s.device before.device after.device fails.recovered on_image.fails.cause on_image.fails.unready
-  | inr on_script ↦ recovered s.device.tells s.device.honest before.device on_script.ready.middle after.device (Ok on_script.found) on_script.ready.recovery on_script.ready.opening.untouched
+  | inr on_script ↦ recovered s.device before.device on_script.ready.middle after.device (Ok on_script.found) on_script.ready.recovery on_script.ready.opening.untouched
 ]
 
 serves_on : (trust : Trust) (schedule : ℕ) (found : Recovered) (start : Opened) (report : RunReport) (before after : Seen)
@@ -83,7 +84,7 @@ not_worked : (s : Setting) (before after : Outside) (ends : Outcome) (why : Faul
     → WorkloadNotBegun s before after ends why → GoesOn s.device.tells before.device after.device
 not_worked s before after ends why fails = elim fails.cause [
   | inl unready ↦ not_ready s.device before.device after.device fails.recovered unready.cause unready.unready
-  | inr lacks ↦ recovered s.device.tells s.device.honest before.device lacks.ready.middle after.device (Ok lacks.found) lacks.ready.recovery lacks.ready.opening.untouched
+  | inr lacks ↦ recovered s.device before.device lacks.ready.middle after.device (Ok lacks.found) lacks.ready.recovery lacks.ready.opening.untouched
 ]
 
 workload_goes_on : (ended : Option Fault) (s : Setting) (options : WorkloadOptions) (before after : Outside) (ends : Outcome)

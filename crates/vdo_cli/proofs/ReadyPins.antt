@@ -6,6 +6,7 @@ use Rattle.disk_model.specs.declared.call.Call.{Call}
 use Rattle.disk_model.specs.Images.{IsImage}
 use Rattle.disk_model.specs.Log.{Blocks}
 use Rattle.disk_model.specs.Seen.{Seen}
+use Rattle.disk_model.specs.Trust.{trust_of}
 use Rattle.disk_model.specs.Streams.{SourceSeen}
 use Rattle.image_layout.specs.declared.fault.SuperFault.TheVariants.{NotAnImage, Version}
 use Rattle.image_model.specs.declared.fault.ImageFault.{ImageFault}
@@ -23,7 +24,7 @@ use Rattle.vdo_cli.specs.declared.fault.Fault.TheVariants as fault
 use Rattle.vdo_cli.specs.Endings.{KeepsImage, PlayFails}
 use Rattle.vdo_cli.specs.Inspections.{told_as}
 use Rattle.vdo_cli.specs.Openings.{IsReady, IsUnready, recovered_of}
-use Rattle.vdo_cli.specs.Outsides.{Outside, input_setting, inputs, no_report, outcome, setting, trust}
+use Rattle.vdo_cli.specs.Outsides.{Outside, input_setting, inputs, no_report, outcome, setting}
 use Rattle.vdo_cli.specs.Runs.{EndsSo}
 use Rattle.vdo_cli.specs.Texts.{fault_text, refusal_text}
 use Rattle.vdo_cli.proofs.CommandPins.{run_words}
@@ -34,7 +35,7 @@ use Rattle.vdo_cli.proofs.RunPins.{Ends, some_report}
 
 -- a device that tells, and a source that does, with these bytes left
 abbrev Fails : Seen → Seen → List ℕ → List ℕ → Option ℕ → Fault → Type 0
-Fails before after left rest recovered why = PlayFails (input_setting true false true) (inputs before (source left 0)) (inputs after (source rest 0)) recovered why
+Fails before after left rest recovered why = PlayFails (input_setting (trust_of true false) true) (inputs before (source left 0)) (inputs after (source rest 0)) recovered why
 
 -- Not recovered: a device without blocks has no image, and nothing was done; or a read failed
 image-refused : (left : List ℕ) → Fails begins.device begins.device left left None no_image
@@ -50,7 +51,7 @@ device-failed left = inl (record {
 })
 
 -- a device without blocks has nothing that was recovered or is ready
-no_room : (after : Seen) (found : Recovered) → IsRecovery true false begins.device after (Ok found) → ⊥
+no_room : (after : Seen) (found : Recovered) → IsRecovery (trust_of true false) begins.device after (Ok found) → ⊥
 no_room after Clean recovery = let room = recovery.answers.1.is.room in omega (arith, room)
 no_room after (Entries count) recovery = let room = recovery.answers.2.is.room in omega (arith, room)
 
@@ -58,7 +59,7 @@ no_room after (Entries count) recovery = let room = recovery.answers.2.is.room i
 image-not_another : (left : List ℕ) (version : ℕ) → Fails begins.device begins.device left left None (fault.Image (image.Super (Version version))) → ⊥
 image-not_another left version (inl fails) = of_cause fails.fails.cause fails.fails.fault_is fails.fails.unready
   where
-    of_cause : (cause : ImageFault) → fault.Image (image.Super (Version version)) ≡ told_as cause → IsUnready (trust true false) begins.device begins.device None cause → ⊥
+    of_cause : (cause : ImageFault) → fault.Image (image.Super (Version version)) ≡ told_as cause → IsUnready (trust_of true false) begins.device begins.device None cause → ⊥
     of_cause image.Device is unready = absurd (cc is)
     of_cause image.Memory is unready = absurd (cc is)
     of_cause image.Unclean is unready = absurd (cc is)
@@ -89,11 +90,11 @@ image-not_script_read byte (inl fails) = let same = ap (λ (s : SourceSeen). len
 image-not_script_read byte (inr fails) = no_room fails.ready.middle fails.found fails.ready.recovery
 
 -- Recovered, or with nothing to recover, and opened: this line of the script is the first with a fault, or the source failed
-module _ (before after : Seen) (found : Recovered) (start : Opened) (ready : IsReady (trust true false) before after found start) where
+module _ (before after : Seen) (found : Recovered) (start : Opened) (ready : IsReady (trust_of true false) before after found start) where
   script-refused : (left : List ℕ) (refusal : ScriptFault) → whole_script left ≡ Err refusal → Fails before after left [] (recovered_of found) (fault.Script refusal)
   script-refused left refusal says = inr (record { found = found; recovered_is = refl; start = start; ready = ready; cause = λ told. says })
 
-  read-failed : (left : List ℕ) → PlayFails (input_setting true false true) (inputs before (source left 0)) (inputs after (source left 1)) (recovered_of found) fault.Read
+  read-failed : (left : List ℕ) → PlayFails (input_setting (trust_of true false) true) (inputs before (source left 0)) (inputs after (source left 1)) (recovered_of found) fault.Read
   read-failed left = inr (record { found = found; recovered_is = refl; start = start; ready = ready; cause = omega arith })
 
   memory-free : (left : List ℕ) → Fails before after left [] (recovered_of found) fault.Memory
@@ -173,13 +174,13 @@ image-takes_nothing : (before after : Outside) (status : ℕ) (report : RunRepor
 image-takes_nothing before after status report why ends = elim ends.cause [ inl on_image ↦ on_image.unread | inr on_script ↦ absurd on_script.cause ]
 
 -- Whatever a stop leaves of a sound image is sound, where no session was begun either: not where a moment leaves an image that isn't.
-not_begun-not_unsound : (before after : Outside) (status : ℕ) (report : RunReport) (why : ImageFault) (blocks : Blocks) (other : Blocks) → IsTold true true before.device blocks → IsSound blocks
-    → EndsSo (setting true true true true) run_words before after (outcome status report (Some (fault.Image why))) → IsImage before.device.opening after.device.log other → (IsSound other → ⊥) → ⊥
+not_begun-not_unsound : (before after : Outside) (status : ℕ) (report : RunReport) (why : ImageFault) (blocks : Blocks) (other : Blocks) → IsTold (trust_of true true) before.device blocks → IsSound blocks
+    → EndsSo (setting (trust_of true true) true true) run_words before after (outcome status report (Some (fault.Image why))) → IsImage before.device.opening after.device.log other → (IsSound other → ⊥) → ⊥
 not_begun-not_unsound before after status report why blocks other told sound ends is_image never =
     let kept = ends.early blocks told sound in
     let shown = kept.2 [] kept.0 refl other (subst (λ (log : List Call). IsImage before.device.opening log other) kept.1 is_image) in
     never shown.1.sound
 
 -- A device that doesn't tell says nothing of stops, and neither does one whose image isn't sound.
-keeps-untold : (before after : Seen) → KeepsImage (trust false true) before after
+keeps-untold : (before after : Seen) → KeepsImage (trust_of false true) before after
 keeps-untold before after image told sound = let tells = told.told in absurd (cc tells)

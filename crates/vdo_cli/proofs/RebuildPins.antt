@@ -4,6 +4,7 @@ use Rattle.std.proofs.Common.{ℕ, ◌≡◌, ◌⊎◌, true, false, List, [], 
 use Rattle.blk_base.specs.Forms.{pbn as at}
 use Rattle.disk_model.specs.declared.call.Call.TheVariants.{Read, Flush}
 use Rattle.disk_model.specs.Seen.{Seen}
+use Rattle.disk_model.specs.Trust.{trust_of}
 use Rattle.disk_model.specs.Since.{IsUntouched}
 use Rattle.disk_model.proofs.StreamPins.{sink}
 use Rattle.image_layout.specs.declared.fault.SuperFault.TheVariants.{NotAnImage}
@@ -27,7 +28,7 @@ use Rattle.vdo_cli.proofs.ResultPins.{failed, flushed, went_on}
 use Rattle.vdo_cli.proofs.RunPins.{Ends, some_report}
 
 -- Image. There is none, nothing was done,
-refused : IsForcing true false begins.device begins.device (Err (image.Super NotAnImage))
+refused : IsForcing (trust_of true false) begins.device begins.device (Err (image.Super NotAnImage))
 refused = record {
   stays = pins.untouched.stays;
   later = pins.untouched.later;
@@ -42,20 +43,20 @@ refused = record {
 
 -- and the line says so
 image-refused : Ends rebuild_words begins (bare [] (7 ∷ []) (fault_text no_image) 0) 4 no_report (Some no_image)
-image-refused = pins.refused (IsForcing true false) rebuilt_text told_as begins.device (image.Super NotAnImage) refused
+image-refused = pins.refused (IsForcing (trust_of true false)) rebuilt_text told_as begins.device (image.Super NotAnImage) refused
 
 image-not_another_status : (after : Outside) → Ends rebuild_words begins after 0 no_report (Some no_image) → ⊥
-image-not_another_status = pins.refused-not_another_status (IsForcing true false) rebuilt_text told_as
+image-not_another_status = pins.refused-not_another_status (IsForcing (trust_of true false)) rebuilt_text told_as
 
 -- a refused image isn't written
 image-not_written : (held : List ℕ) → Ends rebuild_words begins (bare (Flush true ∷ []) (7 ∷ []) held 0) 4 no_report (Some no_image) → ⊥
-image-not_written = pins.refused-not_written (IsForcing true false) rebuilt_text told_as nothing
+image-not_written = pins.refused-not_written (IsForcing (trust_of true false)) rebuilt_text told_as nothing
   where
-    nothing : (why : ImageFault) → IsForcing true false begins.device flushed (Err why) → (told_as why ≡ fault.Device) ⊎ IsUntouched true begins.device flushed
+    nothing : (why : ImageFault) → IsForcing (trust_of true false) begins.device flushed (Err why) → (told_as why ≡ fault.Device) ⊎ IsUntouched true begins.device flushed
     nothing why is = elim is.nothing [ inl device ↦ inl (ap told_as device) | inr reads ↦ inr reads ]
 
 -- Device. The last call failed,
-failed_so : IsForcing true false begins.device failed (Err image.Device)
+failed_so : IsForcing (trust_of true false) begins.device failed (Err image.Device)
 failed_so = record {
   stays = record { opening = refl; size = refl };
   later = record { faults = omega arith; unkept = omega arith };
@@ -70,41 +71,41 @@ failed_so = record {
 
 -- and the line says so;
 device-failed : Ends rebuild_words begins (outside failed (source (7 ∷ []) 0) (sink (codes "device fault\n") 0)) 3 no_report (Some fault.Device)
-device-failed = pins.refused (IsForcing true false) rebuilt_text told_as failed image.Device failed_so
+device-failed = pins.refused (IsForcing (trust_of true false)) rebuilt_text told_as failed image.Device failed_so
 
 -- and none was made after it
 device-not_last : (held : List ℕ) → Ends rebuild_words begins (outside went_on (source (7 ∷ []) 0) (sink held 0)) 3 no_report (Some fault.Device) → ⊥
-device-not_last = pins.failed-not_last (IsForcing true false) rebuilt_text none
+device-not_last = pins.failed-not_last (IsForcing (trust_of true false)) rebuilt_text none
   where
-    none : IsForcing true false begins.device went_on (Err image.Device) → ⊥
-    none is = let last = (force_last true false begins.device went_on is.fails).logged refl in pins.not_last last.0 last.1 last.2 last.3
+    none : IsForcing (trust_of true false) begins.device went_on (Err image.Device) → ⊥
+    none is = let last = (force_last (trust_of true false) begins.device went_on is.fails).logged refl in pins.not_last last.0 last.1 last.2 last.3
 
 -- The script isn't looked at
 script-not_taken : (held : List ℕ) (status : ℕ) (report : RunReport) (ended : Option Fault) → Ends rebuild_words begins (bare [] [] held 0) status report ended → ⊥
-script-not_taken held status report ended = pins.not_taken (IsForcing true false) (TellsResult true (λ found. Tells true (rebuilt_text found)) told_as) held (outcome status report ended)
+script-not_taken held status report ended = pins.not_taken (IsForcing (trust_of true false)) (TellsResult true (λ found. Tells true (rebuilt_text found)) told_as) held (outcome status report ended)
 
 script-not_failed : (held : List ℕ) (status : ℕ) (report : RunReport) (ended : Option Fault)
     → Ends rebuild_words begins (outside begins.device (source (7 ∷ []) 1) (sink held 0)) status report ended → ⊥
-script-not_failed held status report ended = pins.not_source_failed (IsForcing true false) (TellsResult true (λ found. Tells true (rebuilt_text found)) told_as) held (outcome status report ended)
+script-not_failed held status report ended = pins.not_source_failed (IsForcing (trust_of true false)) (TellsResult true (λ found. Tells true (rebuilt_text found)) told_as) held (outcome status report ended)
 
 -- Told. The image was rebuilt, and the line was put, with status 0;
-told-put : (before after : Seen) (found : Forced) → IsForcing true false before after (Ok found)
+told-put : (before after : Seen) (found : Forced) → IsForcing (trust_of true false) before after (Ok found)
     → Ends rebuild_words (outside before (source [] 0) (sink [] 0)) (outside after (source [] 0) (sink (rebuilt_text found) 0)) 0 no_report None
-told-put = pins.put (IsForcing true false) rebuilt_text told_as
+told-put = pins.put (IsForcing (trust_of true false)) rebuilt_text told_as
 
 -- or a part of it, with 7
-told-part : (before after : Seen) (found : Forced) → IsForcing true false before after (Ok found) → (n : ℕ)
+told-part : (before after : Seen) (found : Forced) → IsForcing (trust_of true false) before after (Ok found) → (n : ℕ)
     → Ends rebuild_words (outside before (source [] 0) (sink [] 0)) (outside after (source [] 0) (sink (take n (rebuilt_text found)) 1)) 7 no_report (Some fault.Sink)
-told-part = pins.put_part (IsForcing true false) rebuilt_text told_as
+told-part = pins.put_part (IsForcing (trust_of true false)) rebuilt_text told_as
 
 told-not_another_status : (before after : Outside) (report : RunReport) → Ends rebuild_words before after 4 report None → ⊥
-told-not_another_status = pins.put-not_another_status (IsForcing true false) rebuilt_text told_as 4 (omega arith)
+told-not_another_status = pins.put-not_another_status (IsForcing (trust_of true false)) rebuilt_text told_as 4 (omega arith)
 
 told-not_reported : (before after : Outside) → Ends rebuild_words before after 0 some_report None → ⊥
-told-not_reported = pins.not_reported (IsForcing true false) (λ found. Tells true (rebuilt_text found)) told_as
+told-not_reported = pins.not_reported (IsForcing (trust_of true false)) (λ found. Tells true (rebuilt_text found)) told_as
 
 told-not_silent : (before after : Seen) → Ends rebuild_words (outside before (source [] 0) (sink [] 0)) (outside after (source [] 0) (sink [] 0)) 0 no_report None → ⊥
-told-not_silent = pins.put-not_silent (IsForcing true false) rebuilt_text told_as some
+told-not_silent = pins.put-not_silent (IsForcing (trust_of true false)) rebuilt_text told_as some
   where
     some : (found : Forced) → [] ≡ rebuilt_text found → ⊥
     some found put = let first : ◌≡◌ {A = ℕ} 0 114 = ap first_of put in omega (arith, first)

@@ -5,6 +5,7 @@ use Rattle.blk_base.specs.declared.geometry.Super.{Super}
 use Rattle.blk_base.specs.declared.opened.Opened.{Opened}
 use Rattle.disk_model.specs.Log.{Blocks}
 use Rattle.disk_model.specs.Seen.{Seen}
+use Rattle.disk_model.specs.Trust.{Trust}
 use Rattle.disk_model.specs.Since.{IsUntouched, OnlyReads, SinceThen}
 use Rattle.disk_model.specs.declared.call.Call.{Call}
 use Rattle.image_model.specs.Maps.{value_of}
@@ -23,39 +24,38 @@ use Rattle.session_seams.specs.Logs.{StopsShow}
 use Rattle.session_seams.specs.Sequences.{ShowsValues, next_start}
 use Rattle.vdo_cli.specs.Endings.{KeepsImage}
 use Rattle.vdo_cli.specs.Openings.{IsReady, IsUnready}
-use Rattle.vdo_cli.specs.Outsides.{Trust}
 
 -- what is known of a device is known of it behind reads
-pub still_told : (tells honest : Bool) (before now : Seen) (image : Blocks) → IsTold tells honest before image → IsUntouched tells before now → IsTold tells honest now image
-still_told tells honest before now image is untouched = record { told = is.told; fair = is.fair; one = still tells honest image is.told is.fair before now untouched is.one }
+pub still_told : (trust : Trust) (before now : Seen) (image : Blocks) → IsTold trust before image → IsUntouched trust.tells before now → IsTold trust now image
+still_told trust before now image is untouched = record { told = is.told; fair = is.fair; one = still trust image is.told is.fair before now untouched is.one }
 
 -- Nothing is pending, and the one image is sound and closed: it has the sizes and the values of another one, and the next session
 -- begins where it would have begun there.
-pub record IsLeft (image : Blocks) (sound : IsSound image) (tells honest : Bool) (now : Seen) : Type 0 where
+pub record IsLeft (image : Blocks) (sound : IsSound image) (trust : Trust) (now : Seen) : Type 0 where
   pub left : Blocks
-  pub is_told : IsTold tells honest now left
+  pub is_told : IsTold trust now left
   pub is_sound : IsSound left
   pub clean : is_sound.head.clean ≡ true
   pub geometry : is_sound.head.geometry ≡ sound.head.geometry
   pub values : (a : ℕ) → value_of (image_in left is_sound) a ≡ value_of (image_in image sound) a
   pub next : next_start left is_sound ≡ next_start image sound
 
-pub left_by : (tells honest : Bool) (before now : Seen) (image : Blocks) (sound : IsSound image) (found : Recovered) → IsTold tells honest before image
-    → IsRecovery tells honest before now (Ok found) → IsLeft image sound tells honest now
-left_by tells honest before now image sound Clean is recovery =
+pub left_by : (trust : Trust) (before now : Seen) (image : Blocks) (sound : IsSound image) (found : Recovered) → IsTold trust before image
+    → IsRecovery trust before now (Ok found) → IsLeft image sound trust now
+left_by trust before now image sound Clean is recovery =
     let answer = recovery.says image is in
     let both : Ok sound.head ≡ Ok answer.0 = sym sound.opens.accepted ∙ answer.1 in
     let same : sound.head ≡ answer.0 = cc both in
     record {
       left = image;
-      is_told = still_told tells honest before now image is recovery.answers.3;
+      is_told = still_told trust before now image is recovery.answers.3;
       is_sound = sound;
       clean = ap (λ (h : Super). h.clean) same ∙ answer.2;
       geometry = refl;
       values = λ a. refl;
       next = refl;
     }
-left_by tells honest before now image sound (Entries count) is recovery =
+left_by trust before now image sound (Entries count) is recovery =
     let closed = recovery.closed image is sound in
     let answer = recovery.says image is in
     let same = (opened_alike image sound answer.0 answer.1 answer.2 answer.3).0 in
@@ -71,7 +71,7 @@ left_by tells honest before now image sound (Entries count) is recovery =
     }
 
 -- Whatever a stop leaves of a sound image while it is recovered, and then read, says the same.
-module _ (tells honest : Bool) (before middle : Seen) (image : Blocks) (sound : IsSound image) (is : IsTold tells honest before image) (kept : IsKeptSince image sound before middle) (most logical : ℕ)
+module _ (trust : Trust) (before middle : Seen) (image : Blocks) (sound : IsSound image) (is : IsTold trust before image) (kept : IsKeptSince image sound before middle) (most logical : ℕ)
     (few : next_start image sound ≤ most) where
   abbrev Shows : List Call → Type 0
   Shows = StopsShow (ShowsValues sound.head.geometry most) before.opening before.log logical (value_of (image_in image sound))
@@ -82,7 +82,7 @@ module _ (tells honest : Bool) (before middle : Seen) (image : Blocks) (sound : 
   pub shows_yet : SinceThen Shows before.log middle.log
   shows_yet = (kept.0, kept.1, recovered_shows [] tt)
 
-  pub shows_on : (now : Seen) → IsUntouched tells middle now → SinceThen Shows before.log now.log
+  pub shows_on : (now : Seen) → IsUntouched trust.tells middle now → SinceThen Shows before.log now.log
   shows_on now untouched =
       let reads = untouched.reads is.told in (
         reads.0 ++ kept.0,
@@ -92,11 +92,11 @@ module _ (tells honest : Bool) (before middle : Seen) (image : Blocks) (sound : 
 
 -- So of an image that is ready, and of one that isn't.
 
-module _ (trust : Trust) (before now : Seen) (image : Blocks) (told : IsTold trust.tells trust.honest before image) (sound : IsSound image) where
+module _ (trust : Trust) (before now : Seen) (image : Blocks) (told : IsTold trust before image) (sound : IsSound image) where
   pub ready_shows : (found : Recovered) (start : Opened) → IsReady trust before now found start → (most logical : ℕ) → next_start image sound ≤ most
       → SinceThen (StopsShow (ShowsValues sound.head.geometry most) before.opening before.log logical (value_of (image_in image sound))) before.log now.log
   ready_shows found start is most logical few =
-      shows_on trust.tells trust.honest before is.middle image sound told (is.recovery.stops image told sound) most logical few now is.opening.untouched
+      shows_on trust before is.middle image sound told (is.recovery.stops image told sound) most logical few now is.opening.untouched
 
 pub ready_kept : (trust : Trust) (before now : Seen) (found : Recovered) (start : Opened) → IsReady trust before now found start → KeepsImage trust before now
 ready_kept trust before now found start is image told sound =
@@ -104,9 +104,9 @@ ready_kept trust before now found start is image told sound =
 
 pub unready_kept : (trust : Trust) (before now : Seen) (recovered : Option ℕ) (why : ImageFault) → IsUnready trust before now recovered why → KeepsImage trust before now
 unready_kept trust before now recovered why (inl is) image told sound =
-    shows_yet trust.tells trust.honest before now image sound told (is.recovery.stops image told sound) (next_start image sound) sound.head.geometry.logical (omega arith)
+    shows_yet trust before now image sound told (is.recovery.stops image told sound) (next_start image sound) sound.head.geometry.logical (omega arith)
 unready_kept trust before now recovered why (inr is) image told sound =
-    shows_on trust.tells trust.honest before is.middle image sound told (is.recovery.stops image told sound) (next_start image sound) sound.head.geometry.logical (omega arith) now is.opening.untouched
+    shows_on trust before is.middle image sound told (is.recovery.stops image told sound) (next_start image sound) sound.head.geometry.logical (omega arith) now is.opening.untouched
 
 -- The device has room for what was opened, and its sizes are within their limits.
 pub room_of : (trust : Trust) (before now : Seen) (found : Recovered) (start : Opened) → IsReady trust before now found start → needed_blocks start.head.geometry ≤ now.size

@@ -6,6 +6,7 @@ use Rattle.disk_model.specs.declared.call.Call.{Call}
 use Rattle.disk_model.specs.declared.call.Call.TheVariants.{Read, Write, Flush}
 use Rattle.disk_model.specs.Causes.{Rose}
 use Rattle.disk_model.specs.Seen.{Seen}
+use Rattle.disk_model.specs.Trust.{trust_of}
 use Rattle.disk_model.specs.Since.{IsUntouched, NextFailed, OnlyReads}
 use Rattle.disk_model.specs.Streams.{SinkSeen, SourceSeen}
 use Rattle.disk_model.specs.LogSteps.{FailedInLog}
@@ -50,7 +51,7 @@ not_flushed is = let since = is.reads refl in none_flushed since.0 since.1 since
 abbrev pub failed : Seen
 failed = device [] (Read (at 0) [] false ∷ []) 1 0
 
-pub read_failed : NextFailed true false 0 begins.device failed []
+pub read_failed : NextFailed (trust_of true false) 0 begins.device failed []
 read_failed = record {
   stays = record { opening = refl; size = refl };
   later = record { faults = omega arith; unkept = omega arith };

@@ -4,6 +4,7 @@ use Rattle.blk_base.specs.Forms.{pbn as at}
 use Rattle.disk_model.specs.declared.call.Call.{Call}
 use Rattle.disk_model.specs.declared.call.Call.TheVariants.{Read, Flush}
 use Rattle.disk_model.specs.Seen.{Seen}
+use Rattle.disk_model.specs.Trust.{trust_of}
 use Rattle.disk_model.specs.Streams.{SourceSeen}
 use Rattle.disk_model.proofs.StreamPins.{sink}
 use Rattle.rebuild.specs.declared.forms.Recovered.{Recovered}
@@ -25,7 +26,7 @@ use Rattle.vdo_cli.proofs.PlayPins.{device, source}
 
 -- all of the outside tells
 abbrev pub telling : Setting
-telling = setting true false true true
+telling = setting (trust_of true false) true true
 
 abbrev pub Ends : List (List ℕ) → Outside → Outside → ℕ → RunReport → Option Fault → Type 0
 Ends words before after status report why = EndsSo telling words before after (outcome status report why)
@@ -115,7 +116,7 @@ abbrev pub status_by : Option ℕ → ℕ → ℕ
 status_by (Some struck) served = struck
 status_by None served = served
 
-served-whole : (found : Recovered) (report : RunReport) (before after : Seen) (left rest : List ℕ) → RunsSession (input_setting true false true) 0 found report (inputs before (source left 0)) (inputs after (source rest 0))
+served-whole : (found : Recovered) (report : RunReport) (before after : Seen) (left rest : List ℕ) → RunsSession (input_setting (trust_of true false) true) 0 found report (inputs before (source left 0)) (inputs after (source rest 0))
     → Ends run_words (outside before (source left 0) (sink [] 0)) (outside after (source rest 0) (sink (session_text (recovered_of found) report) 0))
     (status_by (struck_status report) (served_status report.desk)) report None
 served-whole found report before after left rest played = record {

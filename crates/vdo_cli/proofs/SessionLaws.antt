@@ -16,6 +16,7 @@ use Rattle.disk_model.specs.Causes.{Rose}
 use Rattle.disk_model.specs.declared.call.Call.{Call}
 use Rattle.disk_model.specs.Log.{Blocks}
 use Rattle.disk_model.specs.Seen.{Seen, Stays}
+use Rattle.disk_model.specs.Trust.{Trust}
 use Rattle.disk_model.proofs.SeenLaws.{stays_on}
 use Rattle.image_model.proofs.CountLaws.{is_first_or_behind, none_in_nothing}
 use Rattle.image_model.specs.Maps.{value_of}
@@ -74,7 +75,6 @@ use Rattle.vdo_core.specs.declared.events.Event.{Event}
 use Rattle.vdo_cli.specs.Commands.{run_setup}
 use Rattle.vdo_cli.specs.Endings.{ServesRequests}
 use Rattle.vdo_cli.specs.Openings.{HasSequencesLeft, IsReady}
-use Rattle.vdo_cli.specs.Outsides.{trust}
 use Rattle.vdo_cli.specs.Sessions.{HasDamage, HasStray, IsExplained, IsOver, IsReported, IsStrayAt, run_sizes, task}
 use Rattle.vdo_cli.specs.Stops.{Happens}
 use Rattle.vdo_cli.proofs.OpenedSessions.{as_opened, as_opened_values, head_of_sound}
@@ -269,20 +269,20 @@ stray_of s (Hears damage ∷ t) at count right is = elim (first_or_new (damage_i
 stray_of s (h ∷ t) at count right is = after s h t at count (stray_of s t at count right.2 is)
 
 -- what happened by turns leads there, and the device had its calls
-module _ (tells honest : Bool) (sizes : Sizes) (state state' : ℕ) (events : List Event) (first last : List Zone) (before after : Seen) (made : Trace)
-    (drives : Drives tells honest sizes events (driving state first before) (driving state' last after) made) where
+module _ (trust : Trust) (sizes : Sizes) (state state' : ℕ) (events : List Event) (first last : List Zone) (before after : Seen) (made : Trace)
+    (drives : Drives trust sizes events (driving state first before) (driving state' last after) made) where
   pub turns_lead : Leads sizes (core_with first []) (core_with last made)
   turns_lead =
       subst (λ (t : Trace). Leads sizes (core_with first []) (core_with last t)) (append-nil made)
-      ((driven_leads tells honest sizes events (driving state first before) (driving state' last after) made drives).0 [])
+      ((driven_leads trust sizes events (driving state first before) (driving state' last after) made drives).0 [])
 
-  pub turns_call : HasCalled tells honest before after made
-  turns_call = (driven_leads tells honest sizes events (driving state first before) (driving state' last after) made drives).1
+  pub turns_call : HasCalled trust before after made
+  turns_call = (driven_leads trust sizes events (driving state first before) (driving state' last after) made drives).1
 
 -- A core that began over what was opened, and came to its end.
-module _ (tells honest : Bool) (start : Opened) (script : Script) (first last : List Zone) (trace : Trace) (before after : Seen) (can : CanBegin (run_sizes start.head) script start)
+module _ (trust : Trust) (start : Opened) (script : Script) (first last : List Zone) (trace : Trace) (before after : Seen) (can : CanBegin (run_sizes start.head) script start)
     (begins : (s : Session) → IsOver (task start script) s → IsFirst s (core_with first [])) (leads : Leads (run_sizes start.head) (core_with first []) (core_with last trace)) (done : IsDone last)
-    (called : HasCalled tells honest before after trace) where
+    (called : HasCalled trust before after trace) where
   -- it is legal, of each session over that
   legal_over : (s : Session) → IsSession s → IsOver (task start script) s → Legal s (core_with last trace)
   legal_over s session over =
@@ -319,7 +319,7 @@ module _ (tells honest : Bool) (start : Opened) (script : Script) (first last : 
   }
 
   -- of an honest device, over the one image that there is
-  module _ (image : Blocks) (sound : IsSound image) (is : IsTold tells honest before image) (right : OpensRight image start) (named : start.head.geometry.nonce < 2 ^ 64) where
+  module _ (image : Blocks) (sound : IsSound image) (is : IsTold trust before image) (right : OpensRight image start) (named : start.head.geometry.nonce < 2 ^ 64) where
     abbrev real : Session
     real = record {
       sizes = run_sizes start.head;
@@ -380,11 +380,11 @@ module _ (tells honest : Bool) (start : Opened) (script : Script) (first last : 
         (ap (λ (h : Super). h.geometry) own_head) (ap (λ (h : Super). h.start) own_head)
 
   -- What was done before it.
-  module _ (entry : Seen) (found : Recovered) (ready : IsReady (trust tells honest) entry before found start) (named : start.head.geometry.nonce < 2 ^ 64) where
+  module _ (entry : Seen) (found : Recovered) (ready : IsReady trust entry before found start) (named : start.head.geometry.nonce < 2 ^ 64) where
     stays_till : Stays entry before
     stays_till = stays_on entry ready.middle before ready.recovery.stays ready.opening.untouched.stays
 
-    pub happens : IsTrue tells → Happens (moments trace) report entry before after
+    pub happens : IsTrue trust.tells → Happens (moments trace) report entry before after
     happens told =
         let made = ready.recovery.grows told in
         let read = ready.opening.untouched.reads told in
@@ -397,14 +397,14 @@ module _ (tells honest : Bool) (start : Opened) (script : Script) (first last : 
         }
 
     -- the image that recovery leaves
-    module _ (image : Blocks) (told : IsTold tells honest entry image) (sound : IsSound image) where
-      left_then : IsLeft image sound tells honest ready.middle
-      left_then = left_by tells honest entry ready.middle image sound found told ready.recovery
+    module _ (image : Blocks) (told : IsTold trust entry image) (sound : IsSound image) where
+      left_then : IsLeft image sound trust ready.middle
+      left_then = left_by trust entry ready.middle image sound found told ready.recovery
 
-      abbrev left : IsLeft image sound tells honest before
+      abbrev left : IsLeft image sound trust before
       left = record {
         left = left_then.left;
-        is_told = still_told tells honest ready.middle before left_then.left left_then.is_told ready.opening.untouched;
+        is_told = still_told trust ready.middle before left_then.left left_then.is_told ready.opening.untouched;
         is_sound = left_then.is_sound;
         clean = left_then.clean;
         geometry = left_then.geometry;
@@ -456,7 +456,7 @@ module _ (tells honest : Bool) (start : Opened) (script : Script) (first last : 
           (report_from (successes before.log) report)
       stops_then late =
           let most = next_start image sound + 2 ^ 18 in
-          let before_it = ready_shows (trust tells honest) entry before image told sound found start ready most sound.head.geometry.logical (omega arith) in
+          let before_it = ready_shows trust entry before image told sound found start ready most sound.head.geometry.logical (omega arith) in
           let happened = happens told.told in
           let now : after.log ≡ calls trace ++ (before_it.0 ++ entry.log) = happened.calls ∙ ap (λ (l : List Call). calls trace ++ l) before_it.1 in
           let session : RightAfterStops (ShowsValues sound.head.geometry most) entry.opening (before_it.0 ++ entry.log) sound.head.geometry.logical (value_of (image_in image sound)) report (calls trace) =
@@ -470,8 +470,8 @@ module _ (tells honest : Bool) (start : Opened) (script : Script) (first last : 
           (sym before_it.1) right)
 
     pub plays : (schedule state : ℕ) (events : List Event) → Stays before after
-        → Drives tells honest (run_sizes start.head) events (driving schedule first before) (driving state last after) trace
-        → ServesRequests (trust tells honest) schedule found start report entry after
+        → Drives trust (run_sizes start.head) events (driving schedule first before) (driving state last after) trace
+        → ServesRequests trust schedule found start report entry after
     plays schedule state events stays drives = record {
       opened = before;
       ready = ready;
@@ -491,30 +491,30 @@ module _ (tells honest : Bool) (start : Opened) (script : Script) (first last : 
       undamaged = λ image told sound. undamaged_then image told sound;
       quiet = λ image told sound. quiet_then image told sound;
       happens = happens;
-      early = ready_kept (trust tells honest) entry before found start ready;
+      early = ready_kept trust entry before found start ready;
       stops = λ image told sound late. stops_then image told sound late;
     }
 
 -- what a core did that began with what was opened, was driven to its end, and told its report
-pub played : (tells honest : Bool) (number state : ℕ) (start : Opened) (script : Script) (sizes : Sizes) (first last : List Zone) (entry before after : Seen) (found : Recovered)
-    (report : RunReport) → CanBegin (run_sizes start.head) script start → IsReady (trust tells honest) entry before found start → start.head.geometry.nonce < 2 ^ 64
+pub played : (trust : Trust) (number state : ℕ) (start : Opened) (script : Script) (sizes : Sizes) (first last : List Zone) (entry before after : Seen) (found : Recovered)
+    (report : RunReport) → CanBegin (run_sizes start.head) script start → IsReady trust entry before found start → start.head.geometry.nonce < 2 ^ 64
     → sizes ≡ sizes_of run_setup start.head
     → ((s : Session) → IsOf s sizes script start → IsFirst s (core_with first []))
-    → ((events : List Event) × (made : Trace) × Drives tells honest sizes events (driving number first before) (driving state last after) made) → IsDone last → Stays before after
+    → ((events : List Event) × (made : Trace) × Drives trust sizes events (driving number first before) (driving state last after) made) → IsDone last → Stays before after
     → ((s : Session) (t : Trace) → IsSession s → Legal s (core_with last t) → IsDone last → report ≡ report_of s t)
-    → ServesRequests (trust tells honest) number found start report entry after × (report.requests ≡ script)
-played tells honest number state start script sizes first last entry before after found report can ready named sizes_are begins driven done stays says =
+    → ServesRequests trust number found start report entry after × (report.requests ≡ script)
+played trust number state start script sizes first last entry before after found report can ready named sizes_are begins driven done stays says =
     let sized : sizes ≡ run_sizes start.head = sizes_are in
     let begins_so = (λ (s : Session) (over : IsOver (task start script) s). begins s (rw sized over)) in
     let (events, made, drives_so) = driven in
-    let drives : Drives tells honest (run_sizes start.head) events (driving number first before) (driving state last after) made =
-    subst (λ (z : Sizes). Drives tells honest z events (driving number first before) (driving state last after) made) sized drives_so in
-    let leads = turns_lead tells honest (run_sizes start.head) number state events first last before after made drives in
-    let called = turns_call tells honest (run_sizes start.head) number state events first last before after made drives in
-    let report_is = says (over tells honest start script first last made before after can begins_so leads done called) made
-    (session tells honest start script first last made before after can begins_so leads done called)
-    (legal tells honest start script first last made before after can begins_so leads done called) done in (
-      subst (λ (r : RunReport). ServesRequests (trust tells honest) number found start r entry after) (sym report_is)
-          (plays tells honest start script first last made before after can begins_so leads done called entry found ready named number state events stays drives),
+    let drives : Drives trust (run_sizes start.head) events (driving number first before) (driving state last after) made =
+    subst (λ (z : Sizes). Drives trust z events (driving number first before) (driving state last after) made) sized drives_so in
+    let leads = turns_lead trust (run_sizes start.head) number state events first last before after made drives in
+    let called = turns_call trust (run_sizes start.head) number state events first last before after made drives in
+    let report_is = says (over trust start script first last made before after can begins_so leads done called) made
+    (session trust start script first last made before after can begins_so leads done called)
+    (legal trust start script first last made before after can begins_so leads done called) done in (
+      subst (λ (r : RunReport). ServesRequests trust number found start r entry after) (sym report_is)
+          (plays trust start script first last made before after can begins_so leads done called entry found ready named number state events stays drives),
       ap (λ (r : RunReport). r.requests) report_is,
     )

@@ -3,6 +3,7 @@
 use Rattle.std.proofs.Common.{ℕ, ◌≡◌, true, false, List, [], ◌∷◌, length, take, Some, None, Ok, codes, refl, ap, arith}
 use Rattle.blk_base.specs.declared.request.Answer.TheVariants as reply
 use Rattle.disk_model.specs.Seen.{Seen}
+use Rattle.disk_model.specs.Trust.{trust_of}
 use Rattle.disk_model.proofs.StreamPins.{sink}
 use Rattle.page_codec.specs.declared.fault.PageFault.TheVariants.{Header}
 use Rattle.rebuild.specs.Recoveries.{IsRecovery}
@@ -29,7 +30,7 @@ abbrev lost_report : RunReport
 lost_report = record empty_report { desk = Answer (of_a 0) reply.Stopped ∷ [] }
 
 -- Over a session that was served: the sink failed, and holds a first part of the text
-sink-failed : (n : ℕ) (found : Recovered) (report : RunReport) (before after : Seen) (left rest : List ℕ) → RunsSession (input_setting true false true) 0 found report (inputs before (source left 0)) (inputs after (source rest 0)) → struck_status report ≡ None
+sink-failed : (n : ℕ) (found : Recovered) (report : RunReport) (before after : Seen) (left rest : List ℕ) → RunsSession (input_setting (trust_of true false) true) 0 found report (inputs before (source left 0)) (inputs after (source rest 0)) → struck_status report ≡ None
     → Ends run_words (outside before (source left 0) (sink [] 0)) (outside after (source rest 0) (sink (take n (session_text (recovered_of found) report)) 1)) 7 report (Some fault.Sink)
 sink-failed n found report before after left rest played none = record { found = found; session = played; closes = (refl, none, omega arith, λ told. (n, refl)) }
 
@@ -79,6 +80,6 @@ served-not_of_another_size ends = omega (arith, ends.session.serves.stays.size)
 served-not_of_one_block : Ends run_words (with [] [] [] 0) (with [] [] [] 0) 0 empty_report None → ⊥
 served-not_of_one_block ends = of_found ends.found ends.session.serves.ready.middle ends.session.serves.ready.recovery
   where
-    of_found : (found : Recovered) (middle : Seen) → IsRecovery true false (with [] [] [] 0).device middle (Ok found) → ⊥
+    of_found : (found : Recovered) (middle : Seen) → IsRecovery (trust_of true false) (with [] [] [] 0).device middle (Ok found) → ⊥
     of_found Clean middle recovery = let room = recovery.answers.1.is.room in let many = recovery.answers.1.is.sizes.journal.0 in omega (arith, room, many)
     of_found (Entries count) middle recovery = let room = recovery.answers.2.is.room in let many = recovery.answers.2.is.sizes.journal.0 in omega (arith, room, many)

@@ -3,6 +3,7 @@
 use Rattle.std.proofs.Common.{ℕ, true, false, List, [], ◌∷◌, take, Option, Some, Result, None, refl, inl, arith}
 use Rattle.disk_model.specs.declared.call.Call.TheVariants.{Flush}
 use Rattle.disk_model.specs.Seen.{Seen}
+use Rattle.disk_model.specs.Trust.{trust_of}
 use Rattle.disk_model.specs.Since.{IsUntouched}
 use Rattle.disk_model.proofs.StreamPins.{sink}
 use Rattle.image_layout.specs.declared.fault.SuperFault.TheVariants.{NotAnImage}
@@ -14,7 +15,7 @@ use Rattle.vdo_model.specs.declared.report.RunReport.{RunReport}
 use Rattle.vdo_cli.specs.declared.fault.Fault.{Fault}
 use Rattle.vdo_cli.specs.declared.fault.Fault.TheVariants as fault
 use Rattle.vdo_cli.specs.Inspections.{Looks, told_as}
-use Rattle.vdo_cli.specs.Outsides.{Outside, Tells, no_report, outcome, outside, trust}
+use Rattle.vdo_cli.specs.Outsides.{Outside, Tells, no_report, outcome, outside}
 use Rattle.vdo_cli.specs.Results.{TellsResult}
 use Rattle.vdo_cli.specs.Texts.{fault_text}
 use Rattle.vdo_cli.proofs.CommandPins.{status_words}
@@ -25,7 +26,7 @@ use Rattle.image_model.specs.declared.fault.ImageFault.{ImageFault}
 
 -- what reading a status does
 abbrev Reads_so : Seen → Seen → Result ImageStatus ImageFault → Type 0
-Reads_so before after result = Looks (trust true false) (IsStatusRead true false before after) before after result
+Reads_so before after result = Looks (trust_of true false) (IsStatusRead (trust_of true false) before after) before after result
 
 -- Image. There is none, nothing was done, and the line says so
 image-refused : Ends status_words begins (bare [] (7 ∷ []) (fault_text no_image) 0) 4 no_report (Some no_image)
@@ -46,7 +47,7 @@ looks-not_taken : (held : List ℕ) (status : ℕ) (report : RunReport) (ended :
 looks-not_taken held status report ended = pins.not_taken Reads_so (TellsResult true (λ found. Tells true (status_text found)) told_as) held (outcome status report ended)
 
 -- Told. The image was looked at, and its lines were put, with status 0;
-module _ (before after : Seen) (found : ImageStatus) (read : IsStatusRead true false before after found) (untouched : IsUntouched true before after) where
+module _ (before after : Seen) (found : ImageStatus) (read : IsStatusRead (trust_of true false) before after found) (untouched : IsUntouched true before after) where
   told-put : Ends status_words (outside before (source [] 0) (sink [] 0)) (outside after (source [] 0) (sink (status_text found) 0)) 0 no_report None
   told-put = pins.put Reads_so status_text told_as before after found (record { found = read; failed = tt; untouched = untouched })
 

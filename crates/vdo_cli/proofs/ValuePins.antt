@@ -16,6 +16,7 @@ use Rattle.disk_model.specs.declared.call.Call.{Call}
 use Rattle.disk_model.specs.Images.{IsImage}
 use Rattle.disk_model.specs.Log.{Blocks}
 use Rattle.disk_model.specs.Seen.{Seen}
+use Rattle.disk_model.specs.Trust.{trust_of}
 use Rattle.disk_model.proofs.StreamPins.{sink}
 use Rattle.image_layout.specs.Opened.{super_of_image}
 use Rattle.image_layout.specs.declared.fault.SuperFault.{SuperFault}
@@ -40,7 +41,7 @@ use Rattle.vdo_model.proofs.Example.{of_a, entry, blocks_tell}
 use Rattle.vdo_model.specs.Places.{placed}
 use Rattle.zone_counts.specs.Zone.{Zone as Counters}
 use Rattle.vdo_cli.specs.Openings.{HasSequencesLeft, IsReady, recovered_of}
-use Rattle.vdo_cli.specs.Outsides.{Outside, outcome, outside, setting, trust}
+use Rattle.vdo_cli.specs.Outsides.{Outside, outcome, outside, setting}
 use Rattle.vdo_cli.specs.Runs.{EndsSo}
 use Rattle.vdo_cli.specs.Texts.{session_text}
 use Rattle.vdo_cli.proofs.CommandPins.{run_words}
@@ -50,7 +51,7 @@ use Rattle.vdo_cli.proofs.EmptyScript.{AreFirst, empty_plays, empty_report, stil
 -- A run of a session that was served, over a source with these bytes left, where all of the outside tells and the device
 -- is honest.
 abbrev Served : Seen → List ℕ → Outside → ℕ → RunReport → Type 0
-Served before left after status report = EndsSo (setting true true true true) run_words (outside before (source left 0) (sink [] 0)) after (outcome status report None)
+Served before left after status report = EndsSo (setting (trust_of true true) true true) run_words (outside before (source left 0) (sink [] 0)) after (outcome status report None)
 
 -- a report of one read of address 1, which gave a block of this byte
 abbrev reads_one : Script
@@ -101,17 +102,17 @@ write_report calls = record {
 }
 
 -- Accepted: over an image that is ready and links no page, a session of no request.
-served-empty : (before opened : Seen) (found : Recovered) (start : Opened) → IsReady (trust true true) before opened found start → ((page : PageId) → opened_page start.pages.items page ≡ None)
+served-empty : (before opened : Seen) (found : Recovered) (start : Opened) → IsReady (trust_of true true) before opened found start → ((page : PageId) → opened_page start.pages.items page ≡ None)
     → (counts : Counters) → AreFirst start counts → start.head.geometry.nonce < 2 ^ 64
     → Served before [] (outside opened (source [] 0) (sink (session_text (recovered_of found) (still_report start)) 0)) 0 (still_report start)
 served-empty before opened found start ready unlinked counts first named = record {
   found = found;
-  session = empty_plays true true 0 found start before opened ready unlinked counts first named true (source [] 0) (source [] 0) (λ told. refl) (λ told. refl);
+  session = empty_plays (trust_of true true) 0 found start before opened ready unlinked counts first named true (source [] 0) (source [] 0) (λ told. refl) (λ told. refl);
   closes = (refl, λ told. refl);
 }
 
 -- A device has this sound image, and nothing is pending on it; address 1 has block 11 there.
-module _ (before : Seen) (image : Blocks) (told : IsTold true true before image) (sound : IsSound image) (has_value : value_of (image_in image sound) 1 ≡ block 11) (left : List ℕ) (after : Outside) where
+module _ (before : Seen) (image : Blocks) (told : IsTold (trust_of true true) before image) (sound : IsSound image) (has_value : value_of (image_in image sound) 1 ≡ block 11) (left : List ℕ) (after : Outside) where
   -- early: a stop before the session leaves an image
   abbrev Early : RunReport → Type 0
   Early report = Served before left after 0 report

@@ -8,6 +8,7 @@ use Rattle.blk_base.specs.Sectors.{filled_block}
 use Rattle.command_text.specs.Workloads.{summary_text}
 use Rattle.disk_model.specs.Numbers.{next_state, number_in}
 use Rattle.disk_model.specs.Seen.{Seen}
+use Rattle.disk_model.specs.Trust.{trust_of}
 use Rattle.disk_model.specs.Streams.{SourceSeen}
 use Rattle.disk_model.proofs.StreamPins.{sink}
 use Rattle.image_model.specs.declared.fault.ImageFault.TheVariants as image
@@ -23,7 +24,7 @@ use Rattle.vdo_cli.specs.Closings.{PutsWith}
 use Rattle.vdo_cli.specs.Endings.{ServesRequests}
 use Rattle.vdo_cli.specs.Inspections.{told_as}
 use Rattle.vdo_cli.specs.Openings.{IsReady, recovered_of}
-use Rattle.vdo_cli.specs.Outsides.{Outside, no_report, outside, trust}
+use Rattle.vdo_cli.specs.Outsides.{Outside, no_report, outside}
 use Rattle.vdo_cli.specs.Texts.{fault_text, served_status, struck_status}
 use Rattle.vdo_cli.specs.Workloads.{ServesWorkload, WorkloadFails, requests_for, summary_of}
 use Rattle.vdo_cli.proofs.CommandPins.{draws, workload_words}
@@ -55,7 +56,7 @@ summed_up_clean = refl
 abbrev summary : Recovered → RunReport → List ℕ
 summary found report = summary_text (summary_of (recovered_of found) (draws 1 4) report)
 
-module _ (found : Recovered) (report : RunReport) (before after : Seen) (left : List ℕ) (worked : ServesWorkload (trust true false) (draws 1 4) found report before after) where
+module _ (found : Recovered) (report : RunReport) (before after : Seen) (left : List ℕ) (worked : ServesWorkload (trust_of true false) (draws 1 4) found report before after) where
   served-whole : Ends workload_words (outside before (source left 0) (sink [] 0)) (outside after (source left 0) (sink (summary found report) 0))
       (status_by (struck_status report) (served_status report.desk)) report None
   served-whole = record {
@@ -74,22 +75,22 @@ module _ (found : Recovered) (report : RunReport) (before after : Seen) (left : 
 
 -- ServesWorkload: the requests are those of the seed
 module _ (start : Opened) (found : Recovered) (report : RunReport) (before after : Seen) where
-  serves-so : ServesRequests (trust true false) 0 found start report before after → report.requests ≡ requests_for (draws 1 4) start.head.geometry.logical
-      → ServesWorkload (trust true false) (draws 1 4) found report before after
+  serves-so : ServesRequests (trust_of true false) 0 found start report before after → report.requests ≡ requests_for (draws 1 4) start.head.geometry.logical
+      → ServesWorkload (trust_of true false) (draws 1 4) found report before after
   serves-so serves requests_are = record { start = start; serves = serves; requests_are = requests_are }
 
 -- how many the first stream has, and the second
 abbrev in_stream : ℕ → Script → ℕ
 in_stream stream script = length (stream_of script stream)
 
-serves-not_other_requests : (before after : Seen) (found : Recovered) → ServesWorkload (trust true false) (draws 1 4) found empty_report before after → ⊥
+serves-not_other_requests : (before after : Seen) (found : Recovered) → ServesWorkload (trust_of true false) (draws 1 4) found empty_report before after → ⊥
 serves-not_other_requests before after found worked = let many = ap (in_stream 0) worked.requests_are in omega (arith, many)
 
-serves-not_of_one_stream : (before after : Seen) (found : Recovered) (report : RunReport) → in_stream 1 report.requests ≡ 0 → ServesWorkload (trust true false) (draws 2 2) found report before after → ⊥
+serves-not_of_one_stream : (before after : Seen) (found : Recovered) (report : RunReport) → in_stream 1 report.requests ≡ 0 → ServesWorkload (trust_of true false) (draws 2 2) found report before after → ⊥
 serves-not_of_one_stream before after found report none worked = let many = ap (in_stream 1) worked.requests_are in omega (arith, many, none)
 
 -- its device has its opening blocks and its size
-serves-not_of_another_size : (found : Recovered) (report : RunReport) → ServesWorkload (trust true false) (draws 1 4) found report (device ([] ∷ []) [] 0 0) (device [] [] 0 0) → ⊥
+serves-not_of_another_size : (found : Recovered) (report : RunReport) → ServesWorkload (trust_of true false) (draws 1 4) found report (device ([] ∷ []) [] 0 0) (device [] [] 0 0) → ⊥
 serves-not_of_another_size found report worked = omega (arith, worked.serves.stays.size)
 
 -- The status is that of the answers, or 7 where the sink failed, whose count rose then; another text isn't put
@@ -132,10 +133,10 @@ not_begun-not_reported : (after : Outside) → Ends workload_words begins after 
 not_begun-not_reported after ends = let same = ap (λ (report : RunReport). length report.requests) ends.ends.refuses.report_is in omega (arith, same)
 
 -- or it was opened, and memory ran out; and not another fault of what is no image
-module _ (before after : Seen) (found : Recovered) (start : Opened) (ready : IsReady (trust true false) before after found start) where
-  lacks-memory : WorkloadFails (trust true false) before after (recovered_of found) fault.Memory
+module _ (before after : Seen) (found : Recovered) (start : Opened) (ready : IsReady (trust_of true false) before after found start) where
+  lacks-memory : WorkloadFails (trust_of true false) before after (recovered_of found) fault.Memory
   lacks-memory = inr (record { found = found; recovered_is = refl; start = start; ready = ready; fault_is = refl })
 
-fails-not_by_the_source : (before after : Seen) (recovered : Option ℕ) → ((cause : _) → fault.Read ≢ told_as cause) → WorkloadFails (trust true false) before after recovered fault.Read → ⊥
+fails-not_by_the_source : (before after : Seen) (recovered : Option ℕ) → ((cause : _) → fault.Read ≢ told_as cause) → WorkloadFails (trust_of true false) before after recovered fault.Read → ⊥
 fails-not_by_the_source before after recovered never (inl unready) = never unready.cause unready.fault_is
 fails-not_by_the_source before after recovered never (inr lacks) = absurd (let is = lacks.fault_is in cc is)

@@ -19,6 +19,7 @@ use Rattle.disk_model.specs.Images.{IsImage}
 use Rattle.disk_model.specs.Log.{Blocks}
 use Rattle.disk_model.specs.Memory.{Memory, seen_of}
 use Rattle.disk_model.specs.Seen.{Seen}
+use Rattle.disk_model.specs.Trust.{Trust, trust_of}
 use Rattle.disk_model.specs.Since.{IsUntouched, StopsBefore}
 use Rattle.disk_model.specs.Streams.{SinkSeen}
 use Rattle.image_layout.specs.declared.fault.LayoutFault.TheVariants.{TooLargeToCrash}
@@ -37,25 +38,25 @@ use Rattle.vdo_cli.specs.declared.words.Served.TheVariants as served
 use Rattle.vdo_cli.specs.Endings.{ScriptFails, ServesRequests}
 use Rattle.vdo_cli.specs.Inspections.{told_as}
 use Rattle.vdo_cli.specs.Openings.{IsUnready}
-use Rattle.vdo_cli.specs.Outsides.{InputSetting, Inputs, Outcome, Outside, PutsOrFails, Refuses, Setting, Tells, Trust, input_setting_of, inputs_of, no_report, trust}
+use Rattle.vdo_cli.specs.Outsides.{InputSetting, Inputs, Outcome, Outside, PutsOrFails, Refuses, Setting, Tells, input_setting_of, inputs_of, no_report}
 use Rattle.vdo_cli.specs.Texts.{fault_status, fault_text}
 
 -- The copy.
 
 -- a device in memory tells, and is honest
 abbrev pub of_memory : Trust
-of_memory = trust true true
+of_memory = trust_of true true
 
 -- the device has few enough blocks, and they were copied: the one image of an honest device is that of the copy
 pub record IsWholeCopy (trust : Trust) (before after : Seen) (copy : Memory) : Type 0 where
   pub few : before.size ≤ 65536
-  pub copied : IsCopy trust.tells trust.honest before after copy
-  pub keeps : CopyKeepsImage trust.tells trust.honest before (seen_of copy)
+  pub copied : IsCopy trust before after copy
+  pub keeps : CopyKeepsImage trust before (seen_of copy)
 
 -- why there is no copy: the device has too many blocks, and then it wasn't called; a read failed; or there was no memory
 abbrev pub CopyFails : Trust → Seen → Seen → Fault → Type 0
 CopyFails trust before after (fault.Layout why) = (why ≡ TooLargeToCrash before.size) × (65536 < before.size) × (after ≡ before)
-CopyFails trust before after fault.Device = StopsBefore trust.tells trust.honest 0 before.size before after
+CopyFails trust before after fault.Device = StopsBefore trust 0 before.size before after
 CopyFails trust before after fault.Memory = Unit {0}
 CopyFails trust before after other = ⊥
 

@@ -3,6 +3,7 @@ use Rattle.std.specs.Prelude.{ℕ, ◌≡◌, ◌⊎◌, ◌+◌, ◌^◌, Bool,
 use Rattle.blk_base.specs.declared.opened.Opened.{Opened}
 use Rattle.disk_model.specs.Causes.{Rose}
 use Rattle.disk_model.specs.Seen.{Seen, Stays}
+use Rattle.disk_model.specs.Trust.{Trust}
 use Rattle.disk_model.specs.Since.{SinceThen}
 use Rattle.disk_model.specs.Streams.{SourceSeen}
 use Rattle.image_model.specs.Maps.{value_of}
@@ -22,7 +23,7 @@ use Rattle.vdo_cli.specs.declared.fault.Fault.{Fault}
 use Rattle.vdo_cli.specs.declared.fault.Fault.TheVariants as fault
 use Rattle.vdo_cli.specs.Inspections.{told_as}
 use Rattle.vdo_cli.specs.Openings.{HasSequencesLeft, IsReady, IsUnready, OfSound, recovered_of}
-use Rattle.vdo_cli.specs.Outsides.{InputSetting, Inputs, Trust}
+use Rattle.vdo_cli.specs.Outsides.{InputSetting, Inputs}
 use Rattle.vdo_cli.specs.Sessions.{IsDriven, IsReported, task}
 use Rattle.vdo_cli.specs.Stops.{Happens}
 

@@ -22,5 +22,5 @@ grow_told_as (Mapped at) = fault.Grow (Mapped at)
 -- was put
 abbrev pub EndsGrowth : Setting → GrowOptions → Outside → Outside → Outcome → Type 0
 EndsGrowth s options before after outcome =
-    EndsBy (IsGrowing s.device.tells s.device.honest options.logical options.slabs)
+    EndsBy (IsGrowing s.device options.logical options.slabs)
     (TellsResult s.sink_tells (λ (found : Grown). Tells s.sink_tells (grown_text found)) grow_told_as) before after outcome

@@ -5,6 +5,7 @@ use Rattle.audit.specs.declared.forms.Report.{Report}
 use Rattle.command_text.specs.Audits.{report_text}
 use Rattle.command_text.specs.Statuses.{status_text}
 use Rattle.disk_model.specs.Seen.{Seen}
+use Rattle.disk_model.specs.Trust.{Trust}
 use Rattle.disk_model.specs.Since.{IsUntouched}
 use Rattle.disk_model.specs.Streams.{SinkSeen}
 use Rattle.image_model.specs.declared.fault.ImageFault.{ImageFault}
@@ -13,7 +14,7 @@ use Rattle.image_status.specs.Statuses.{IsStatusRead}
 use Rattle.image_status.specs.declared.forms.ImageStatus.{ImageStatus}
 use Rattle.vdo_cli.specs.declared.fault.Fault.{Fault}
 use Rattle.vdo_cli.specs.declared.fault.Fault.TheVariants as fault
-use Rattle.vdo_cli.specs.Outsides.{Outcome, Outside, PutsOrFails, Setting, Tells, Trust}
+use Rattle.vdo_cli.specs.Outsides.{Outcome, Outside, PutsOrFails, Setting, Tells}
 use Rattle.vdo_cli.specs.Results.{EndsBy, TellsResult}
 
 -- Both commands.
@@ -27,7 +28,7 @@ told_as other = fault.Image other
 -- what a look at an image found so, or why nothing; the device was read and no more
 pub record Looks {T : Type 0} (trust : Trust) (Finds : T → Type 0) (before after : Seen) (result : Result T ImageFault) : Type 0 where
   pub found : IfOk result Finds
-  pub failed : IfErr result (AuditFails trust.tells trust.honest before after)
+  pub failed : IfErr result (AuditFails trust before after)
   pub untouched : IsUntouched trust.tells before after
 
 -- The audit.
@@ -43,12 +44,12 @@ TellsReport tells report status ended before after =
 -- how an audit ends: its report is put, or the line of a fault
 abbrev pub EndsAudit : Setting → Outside → Outside → Outcome → Type 0
 EndsAudit s before after outcome =
-    EndsBy (λ from to. Looks s.device (IsAudited s.device.tells s.device.honest from to) from to) (TellsResult s.sink_tells (TellsReport s.sink_tells) told_as) before after outcome
+    EndsBy (λ from to. Looks s.device (IsAudited s.device from to) from to) (TellsResult s.sink_tells (TellsReport s.sink_tells) told_as) before after outcome
 
 -- The status.
 
 -- how it ends: it was put, or a part of it and the sink failed; or the line of a fault was put
 abbrev pub EndsStatus : Setting → Outside → Outside → Outcome → Type 0
 EndsStatus s before after outcome =
-    EndsBy (λ from to. Looks s.device (IsStatusRead s.device.tells s.device.honest from to) from to)
+    EndsBy (λ from to. Looks s.device (IsStatusRead s.device from to) from to)
     (TellsResult s.sink_tells (λ (found : ImageStatus). Tells s.sink_tells (status_text found)) told_as) before after outcome

@@ -4,9 +4,9 @@ use Rattle.disk_model.specs.declared.call.Call.{Call}
 use Rattle.disk_model.specs.Images.{IsImage}
 use Rattle.disk_model.specs.Log.{Blocks}
 use Rattle.disk_model.specs.Seen.{Seen, Stays}
+use Rattle.disk_model.specs.Trust.{Trust}
 use Rattle.rebuild.specs.Recoveries.{IsTold}
 use Rattle.session_seams.specs.Sequences.{CanBegin}
-use Rattle.vdo_cli.specs.Outsides.{Trust}
 
 -- a device went on: its opening blocks and its size are the same, and its log is longer
 pub record GoesOn (tells : Bool) (before after : Seen) : Type 0 where
@@ -22,4 +22,4 @@ IsJustMade image seen = (seen.opening ≡ image) × (seen.log ≡ [])
 abbrev pub LeavesRunnable : Trust → ℕ → Seen → Seen → Type 0
 LeavesRunnable trust left before now =
     (later prefix : List Call) → now.log ≡ later ++ (prefix ++ before.log) → (image : Blocks) → IsImage before.opening (prefix ++ before.log) image
-    → CanBegin left image × ((made : Seen) → IsJustMade image made → IsTold trust.tells trust.honest made image)
+    → CanBegin left image × ((made : Seen) → IsJustMade image made → IsTold trust made image)

@@ -3,19 +3,12 @@ use Rattle.std.specs.Prelude.{ℕ, ◌≡◌, ◌⊎◌, ◌++◌, Bool, IsTrue,
 use Rattle.disk_model.specs.Causes.{Rose}
 use Rattle.disk_model.specs.Memory.{Memory}
 use Rattle.disk_model.specs.Seen.{Seen}
+use Rattle.disk_model.specs.Trust.{Trust}
 use Rattle.disk_model.specs.Streams.{PutsPart, SinkSeen, SourceSeen}
 use Rattle.vdo_model.specs.declared.report.RunReport.{RunReport}
 use Rattle.vdo_cli.specs.declared.fault.Fault.{Fault}
 use Rattle.vdo_cli.specs.declared.fault.Fault.TheVariants as fault
 use Rattle.vdo_cli.specs.Texts.{fault_text, fault_status, refusal_text}
-
--- What the type of a device says of it: whether it tells its log, and whether one that tells is honest.
-pub record Trust : Type 0 where
-  pub tells : Bool
-  pub honest : Bool
-
-abbrev pub trust : Bool → Bool → Trust
-trust tells honest = record { tells = tells; honest = honest }
 
 -- Which of the outside tell, and whether the device is honest.
 pub record Setting : Type 0 where
@@ -23,9 +16,9 @@ pub record Setting : Type 0 where
   pub source_tells : Bool
   pub sink_tells : Bool
 
-abbrev pub setting : Bool → Bool → Bool → Bool → Setting
-setting tells honest source_tells sink_tells =
-    record { device = trust tells honest; source_tells = source_tells; sink_tells = sink_tells }
+abbrev pub setting : Trust → Bool → Bool → Setting
+setting trust source_tells sink_tells =
+    record { device = trust; source_tells = source_tells; sink_tells = sink_tells }
 
 -- What contracts see of the outside at a moment.
 pub record Outside : Type 0 where
@@ -51,8 +44,8 @@ pub record InputSetting : Type 0 where
   pub device : Trust
   pub source_tells : Bool
 
-abbrev pub input_setting : Bool → Bool → Bool → InputSetting
-input_setting tells honest source_tells = record { device = trust tells honest; source_tells = source_tells }
+abbrev pub input_setting : Trust → Bool → InputSetting
+input_setting trust source_tells = record { device = trust; source_tells = source_tells }
 
 abbrev pub input_setting_of : Setting → InputSetting
 input_setting_of s = record { device = s.device; source_tells = s.source_tells }

@@ -10,4 +10,4 @@ use Rattle.vdo_cli.specs.Results.{EndsBy, TellsResult}
 -- failed, and the fault's line was put
 abbrev pub EndsRebuild : Setting → Outside → Outside → Outcome → Type 0
 EndsRebuild s before after outcome =
-    EndsBy (IsForcing s.device.tells s.device.honest) (TellsResult s.sink_tells (λ (found : Forced). Tells s.sink_tells (rebuilt_text found)) told_as) before after outcome
+    EndsBy (IsForcing s.device) (TellsResult s.sink_tells (λ (found : Forced). Tells s.sink_tells (rebuilt_text found)) told_as) before after outcome

@@ -10,4 +10,4 @@ use Rattle.vdo_cli.specs.Results.{EndsBy, TellsResult}
 -- was refused, or the last call failed, and the fault's line was put
 abbrev pub EndsRecovery : Setting → Outside → Outside → Outcome → Type 0
 EndsRecovery s before after outcome =
-    EndsBy (IsRecovery s.device.tells s.device.honest) (TellsResult s.sink_tells (λ (found : Recovered). Tells s.sink_tells (recovery_text found)) told_as) before after outcome
+    EndsBy (IsRecovery s.device) (TellsResult s.sink_tells (λ (found : Recovered). Tells s.sink_tells (recovery_text found)) told_as) before after outcome

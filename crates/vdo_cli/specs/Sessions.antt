@@ -10,6 +10,7 @@ use Rattle.blk_base.specs.declared.place.Mapping.TheVariants.{At}
 use Rattle.blk_base.specs.declared.place.Pbn.{Pbn}
 use Rattle.disk_model.specs.Causes.{Rose}
 use Rattle.disk_model.specs.Seen.{Seen}
+use Rattle.disk_model.specs.Trust.{Trust}
 use Rattle.data_vio.specs.declared.logged.Remapping.{Remapping}
 use Rattle.data_vio.specs.declared.sizes.Sizes.{Sizes}
 use Rattle.core_model.specs.declared.zones.Zone.{Zone}
@@ -32,7 +33,6 @@ use Rattle.vdo_model.specs.declared.report.Damage.TheVariants.{Page, Stray}
 use Rattle.vdo_model.specs.declared.report.DeskLine.TheVariants as line
 use Rattle.vdo_model.specs.declared.report.RunReport.{RunReport}
 use Rattle.vdo_cli.specs.Commands.{run_setup}
-use Rattle.vdo_cli.specs.Outsides.{Trust}
 
 -- the sizes of a session over an image with this superblock
 abbrev pub run_sizes : Super → Sizes
@@ -58,7 +58,7 @@ pub record IsDriven (trust : Trust) (schedule : ℕ) (task : Task) (trace : Trac
   pub begins : (s : Session) → IsOver task s → IsFirst s (core_with first [])
   pub events : List Event
   pub state : ℕ
-  pub drives : Drives trust.tells trust.honest (run_sizes task.start.head) events (driving schedule first before) (driving state last after) trace
+  pub drives : Drives trust (run_sizes task.start.head) events (driving schedule first before) (driving state last after) trace
   pub done : IsDone last
 
 -- An answer that says that the device failed, or that the session was stopped, is explained: the device's count of faults rose, or

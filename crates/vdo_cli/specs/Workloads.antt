@@ -5,6 +5,7 @@ use Rattle.command_text.specs.Tallies.{tally_of}
 use Rattle.command_text.specs.Workloads.{summary_text}
 use Rattle.command_text.specs.declared.workloads.Summary.{Summary}
 use Rattle.disk_model.specs.Seen.{Seen}
+use Rattle.disk_model.specs.Trust.{Trust}
 use Rattle.rebuild.specs.declared.forms.Recovered.{Recovered}
 use Rattle.stream_text.specs.Workloads.{workload_of}
 use Rattle.vdo_model.specs.Scripts.{Script}
@@ -15,7 +16,7 @@ use Rattle.vdo_cli.specs.declared.fault.Fault.TheVariants as fault
 use Rattle.vdo_cli.specs.Closings.{Closes}
 use Rattle.vdo_cli.specs.Endings.{FailsUnready, KeepsImage, ServesRequests}
 use Rattle.vdo_cli.specs.Openings.{IsReady, recovered_of}
-use Rattle.vdo_cli.specs.Outsides.{Outcome, Outside, RefusesAfter, Setting, Trust}
+use Rattle.vdo_cli.specs.Outsides.{Outcome, Outside, RefusesAfter, Setting}
 
 -- the requests of the seed, at addresses below the logical size
 abbrev pub requests_for : WorkloadOptions → ℕ → Script

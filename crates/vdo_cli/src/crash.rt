@@ -6,7 +6,7 @@ ghost use Rattle.crash_images.specs.Shows.{IsPickShown, PickFails};
 ghost use Rattle.stream_text.specs.ReadingBytes.{IsWholeScript};
 ghost use Rattle.vdo_cli.specs.Crashes as crashes;
 ghost use Rattle.vdo_cli.specs.Crashes.{CopyFails, CrashFails, IsServedOrNot, IsTried, IsWholeCopy, RunsOnCopy};
-ghost use Rattle.vdo_cli.specs.Outsides.{input_setting, inputs, trust};
+ghost use Rattle.vdo_cli.specs.Outsides.{input_setting, inputs};
 
 use crate::Fault;
 use crate::ready::{OpeningFault, get_ready};
@@ -40,10 +40,10 @@ pub(crate) struct Crashed {
 // The device in memory, if it has few enough blocks.
 fn copy_whole<D: Disk>(alloc: Global, device: &mut D) -> Result<MemDisk, Fault>
     ensures copy { IfOk result
-        (IsWholeCopy (trust D.tells D.honest) (D.seen device.old) (D.seen device.new)) }
+        (IsWholeCopy D.trust (D.seen device.old) (D.seen device.new)) }
     ensures fault { IfErr result
-        (CopyFails (trust D.tells D.honest) (D.seen device.old) (D.seen device.new)) }
-    ensures untouched { IsUntouched D.tells (D.seen device.old) (D.seen device.new) }
+        (CopyFails D.trust (D.seen device.old) (D.seen device.new)) }
+    ensures untouched { IsUntouched D.trust.tells (D.seen device.old) (D.seen device.new) }
 {
     let has = device.blocks();
     if has > MOST_BLOCKS {
@@ -83,7 +83,7 @@ fn serve_on<R: Wait, D: Disk>(
     device: &mut D,
 ) -> Result<RunReport, AllocError>
     requires { IsWholeScript requests }
-    ensures runs { IfOk result (λ report. IsServedOrNot (trust D.tells D.honest)
+    ensures runs { IfOk result (λ report. IsServedOrNot D.trust
         schedule report (D.seen device.old) (D.seen device.new)) }
     ensures requests { IfOk result (λ report. report.requests ≡ requests) }
 {
@@ -134,7 +134,7 @@ pub(crate) fn crash<R: Wait, D: Disk, S: Source>(
     device: &mut D,
     script: &mut S,
 ) -> Result<Crashed, Fault>
-    ensures run { IfOk result (λ crashed. RunsOnCopy (input_setting D.tells D.honest S.tells)
+    ensures run { IfOk result (λ crashed. RunsOnCopy (input_setting D.trust S.tells)
         options.now crashed.tried.report
         (inputs (D.seen device.old) (S.seen script.old))
         (inputs (D.seen device.new) (S.seen script.new)) crashed.tried.copy) }
@@ -144,10 +144,10 @@ pub(crate) fn crash<R: Wait, D: Disk, S: Source>(
         (λ shown. length shown.audit.differs.items < 2 ^ 32)) }
     ensures refused { IfOk result (λ crashed. IfErr crashed.shown
         (PickFails crashed.tried.copy options.now.image)) }
-    ensures fault { IfErr result (CrashFails (input_setting D.tells D.honest S.tells)
+    ensures fault { IfErr result (CrashFails (input_setting D.trust S.tells)
         (inputs (D.seen device.old) (S.seen script.old))
         (inputs (D.seen device.new) (S.seen script.new))) }
-    ensures untouched { IsUntouched D.tells (D.seen device.old) (D.seen device.new) }
+    ensures untouched { IsUntouched D.trust.tells (D.seen device.old) (D.seen device.new) }
 {
     let copy = copy_whole(alloc, device)?;
     let requests = read_requests(alloc, script)?;

@@ -132,7 +132,7 @@ pub(crate) fn run_crash<R: Wait, D: Disk, S: Source, K: Sink>(
     script: &mut S,
     out: &mut K,
 ) -> Ended<D>
-    ensures { EndsCrash (setting D.tells D.honest S.tells K.tells) options.now
+    ensures { EndsCrash (setting D.trust S.tells K.tells) options.now
         (outside (D.seen device) (S.seen script.old) (K.seen out.old))
         (outside (D.seen result.device) (S.seen script.new) (K.seen out.new))
         (outcome_with result.status result.report result.fault result.copy) }

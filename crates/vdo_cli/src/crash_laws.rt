@@ -19,7 +19,7 @@ ghost use Rattle.vdo_cli.specs.Runs.{EndsSo};
 pub fn a_crash_shows_a_sound_image()
     ensures { (setting : Setting) (options : CrashOptions) (before after : Outside)
         (outcome : Outcome) (copy : Memory) (image : Blocks) (sound : IsSound image)
-        → IsTold setting.device.tells setting.device.honest before.device image →
+        → IsTold setting.device before.device image →
         HasSequencesLeft image sound
         → (told : IsCrashTold setting options before after outcome copy) →
         ShowsSound sound.head.geometry outcome.report.requests copy told.shows.picked told.shown }
@@ -31,7 +31,7 @@ pub fn a_crash_without_faults_is_complete()
     ensures { (setting : Setting) (words : List (List ℕ)) (options : CrashOptions)
         (script : Script) (before after : Outside) (outcome : Outcome) (image : Blocks)
         (sound : IsSound image)
-        → IsTold setting.device.tells setting.device.honest before.device image →
+        → IsTold setting.device before.device image →
         HasSequencesLeft image sound → before.device.size ≤ 65536 → IsTrue setting.source_tells
         → served_of words ≡ Some (served.Crash options) →
         whole_script before.source.left ≡ Ok script

@@ -32,14 +32,14 @@ pub fn what_a_run_leaves_can_be_run()
     ensures script { (setting : Setting) (schedule left : ℕ) (before after : Outside)
         (outcome : Outcome)
         (image : Blocks)
-        → IsTold setting.device.tells setting.device.honest before.device image →
+        → IsTold setting.device before.device image →
         CanBegin (2 ^ 18 + left) image → 2 ^ 20 ≤ 2 ^ 18 + left
         → RunsScript setting schedule before after outcome →
         LeavesRunnable setting.device left before.device after.device }
     ensures workload { (setting : Setting) (options : WorkloadOptions) (left : ℕ)
         (before after : Outside) (outcome : Outcome)
         (image : Blocks)
-        → IsTold setting.device.tells setting.device.honest before.device image →
+        → IsTold setting.device before.device image →
         CanBegin (2 ^ 18 + left) image → 2 ^ 20 ≤ 2 ^ 18 + left
         → EndsWorkload setting options before after outcome →
         LeavesRunnable setting.device left before.device after.device }
@@ -50,7 +50,7 @@ pub fn what_a_run_leaves_can_be_run()
 pub fn a_run_without_faults_is_complete()
     ensures script { (setting : Setting) (words : List (List ℕ)) (schedule : ℕ) (script : Script)
         (before after : Outside) (outcome : Outcome) (image : Blocks) → IsSound image
-        → IsTold setting.device.tells setting.device.honest before.device image →
+        → IsTold setting.device before.device image →
         IsTrue setting.source_tells
         → served_of words ≡ Some (served.Script schedule) →
         whole_script before.source.left ≡ Ok script
@@ -58,7 +58,7 @@ pub fn a_run_without_faults_is_complete()
         IsComplete script outcome }
     ensures workload { (setting : Setting) (words : List (List ℕ)) (options : WorkloadOptions)
         (before after : Outside) (outcome : Outcome) (image : Blocks) (sound : IsSound image)
-        → IsTold setting.device.tells setting.device.honest before.device image →
+        → IsTold setting.device before.device image →
         served_of words ≡ Some (served.Workload options)
         → NoneRose before after → EndsSo setting words before after outcome →
         IsComplete (requests_for options sound.head.geometry.logical) outcome }

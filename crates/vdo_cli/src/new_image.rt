@@ -14,11 +14,11 @@ pub(crate) fn make_image<D: Disk>(sizes: &Geometry, device: &mut D) -> Result<La
     ensures made { IfOk result (λ image. image.geometry ≡ sizes.now) }
     ensures planned { IfOk result (λ image. plan_of sizes.now (D.seen device.old).size ≡ Ok tt) }
     ensures empty { IfOk result (λ image.
-        IsTrue D.tells → LeavesEmpty sizes.now (D.seen device.old) (D.seen device.new)) }
+        IsTrue D.trust.tells → LeavesEmpty sizes.now (D.seen device.old) (D.seen device.new)) }
     ensures fault { IfErr result
-        (MakingFails D.tells sizes.now (D.seen device.old) (D.seen device.new)) }
+        (MakingFails D.trust.tells sizes.now (D.seen device.old) (D.seen device.new)) }
     ensures stays { Stays (D.seen device.old) (D.seen device.new) }
-    ensures stops { IsTrue D.tells
+    ensures stops { IsTrue D.trust.tells
         → StopsAreRight sizes.now (D.seen device.old) (D.seen device.new) }
 {
     match format(sizes, device) {

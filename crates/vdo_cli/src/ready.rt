@@ -1,7 +1,6 @@
 ghost use Rattle.std.specs.Prelude.{◌≡◌, ◌<◌, ◌^◌, IfOk, IfErr};
 ghost use Rattle.vdo_cli.specs.Openings as openings;
 ghost use Rattle.vdo_cli.specs.Openings.{IsReady, IsUnready};
-ghost use Rattle.vdo_cli.specs.Outsides.{trust};
 
 use blk_base::Opened;
 use disk_model::Disk;
@@ -35,10 +34,10 @@ pub(crate) fn recovered_of(found: Recovered) -> Option<u32>
 
 /// Recovers the image where its last session wasn't closed, and opens it.
 pub(crate) fn get_ready<D: Disk>(alloc: Global, device: &mut D) -> Result<Ready, OpeningFault>
-    ensures ready { IfOk result (λ ready. IsReady (trust D.tells D.honest)
+    ensures ready { IfOk result (λ ready. IsReady D.trust
         (D.seen device.old) (D.seen device.new) ready.found ready.start) }
     ensures named { IfOk result (λ ready. ready.start.head.geometry.nonce < 2 ^ 64) }
-    ensures unready { IfErr result (λ not. IsUnready (trust D.tells D.honest)
+    ensures unready { IfErr result (λ not. IsUnready D.trust
         (D.seen device.old) (D.seen device.new) not.recovered not.why) }
 {
     let found = match recover(alloc, device) {

@@ -285,7 +285,7 @@ fn run_script<R: Wait, D: Disk, S: Source, K: Sink>(
     script: &mut S,
     out: &mut K,
 ) -> Finished<D>
-    ensures { RunsScript (setting D.tells D.honest S.tells K.tells) schedule
+    ensures { RunsScript (setting D.trust S.tells K.tells) schedule
         (outside (D.seen device) (S.seen script.old) (K.seen out.old))
         (outside (D.seen result.device) (S.seen script.new) (K.seen out.new))
         (outcome result.status result.report result.fault) }
@@ -307,7 +307,7 @@ fn run_workload<R: Wait, D: Disk, S: Source, K: Sink>(
     out: &mut K,
 ) -> Finished<D>
     requires { IsWorkload options.now }
-    ensures { EndsWorkload (setting D.tells D.honest S.tells K.tells) options.now
+    ensures { EndsWorkload (setting D.trust S.tells K.tells) options.now
         (outside (D.seen device) (S.seen script.now) (K.seen out.old))
         (outside (D.seen result.device) (S.seen script.now) (K.seen out.new))
         (outcome result.status result.report result.fault) }
@@ -327,7 +327,7 @@ fn format<D: Disk, S: Source, K: Sink>(
     script: &S,
     out: &mut K,
 ) -> Finished<D>
-    ensures { MakesImage (setting D.tells D.honest S.tells K.tells) sizes.now
+    ensures { MakesImage (setting D.trust S.tells K.tells) sizes.now
         (outside (D.seen device) (S.seen script.now) (K.seen out.old))
         (outside (D.seen result.device) (S.seen script.now) (K.seen out.new))
         (outcome result.status result.report result.fault) }
@@ -350,7 +350,7 @@ fn serve_on_device<R: Wait, D: Disk, S: Source, K: Sink>(
 ) -> Finished<D>
     requires within { IsServedWithin served }
     requires here { IsOnDevice served }
-    ensures { EndsAs (setting D.tells D.honest S.tells K.tells) served
+    ensures { EndsAs (setting D.trust S.tells K.tells) served
         (outside (D.seen device) (S.seen script.old) (K.seen out.old))
         (outside (D.seen result.device) (S.seen script.new) (K.seen out.new))
         (outcome result.status result.report result.fault) }
@@ -424,7 +424,7 @@ pub fn run<R: Threads + Wait + Sync, D: Disk + Send + Drop, S: Source, K: Sink, 
     out: &mut K,
     gate: &G,
 ) -> Ended<D>
-    ensures ends { EndsSo (setting D.tells D.honest S.tells K.tells) words.now
+    ensures ends { EndsSo (setting D.trust S.tells K.tells) words.now
         (outside (D.seen device) (S.seen script.old) (K.seen out.old))
         (outside (D.seen result.device) (S.seen script.new) (K.seen out.new))
         (outcome_with result.status result.report result.fault result.copy) }

@@ -3,7 +3,6 @@ ghost use Rattle.disk_model.specs.Seen.{Seen};
 ghost use Rattle.vdo_cli.specs.Commands.{IsWorkload};
 ghost use Rattle.vdo_cli.specs.Endings.{KeepsImage, ServesRequests};
 ghost use Rattle.vdo_cli.specs.Openings.{IsReady, IsReadyNow};
-ghost use Rattle.vdo_cli.specs.Outsides.{trust};
 ghost use Rattle.vdo_cli.specs.Workloads as workloads;
 ghost use Rattle.vdo_cli.specs.Workloads.{ServesWorkload, WorkloadFails, requests_for};
 
@@ -55,12 +54,12 @@ fn serve_drawn<R: Wait, D: Disk>(
     device: &mut D,
 ) -> Result<RunReport, AllocError>
     requires within { IsWorkload options.now }
-    requires ready { IsReadyNow (trust D.tells D.honest) (D.seen device.old)
+    requires ready { IsReadyNow D.trust (D.seen device.old)
         ready.now.found ready.now.start }
     requires named { ready.now.start.head.geometry.nonce < 2 ^ 64 }
     ensures serves { IfOk result (λ report. (before : Seen)
-        → IsReady (trust D.tells D.honest) before (D.seen device.old) ready.now.found ready.now.start
-        → ServesRequests (trust D.tells D.honest)
+        → IsReady D.trust before (D.seen device.old) ready.now.found ready.now.start
+        → ServesRequests D.trust
         options.now.schedule ready.now.found ready.now.start report before (D.seen device.new)) }
     ensures requests { IfOk result (λ report.
         report.requests ≡ requests_for options.now ready.now.start.head.geometry.logical) }
@@ -79,11 +78,11 @@ pub(crate) fn work<R: Wait, D: Disk>(
     device: &mut D,
 ) -> Result<Worked, SessionFault>
     requires { IsWorkload options.now }
-    ensures session { IfOk result (λ worked. ServesWorkload (trust D.tells D.honest)
+    ensures session { IfOk result (λ worked. ServesWorkload D.trust
         options.now worked.found worked.report (D.seen device.old) (D.seen device.new)) }
-    ensures fault { IfErr result (λ not. WorkloadFails (trust D.tells D.honest)
+    ensures fault { IfErr result (λ not. WorkloadFails D.trust
         (D.seen device.old) (D.seen device.new) not.recovered not.fault) }
-    ensures early { IfErr result (λ not. KeepsImage (trust D.tells D.honest)
+    ensures early { IfErr result (λ not. KeepsImage D.trust
         (D.seen device.old) (D.seen device.new)) }
 {
     let ready = match get_ready(alloc, device) {

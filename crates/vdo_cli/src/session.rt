@@ -5,7 +5,7 @@ ghost use Rattle.stream_text.specs.ReadingBytes.{IsWholeScript};
 ghost use Rattle.stream_text.specs.WholeScript.{whole_script};
 ghost use Rattle.vdo_cli.specs.Endings.{KeepsImage, RunsSession, ServesRequests, PlayFails, ScriptFails};
 ghost use Rattle.vdo_cli.specs.Openings.{IsReady, IsReadyNow};
-ghost use Rattle.vdo_cli.specs.Outsides.{input_setting, inputs, trust};
+ghost use Rattle.vdo_cli.specs.Outsides.{input_setting, inputs};
 
 use crate::Fault;
 use crate::endings::fault_of;
@@ -68,13 +68,13 @@ pub(crate) fn serve<R: Wait, D: Disk>(
     requests: Requests,
     device: &mut D,
 ) -> Result<RunReport, AllocError>
-    requires ready { IsReadyNow (trust D.tells D.honest) (D.seen device.old)
+    requires ready { IsReadyNow D.trust (D.seen device.old)
         ready.now.found ready.now.start }
     requires named { ready.now.start.head.geometry.nonce < 2 ^ 64 }
     requires whole { IsWholeScript requests }
     ensures serves { IfOk result (λ report. (before : Seen)
-        → IsReady (trust D.tells D.honest) before (D.seen device.old) ready.now.found ready.now.start
-        → ServesRequests (trust D.tells D.honest)
+        → IsReady D.trust before (D.seen device.old) ready.now.found ready.now.start
+        → ServesRequests D.trust
         number ready.now.found ready.now.start report before (D.seen device.new)) }
     ensures requests { IfOk result (λ report. report.requests ≡ requests) }
     ensures unserved { IfErr result (λ e. D.seen device.new ≡ D.seen device.old) }
@@ -93,15 +93,15 @@ pub(crate) fn play<R: Wait, D: Disk, S: Source>(
     device: &mut D,
     script: &mut S,
 ) -> Result<Played, SessionFault>
-    ensures session { IfOk result (λ played. RunsSession (input_setting D.tells D.honest S.tells)
+    ensures session { IfOk result (λ played. RunsSession (input_setting D.trust S.tells)
         number played.found played.report
         (inputs (D.seen device.old) (S.seen script.old))
         (inputs (D.seen device.new) (S.seen script.new))) }
     ensures room { IfOk result (λ played. HasRoomFor played.room played.report.requests) }
-    ensures fault { IfErr result (λ not. PlayFails (input_setting D.tells D.honest S.tells)
+    ensures fault { IfErr result (λ not. PlayFails (input_setting D.trust S.tells)
         (inputs (D.seen device.old) (S.seen script.old))
         (inputs (D.seen device.new) (S.seen script.new)) not.recovered not.fault) }
-    ensures early { IfErr result (λ not. KeepsImage (trust D.tells D.honest)
+    ensures early { IfErr result (λ not. KeepsImage D.trust
         (D.seen device.old) (D.seen device.new)) }
     ensures later { (S.seen script.old).faults ≤ (S.seen script.new).faults }
 {

@@ -7,6 +7,7 @@ use Rattle.blk_base.specs.declared.place.PageId.{PageId}
 use Rattle.disk_model.specs.Log.{Blocks, block_at}
 use Rattle.disk_model.specs.Memory.{fresh, seen_of}
 use Rattle.disk_model.specs.Seen.{Seen}
+use Rattle.disk_model.specs.Trust.{trust_of}
 use Rattle.image_model.specs.Empty.{IsEmpty}
 use Rattle.vdo_model.specs.Scripts.{Script}
 use Rattle.data_vio.specs.declared.sizes.Sizes.{Sizes}
@@ -32,13 +33,13 @@ module _ (sizes : Sizes) (script : Script) (opened : Opened) (image : Blocks) wh
         image = image;
       }
 
-  fair-in_memory : (after : Seen) (t : Trace) → IsAsOpened in_memory → HasCalled true true (seen_of (fresh image)) after t → IsFair in_memory t
+  fair-in_memory : (after : Seen) (t : Trace) → IsAsOpened in_memory → HasCalled (trust_of true true) (seen_of (fresh image)) after t → IsFair in_memory t
   fair-in_memory after t as_opened called = record { honest = honest_reads in_memory t (called.given refl refl); opened = as_opened }
 
   -- so where that is a new image, which links no page
   fair-over_a_new_image : (after : Seen) (t : Trace) → CanBegin sizes script opened → IsEmpty sizes.geometry image → needed_blocks sizes.geometry ≤ length image
       → ((b : ℕ) → b < length image → length (block_at image b) ≡ 4096) → ((page : PageId) → opened_page opened.pages.items page ≡ None) → ((k : ℕ) → slice_index opened.counters.items k ≡ 0)
-      → HasCalled true true (seen_of (fresh image)) after t → IsFair in_memory t
+      → HasCalled (trust_of true true) (seen_of (fresh image)) after t → IsFair in_memory t
   fair-over_a_new_image after t can empty room whole links uncounted called =
       let session = can_serve sizes script opened in_memory can (record { sizes_is = refl; script_is = refl; links_is = refl; counters_are = refl }) in
       fair-in_memory after t (new_opened in_memory session (record { empty = empty; room = room; whole = whole; blocks = refl; unwritten = refl; links = links; uncounted = uncounted })) called

@@ -4,6 +4,7 @@ use Rattle.std.proofs.lemmas.Bool.{cases_lt}
 use Rattle.std.proofs.lemmas.Bool.Decides.{eqb_tells}
 use Rattle.std.proofs.lemmas.List.{get_or-set_other, get_or-set_same, length-set}
 use Rattle.std.proofs.lemmas.Option.{same_Some, slice_get-get_or, slice_get_within}
+use Rattle.disk_model.specs.Trust.{Trust}
 use Rattle.data_vio.specs.declared.items.Item.{Item}
 use Rattle.data_vio.specs.declared.sizes.Sizes.{Sizes}
 use Rattle.core_model.specs.declared.zones.Zone.{Zone}
@@ -258,21 +259,21 @@ module _ {F : Type 0} (P : ℕ → F → Zone → Type 0) where
       (λ same. absurd (other same)) (λ same noted told. of n noted all.target (filled all.target all.part) refl told)
 
   -- so by each event only the zone that steps, or from which something moves, changes what it posted
-  posts_stay : OfOutboxes P → (tells honest : Bool) (sizes : Sizes) (e : Event) (old new : Vdo) (made : Trace)
-      → PlaysOne tells honest sizes e old new made → OthersStay P (sender_of e) old.zones new.zones
-  posts_stay of tells honest sizes (event.Step n) old new made (inl at) =
+  posts_stay : OfOutboxes P → (trust : Trust) (sizes : Sizes) (e : Event) (old new : Vdo) (made : Trace)
+      → PlaysOne trust sizes e old new made → OthersStay P (sender_of e) old.zones new.zones
+  posts_stay of trust sizes (event.Step n) old new made (inl at) =
       subst (λ (zs : List Zone). OthersStay P n old.zones zs) (sym at.has) (put_stays old.zones n at.zone')
-  posts_stay of tells honest sizes (event.Step n) old new made (inr (idle, same, none)) = same_stays n old.zones new.zones (ap (λ (v : Vdo). v.zones) same)
-  posts_stay of tells honest sizes (event.Move from to) old new made (inl (all, silent, none)) = moved_posts of from to old.zones new.zones all
-  posts_stay of tells honest sizes (event.Move from to) old new made (inr (idle, same, none)) =
+  posts_stay of trust sizes (event.Step n) old new made (inr (idle, same, none)) = same_stays n old.zones new.zones (ap (λ (v : Vdo). v.zones) same)
+  posts_stay of trust sizes (event.Move from to) old new made (inl (all, silent, none)) = moved_posts of from to old.zones new.zones all
+  posts_stay of trust sizes (event.Move from to) old new made (inr (idle, same, none)) =
       same_stays from old.zones new.zones (ap (λ (v : Vdo). v.zones) same)
 
 -- what was posted elsewhere stays
-pub played_posts : (count : ℕ) (tells honest : Bool) (sizes : Sizes) (e : Event) (old new : Vdo) (made : Trace)
-    → PlaysOne tells honest sizes e old new made → OtherPostsStay count (sender_of e) old.zones new.zones
-played_posts count tells honest sizes e old new made played = record {
-  posts = posts_stay (TellsPosts count) (posts_of_outboxes count) tells honest sizes e old new made played;
-  senders = posts_stay (TellsNone count) (none_of_outboxes count) tells honest sizes e old new made played;
+pub played_posts : (count : ℕ) (trust : Trust) (sizes : Sizes) (e : Event) (old new : Vdo) (made : Trace)
+    → PlaysOne trust sizes e old new made → OtherPostsStay count (sender_of e) old.zones new.zones
+played_posts count trust sizes e old new made played = record {
+  posts = posts_stay (TellsPosts count) (posts_of_outboxes count) trust sizes e old new made played;
+  senders = posts_stay (TellsNone count) (none_of_outboxes count) trust sizes e old new made played;
 }
 
 -- An emptied outbox changes no work
@@ -287,22 +288,22 @@ moved_work sizes from to old new all n z other got =
     (λ same flag told. work_emptied sizes all.source to n flag told) (λ same. absurd (other same))
 
 -- so only the zone that steps, or to which something moves, has more work or less
-pub played_work : (tells honest : Bool) (sizes : Sizes) (e : Event) (old new : Vdo) (made : Trace)
-    → PlaysOne tells honest sizes e old new made → OthersStay (TellsWork sizes) (worker_of e) old.zones new.zones
-played_work tells honest sizes (event.Step n) old new made (inl at) =
+pub played_work : (trust : Trust) (sizes : Sizes) (e : Event) (old new : Vdo) (made : Trace)
+    → PlaysOne trust sizes e old new made → OthersStay (TellsWork sizes) (worker_of e) old.zones new.zones
+played_work trust sizes (event.Step n) old new made (inl at) =
     subst (λ (zs : List Zone). OthersStay (TellsWork sizes) n old.zones zs) (sym at.has) (put_stays (TellsWork sizes) old.zones n at.zone')
-played_work tells honest sizes (event.Step n) old new made (inr (idle, same, none)) =
+played_work trust sizes (event.Step n) old new made (inr (idle, same, none)) =
     same_stays (TellsWork sizes) n old.zones new.zones (ap (λ (v : Vdo). v.zones) same)
-played_work tells honest sizes (event.Move from to) old new made (inl (all, silent, none)) = moved_work sizes from to old.zones new.zones all
-played_work tells honest sizes (event.Move from to) old new made (inr (idle, same, none)) =
+played_work trust sizes (event.Move from to) old new made (inl (all, silent, none)) = moved_work sizes from to old.zones new.zones all
+played_work trust sizes (event.Move from to) old new made (inr (idle, same, none)) =
     same_stays (TellsWork sizes) to old.zones new.zones (ap (λ (v : Vdo). v.zones) same)
 
 -- there are as many zones after an event
-pub played_length : (tells honest : Bool) (sizes : Sizes) (e : Event) (old new : Vdo) (made : Trace)
-    → PlaysOne tells honest sizes e old new made → length old.zones ≡ length new.zones
-played_length tells honest sizes (event.Step n) old new made (inl at) = sym (ap length at.has ∙ length-set old.zones n at.zone')
-played_length tells honest sizes (event.Step n) old new made (inr (idle, same, none)) = sym (ap (λ (v : Vdo). length v.zones) same)
-played_length tells honest sizes (event.Move from to) old new made (inl (all, silent, none)) =
+pub played_length : (trust : Trust) (sizes : Sizes) (e : Event) (old new : Vdo) (made : Trace)
+    → PlaysOne trust sizes e old new made → length old.zones ≡ length new.zones
+played_length trust sizes (event.Step n) old new made (inl at) = sym (ap length at.has ∙ length-set old.zones n at.zone')
+played_length trust sizes (event.Step n) old new made (inr (idle, same, none)) = sym (ap (λ (v : Vdo). length v.zones) same)
+played_length trust sizes (event.Move from to) old new made (inl (all, silent, none)) =
     let first : List Zone = slice_set old.zones from (emptied all.source to) in
     sym (ap length all.has ∙ length-set first to (filled all.target all.part) ∙ length-set old.zones from (emptied all.source to))
-played_length tells honest sizes (event.Move from to) old new made (inr (idle, same, none)) = sym (ap (λ (v : Vdo). length v.zones) same)
+played_length trust sizes (event.Move from to) old new made (inr (idle, same, none)) = sym (ap (λ (v : Vdo). length v.zones) same)

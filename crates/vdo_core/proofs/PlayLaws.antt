@@ -3,6 +3,7 @@ use Rattle.std.proofs.Common.{arith, subst, ◌+◌, ◌≡◌, ℕ, zero, suc, 
 use Rattle.std.proofs.lemmas.List.{append-nil}
 use Rattle.std.proofs.lemmas.Option.{same_Some}
 use Rattle.disk_model.specs.Seen.{Seen}
+use Rattle.disk_model.specs.Trust.{Trust}
 use Rattle.disk_model.specs.declared.call.Call.{Call}
 use Rattle.disk_model.specs.declared.call.Call.TheVariants.{Read}
 use Rattle.disk_model.specs.Images.{IsMixOf}
@@ -63,8 +64,8 @@ given_append opening log (Harms w at bytes fault ∷ t) made late early =
     (late.0, subst (λ (cs : List Call). IsMixOf (settled opening cs at.0) bytes) later late.1, given_append opening log t made late.2 early)
 given_append opening log (other ∷ t) made late early = given_append opening log t made late early
 
-called_on : (tells honest : Bool) (a b c : Seen) (made more : Trace) → HasCalled tells honest a b made → HasCalled tells honest b c more → HasCalled tells honest a c (more ++ made)
-called_on tells honest a b c made more early late = record {
+called_on : (trust : Trust) (a b c : Seen) (made more : Trace) → HasCalled trust a b made → HasCalled trust b c more → HasCalled trust a c (more ++ made)
+called_on trust a b c made more early late = record {
   stays = stays_on a b c early.stays late.stays;
   given = λ notified fair. given_append a.opening a.log more made (rw (← early.stays.opening, ← early.log notified) (late.given notified fair)) (early.given notified fair);
   log = λ notified. late.log notified ∙ ap (λ (cs : List Call). calls more ++ cs) (early.log notified) ∙ sym (append_assoc (calls more) (calls made) a.log) ∙ ap (λ (cs : List Call). cs ++ a.log) (sym (calls_append more made));
@@ -74,28 +75,28 @@ called_on tells honest a b c made more early late = record {
 }
 
 -- this happens on the way from one core to another, whatever happened before
-abbrev pub LeadsBy : Bool → Bool → Sizes → Vdo → Vdo → Trace → Type 0
-LeadsBy tells honest sizes old new made =
-    ((t : Trace) → Leads sizes (core_with old.zones t) (core_with new.zones (made ++ t))) × HasCalled tells honest old.seen new.seen made
+abbrev pub LeadsBy : Trust → Sizes → Vdo → Vdo → Trace → Type 0
+LeadsBy trust sizes old new made =
+    ((t : Trace) → Leads sizes (core_with old.zones t) (core_with new.zones (made ++ t))) × HasCalled trust old.seen new.seen made
 
 -- one event, and then others
-led_on : (tells honest : Bool) (sizes : Sizes) (a b c : Vdo) (made more : Trace) → LeadsBy tells honest sizes a b made → LeadsBy tells honest sizes b c more
-    → LeadsBy tells honest sizes a c (more ++ made)
-led_on tells honest sizes a b c made more (early, called) (late, called') = (
+led_on : (trust : Trust) (sizes : Sizes) (a b c : Vdo) (made more : Trace) → LeadsBy trust sizes a b made → LeadsBy trust sizes b c more
+    → LeadsBy trust sizes a c (more ++ made)
+led_on trust sizes a b c made more (early, called) (late, called') = (
   (λ (t : Trace). rw append_assoc (leads_on sizes (core_with a.zones t) (core_with b.zones (made ++ t)) (core_with c.zones (more ++ (made ++ t))) (early t) (late (made ++ t)))),
-  called_on tells honest a.seen b.seen c.seen made more called called',
+  called_on trust a.seen b.seen c.seen made more called called',
 )
 
 -- where nothing happens, that leads nowhere else
-none_leads : (tells honest : Bool) (sizes : Sizes) (a b : Vdo) (made : Trace) → b ≡ a → made ≡ [] → LeadsBy tells honest sizes a b made
-none_leads tells honest sizes a b made same none =
-    subst (λ (v : Vdo). LeadsBy tells honest sizes a v made) (sym same)
-    (subst (λ (t : Trace). LeadsBy tells honest sizes a a t) (sym none) ((λ (t : Trace). rests), unchanged tells honest a.seen))
+none_leads : (trust : Trust) (sizes : Sizes) (a b : Vdo) (made : Trace) → b ≡ a → made ≡ [] → LeadsBy trust sizes a b made
+none_leads trust sizes a b made same none =
+    subst (λ (v : Vdo). LeadsBy trust sizes a v made) (sym same)
+    (subst (λ (t : Trace). LeadsBy trust sizes a a t) (sym none) ((λ (t : Trace). rests), unchanged trust a.seen))
 
 -- a step of a zone is one of the core
-stepped_leads : (tells honest : Bool) (sizes : Sizes) (n : ℕ) (a b : Vdo) (made : Trace) → StepsAt tells honest sizes n a b made
-    → LeadsBy tells honest sizes a b made
-stepped_leads tells honest sizes n a b made at = (
+stepped_leads : (trust : Trust) (sizes : Sizes) (n : ℕ) (a b : Vdo) (made : Trace) → StepsAt trust sizes n a b made
+    → LeadsBy trust sizes a b made
+stepped_leads trust sizes n a b made at = (
   (λ (t : Trace). steps (record {
     number = n;
     zone = at.zone;
@@ -109,9 +110,9 @@ stepped_leads tells honest sizes n a b made at = (
 )
 
 -- a move is one of the core
-moved_leads : (tells honest : Bool) (sizes : Sizes) (from to : ℕ) (a b : Vdo) → MovesAll from to a.zones b.zones → b.seen ≡ a.seen
-    → LeadsBy tells honest sizes a b []
-moved_leads tells honest sizes from to a b all silent = (
+moved_leads : (trust : Trust) (sizes : Sizes) (from to : ℕ) (a b : Vdo) → MovesAll from to a.zones b.zones → b.seen ≡ a.seen
+    → LeadsBy trust sizes a b []
+moved_leads trust sizes from to a b all silent = (
   (λ (t : Trace). moves (record {
     from = from;
     to = to;
@@ -125,7 +126,7 @@ moved_leads tells honest sizes from to a b all silent = (
     outbox = rw append-nil all.outbox;
     has = ap (λ (zs : List Zone). core_with zs t) all.has;
   }) rests),
-  subst (λ (seen : Seen). HasCalled tells honest a.seen seen []) (sym silent) (unchanged tells honest a.seen),
+  subst (λ (seen : Seen). HasCalled trust a.seen seen []) (sym silent) (unchanged trust a.seen),
 )
 
 -- after an event, whether there was work or not
@@ -142,11 +143,11 @@ comes_less done done' none same same' Did less kept (did, some) = (less did, som
 comes_less done done' none same same' Idle less kept (idle, still) = (idle, kept still)
 
 -- a step of a zone in its place among the others
-pub step_of : (tells honest : Bool) (sizes : Sizes) (n : ℕ) (zones : List Zone) (zone zone' : Zone) (log log' : Seen) (stepped : Stepped) → slice_get zones n ≡ Some zone
-    → ComesTo (ZoneSteps tells honest sizes zone zone' log log') (IsIdle sizes zone) ((zone' ≡ zone) × (log' ≡ log)) stepped
-    → ComesTo ((made : Trace) × StepsAt tells honest sizes n (vdo zones log) (vdo (slice_set zones n zone') log') made) (HasNoWork sizes zones (event.Step n))
+pub step_of : (trust : Trust) (sizes : Sizes) (n : ℕ) (zones : List Zone) (zone zone' : Zone) (log log' : Seen) (stepped : Stepped) → slice_get zones n ≡ Some zone
+    → ComesTo (ZoneSteps trust sizes zone zone' log log') (IsIdle sizes zone) ((zone' ≡ zone) × (log' ≡ log)) stepped
+    → ComesTo ((made : Trace) × StepsAt trust sizes n (vdo zones log) (vdo (slice_set zones n zone') log') made) (HasNoWork sizes zones (event.Step n))
     ((slice_set zones n zone' ≡ zones) × (log' ≡ log)) stepped
-step_of tells honest sizes n zones zone zone' log log' Did had (did, some) =
+step_of trust sizes n zones zone zone' log log' Did had (did, some) =
     let (made, step, called) = did in (
       (
         made,
@@ -161,7 +162,7 @@ step_of tells honest sizes n zones zone zone' log log' Did had (did, some) =
       ),
       (λ none. some (none zone had)),
     )
-step_of tells honest sizes n zones zone zone' log log' Idle had (idle, still) = (
+step_of trust sizes n zones zone zone' log log' Idle had (idle, still) = (
   (λ z got. subst (λ (at : Zone). IsIdle sizes at) (same_Some _ _ (sym had ∙ got)) idle),
   (rw still.0 (put_same zones n zone had), still.1),
 )
@@ -170,36 +171,36 @@ step_of tells honest sizes n zones zone zone' log log' Idle had (idle, still) = 
 same_vdo : (a b : List Zone) (log log' : Seen) → b ≡ a → log' ≡ log → vdo b log' ≡ vdo a log
 same_vdo a b log log' same silent = ap (λ (zones : List Zone). vdo zones log') same ∙ ap (λ (seen : Seen). vdo a seen) silent
 
-pub step_plays : (tells honest : Bool) (sizes : Sizes) (n : ℕ) (a b : List Zone) (log log' : Seen) (stepped : Stepped)
-    → ComesTo ((made : Trace) × StepsAt tells honest sizes n (vdo a log) (vdo b log') made) (HasNoWork sizes a (event.Step n)) ((b ≡ a) × (log' ≡ log)) stepped
-    → (made : Trace) × PlaysOne tells honest sizes (event.Step n) (vdo a log) (vdo b log') made
-step_plays tells honest sizes n a b log log' Did (done, some) = let (made, one) = done in (made, inl one)
-step_plays tells honest sizes n a b log log' Idle (idle, still) = ([], inr (idle, same_vdo a b log log' still.0 still.1, refl))
+pub step_plays : (trust : Trust) (sizes : Sizes) (n : ℕ) (a b : List Zone) (log log' : Seen) (stepped : Stepped)
+    → ComesTo ((made : Trace) × StepsAt trust sizes n (vdo a log) (vdo b log') made) (HasNoWork sizes a (event.Step n)) ((b ≡ a) × (log' ≡ log)) stepped
+    → (made : Trace) × PlaysOne trust sizes (event.Step n) (vdo a log) (vdo b log') made
+step_plays trust sizes n a b log log' Did (done, some) = let (made, one) = done in (made, inl one)
+step_plays trust sizes n a b log log' Idle (idle, still) = ([], inr (idle, same_vdo a b log log' still.0 still.1, refl))
 
-pub move_plays : (tells honest : Bool) (sizes : Sizes) (from to : ℕ) (a b : List Zone) (log : Seen) (stepped : Stepped)
-    → ComesTo (MovesAll from to a b) (MovesNothing a from to) (b ≡ a) stepped → (made : Trace) × PlaysOne tells honest sizes (event.Move from to) (vdo a log) (vdo b log) made
-move_plays tells honest sizes from to a b log Did (all, some) = ([], inl (all, refl, refl))
-move_plays tells honest sizes from to a b log Idle (idle, same) = ([], inr (idle, same_vdo a b log log same refl, refl))
+pub move_plays : (trust : Trust) (sizes : Sizes) (from to : ℕ) (a b : List Zone) (log : Seen) (stepped : Stepped)
+    → ComesTo (MovesAll from to a b) (MovesNothing a from to) (b ≡ a) stepped → (made : Trace) × PlaysOne trust sizes (event.Move from to) (vdo a log) (vdo b log) made
+move_plays trust sizes from to a b log Did (all, some) = ([], inl (all, refl, refl))
+move_plays trust sizes from to a b log Idle (idle, same) = ([], inr (idle, same_vdo a b log log same refl, refl))
 
 -- what happens by an event leads on
-pub played_leads : (tells honest : Bool) (sizes : Sizes) (e : Event) (a b : Vdo) (made : Trace) → PlaysOne tells honest sizes e a b made
-    → LeadsBy tells honest sizes a b made
-played_leads tells honest sizes (event.Step n) a b made (inl at) = stepped_leads tells honest sizes n a b made at
-played_leads tells honest sizes (event.Step n) a b made (inr (idle, same, none)) = none_leads tells honest sizes a b made same none
-played_leads tells honest sizes (event.Move from to) a b made (inl (all, silent, none)) =
-    subst (λ (t : Trace). LeadsBy tells honest sizes a b t) (sym none) (moved_leads tells honest sizes from to a b all silent)
-played_leads tells honest sizes (event.Move from to) a b made (inr (idle, same, none)) = none_leads tells honest sizes a b made same none
+pub played_leads : (trust : Trust) (sizes : Sizes) (e : Event) (a b : Vdo) (made : Trace) → PlaysOne trust sizes e a b made
+    → LeadsBy trust sizes a b made
+played_leads trust sizes (event.Step n) a b made (inl at) = stepped_leads trust sizes n a b made at
+played_leads trust sizes (event.Step n) a b made (inr (idle, same, none)) = none_leads trust sizes a b made same none
+played_leads trust sizes (event.Move from to) a b made (inl (all, silent, none)) =
+    subst (λ (t : Trace). LeadsBy trust sizes a b t) (sym none) (moved_leads trust sizes from to a b all silent)
+played_leads trust sizes (event.Move from to) a b made (inr (idle, same, none)) = none_leads trust sizes a b made same none
 
-pub one_leads : (tells honest : Bool) (sizes : Sizes) (e : Event) (a b : List Zone) (log log' : Seen)
-    → ((made : Trace) × PlaysOne tells honest sizes e (vdo a log) (vdo b log') made) → LeadsTo tells honest sizes a b log log'
-one_leads tells honest sizes e a b log log' (made, one) =
-    let (leads, called) = played_leads tells honest sizes e (vdo a log) (vdo b log') made one in (made, leads, called)
+pub one_leads : (trust : Trust) (sizes : Sizes) (e : Event) (a b : List Zone) (log log' : Seen)
+    → ((made : Trace) × PlaysOne trust sizes e (vdo a log) (vdo b log') made) → LeadsTo trust sizes a b log log'
+one_leads trust sizes e a b log log' (made, one) =
+    let (leads, called) = played_leads trust sizes e (vdo a log) (vdo b log') made one in (made, leads, called)
 
 -- what happens by a list of events leads on
-pub plays_lead : (tells honest : Bool) (sizes : Sizes) (events : List Event) (a b : Vdo) (made : Trace) → Plays tells honest sizes events a b made
-    → LeadsBy tells honest sizes a b made
-plays_lead tells honest sizes [] a b made (same, none) = none_leads tells honest sizes a b made same none
-plays_lead tells honest sizes (e ∷ events) a b made (between, first, later, one, rest, is) =
-    let early = played_leads tells honest sizes e a between first one in
-    let late = plays_lead tells honest sizes events between b later rest in
-    rw is (led_on tells honest sizes a between b first later early late)
+pub plays_lead : (trust : Trust) (sizes : Sizes) (events : List Event) (a b : Vdo) (made : Trace) → Plays trust sizes events a b made
+    → LeadsBy trust sizes a b made
+plays_lead trust sizes [] a b made (same, none) = none_leads trust sizes a b made same none
+plays_lead trust sizes (e ∷ events) a b made (between, first, later, one, rest, is) =
+    let early = played_leads trust sizes e a between first one in
+    let late = plays_lead trust sizes events between b later rest in
+    rw is (led_on trust sizes a between b first later early late)

@@ -7,6 +7,7 @@ use Rattle.blk_base.specs.declared.place.ZoneId.TheVariants as id
 use Rattle.blk_base.specs.declared.request.Request.TheVariants as request
 use Rattle.blk_base.specs.Forms.{writer}
 use Rattle.disk_model.specs.Seen.{Seen}
+use Rattle.disk_model.specs.Trust.{Trust}
 use Rattle.vdo_model.specs.DeskLog.{IsNextLine}
 use Rattle.vdo_model.specs.Scripts.{Script, request_at}
 use Rattle.vdo_model.specs.declared.report.DeskLine.{DeskLine}
@@ -75,28 +76,28 @@ desk_zone n steps log counts next asked = record {
   lanes = refl;
 }
 
-says_alone : (tells honest : Bool) (seen : Seen) (line : DeskLine) → HasCalled tells honest seen seen (Says line ∷ [])
-says_alone tells honest seen line = none_called (Says line ∷ []) refl refl refl tells honest seen
+says_alone : (trust : Trust) (seen : Seen) (line : DeskLine) → HasCalled trust seen seen (Says line ∷ [])
+says_alone trust seen line = none_called (Says line ∷ []) refl refl refl trust seen
 
-module _ (tells honest : Bool) (seen : Seen) where
+module _ (trust : Trust) (seen : Seen) where
   -- StepsAt: the desk steps, and its line is what happens
-  pub first_step : StepsAt tells honest sizes 0 (vdo core_0 seen) (vdo core_1 seen) (Says (line_of 0) ∷ [])
+  pub first_step : StepsAt trust sizes 0 (vdo core_0 seen) (vdo core_1 seen) (Says (line_of 0) ∷ [])
   first_step = record {
     zone = desk 0 [];
     zone' = desk 1 (line_of 0 ∷ []);
     had = refl;
     step = desk_zone 0 0 [] (omega arith) (refl, refl, omega arith) refl;
-    called = says_alone tells honest seen (line_of 0);
+    called = says_alone trust seen (line_of 0);
     has = refl;
   }
 
-  pub second_step : StepsAt tells honest sizes 0 (vdo core_1 seen) (vdo core_2 seen) (Says (line_of 1) ∷ [])
+  pub second_step : StepsAt trust sizes 0 (vdo core_1 seen) (vdo core_2 seen) (Says (line_of 1) ∷ [])
   second_step = record {
     zone = desk 1 (line_of 0 ∷ []);
     zone' = desk 2 (line_of 1 ∷ line_of 0 ∷ []);
     had = refl;
     step = desk_zone 1 1 (line_of 0 ∷ []) (omega arith) (refl, refl, omega arith) refl;
-    called = says_alone tells honest seen (line_of 1);
+    called = says_alone trust seen (line_of 1);
     has = refl;
   }
 
@@ -129,9 +130,9 @@ begins_first : (n : ℕ) (keeps : ZoneData) (made : Trace) (posts : List Post) �
 begins_first n keeps made posts (begins (DeskBegins.answers w r v a next asked vio once is made_is posts_is)) = ap (oldest n) made_is ∙ next.may.0
 begins_first n keeps made posts (begins (DeskBegins.sends w r v next asked vio once is made_is posts_is)) = ap (oldest n) made_is ∙ next.may.0
 
-pub stepped_first : (tells honest : Bool) (n : ℕ) (before : Seen) (new : Vdo) (made : Trace)
-    → StepsAt tells honest sizes 0 (vdo core_0 before) new made → oldest n made ≡ 0
-stepped_first tells honest n before new made is =
+pub stepped_first : (trust : Trust) (n : ℕ) (before : Seen) (new : Vdo) (made : Trace)
+    → StepsAt trust sizes 0 (vdo core_0 before) new made → oldest n made ≡ 0
+stepped_first trust n before new made is =
     let zone : desk 0 [] ≡ is.zone = same_Some _ _ is.had in
     let step = subst (λ (z : Zone). ZoneStep sizes z is.zone' made) (sym zone) is.step in
     let act = subst (λ (front : List Item). Act sizes (at.Desk (desk_with [])) front is.zone'.keeps made step.posts) (no_front step.front step.rest step.taken) step.act in
@@ -150,67 +151,67 @@ has_work_still none = elim (none (desk 1 (line_of 0 ∷ [])) refl) [
   | inr many ↦ absurd (omega (arith, many))
 ]
 
-pub played_first : (tells honest : Bool) (n : ℕ) (before : Seen) (new : Vdo) (made : Trace)
-    → PlaysOne tells honest sizes (event.Step 0) (vdo core_0 before) new made → oldest n made ≡ 0
-played_first tells honest n before new made (inl is) = stepped_first tells honest n before new made is
-played_first tells honest n before new made (inr (none, same, nothing)) = absurd (has_work none)
+pub played_first : (trust : Trust) (n : ℕ) (before : Seen) (new : Vdo) (made : Trace)
+    → PlaysOne trust sizes (event.Step 0) (vdo core_0 before) new made → oldest n made ≡ 0
+played_first trust n before new made (inl is) = stepped_first trust n before new made is
+played_first trust n before new made (inr (none, same, nothing)) = absurd (has_work none)
 
-module _ (tells honest : Bool) (seen : Seen) where
-  first_step-not_silent : StepsAt tells honest sizes 0 (vdo core_0 seen) (vdo core_1 seen) [] → ⊥
-  first_step-not_silent is = let number = stepped_first tells honest 1 seen (vdo core_1 seen) [] is in absurd (omega (arith, number))
+module _ (trust : Trust) (seen : Seen) where
+  first_step-not_silent : StepsAt trust sizes 0 (vdo core_0 seen) (vdo core_1 seen) [] → ⊥
+  first_step-not_silent is = let number = stepped_first trust 1 seen (vdo core_1 seen) [] is in absurd (omega (arith, number))
 
   -- PlaysOne: by a step its line happens,
-  plays_step : PlaysOne tells honest sizes (event.Step 0) (vdo core_0 seen) (vdo core_1 seen) (Says (line_of 0) ∷ [])
-  plays_step = inl (first_step tells honest seen)
+  plays_step : PlaysOne trust sizes (event.Step 0) (vdo core_0 seen) (vdo core_1 seen) (Says (line_of 0) ∷ [])
+  plays_step = inl (first_step trust seen)
 
-  plays_step-not_silent : PlaysOne tells honest sizes (event.Step 0) (vdo core_0 seen) (vdo core_1 seen) [] → ⊥
-  plays_step-not_silent is = let number = played_first tells honest 1 seen (vdo core_1 seen) [] is in absurd (omega (arith, number))
+  plays_step-not_silent : PlaysOne trust sizes (event.Step 0) (vdo core_0 seen) (vdo core_1 seen) [] → ⊥
+  plays_step-not_silent is = let number = played_first trust 1 seen (vdo core_1 seen) [] is in absurd (omega (arith, number))
 
   -- and nothing where there is no work
-  plays_nothing : PlaysOne tells honest sizes (event.Step 1) (vdo core_0 seen) (vdo core_0 seen) []
+  plays_nothing : PlaysOne trust sizes (event.Step 1) (vdo core_0 seen) (vdo core_0 seen) []
   plays_nothing = inr ((λ zone had. absurd cc), refl, refl)
 
-  plays_nothing-no_more : PlaysOne tells honest sizes (event.Step 1) (vdo core_0 seen) (vdo core_0 seen) (Seals ∷ []) → ⊥
+  plays_nothing-no_more : PlaysOne trust sizes (event.Step 1) (vdo core_0 seen) (vdo core_0 seen) (Seals ∷ []) → ⊥
   plays_nothing-no_more (inl is) = let had = is.had in absurd cc
   plays_nothing-no_more (inr (none, same, nothing)) = absurd cc
 
-  moves_nothing : PlaysOne tells honest sizes (event.Move 0 0) (vdo core_0 seen) (vdo core_0 seen) []
+  moves_nothing : PlaysOne trust sizes (event.Move 0 0) (vdo core_0 seen) (vdo core_0 seen) []
   moves_nothing = inr ((λ source target apart had_source had_target. absurd (apart refl)), refl, refl)
 
-  moves_nothing-no_more : PlaysOne tells honest sizes (event.Move 0 0) (vdo core_0 seen) (vdo core_0 seen) (Seals ∷ []) → ⊥
+  moves_nothing-no_more : PlaysOne trust sizes (event.Move 0 0) (vdo core_0 seen) (vdo core_0 seen) (Seals ∷ []) → ⊥
   moves_nothing-no_more (inl (all, silent, nothing)) = absurd cc
   moves_nothing-no_more (inr (none, same, nothing)) = absurd cc
 
   -- Plays: of no event nothing,
-  no_event : Plays tells honest sizes [] (vdo core_0 seen) (vdo core_0 seen) []
+  no_event : Plays trust sizes [] (vdo core_0 seen) (vdo core_0 seen) []
   no_event = (refl, refl)
 
-  no_event-no_more : Plays tells honest sizes [] (vdo core_0 seen) (vdo core_0 seen) (Seals ∷ []) → ⊥
+  no_event-no_more : Plays trust sizes [] (vdo core_0 seen) (vdo core_0 seen) (Seals ∷ []) → ⊥
   no_event-no_more (same, nothing) = absurd cc
 
   -- of two that of the later one in front
   abbrev steps : List Event
   steps = event.Step 0 ∷ event.Step 0 ∷ []
 
-  two_events : Plays tells honest sizes steps (vdo core_0 seen) (vdo core_2 seen) (Says (line_of 1) ∷ Says (line_of 0) ∷ [])
+  two_events : Plays trust sizes steps (vdo core_0 seen) (vdo core_2 seen) (Says (line_of 1) ∷ Says (line_of 0) ∷ [])
   two_events = (
     vdo core_1 seen,
     Says (line_of 0) ∷ [],
     Says (line_of 1) ∷ [],
-    inl (first_step tells honest seen),
-    (vdo core_2 seen, Says (line_of 1) ∷ [], [], inl (second_step tells honest seen), (refl, refl), refl),
+    inl (first_step trust seen),
+    (vdo core_2 seen, Says (line_of 1) ∷ [], [], inl (second_step trust seen), (refl, refl), refl),
     refl,
   )
 
-  two_events-in_no_other_order : Plays tells honest sizes steps (vdo core_0 seen) (vdo core_2 seen) (Says (line_of 0) ∷ Says (line_of 1) ∷ []) → ⊥
+  two_events-in_no_other_order : Plays trust sizes steps (vdo core_0 seen) (vdo core_2 seen) (Says (line_of 0) ∷ Says (line_of 1) ∷ []) → ⊥
   two_events-in_no_other_order (between, first, later, one, rest, is) =
-      let number = played_first tells honest (oldest 0 later) seen between first one in
+      let number = played_first trust (oldest 0 later) seen between first one in
       let said : 1 ≡ oldest 0 (later ++ first) = ap (oldest 0) is in
       absurd (omega (arith, number, said, oldest_on 0 later first))
 
-  two_events-none_left_out : Plays tells honest sizes steps (vdo core_0 seen) (vdo core_2 seen) (Says (line_of 1) ∷ []) → ⊥
+  two_events-none_left_out : Plays trust sizes steps (vdo core_0 seen) (vdo core_2 seen) (Says (line_of 1) ∷ []) → ⊥
   two_events-none_left_out (between, first, later, one, rest, is) =
-      let number = played_first tells honest (oldest 0 later) seen between first one in
+      let number = played_first trust (oldest 0 later) seen between first one in
       let said : 1 ≡ oldest 0 (later ++ first) = ap (oldest 0) is in
       absurd (omega (arith, number, said, oldest_on 0 later first))
 

@@ -8,6 +8,7 @@ use Rattle.blk_base.specs.Counters.{limit_of}
 use Rattle.blk_base.specs.declared.geometry.Geometry.{Geometry}
 use Rattle.blk_base.specs.declared.opened.Opened.{Opened}
 use Rattle.disk_model.specs.Seen.{Seen}
+use Rattle.disk_model.specs.Trust.{Trust}
 use Rattle.disk_model.specs.declared.call.Call.TheVariants.{Read}
 use Rattle.vdo_model.specs.Scripts.{Script}
 use Rattle.data_vio.specs.declared.sizes.Sizes.{Sizes}
@@ -101,8 +102,8 @@ module _ (sizes : Sizes) (zones : List Zone) (reached : IsReached sizes zones) w
   pub few_zones : length zones ≤ 11
   few_zones = let limits = reached.is_session.limits in omega (arith, legal_here.count, limits.zones, limits.physical)
 
-  abbrev pub reached_on : (tells honest : Bool) (later : List Zone) (before after : Seen) → LeadsTo tells honest sizes zones later before after → IsReached sizes later
-  reached_on tells honest later before after (made, leads, told) = record {
+  abbrev pub reached_on : (trust : Trust) (later : List Zone) (before after : Seen) → LeadsTo trust sizes zones later before after → IsReached sizes later
+  reached_on trust later before after (made, leads, told) = record {
     session = reached.session;
     first = reached.first;
     trace = made ++ reached.trace;

@@ -9,6 +9,7 @@ use Rattle.core_model.specs.PortsData.{Ports}
 use Rattle.core_laws.proofs.tokens.Lift.{delivered_same}
 use Rattle.core_model.specs.Steps.{delivered, step_limit, Act, CallsDevice, IsIdle, MayBegin, ZoneStep}
 use Rattle.disk_model.specs.Seen.{Seen}
+use Rattle.disk_model.specs.Trust.{Trust}
 use Rattle.core_model.specs.Trace.{Trace}
 use Rattle.data_vio.specs.Vios.{Post}
 use Rattle.step_parts.specs.Acts.{Acts, ActsAlone}
@@ -40,11 +41,11 @@ served : (sizes : Sizes) (old new : Zone) (keeps : ZoneData) (ports : Ports) (re
 served sizes old new keeps ports rest posts left is = is ∙ ap (λ (p : Ports). delivered sizes posts (record old { keeps = keeps; ports = p; steps = old.steps + 1 })) left
 
 -- a zone steps with the item in front of its inbox
-pub stepped : (tells honest : Bool) (sizes : Sizes) (old new : Zone) (keeps : ZoneData) (front : Item) (ports : Ports) (posts : List Post) (before after : Seen)
+pub stepped : (trust : Trust) (sizes : Sizes) (old new : Zone) (keeps : ZoneData) (front : Item) (ports : Ports) (posts : List Post) (before after : Seen)
     → old.steps < step_limit → old.ports ≡ record ports { inbox = front ∷ ports.inbox }
-    → new ≡ delivered sizes posts (record old { keeps = keeps; ports = ports; steps = old.steps + 1 }) → Acts tells honest sizes old.keeps (front ∷ []) keeps posts before after
-    → ZoneSteps tells honest sizes old new before after
-stepped tells honest sizes old new keeps front ports posts before after counts taken is (made, act, log) =
+    → new ≡ delivered sizes posts (record old { keeps = keeps; ports = ports; steps = old.steps + 1 }) → Acts trust sizes old.keeps (front ∷ []) keeps posts before after
+    → ZoneSteps trust sizes old new before after
+stepped trust sizes old new keeps front ports posts before after counts taken is (made, act, log) =
     let in_turn : front ∷ [] ≡ [] → ports.inbox ≡ [] = λ e. cc in
     let left : ports ≡ record old.ports { inbox = ports.inbox } = ap (λ (p : Ports). record p { inbox = ports.inbox }) (sym taken) in
     (made, step_of sizes old new keeps (front ∷ []) ports.inbox made posts counts (ap (λ (p : Ports). p.inbox) taken) in_turn act (served sizes old new keeps ports ports.inbox posts left is), log)
@@ -53,17 +54,17 @@ stepped tells honest sizes old new keeps front ports posts before after counts t
 pub stepped_alone : (sizes : Sizes) (old new : Zone) (keeps : ZoneData) (front : Item) (ports : Ports) (posts : List Post)
     → old.steps < step_limit → old.ports ≡ record ports { inbox = front ∷ ports.inbox }
     → new ≡ delivered sizes posts (record old { keeps = keeps; ports = ports; steps = old.steps + 1 }) → ActsAlone sizes old.keeps (front ∷ []) keeps posts
-    → (tells honest : Bool) (seen : Seen) → ZoneSteps tells honest sizes old new seen seen
-stepped_alone sizes old new keeps front ports posts counts taken is (made, act, silent) tells honest seen =
-    stepped tells honest sizes old new keeps front ports posts seen seen counts taken is (made, act, silent tells honest seen)
+    → (trust : Trust) (seen : Seen) → ZoneSteps trust sizes old new seen seen
+stepped_alone sizes old new keeps front ports posts counts taken is (made, act, silent) trust seen =
+    stepped trust sizes old new keeps front ports posts seen seen counts taken is (made, act, silent trust seen)
 
 -- a zone steps with no item
 pub begun : (sizes : Sizes) (old new : Zone) (keeps : ZoneData) (ports : Ports) (posts : List Post)
     → old.steps < step_limit → old.ports.inbox ≡ [] → ports ≡ old.ports → ActsAlone sizes old.keeps [] keeps posts
-    → new ≡ delivered sizes posts (record old { keeps = keeps; ports = ports; steps = old.steps + 1 }) → (tells honest : Bool) (seen : Seen) → ZoneSteps tells honest sizes old new seen seen
-begun sizes old new keeps ports posts counts none same (made, act, silent) is tells honest seen =
+    → new ≡ delivered sizes posts (record old { keeps = keeps; ports = ports; steps = old.steps + 1 }) → (trust : Trust) (seen : Seen) → ZoneSteps trust sizes old new seen seen
+begun sizes old new keeps ports posts counts none same (made, act, silent) is trust seen =
     let left : ports ≡ record old.ports { inbox = [] } = same ∙ ap (λ (items : List Item). record old.ports { inbox = items }) none in
-    (made, step_of sizes old new keeps [] [] made posts counts none (λ e. refl) act (served sizes old new keeps ports [] posts left is), silent tells honest seen)
+    (made, step_of sizes old new keeps [] [] made posts counts none (λ e. refl) act (served sizes old new keeps ports [] posts left is), silent trust seen)
 
 -- a zone that counts on has work where it has an item, or may begin a request
 pub has_item : (sizes : Sizes) (z : Zone) (front : Item) (rest : List Item) → z.steps < step_limit → z.ports.inbox ≡ front ∷ rest → IsIdle sizes z → ⊥

@@ -1,6 +1,7 @@
 -- What becomes of a core by an event, by a list of them, and with the trace that they make, whatever happened before.
-use Rattle.std.specs.Prelude.{ℕ, ◌≡◌, ◌≢◌, ◌<◌, ◌⊎◌, Bool, Some, List, [], ◌∷◌, ◌++◌, slice_get, slice_set}
+use Rattle.std.specs.Prelude.{ℕ, ◌≡◌, ◌≢◌, ◌<◌, ◌⊎◌, Some, List, [], ◌∷◌, ◌++◌, slice_get, slice_set}
 use Rattle.disk_model.specs.Seen.{Seen}
+use Rattle.disk_model.specs.Trust.{Trust}
 use Rattle.data_vio.specs.declared.items.Item.{Item}
 use Rattle.data_vio.specs.declared.sizes.Sizes.{Sizes}
 use Rattle.core_model.specs.declared.zones.Zone.{Zone}
@@ -15,8 +16,8 @@ use Rattle.vdo_core.specs.declared.events.Event.{Event}
 use Rattle.vdo_core.specs.declared.events.Event.TheVariants as event
 
 -- one zone steps
-abbrev pub ZoneSteps : Bool → Bool → Sizes → Zone → Zone → Seen → Seen → Type 0
-ZoneSteps tells honest sizes old new before after = (made : Trace) × ZoneStep sizes old new made × HasCalled tells honest before after made
+abbrev pub ZoneSteps : Trust → Sizes → Zone → Zone → Seen → Seen → Type 0
+ZoneSteps trust sizes old new before after = (made : Trace) × ZoneStep sizes old new made × HasCalled trust before after made
 
 -- a VDO at a moment: the zones of its core, and what contracts see of its device
 pub record Vdo : Type 0 where
@@ -28,12 +29,12 @@ abbrev pub vdo : List Zone → Seen → Vdo
 vdo zones seen = record { zones = zones; seen = seen }
 
 -- the zone of this number steps, all others stay, and this happens
-pub record StepsAt (tells honest : Bool) (sizes : Sizes) (number : ℕ) (old new : Vdo) (made : Trace) : Type 0 where
+pub record StepsAt (trust : Trust) (sizes : Sizes) (number : ℕ) (old new : Vdo) (made : Trace) : Type 0 where
   pub zone : Zone
   pub zone' : Zone
   pub had : slice_get old.zones number ≡ Some zone
   pub step : ZoneStep sizes zone zone' made
-  pub called : HasCalled tells honest old.seen new.seen made
+  pub called : HasCalled trust old.seen new.seen made
   pub has : new.zones ≡ slice_set old.zones number zone'
 
 -- what one zone posted to another moves, all of it, to the tail of its inbox
@@ -62,21 +63,21 @@ abbrev pub HaveStepsLeft : List Zone → Type 0
 HaveStepsLeft zones = (n : ℕ) (z : Zone) → slice_get zones n ≡ Some z → z.steps < step_limit
 
 -- an event: the zone steps, or all moves; or nothing happens, where there is no work for it
-abbrev pub PlaysOne : Bool → Bool → Sizes → Event → Vdo → Vdo → Trace → Type 0
-PlaysOne tells honest sizes (event.Step number) old new made =
-    StepsAt tells honest sizes number old new made
+abbrev pub PlaysOne : Trust → Sizes → Event → Vdo → Vdo → Trace → Type 0
+PlaysOne trust sizes (event.Step number) old new made =
+    StepsAt trust sizes number old new made
     ⊎ (HasNoWork sizes old.zones (event.Step number) × (new ≡ old) × (made ≡ []))
-PlaysOne tells honest sizes (event.Move from to) old new made =
+PlaysOne trust sizes (event.Move from to) old new made =
     (MovesAll from to old.zones new.zones × (new.seen ≡ old.seen) × (made ≡ []))
     ⊎ (HasNoWork sizes old.zones (event.Move from to) × (new ≡ old) × (made ≡ []))
 
 -- all of these, one after another, and what happens by them, that of a later one in front
-abbrev pub Plays : Bool → Bool → Sizes → List Event → Vdo → Vdo → Trace → Type 0
-Plays tells honest sizes [] old new made = (new ≡ old) × (made ≡ [])
-Plays tells honest sizes (e ∷ events) old new made =
-    (between : Vdo) × (first later : Trace) × PlaysOne tells honest sizes e old between first
-    × Plays tells honest sizes events between new later × (made ≡ later ++ first)
+abbrev pub Plays : Trust → Sizes → List Event → Vdo → Vdo → Trace → Type 0
+Plays trust sizes [] old new made = (new ≡ old) × (made ≡ [])
+Plays trust sizes (e ∷ events) old new made =
+    (between : Vdo) × (first later : Trace) × PlaysOne trust sizes e old between first
+    × Plays trust sizes events between new later × (made ≡ later ++ first)
 
 -- events lead from one core to another
-abbrev pub LeadsTo : Bool → Bool → Sizes → List Zone → List Zone → Seen → Seen → Type 0
-LeadsTo tells honest sizes old new before after = (made : Trace) × ((t : Trace) → Leads sizes (core_with old t) (core_with new (made ++ t))) × HasCalled tells honest before after made
+abbrev pub LeadsTo : Trust → Sizes → List Zone → List Zone → Seen → Seen → Type 0
+LeadsTo trust sizes old new before after = (made : Trace) × ((t : Trace) → Leads sizes (core_with old t) (core_with new (made ++ t))) × HasCalled trust before after made

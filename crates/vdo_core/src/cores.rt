@@ -114,7 +114,7 @@ impl Core {
         ensures stays { Stays (D.seen device.old) (D.seen device.new) }
         ensures sizes { self.new.sizes ≡ self.old.sizes }
         ensures plays { (made : Trace)
-            × PlaysOne D.tells D.honest self.old.sizes event
+            × PlaysOne D.trust self.old.sizes event
             (vdo self.old.zones (D.seen device.old)) (vdo self.new.zones (D.seen device.new)) made }
         ensures did { result ≡ Did → HasNoWork self.old.sizes self.old.zones event → ⊥ }
         ensures idle { result ≡ Idle → HasNoWork self.old.sizes self.old.zones event }

@@ -48,7 +48,7 @@ pub(crate) fn act_at_device<D: Disk>(
     requires fits { Fits sizes.now (D.seen disk.old) }
     requires none { posts.old ≡ [] }
     ensures stays { Stays (D.seen disk.old) (D.seen disk.new) }
-    ensures acts { Acts D.tells D.honest sizes.now keeps.old (item ∷ []) keeps.new posts.new
+    ensures acts { Acts D.trust sizes.now keeps.old (item ∷ []) keeps.new posts.new
         (D.seen disk.old) (D.seen disk.new) }
 {
     match keeps {

@@ -29,7 +29,7 @@ fn step<D: Disk>(sizes: &Sizes, zones: &mut Zones, number: u32, disk: &mut D) ->
     ensures stays { Stays (D.seen disk.old) (D.seen disk.new) }
     ensures steps { ComesTo
         ((made : Trace)
-        × StepsAt D.tells D.honest sizes.now number (vdo zones.old (D.seen disk.old))
+        × StepsAt D.trust sizes.now number (vdo zones.old (D.seen disk.old))
         (vdo zones.new (D.seen disk.new)) made)
         (HasNoWork sizes.now zones.old (event.Step number))
         ((zones.new ≡ zones.old) × (D.seen disk.new ≡ D.seen disk.old)) result }
@@ -53,9 +53,9 @@ pub(crate) fn play_one<D: Disk>(
     requires fits { Fits sizes.now (D.seen disk.old) }
     ensures stays { Stays (D.seen disk.old) (D.seen disk.new) }
     ensures plays { (made : Trace)
-        × PlaysOne D.tells D.honest sizes.now event (vdo zones.old (D.seen disk.old))
+        × PlaysOne D.trust sizes.now event (vdo zones.old (D.seen disk.old))
         (vdo zones.new (D.seen disk.new)) made }
-    ensures leads { LeadsTo D.tells D.honest sizes.now zones.old zones.new (D.seen disk.old)
+    ensures leads { LeadsTo D.trust sizes.now zones.old zones.new (D.seen disk.old)
         (D.seen disk.new) }
     ensures work { ComesTo (Unit {0}) (HasNoWork sizes.now zones.old event)
         (zones.new ≡ zones.old) result }

@@ -1,6 +1,7 @@
-ghost use Rattle.std.specs.Prelude.{Bool, ◌≡◌, ◌+◌, ◌<◌, ◌≤◌, ◌↔◌, [], IsTrue, true, false};
+ghost use Rattle.std.specs.Prelude.{◌≡◌, ◌+◌, ◌<◌, ◌≤◌, ◌↔◌, [], IsTrue, true, false};
 ghost use Rattle.std.specs.List.{AllByRecursion};
 ghost use Rattle.disk_model.specs.Seen.{Seen, Stays};
+ghost use Rattle.disk_model.specs.Trust.{Trust};
 ghost use Rattle.core_model.specs.Steps.{CallsDevice, IsIdle, delivered, step_limit};
 ghost use Rattle.device_zone.specs.DeviceCalls.{Fits};
 ghost use Rattle.vdo_core.specs.Conditions.{CanStep, HasLane};
@@ -46,8 +47,8 @@ fn step_alone(sizes: &Sizes, zone: &mut Zone, posts: &mut Posts) -> Stepped
     requires other { CallsDevice zone.old.keeps → ⊥ }
     requires none { posts.old ≡ [] }
     ensures { ComesTo
-        ((tells honest : Bool) (seen : Seen) →
-        ZoneSteps tells honest sizes.now zone.old zone.new seen seen) (IsIdle sizes.now zone.old)
+        ((trust : Trust) (seen : Seen) →
+        ZoneSteps trust sizes.now zone.old zone.new seen seen) (IsIdle sizes.now zone.old)
         (zone.new ≡ zone.old) result }
 {
     if !has_steps_left(zone) {
@@ -75,7 +76,7 @@ fn step_device<D: Disk>(sizes: &Sizes, zone: &mut Zone, posts: &mut Posts, disk:
     requires none { posts.old ≡ [] }
     ensures stays { Stays (D.seen disk.old) (D.seen disk.new) }
     ensures steps { ComesTo
-        (ZoneSteps D.tells D.honest sizes.now zone.old zone.new (D.seen disk.old) (D.seen disk.new))
+        (ZoneSteps D.trust sizes.now zone.old zone.new (D.seen disk.old) (D.seen disk.new))
         (IsIdle sizes.now zone.old)
         ((zone.new ≡ zone.old) × (D.seen disk.new ≡ D.seen disk.old)) result }
 {
@@ -110,7 +111,7 @@ pub fn step_zone<D: Disk>(
     ensures stays { Uses D.seen Stays tools.entry tools.exit }
     ensures steps { ComesTo
         (Uses D.seen
-        (ZoneSteps D.tells D.honest sizes.now zone.old zone.new) tools.entry tools.exit)
+        (ZoneSteps D.trust sizes.now zone.old zone.new) tools.entry tools.exit)
         (IsIdle sizes.now zone.old)
         ((zone.new ≡ zone.old)
         × Uses D.seen (λ before after. after ≡ before) tools.entry tools.exit) result }
@@ -143,7 +144,7 @@ pub(crate) fn step_with<'a, D: Disk>(
     requires none { posts.old ≡ [] }
     ensures stays { Stays (D.seen disk.old) (D.seen disk.new) }
     ensures steps { ComesTo
-        (ZoneSteps D.tells D.honest sizes.now zone.old zone.new (D.seen disk.old) (D.seen disk.new))
+        (ZoneSteps D.trust sizes.now zone.old zone.new (D.seen disk.old) (D.seen disk.new))
         (IsIdle sizes.now zone.old)
         ((zone.new ≡ zone.old) × (D.seen disk.new ≡ D.seen disk.old)) result }
 {

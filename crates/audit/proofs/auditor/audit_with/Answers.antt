@@ -8,5 +8,5 @@ report_of-requires g c = let are = c.in_ok-contents.ensures.contents in are.bloc
 
 pub returns-clause-report : goal.returns-clause-report
 returns-clause-report g c =
-    audited _ _ c.args.head.now c.args.window.now _ _ c.in_ok-contents.contents c.in-Ok.report c.in_ok-contents.ensures.contents
+    audited _ c.args.head.now c.args.window.now _ _ c.in_ok-contents.contents c.in-Ok.report c.in_ok-contents.ensures.contents
     (λ image same map has. c.in-Ok.ensures.report image (same ∙ sym c.of-layout.ensures) map has)

@@ -19,10 +19,10 @@ counts_with-requires-clause-halves g c = let read = c.requires.window in window_
 
 pub returns-in_err-counts-clause-fault : goal.returns-in_err-counts-clause-fault
 returns-in_err-counts-clause-fault g c =
-    passed_on c.from_residual.result (AuditWithFails g.D.Disk.tells g.D.Disk.honest c.args.head.now c.args.window.now (g.D.Disk.seen c.args.device.now) (g.D.Disk.seen c.counts_with.new.device))
+    passed_on c.from_residual.result (AuditWithFails g.D.Disk.trust c.args.head.now c.args.window.now (g.D.Disk.seen c.args.device.now) (g.D.Disk.seen c.counts_with.new.device))
     c.in_err-counts.field-0.0 c.from_residual.ensures.1
-    (counts_fail _ _ _ c.args.window.now _ (g.D.Disk.seen c.replay_changes.new.device) _ c.in-Ok.map c.in_err-counts.field-0.0 c.in-Ok.ensures.map
-    (subst (λ (entries : List CommittedEntry). CountsFail g.D.Disk.tells g.D.Disk.honest c.args.head.now.geometry entries (g.D.Disk.seen c.replay_changes.new.device) (g.D.Disk.seen c.counts_with.new.device) c.in_err-counts.field-0.0)
+    (counts_fail _ _ c.args.window.now _ (g.D.Disk.seen c.replay_changes.new.device) _ c.in-Ok.map c.in_err-counts.field-0.0 c.in-Ok.ensures.map
+    (subst (λ (entries : List CommittedEntry). CountsFail g.D.Disk.trust c.args.head.now.geometry entries (g.D.Disk.seen c.replay_changes.new.device) (g.D.Disk.seen c.counts_with.new.device) c.in_err-counts.field-0.0)
     (sym c.entries.ensures) c.in_err-counts.ensures.fault))
 
 pub returns-in_err-counts-clause-untouched : goal.returns-in_err-counts-clause-untouched
@@ -30,8 +30,8 @@ returns-in_err-counts-clause-untouched g c = untouched_on _ _ _ _ c.replay_chang
 
 pub returns-clause-contents : goal.returns-clause-contents
 returns-clause-contents g c =
-    contents_read g.D.Disk.tells g.D.Disk.honest c.args.head.now c.args.window.now _ (g.D.Disk.seen c.replay_changes.new.device) _ c.in-Ok.map c.in_ok-counts.counts c.in-Ok.ensures.map
-    (subst (λ (entries : List CommittedEntry). AreCountsRead g.D.Disk.tells g.D.Disk.honest c.args.head.now.geometry entries (g.D.Disk.seen c.replay_changes.new.device) (g.D.Disk.seen c.counts_with.new.device)
+    contents_read g.D.Disk.trust c.args.head.now c.args.window.now _ (g.D.Disk.seen c.replay_changes.new.device) _ c.in-Ok.map c.in_ok-counts.counts c.in-Ok.ensures.map
+    (subst (λ (entries : List CommittedEntry). AreCountsRead g.D.Disk.trust c.args.head.now.geometry entries (g.D.Disk.seen c.replay_changes.new.device) (g.D.Disk.seen c.counts_with.new.device)
     c.in_ok-counts.counts.counts.items c.in_ok-counts.counts.sectors.items) (sym c.entries.ensures) c.in_ok-counts.ensures.counts)
     c.in_ok-counts.ensures.limit
 

@@ -14,27 +14,25 @@ counts_with-requires-clause-halves g c = let read = c.requires.window in window_
 
 pub returns-in-Ok-clause-fault : goal.returns-in-Ok-clause-fault
 returns-in-Ok-clause-fault g c = λ first fails.
-    let tells = g.D.Disk.tells in
-    let honest = g.D.Disk.honest in
+    let trust = g.D.Disk.trust in
     let head = c.args.head.now in
     let window = c.args.window.now in
     let before = g.D.Disk.seen c.args.device.now in
     let now = g.D.Disk.seen c.counts_with.new.device in
-    let shared : MapFails tells honest head.geometry window.entries first before (SharedPage c.in-SharedPage.at) =
-    subst (λ (why : ImageFault). MapFails tells honest head.geometry window.entries first before why) c.in-SharedPage.is fails in
-    subst (λ (why : ImageFault). AuditWithFails tells honest head window first now why) (sym c.in-SharedPage.is)
-    (still_shared tells honest head window first before now c.in-SharedPage.at c.in-Ok._counts.counts.items c.in-Ok._counts.sectors.items shared
-    (subst (λ (entries : List CommittedEntry). AreCountsRead tells honest head.geometry entries before now c.in-Ok._counts.counts.items c.in-Ok._counts.sectors.items) (sym c.entries.ensures) c.in-Ok.ensures.counts))
+    let shared : MapFails trust head.geometry window.entries first before (SharedPage c.in-SharedPage.at) =
+    subst (λ (why : ImageFault). MapFails trust head.geometry window.entries first before why) c.in-SharedPage.is fails in
+    subst (λ (why : ImageFault). AuditWithFails trust head window first now why) (sym c.in-SharedPage.is)
+    (still_shared trust head window first before now c.in-SharedPage.at c.in-Ok._counts.counts.items c.in-Ok._counts.sectors.items shared
+    (subst (λ (entries : List CommittedEntry). AreCountsRead trust head.geometry entries before now c.in-Ok._counts.counts.items c.in-Ok._counts.sectors.items) (sym c.entries.ensures) c.in-Ok.ensures.counts))
 
 pub returns-in-Err-clause-fault : goal.returns-in-Err-clause-fault
 returns-in-Err-clause-fault g c = λ first fails.
-    let tells = g.D.Disk.tells in
-    let honest = g.D.Disk.honest in
+    let trust = g.D.Disk.trust in
     let head = c.args.head.now in
     let window = c.args.window.now in
     let before = g.D.Disk.seen c.args.device.now in
     let now = g.D.Disk.seen c.counts_with.new.device in
-    let shared : MapFails tells honest head.geometry window.entries first before (SharedPage c.in-SharedPage.at) =
-    subst (λ (why : ImageFault). MapFails tells honest head.geometry window.entries first before why) c.in-SharedPage.is fails in
-    shared_counts_fail tells honest head window first before now c.in-SharedPage.at c.in-Err.earlier shared
-    (subst (λ (entries : List CommittedEntry). CountsFail tells honest head.geometry entries before now c.in-Err.earlier) (sym c.entries.ensures) c.in-Err.ensures.fault)
+    let shared : MapFails trust head.geometry window.entries first before (SharedPage c.in-SharedPage.at) =
+    subst (λ (why : ImageFault). MapFails trust head.geometry window.entries first before why) c.in-SharedPage.is fails in
+    shared_counts_fail trust head window first before now c.in-SharedPage.at c.in-Err.earlier shared
+    (subst (λ (entries : List CommittedEntry). CountsFail trust head.geometry entries before now c.in-Err.earlier) (sym c.entries.ensures) c.in-Err.ensures.fault)

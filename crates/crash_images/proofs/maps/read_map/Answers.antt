@@ -10,7 +10,7 @@ use Rattle.crash_images.proofs.maps.read_map.Goals as goal
 pub returns-in_err-window-clause-fault : goal.returns-in_err-window-clause-fault
 returns-in_err-window-clause-fault g c =
     let disk = g.D.Disk in
-    handed_on c.from_residual-in_err-window.result (HasNoMap disk.tells disk.honest (disk.seen c.args.device.now) (disk.seen c.read_window.new.device)) c.in_err-window.field-0.0
+    handed_on c.from_residual-in_err-window.result (HasNoMap disk.trust (disk.seen c.args.device.now) (disk.seen c.read_window.new.device)) c.in_err-window.field-0.0
     c.from_residual-in_err-window.ensures.1 (inr (c.in_ok-head.head, disk.seen c.read_head.new.device, c.in_ok-head.ensures.head, inl c.in_err-window.ensures.fault))
 
 pub returns-in_err-window-clause-untouched : goal.returns-in_err-window-clause-untouched

@@ -11,7 +11,7 @@ use Rattle.crash_images.proofs.shown.read_values.Goals as goal
 pub returns-in_err-found-clause-fault : goal.returns-in_err-found-clause-fault
 returns-in_err-found-clause-fault g c =
     let disk = g.D.Disk in
-    handed_on c.from_residual.result (ValuesFail disk.tells disk.honest (disk.seen c.args.device.now) (disk.seen c.read_map.new.device)) c.in_err-found.field-0.0 c.from_residual.ensures.1
+    handed_on c.from_residual.result (ValuesFail disk.trust (disk.seen c.args.device.now) (disk.seen c.read_map.new.device)) c.in_err-found.field-0.0 c.from_residual.ensures.1
     (inl c.in_err-found.ensures.fault)
 
 pub returns-clause-values : goal.returns-clause-values
@@ -23,14 +23,14 @@ returns-clause-values g c =
     let behind = disk.seen c.read_map.new.device in
     let read = c.in_ok-found.ensures.map in
     of_both c.values_in.result (λ values. AreAddresses script found.head.geometry.logical (map address_of values.items))
-    (λ values. OfMap disk.tells disk.honest behind found (λ image. values.items ≡ map (value_in image) (map address_of values.items)))
-    (λ values. AreValues disk.tells disk.honest script before values.items)
+    (λ values. OfMap disk.trust behind found (λ image. values.items ≡ map (value_in image) (map address_of values.items)))
+    (λ values. AreValues disk.trust script before values.items)
     (λ values named right. record {
       found = found;
       behind = behind;
       read = read;
       named = named;
-      says = λ blocks is. has_values disk.tells disk.honest before behind found read blocks is values.items right;
+      says = λ blocks is. has_values disk.trust before behind found read blocks is values.items right;
     }) c.values_in.ensures.named c.values_in.ensures.right
 
 pub returns-clause-fault : goal.returns-clause-fault
@@ -41,12 +41,12 @@ returns-clause-fault g c =
     let behind = disk.seen c.read_map.new.device in
     let now = disk.seen c.values_in.new.device in
     let read = c.in_ok-found.ensures.map in
-    of_both_faults c.values_in.result (ValueFails found behind now) (λ (why : ImageFault). OfMap disk.tells disk.honest behind found (λ image. IsNoPage why))
-    (ValuesFail disk.tells disk.honest before now)
+    of_both_faults c.values_in.result (ValueFails found behind now) (λ (why : ImageFault). OfMap disk.trust behind found (λ image. IsNoPage why))
+    (ValuesFail disk.trust before now)
     (λ why cause undamaged. inr (record {
       found = found;
       behind = behind;
       read = read;
       cause = cause;
-      undamaged = λ blocks is. said_of_map disk.tells disk.honest before behind found read blocks is (λ image. IsNoPage why) undamaged;
+      undamaged = λ blocks is. said_of_map disk.trust before behind found read blocks is (λ image. IsNoPage why) undamaged;
     })) c.values_in.ensures.fault c.values_in.ensures.undamaged

@@ -1,5 +1,6 @@
 use Rattle.std.proofs.Common.{true, subst}
 use Rattle.disk_model.specs.Memory.{Memory, seen_of}
+use Rattle.disk_model.specs.Trust.{trust_of}
 use Rattle.crash_images.specs.Shows.{ShowsNothing}
 use Rattle.crash_images.proofs.ShownLaws.{pick_refused}
 use Rattle.crash_images.proofs.shown.show_pick.Goals as goal
@@ -9,4 +10,4 @@ returns-clause-fault c =
     let now = seen_of c.show.new.device in
     rw c.pick_fault_of.ensures
     (pick_refused c.args.disk.now c.args.number c.in-Ok.ensures.0 now c.in-Err.why c.in-Ok.ensures.2
-    (subst (λ (disk : Memory). ShowsNothing true true (seen_of disk) now c.in-Err.why) c.in-Ok.ensures.1 c.in-Err.ensures.nothing))
+    (subst (λ (disk : Memory). ShowsNothing (trust_of true true) (seen_of disk) now c.in-Err.why) c.in-Ok.ensures.1 c.in-Err.ensures.nothing))

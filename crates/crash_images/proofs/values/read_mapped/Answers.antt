@@ -23,6 +23,6 @@ returns-in-At-clause-value g c =
     let now = disk.seen c.read_block.new.device in
     let data_is : IsDataBlock found.head.geometry c.in-At.block.0 = rw c.in-At.is at c.requires.data in
     rw c.in-At.is
-    (IfOk-weaker c.read_block.result (λ (block : List ℕ). WereRead disk.tells disk.honest c.in-At.block.0 before now (block ∷ []))
-    (λ (block : List ℕ). OfMap disk.tells disk.honest before found (λ image. block ≡ block_at image.blocks c.in-At.block.0))
-    (λ block read. block_right disk.tells disk.honest before now found c.requires.room c.in-At.block.0 block data_is read) c.read_block.ensures.read)
+    (IfOk-weaker c.read_block.result (λ (block : List ℕ). WereRead disk.trust c.in-At.block.0 before now (block ∷ []))
+    (λ (block : List ℕ). OfMap disk.trust before found (λ image. block ≡ block_at image.blocks c.in-At.block.0))
+    (λ block read. block_right disk.trust before now found c.requires.room c.in-At.block.0 block data_is read) c.read_block.ensures.read)

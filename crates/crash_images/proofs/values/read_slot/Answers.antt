@@ -9,7 +9,7 @@ read_block-requires g c = let inside = link_inside c.args.found.now c.requires.f
 pub returns-in-Ok-read_page-clause-mapping : goal.returns-in-Ok-read_page-clause-mapping
 returns-in-Ok-read_page-clause-mapping g c =
     rw (c.get.ensures.value, c.slot.ensures.value)
-    (slot_right _ _ _ _ c.args.found.now c.requires.room c.requires.fits c.args.at.0 c.args.leaf c.requires.leaf c.in-Ok.bytes c.in-Ok.ensures.read c.read_page.new.into
+    (slot_right _ _ _ c.args.found.now c.requires.room c.requires.fits c.args.at.0 c.args.leaf c.requires.leaf c.in-Ok.bytes c.in-Ok.ensures.read c.read_page.new.into
     (rw c.leaf.ensures at c.in-Ok-read_page.ensures.ok))
 
 pub returns-in-Ok-read_page-clause-data : goal.returns-in-Ok-read_page-clause-data
@@ -18,5 +18,5 @@ returns-in-Ok-read_page-clause-data g c =
 
 pub returns-in-Err-clause-undamaged : goal.returns-in-Err-clause-undamaged
 returns-in-Err-clause-undamaged g c =
-    slot_undamaged _ _ _ _ c.args.found.now c.requires.room c.requires.fits c.args.at.0 c.args.leaf c.requires.leaf c.in-Ok.bytes c.in-Ok.ensures.read c.in-Err.fault
+    slot_undamaged _ _ _ c.args.found.now c.requires.room c.requires.fits c.args.at.0 c.args.leaf c.requires.leaf c.in-Ok.bytes c.in-Ok.ensures.read c.in-Err.fault
     (rw c.leaf.ensures at c.in-Err.ensures.fault)

@@ -70,7 +70,7 @@ pub returns-in_err-block-clause-undamaged : goal.returns-in_err-block-clause-und
 returns-in_err-block-clause-undamaged g c =
     let disk = g.D.Disk in
     let found = c.args.found.now in
-    passed_on c.from_residual.result (λ why. OfMap disk.tells disk.honest (disk.seen c.args.device.now) found (λ image. IsNoDamage why)) c.in_err-block.field-0.0 c.from_residual.ensures.1
+    passed_on c.from_residual.result (λ why. OfMap disk.trust (disk.seen c.args.device.now) found (λ image. IsNoDamage why)) c.in_err-block.field-0.0 c.from_residual.ensures.1
     (of_later found (λ image. IsNoDamage c.in_err-block.field-0.0) c.loop-at.invariant.untouched c.in_err-block.ensures.undamaged)
 
 pub returns-in_err-block-clause-untouched : goal.returns-in_err-block-clause-untouched

@@ -12,7 +12,7 @@ use Rattle.device_zone.proofs.block_work.work_block.Goals as goal
 pub returns-then-waits-clause-works : goal.returns-then-waits-clause-works
 returns-then-waits-clause-works g c =
     let first = oldest_of c.args.block.vios c.requires.some in
-    announced_block _ _ _ _ _ c.args.block first.0 first.1 _ _ _ first.2 c.requires.needed (c.announce.ensures.announces first.0.request)
+    announced_block _ _ _ _ c.args.block first.0 first.1 _ _ _ first.2 c.requires.needed (c.announce.ensures.announces first.0.request)
 
 pub returns-then-zone-clause-works : goal.returns-then-zone-clause-works
 returns-then-zone-clause-works g c =
@@ -20,7 +20,7 @@ returns-then-zone-clause-works g c =
     let some = some_call c.args.sizes.now c.args.block c.journal_slot-slot.result false c.args.block.stage c.requires.needed in (
       [],
       unmade some.0 c.journal_slot-slot.result first.0 first.1 first.2 some.1 c.if-zone.true refl refl (block_post _ _ _ _ _ _ c.first.ensures refl c.staged-unmade.ensures),
-      unchanged _ _ _,
+      unchanged _ _,
     )
 
 pub returns-in_default-clause-works : goal.returns-in_default-clause-works

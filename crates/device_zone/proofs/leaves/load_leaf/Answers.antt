@@ -32,5 +32,5 @@ returns-in-Err-clause-serves g c = (
   harms c.args.leaf c.read_block.new.into c.in-Err.fault c.requires.phase c.requires.leaf c.requires.ready c.requires.inside
       (subst (λ (v : Vio). IsPageFault (leaf_head c.args.sizes.now.geometry v.at.0 c.args.leaf) c.read_block.new.into c.in-Err.fault) c.get-2.ensures c.in-Err.ensures.fault) c.harm.ensures.zone refl
       (posts_harm _ _ _ c.args.vio _ _ c.first-in-Err.ensures c.harm.ensures.posts c.end-harmed.ensures c.get.ensures),
-  harm_called _ _ _ _ c.args.vio.request c.args.leaf c.read_block.new.into c.in-Err.fault c.in-Ok.ensures.ok,
+  harm_called _ _ _ c.args.vio.request c.args.leaf c.read_block.new.into c.in-Err.fault c.in-Ok.ensures.ok,
 )

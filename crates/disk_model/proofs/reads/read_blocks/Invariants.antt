@@ -7,5 +7,5 @@ invariant-loop-i g l =
     let disk = g.D.Disk in
     record {
       count : vec_len l.blocks ≡ l.i;
-      read : WereRead disk.tells disk.honest l.fn.first.0 (disk.seen l.fn.device) (disk.seen l.device) (reverse l.blocks.items);
+      read : WereRead disk.trust l.fn.first.0 (disk.seen l.fn.device) (disk.seen l.device) (reverse l.blocks.items);
     }

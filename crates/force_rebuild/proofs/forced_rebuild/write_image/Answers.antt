@@ -9,14 +9,14 @@ pub returns-in_err-put_pages : goal.returns-in_err-put_pages
 returns-in_err-put_pages g c =
     let sizes = c.args.layout.now.geometry in
     let links = c.args.map.now.links.items in
-    pages_failed _ _ _ _ (HasContents sizes c.args.changes.now links c.args.counters.now) (HasPages sizes c.args.changes.now links) c.args.last _ c.from_residual.result c.from_residual.ensures.0
+    pages_failed _ _ _ (HasContents sizes c.args.changes.now links c.args.counters.now) (HasPages sizes c.args.changes.now links) c.args.last _ c.from_residual.result c.from_residual.ensures.0
     (λ image has. (has.newest, has.sizes, has.links)) (rw c.deref.ensures.value at c.in_err-put_pages.ensures)
 
 pub returns : goal.returns
 returns g c =
     let sizes = c.args.layout.now.geometry in
     let links = c.args.map.now.links.items in
-    all_written _ _ _ _ _ (HasContents sizes c.args.changes.now links c.args.counters.now) (HasPages sizes c.args.changes.now links) c.args.last sizes c.args.counters.now c.write_counted.result
+    all_written _ _ _ _ (HasContents sizes c.args.changes.now links c.args.counters.now) (HasPages sizes c.args.changes.now links) c.args.last sizes c.args.counters.now c.write_counted.result
     (λ image has. (has.newest, has.sizes, has.links)) (λ image has. has.sizes) (λ image has. has.mappings) (rw c.deref.ensures.value at c.in_ok-put_pages.ensures)
     c.write_counted.ensures
 

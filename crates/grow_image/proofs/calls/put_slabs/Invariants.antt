@@ -5,4 +5,4 @@ use Rattle.grow_image.proofs.calls.put_slabs.Given as goal
 abbrev pub invariant-loop-i : goal.invariant-loop-i
 invariant-loop-i g l =
     let disk = g.D.Disk in
-    WereMade disk.tells (disk.seen l.fn.device) (disk.seen l.device) (new_slabs l.layout.geometry l.first l.i)
+    WereMade disk.trust.tells (disk.seen l.fn.device) (disk.seen l.device) (new_slabs l.layout.geometry l.first l.i)

@@ -20,7 +20,7 @@ least_mapped-requires-clause-trees g c leaf has =
 
 pub returns-clause-fault : goal.returns-clause-fault
 returns-clause-fault g c =
-    searching_failed _ _ c.args.opened.now c.args.logical c.deref-2.result.now _ _ c.in-Err.why
+    searching_failed _ c.args.opened.now c.args.logical c.deref-2.result.now _ _ c.in-Err.why
     (subst (λ (list : List Link). AreNewLeaves (new_addresses c.args.opened.now.head.geometry c.args.logical) c.args.opened.now.pages.items list) (sym c.deref-2.ensures.value)
     (rw c.deref.ensures.value at c.in-Ok.ensures))
     c.in-Err.ensures.fault

@@ -12,7 +12,7 @@ use Rattle.grow_image.proofs.search.least_mapped.Goals as goal
 
 pub loop-leaf-init : goal.loop-leaf-init
 loop-leaf-init g c = record {
-  shown = shown_yet _ _ c.args.sizes.now _ _ (λ blocks. no_leaves c.args.sizes.now c.args.range blocks);
+  shown = shown_yet _ c.args.sizes.now _ _ (λ blocks. no_leaves c.args.sizes.now c.args.range blocks);
   untouched = untouched_yet _ _;
 }
 
@@ -21,14 +21,14 @@ loop-leaf-preserved g c =
     let inside : c.loop-leaf.leaf-index < length c.args.leaves.now = omega arith in
     let sizes = c.args.sizes.now in
     record {
-      shown = shown_on _ _ sizes _ _ _ _ _ _ c.loop-leaf.invariant.shown c.in_ok-first.ensures.least
+      shown = shown_on _ sizes _ _ _ _ _ _ c.loop-leaf.invariant.shown c.in_ok-first.ensures.least
           (λ blocks old new. leaf_more sizes c.args.range blocks c.args.leaves.now c.loop-leaf.leaf-index _ _ _ _ inside c.lesser-least.ensures.is c.lesser-least.ensures.before old new);
       untouched = untouched_on _ _ _ _ c.loop-leaf.invariant.untouched c.search_leaf.ensures.untouched;
     }
 
 pub returns-clause-least : goal.returns-clause-least
 returns-clause-least g c =
-    subst (λ (list : List Link). IsShownBy g.D.Disk.tells g.D.Disk.honest c.args.sizes.now (g.D.Disk.seen c.args.device.now) (g.D.Disk.seen c.loop-leaf.device)
+    subst (λ (list : List Link). IsShownBy g.D.Disk.trust c.args.sizes.now (g.D.Disk.seen c.args.device.now) (g.D.Disk.seen c.loop-leaf.device)
     (λ (blocks : Blocks). IsLeastMapped c.args.sizes.now c.args.range list blocks c.loop-leaf.least)) (take_all c.loop-leaf.leaf-index c.args.leaves.now c.loop-leaf-test.false) c.loop-leaf.invariant.shown
 
 pub search_leaf-requires-clause-level : goal.search_leaf-requires-clause-level
@@ -44,9 +44,9 @@ search_leaf-requires-clause-tree g c =
 pub returns-in_err-first-clause-fault : goal.returns-in_err-first-clause-fault
 returns-in_err-first-clause-fault g c =
     let inside : c.loop-leaf.leaf-index < length c.args.leaves.now = omega arith in
-    passed_on c.from_residual.result (SearchFails g.D.Disk.tells g.D.Disk.honest c.args.sizes.now c.args.range c.args.leaves.now (g.D.Disk.seen c.args.device.now) (g.D.Disk.seen c.search_leaf.new.device))
+    passed_on c.from_residual.result (SearchFails g.D.Disk.trust c.args.sizes.now c.args.range c.args.leaves.now (g.D.Disk.seen c.args.device.now) (g.D.Disk.seen c.search_leaf.new.device))
     c.in_err-first.field-0.0 c.from_residual.ensures.1
-    (search_fails _ _ c.args.sizes.now c.args.range c.args.leaves.now c.loop-leaf.leaf-index _ _ _ _ _ c.in_err-first.field-0.0 inside c.loop-leaf.invariant.shown c.in_err-first.ensures.fault)
+    (search_fails _ c.args.sizes.now c.args.range c.args.leaves.now c.loop-leaf.leaf-index _ _ _ _ _ c.in_err-first.field-0.0 inside c.loop-leaf.invariant.shown c.in_err-first.ensures.fault)
 
 pub returns-in_err-first-clause-untouched : goal.returns-in_err-first-clause-untouched
-returns-in_err-first-clause-untouched g c = untouched_on g.D.Disk.tells _ _ _ c.loop-leaf.invariant.untouched c.search_leaf.ensures.untouched
+returns-in_err-first-clause-untouched g c = untouched_on g.D.Disk.trust.tells _ _ _ c.loop-leaf.invariant.untouched c.search_leaf.ensures.untouched

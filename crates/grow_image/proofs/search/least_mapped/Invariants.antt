@@ -7,7 +7,7 @@ abbrev pub invariant-loop-leaf : goal.invariant-loop-leaf
 invariant-loop-leaf g l =
     let disk = g.D.Disk in
     record {
-      shown : IsShownBy disk.tells disk.honest l.sizes (disk.seen l.fn.device) (disk.seen l.device)
+      shown : IsShownBy disk.trust l.sizes (disk.seen l.fn.device) (disk.seen l.device)
           (λ blocks. IsLeastMapped l.sizes l.range (take l.leaf-index l.leaves) blocks l.least);
-      untouched : IsUntouched disk.tells (disk.seen l.fn.device) (disk.seen l.device);
+      untouched : IsUntouched disk.trust.tells (disk.seen l.fn.device) (disk.seen l.device);
     }

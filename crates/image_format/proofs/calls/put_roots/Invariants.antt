@@ -5,4 +5,4 @@ use Rattle.image_format.proofs.calls.put_roots.Given as goal
 abbrev pub invariant-loop-tree : goal.invariant-loop-tree
 invariant-loop-tree g l =
     let disk = g.D.Disk in
-    WereMade disk.tells (disk.seen l.fn.device) (disk.seen l.device) (roots_below l.layout.geometry l.tree)
+    WereMade disk.trust.tells (disk.seen l.fn.device) (disk.seen l.device) (roots_below l.layout.geometry l.tree)

@@ -5,4 +5,4 @@ use Rattle.image_format.proofs.calls.put_zeros.Given as goal
 abbrev pub invariant-loop-i : goal.invariant-loop-i
 invariant-loop-i g l =
     let disk = g.D.Disk in
-    WereMade disk.tells (disk.seen l.fn.device) (disk.seen l.device) (zeros_from l.first.0 l.i)
+    WereMade disk.trust.tells (disk.seen l.fn.device) (disk.seen l.device) (zeros_from l.first.0 l.i)

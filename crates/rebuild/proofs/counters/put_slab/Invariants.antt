@@ -6,5 +6,5 @@ use Rattle.rebuild.proofs.counters.put_slab.Given as goal
 abbrev pub invariant-loop-i : goal.invariant-loop-i
 invariant-loop-i g l =
     let disk = g.D.Disk in
-    Acts disk.tells (recovery disk.tells disk.honest) (disk.seen l.fn.device) (disk.seen l.device) (HasTheseCounts l.layout.geometry l.counts.counts.items l.counts.sectors.items)
+    Acts disk.trust.tells (recovery disk.trust) (disk.seen l.fn.device) (disk.seen l.device) (HasTheseCounts l.layout.geometry l.counts.counts.items l.counts.sectors.items)
     (IsSlabDone l.layout.geometry l.counts.sectors.items l.slab l.i) (Ok tt)

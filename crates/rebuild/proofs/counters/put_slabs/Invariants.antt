@@ -6,5 +6,5 @@ use Rattle.rebuild.proofs.counters.put_slabs.Given as goal
 abbrev pub invariant-loop-slab : goal.invariant-loop-slab
 invariant-loop-slab g l =
     let disk = g.D.Disk in
-    Acts disk.tells (recovery disk.tells disk.honest) (disk.seen l.fn.device) (disk.seen l.device) (HasTheseCounts l.layout.geometry l.counts.counts.items l.counts.sectors.items)
+    Acts disk.trust.tells (recovery disk.trust) (disk.seen l.fn.device) (disk.seen l.device) (HasTheseCounts l.layout.geometry l.counts.counts.items l.counts.sectors.items)
     (AreSlabsDone l.layout.geometry l.counts.sectors.items l.slab) (Ok tt)

@@ -11,7 +11,7 @@ returns-in_err-put_roots g c =
     (λ image has. (has.0, has.1)) (λ image calls has is. is))
 
 pub returns : goal.returns
-returns g c = both_pages _ _ _ _ _ _ _ _ c.put_links.result c.args.layout.now.sizes c.in_ok-put_roots.ensures c.put_links.ensures
+returns g c = both_pages _ _ _ _ _ _ _ c.put_links.result c.args.layout.now.sizes c.in_ok-put_roots.ensures c.put_links.ensures
 
 pub put_links-requires : goal.put_links-requires
 put_links-requires g c = let size = c.in_ok-put_roots.ensures.stays.size in λ k d below. let inside = c.requires.inside k d below in omega (arith, inside, size)

@@ -8,15 +8,15 @@ use Rattle.rebuild.specs.Done.{AreRootsDone, HasRoots}
 use Rattle.rebuild.proofs.pages.put_roots.Goals as goal
 
 pub loop-tree-init : goal.loop-tree-init
-loop-tree-init g c = no_roots _ _ _ _ _
+loop-tree-init g c = no_roots _ _ _ _
 
 pub loop-tree-preserved : goal.loop-tree-preserved
-loop-tree-preserved g c = one_root_more _ _ _ _ _ _ _ _ _ (Ok tt) c.args.layout.now.sizes (omega arith) c.root-root.ensures.root c.loop-tree.invariant c.in_ok-put_page.ensures
+loop-tree-preserved g c = one_root_more _ _ _ _ _ _ _ _ (Ok tt) c.args.layout.now.sizes (omega arith) c.root-root.ensures.root c.loop-tree.invariant c.in_ok-put_page.ensures
 
 pub returns-in_err-put_page : goal.returns-in_err-put_page
 returns-in_err-put_page g c =
     still_failed _ _ _ _ _ _ _ _ c.from_residual.result c.from_residual.ensures.0
-    (one_root_more _ _ _ _ _ _ _ _ _ (Err _) c.args.layout.now.sizes (omega arith) c.root-root.ensures.root c.loop-tree.invariant c.in_err-put_page.ensures)
+    (one_root_more _ _ _ _ _ _ _ _ (Err _) c.args.layout.now.sizes (omega arith) c.root-root.ensures.root c.loop-tree.invariant c.in_err-put_page.ensures)
 
 pub returns : goal.returns
 returns g c =
@@ -24,7 +24,7 @@ returns g c =
     let inside = c.loop-tree.auto.tree-end in
     let all : c.loop-tree.tree ≡ TREES = omega (arith, ended, inside) in
     let disk = g.D.Disk in
-    subst (λ (n : ℕ). Acts disk.tells (page_writing disk.honest) (disk.seen c.args.device.now) (disk.seen c.loop-tree.device) (HasRoots c.args.layout.now.geometry c.args.changes.now)
+    subst (λ (n : ℕ). Acts disk.trust.tells (page_writing disk.trust.honest) (disk.seen c.args.device.now) (disk.seen c.loop-tree.device) (HasRoots c.args.layout.now.geometry c.args.changes.now)
     (AreRootsDone c.args.layout.now.geometry c.args.changes.now n) (Ok tt)) all c.loop-tree.invariant
 
 pub put_page-requires : goal.put_page-requires

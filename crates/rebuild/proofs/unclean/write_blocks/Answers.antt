@@ -11,12 +11,12 @@ returns-in_err-put_pages g c =
     let sizes = c.args.layout.now.geometry in
     still_failed _ _ _ _ _ _ _ _ c.from_residual.result c.from_residual.ensures.0
     (acts_as _ _ _ _ _ (HasContents sizes c.args.changes.now contents.map.links.items contents.counts.counts.items contents.counts.sectors.items) _ ArePagesDone (Err _)
-    (recovers_pages _ _ _ _ _ _ (Err _) (rw c.deref.ensures.value at c.in_err-put_pages.ensures) page_list_stays)
+    (recovers_pages _ _ _ _ _ (Err _) (rw c.deref.ensures.value at c.in_err-put_pages.ensures) page_list_stays)
     (λ image has. (has.newest, has.sizes, has.links)) (λ image calls has is. is))
 
 pub returns : goal.returns
 returns g c =
-    both_done _ _ _ _ _ _ _ _ _ _ c.put_slabs.result (rw c.deref.ensures.value at c.in_ok-put_pages.ensures) c.put_slabs.ensures
+    both_done _ _ _ _ _ _ _ _ _ c.put_slabs.result (rw c.deref.ensures.value at c.in_ok-put_pages.ensures) c.put_slabs.ensures
 
 pub put_slabs-requires-clause-room : goal.put_slabs-requires-clause-room
 put_slabs-requires-clause-room g c = let size = c.in_ok-put_pages.ensures.stays.size in let room = c.requires.room in omega (arith, size, room)

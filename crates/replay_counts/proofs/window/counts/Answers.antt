@@ -14,7 +14,7 @@ returns-in-Ok-clause-counts g c = (
   g.D.Disk.seen c.read_window.new.device,
   c.in_ok-window.window,
   c.in_ok-window.ensures.window,
-  subst (λ (window : List CommittedEntry). AreCountsRead g.D.Disk.tells g.D.Disk.honest c.args.head.now.geometry window (g.D.Disk.seen c.read_window.new.device) (g.D.Disk.seen c.counts_with.new.device)
+  subst (λ (window : List CommittedEntry). AreCountsRead g.D.Disk.trust c.args.head.now.geometry window (g.D.Disk.seen c.read_window.new.device) (g.D.Disk.seen c.counts_with.new.device)
       c.in-Ok.counts.counts.items c.in-Ok.counts.sectors.items) (sym c.entries.ensures) c.in-Ok.ensures.counts,
 )
 
@@ -26,7 +26,7 @@ returns-clause-fault g c = inr (
   g.D.Disk.seen c.read_window.new.device,
   c.in_ok-window.window,
   c.in_ok-window.ensures.window,
-  subst (λ (window : List CommittedEntry). CountsFail g.D.Disk.tells g.D.Disk.honest c.args.head.now.geometry window (g.D.Disk.seen c.read_window.new.device) (g.D.Disk.seen c.counts_with.new.device)
+  subst (λ (window : List CommittedEntry). CountsFail g.D.Disk.trust c.args.head.now.geometry window (g.D.Disk.seen c.read_window.new.device) (g.D.Disk.seen c.counts_with.new.device)
       c.in-Err.fault) (sym c.entries.ensures) c.in-Err.ensures.fault,
 )
 
@@ -35,5 +35,5 @@ returns-clause-untouched g c = untouched_on _ _ _ _ c.read_window.ensures.untouc
 
 pub returns-in_err-window-clause-fault : goal.returns-in_err-window-clause-fault
 returns-in_err-window-clause-fault g c =
-    passed_on c.from_residual.result (CountingFails g.D.Disk.tells g.D.Disk.honest c.args.head.now (g.D.Disk.seen c.args.device.now) (g.D.Disk.seen c.read_window.new.device)) c.in_err-window.field-0.0 c.from_residual.ensures.1
+    passed_on c.from_residual.result (CountingFails g.D.Disk.trust c.args.head.now (g.D.Disk.seen c.args.device.now) (g.D.Disk.seen c.read_window.new.device)) c.in_err-window.field-0.0 c.from_residual.ensures.1
     (inl c.in_err-window.ensures.fault)

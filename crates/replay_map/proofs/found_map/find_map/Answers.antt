@@ -12,14 +12,13 @@ use Rattle.replay_map.proofs.found_map.find_map.Goals as goal
 
 pub returns-in_err-walk_trees-clause-fault : goal.returns-in_err-walk_trees-clause-fault
 returns-in_err-walk_trees-clause-fault g c =
-    let tells = g.D.Disk.tells in
-    let honest = g.D.Disk.honest in
+    let trust = g.D.Disk.trust in
     let sizes = c.args.layout.now.geometry in
     let changes = c.args.changes.now in
     let before = g.D.Disk.seen c.args.device.now in
     let now = g.D.Disk.seen c.walk_trees.new.device in
-    passed_on c.from_residual.result (FindFails tells honest sizes changes before now) c.in_err-walk_trees.field-0.0 c.from_residual.ensures.1
-    (walk_fails tells honest sizes changes before now c.in_err-walk_trees.field-0.0 c.in_err-walk_trees.ensures.fault)
+    passed_on c.from_residual.result (FindFails trust sizes changes before now) c.in_err-walk_trees.field-0.0 c.from_residual.ensures.1
+    (walk_fails trust sizes changes before now c.in_err-walk_trees.field-0.0 c.in_err-walk_trees.ensures.fault)
 
 pub returns-in-Ok-None-clause-map : goal.returns-in-Ok-None-clause-map
 returns-in-Ok-None-clause-map g c =

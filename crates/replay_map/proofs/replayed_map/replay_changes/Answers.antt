@@ -19,14 +19,13 @@ find_map-requires-clause-data g c =
 
 pub returns-in_err-links-clause-fault : goal.returns-in_err-links-clause-fault
 returns-in_err-links-clause-fault g c =
-    let tells = g.D.Disk.tells in
-    let honest = g.D.Disk.honest in
+    let trust = g.D.Disk.trust in
     let before = g.D.Disk.seen c.args.device.now in
     let now = g.D.Disk.seen c.find_map.new.device in
     let newest = c.requires.newest in
-    passed_on c.from_residual.result (MapFails tells honest c.args.head.now.geometry c.args.window.now.entries before now) c.in_err-links.field-0.0 c.from_residual.ensures.1
-    (fails_by tells honest c.args.head.now.geometry c.args.changes.now c.args.window.now.entries newest before now c.in_err-links.field-0.0
-    (subst (λ (sizes : Geometry). FindFails tells honest sizes c.args.changes.now before now c.in_err-links.field-0.0) c.of.ensures c.in_err-links.ensures.fault))
+    passed_on c.from_residual.result (MapFails trust c.args.head.now.geometry c.args.window.now.entries before now) c.in_err-links.field-0.0 c.from_residual.ensures.1
+    (fails_by trust c.args.head.now.geometry c.args.changes.now c.args.window.now.entries newest before now c.in_err-links.field-0.0
+    (subst (λ (sizes : Geometry). FindFails trust sizes c.args.changes.now before now c.in_err-links.field-0.0) c.of.ensures c.in_err-links.ensures.fault))
 
 pub overflow_cast-result : goal.overflow_cast-result
 overflow_cast-result g c =
@@ -37,8 +36,7 @@ overflow_cast-result g c =
 
 pub returns-clause-map : goal.returns-clause-map
 returns-clause-map g c =
-    let tells = g.D.Disk.tells in
-    let honest = g.D.Disk.honest in
+    let trust = g.D.Disk.trust in
     let before = g.D.Disk.seen c.args.device.now in
     let now = g.D.Disk.seen c.find_map.new.device in
     let newest = c.requires.newest in
@@ -47,8 +45,8 @@ returns-clause-map g c =
     record {
       last = c.last.ensures;
       entries = omega (arith, same, turned);
-      found = found_by tells honest c.args.head.now.geometry c.args.changes.now c.args.window.now.entries newest before now
+      found = found_by trust c.args.head.now.geometry c.args.changes.now c.args.window.now.entries newest before now
           (λ image. IsMapFound image c.in_ok-links.field-0) (λ image. HasMap image (map_with c.in_ok-links.field-0 c.last.result (length c.entries.result.now)))
-          (subst (λ (sizes : Geometry). IsShown tells honest sizes c.args.changes.now before now (λ image. IsMapFound image c.in_ok-links.field-0)) c.of.ensures c.in_ok-links.ensures.map)
+          (subst (λ (sizes : Geometry). IsShown trust sizes c.args.changes.now before now (λ image. IsMapFound image c.in_ok-links.field-0)) c.of.ensures c.in_ok-links.ensures.map)
           (λ image is. is c.last.result (length c.entries.result.now));
     }

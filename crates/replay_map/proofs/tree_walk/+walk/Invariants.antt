@@ -9,6 +9,6 @@ abbrev pub invariant-loop-place : goal.invariant-loop-place
 invariant-loop-place g l =
     let disk = g.D.Disk in
     record {
-      walked : IsWalked disk.tells disk.honest l.layout.geometry l.changes l.fn.top (disk.seen l.fn.device) (disk.seen l.device) l.fn.found l.found l.place l.place-end;
-      untouched : IsUntouched disk.tells (disk.seen l.fn.device) (disk.seen l.device);
+      walked : IsWalked disk.trust l.layout.geometry l.changes l.fn.top (disk.seen l.fn.device) (disk.seen l.device) l.fn.found l.found l.place l.place-end;
+      untouched : IsUntouched disk.trust.tells (disk.seen l.fn.device) (disk.seen l.device);
     }

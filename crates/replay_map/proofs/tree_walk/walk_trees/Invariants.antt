@@ -8,8 +8,8 @@ abbrev pub invariant-loop-tree : goal.invariant-loop-tree
 invariant-loop-tree g l =
     let disk = g.D.Disk in
     record {
-      shown : IsShown disk.tells disk.honest l.layout.geometry l.changes (disk.seen l.fn.device) (disk.seen l.device)
+      shown : IsShown disk.trust l.layout.geometry l.changes (disk.seen l.fn.device) (disk.seen l.device)
           (λ image. WalkedTrees image l.tree l.fn.found l.found);
       form : AddsForm l.layout.geometry (IsRootPage l.layout.geometry) (IsInTrees l.tree) l.fn.found l.found;
-      untouched : IsUntouched disk.tells (disk.seen l.fn.device) (disk.seen l.device);
+      untouched : IsUntouched disk.trust.tells (disk.seen l.fn.device) (disk.seen l.device);
     }

@@ -14,13 +14,13 @@ loop-preserved g c =
     let first = driving c.args.schedule.now c.args.core.now.zones (g.D.Disk.seen c.args.device.now) in
     let middle = driving c.loop.schedule c.loop.core.zones (g.D.Disk.seen c.loop.device) in
     let last = driving c.turn.new.self c.turn.new.core.zones (g.D.Disk.seen c.turn.new.device) in
-    let driven = subst (λ (sizes : Sizes). Drives g.D.Disk.tells g.D.Disk.honest sizes now.0 middle last now.1) old.sizes now.2 in
+    let driven = subst (λ (sizes : Sizes). Drives g.D.Disk.trust sizes now.0 middle last now.1) old.sizes now.2 in
     record {
       stays = stays_on _ _ _ old.stays new.stays;
       sizes = new.sizes ∙ old.sizes;
       drives = (
         before.0 ++ now.0,
         now.1 ++ before.1,
-        drives_further g.D.Disk.tells g.D.Disk.honest c.args.core.now.sizes before.0 now.0 first middle last before.1 now.1 before.2 driven,
+        drives_further g.D.Disk.trust c.args.core.now.sizes before.0 now.0 first middle last before.1 now.1 before.2 driven,
       );
     }

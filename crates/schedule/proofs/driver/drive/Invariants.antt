@@ -10,6 +10,6 @@ invariant-loop g l = record {
   stays : Stays (g.D.Disk.seen l.fn.device) (g.D.Disk.seen l.device);
   sizes : l.core.sizes ≡ l.fn.core.sizes;
   drives : (events : List Event) × (made : Trace)
-      × Drives g.D.Disk.tells g.D.Disk.honest l.fn.core.sizes events (driving l.fn.schedule l.fn.core.zones (g.D.Disk.seen l.fn.device))
+      × Drives g.D.Disk.trust l.fn.core.sizes events (driving l.fn.schedule l.fn.core.zones (g.D.Disk.seen l.fn.device))
       (driving l.schedule l.core.zones (g.D.Disk.seen l.device)) made;
 }

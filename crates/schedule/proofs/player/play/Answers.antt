@@ -14,7 +14,7 @@ loop-event-preserved g c =
       stays = stays_on _ _ _ before.stays after.stays;
       sizes = after.sizes ∙ before.sizes;
       plays = λ later rest.
-          before.plays later (next_until g.D.Disk.tells g.D.Disk.honest c.args.core.now.sizes c.args.events.now c.loop-event.event-index _ old new later
+          before.plays later (next_until g.D.Disk.trust c.args.core.now.sizes c.args.events.now c.loop-event.event-index _ old new later
           c.loop-event-test.true (c.done.ensures.no c.if-done.false) (rw before.sizes at after.plays) rest);
     }
 
@@ -22,10 +22,10 @@ pub returns-then-done-clause-plays : goal.returns-then-done-clause-plays
 returns-then-done-clause-plays g c =
     let last = vdo c.loop-event.core.zones (g.D.Disk.seen c.loop-event.device) in
     c.loop-event.invariant.plays last
-    (done_until g.D.Disk.tells g.D.Disk.honest c.args.core.now.sizes (drop c.loop-event.event-index c.args.events.now) last (c.done.ensures.yes c.if-done.true))
+    (done_until g.D.Disk.trust c.args.core.now.sizes (drop c.loop-event.event-index c.args.events.now) last (c.done.ensures.yes c.if-done.true))
 
 pub returns-clause-plays : goal.returns-clause-plays
 returns-clause-plays g c =
     let last = vdo c.loop-event.core.zones (g.D.Disk.seen c.loop-event.device) in
     c.loop-event.invariant.plays last
-    (none_until g.D.Disk.tells g.D.Disk.honest c.args.core.now.sizes c.args.events.now c.loop-event.event-index last c.loop-event-test.false)
+    (none_until g.D.Disk.trust c.args.core.now.sizes c.args.events.now c.loop-event.event-index last c.loop-event-test.false)

@@ -10,6 +10,6 @@ invariant-loop-event g l = record {
   stays : Stays (g.D.Disk.seen l.fn.device) (g.D.Disk.seen l.device);
   sizes : l.core.sizes ≡ l.fn.core.sizes;
   plays : (later : Vdo)
-      → ((made : Trace) × PlaysUntilDone g.D.Disk.tells g.D.Disk.honest l.fn.core.sizes (drop l.event-index l.events) (vdo l.core.zones (g.D.Disk.seen l.device)) later made)
-      → (made : Trace) × PlaysUntilDone g.D.Disk.tells g.D.Disk.honest l.fn.core.sizes l.events (vdo l.fn.core.zones (g.D.Disk.seen l.fn.device)) later made;
+      → ((made : Trace) × PlaysUntilDone g.D.Disk.trust l.fn.core.sizes (drop l.event-index l.events) (vdo l.core.zones (g.D.Disk.seen l.device)) later made)
+      → (made : Trace) × PlaysUntilDone g.D.Disk.trust l.fn.core.sizes l.events (vdo l.fn.core.zones (g.D.Disk.seen l.fn.device)) later made;
 }

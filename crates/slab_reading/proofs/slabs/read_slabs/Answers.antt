@@ -25,7 +25,7 @@ loop-slab-preserved g c =
       read = (
         g.D.Disk.seen c.loop-slab.device,
         was.read,
-        subst (λ (slab : ℕ). IsSlabRead g.D.Disk.tells g.D.Disk.honest c.args.layout.now.geometry slab (g.D.Disk.seen c.loop-slab.device) (g.D.Disk.seen c.add_slab.new.device) taken.0) (sym was.count) taken.1,
+        subst (λ (slab : ℕ). IsSlabRead g.D.Disk.trust c.args.layout.now.geometry slab (g.D.Disk.seen c.loop-slab.device) (g.D.Disk.seen c.add_slab.new.device) taken.0) (sym was.count) taken.1,
       );
       found = found_more c.args.layout.now.geometry was.reads taken.0 _ _ _ _ _ _ _ was.found
           (subst (λ (slab : ℕ). Took c.args.layout.now.geometry slab taken.0 (lists_of c.loop-slab.found) (lists_of c.add_slab.new.found)) (sym was.count) taken.2);
@@ -38,5 +38,5 @@ returns-in_err-add_slab-clause-untouched g c = untouched_on _ _ _ _ c.loop-slab.
 pub returns-in_err-add_slab-clause-fault : goal.returns-in_err-add_slab-clause-fault
 returns-in_err-add_slab-clause-fault g c =
     let was = c.loop-slab.invariant in
-    passed_on c.from_residual.result (SlabsFail g.D.Disk.tells g.D.Disk.honest c.args.layout.now.geometry (g.D.Disk.seen c.args.device.now) (g.D.Disk.seen c.add_slab.new.device)) c.in_err-add_slab.field-0.0 c.from_residual.ensures.1
-    (slabs_fail _ _ _ was.reads c.loop-slab.slab _ _ _ c.in_err-add_slab.field-0.0 was.count (omega (arith, c.loop-slab-test.true)) was.read c.in_err-add_slab.ensures.fault)
+    passed_on c.from_residual.result (SlabsFail g.D.Disk.trust c.args.layout.now.geometry (g.D.Disk.seen c.args.device.now) (g.D.Disk.seen c.add_slab.new.device)) c.in_err-add_slab.field-0.0 c.from_residual.ensures.1
+    (slabs_fail _ _ was.reads c.loop-slab.slab _ _ _ c.in_err-add_slab.field-0.0 was.count (omega (arith, c.loop-slab-test.true)) was.read c.in_err-add_slab.ensures.fault)

@@ -12,7 +12,7 @@ invariant-loop-slab g l =
     record {
       reads : List Blocks;
       count : length reads ≡ l.slab;
-      read : SlabsRead disk.tells disk.honest l.layout.geometry (disk.seen l.fn.device) (disk.seen l.device) reads;
+      read : SlabsRead disk.trust l.layout.geometry (disk.seen l.fn.device) (disk.seen l.device) reads;
       found : IsFound l.layout.geometry reads l.initial.found.updates.items (lists_of l.found);
-      untouched : IsUntouched disk.tells (disk.seen l.fn.device) (disk.seen l.device);
+      untouched : IsUntouched disk.trust.tells (disk.seen l.fn.device) (disk.seen l.device);
     }

@@ -7,7 +7,7 @@ pub returns-in-Ok-clause-read : goal.returns-in-Ok-clause-read
 returns-in-Ok-clause-read g c =
     let disk = g.D.Disk in (
       Some c.in-Ok.block,
-      subst (λ (at : ℕ). WereRead disk.tells disk.honest at (disk.seen c.args.device.now) (disk.seen c.read_block.new.device) (c.in-Ok.block ∷ [])) c.index_block.ensures.block c.in-Ok.ensures.read,
+      subst (λ (at : ℕ). WereRead disk.trust at (disk.seen c.args.device.now) (disk.seen c.read_block.new.device) (c.in-Ok.block ∷ [])) c.index_block.ensures.block c.in-Ok.ensures.read,
       page_read c.args.layout.now.geometry c.args.number c.in-Ok.block c.held_page.result c.held_page.ensures.some c.held_page.ensures.none,
     )
 
@@ -15,6 +15,6 @@ pub returns-in-Err-clause-read : goal.returns-in-Err-clause-read
 returns-in-Err-clause-read g c =
     let disk = g.D.Disk in (
       None,
-      subst (λ (at : ℕ). NextFailed disk.tells disk.honest at (disk.seen c.args.device.now) (disk.seen c.read_block.new.device) []) c.index_block.ensures.block c.in-Err.ensures.failed,
+      subst (λ (at : ℕ). NextFailed disk.trust at (disk.seen c.args.device.now) (disk.seen c.read_block.new.device) []) c.index_block.ensures.block c.in-Err.ensures.failed,
       refl,
     )

@@ -20,7 +20,7 @@ pub returns-clause-serves : goal.returns-clause-serves
 returns-clause-serves g c = λ before is.
     let disk = g.D.Disk in
     let can = can_begin _ c.args.ready.now.start c.args.requests is.opening.head is.opening.fits c.requires.whole in
-    (played disk.tells disk.honest c.args.number c.drive.new.schedule c.args.ready.now.start c.args.requests c.in_ok-core.core.sizes
+    (played disk.trust c.args.number c.drive.new.schedule c.args.ready.now.start c.args.requests c.in_ok-core.core.sizes
     c.in_ok-core.core.zones c.drive.new.core.zones before (disk.seen c.args.device.now) (disk.seen c.drive.new.device) c.args.ready.now.found c.report.result
     can is c.requires.named c.in_ok-core.ensures.sizes c.in_ok-core.ensures.first (rw c.from_number.ensures at c.drive.ensures.drives)
     c.drive.ensures.done c.drive.ensures.stays c.report.ensures).0
@@ -31,7 +31,7 @@ returns-clause-requests g c =
     let before = c.requires.ready.before in
     let is = c.requires.ready.is in
     let can = can_begin _ c.args.ready.now.start c.args.requests is.opening.head is.opening.fits c.requires.whole in
-    (played disk.tells disk.honest c.args.number c.drive.new.schedule c.args.ready.now.start c.args.requests c.in_ok-core.core.sizes
+    (played disk.trust c.args.number c.drive.new.schedule c.args.ready.now.start c.args.requests c.in_ok-core.core.sizes
     c.in_ok-core.core.zones c.drive.new.core.zones before (disk.seen c.args.device.now) (disk.seen c.drive.new.device) c.args.ready.now.found c.report.result
     can is c.requires.named c.in_ok-core.ensures.sizes c.in_ok-core.ensures.first (rw c.from_number.ensures at c.drive.ensures.drives)
     c.drive.ensures.done c.drive.ensures.stays c.report.ensures).1

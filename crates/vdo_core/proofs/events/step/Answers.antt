@@ -15,4 +15,4 @@ returns-in-Some-clause-steps g c =
     let item = c.in-Some.ensures.item in
     let within : c.args.number < length c.zones.inside.zones.items = search rules in
     let had : slice_get c.zones.inside.zones.items c.args.number ≡ Some c.in-Some.zone.now = slice_get_read _ _ _ _ refl within item.1 in
-    rw (← c.zones.view_is) (step_of g.D.Disk.tells g.D.Disk.honest c.args.sizes.now c.args.number c.zones.inside.zones.items c.in-Some.zone.now c.step_with.new.zone _ _ c.step_with.result had c.step_with.ensures.steps)
+    rw (← c.zones.view_is) (step_of g.D.Disk.trust c.args.sizes.now c.args.number c.zones.inside.zones.items c.in-Some.zone.now c.step_with.new.zone _ _ c.step_with.result had c.step_with.ensures.steps)

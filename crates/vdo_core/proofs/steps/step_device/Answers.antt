@@ -10,7 +10,7 @@ pub returns-in-Some-clause-steps : goal.returns-in-Some-clause-steps
 returns-in-Some-clause-steps g c =
     let counts = c.has_steps_left.ensures.yes c.if-not-has_steps_left.false in
     has_done _ _ _ _ c.end.ensures.did
-    (stepped g.D.Disk.tells g.D.Disk.honest c.args.sizes.now c.args.zone.now c.end.new.zone c.act_at_device.new.keeps c.in-Some.item c.take.new.self c.act_at_device.new.posts _ _
+    (stepped g.D.Disk.trust c.args.sizes.now c.args.zone.now c.end.new.zone c.act_at_device.new.keeps c.in-Some.item c.take.new.self c.act_at_device.new.posts _ _
     counts c.in-Some.ensures.some c.end.ensures.zone c.act_at_device.ensures.acts)
     (has_item c.args.sizes.now c.args.zone.now c.in-Some.item c.take.new.self.inbox counts (ap (λ (p : Ports). p.inbox) c.in-Some.ensures.some))
 

@@ -10,4 +10,4 @@ returns-in-Device-clause-steps g c = rw c.in-Device.is c.step_device.ensures.ste
 
 pub returns-in-Other-clause-steps : goal.returns-in-Other-clause-steps
 returns-in-Other-clause-steps g c =
-    rw c.in-Other.is (comes_less _ _ _ _ _ c.step_alone.result (λ all at. all g.D.Disk.tells g.D.Disk.honest at) (λ same. (same, λ at. refl)) c.step_alone.ensures)
+    rw c.in-Other.is (comes_less _ _ _ _ _ c.step_alone.result (λ all at. all g.D.Disk.trust at) (λ same. (same, λ at. refl)) c.step_alone.ensures)

@@ -14,12 +14,12 @@ play_one-stepped-requires-clause-few g c = few_zones c.self.inside.sizes c.self.
 pub follow-requires-clause-can : goal.follow-requires-clause-can
 follow-requires-clause-can g c =
     all_can_step c.self.inside.sizes c.play_one-stepped.new.zones
-    (reached_on c.self.inside.sizes c.self.inside.zones c.self.invariant.whole.reached g.D.Disk.tells g.D.Disk.honest c.play_one-stepped.new.zones (g.D.Disk.seen c.args.device.now) (g.D.Disk.seen c.play_one-stepped.new.disk) c.play_one-stepped.ensures.leads)
+    (reached_on c.self.inside.sizes c.self.inside.zones c.self.invariant.whole.reached g.D.Disk.trust c.play_one-stepped.new.zones (g.D.Disk.seen c.args.device.now) (g.D.Disk.seen c.play_one-stepped.new.disk) c.play_one-stepped.ensures.leads)
 
 pub follow-requires-clause-few : goal.follow-requires-clause-few
 follow-requires-clause-few g c =
     few_zones c.self.inside.sizes c.play_one-stepped.new.zones
-    (reached_on c.self.inside.sizes c.self.inside.zones c.self.invariant.whole.reached g.D.Disk.tells g.D.Disk.honest c.play_one-stepped.new.zones (g.D.Disk.seen c.args.device.now) (g.D.Disk.seen c.play_one-stepped.new.disk) c.play_one-stepped.ensures.leads)
+    (reached_on c.self.inside.sizes c.self.inside.zones c.self.invariant.whole.reached g.D.Disk.trust c.play_one-stepped.new.zones (g.D.Disk.seen c.args.device.now) (g.D.Disk.seen c.play_one-stepped.new.disk) c.play_one-stepped.ensures.leads)
 
 pub invariant_of-self : goal.invariant_of-self
 invariant_of-self g c =
@@ -28,12 +28,12 @@ invariant_of-self g c =
     let new = vdo c.play_one-stepped.new.zones (g.D.Disk.seen c.play_one-stepped.new.disk) in
     record {
       whole = record {
-        reached = reached_on c.self.inside.sizes c.self.inside.zones c.self.invariant.whole.reached g.D.Disk.tells g.D.Disk.honest c.play_one-stepped.new.zones (g.D.Disk.seen c.args.device.now) (g.D.Disk.seen c.play_one-stepped.new.disk) played.leads;
+        reached = reached_on c.self.inside.sizes c.self.inside.zones c.self.invariant.whole.reached g.D.Disk.trust c.play_one-stepped.new.zones (g.D.Disk.seen c.args.device.now) (g.D.Disk.seen c.play_one-stepped.new.disk) played.leads;
         has_room = c.self.invariant.whole.has_room;
       };
-      known = c.follow.ensures c.self.inside.zones (played_length g.D.Disk.tells g.D.Disk.honest c.self.inside.sizes c.args.event old new played.plays.0 played.plays.1)
-          (played_posts (length c.play_one-stepped.new.zones) g.D.Disk.tells g.D.Disk.honest c.self.inside.sizes c.args.event old new played.plays.0 played.plays.1)
-          (played_work g.D.Disk.tells g.D.Disk.honest c.self.inside.sizes c.args.event old new played.plays.0 played.plays.1) c.self.invariant.known;
+      known = c.follow.ensures c.self.inside.zones (played_length g.D.Disk.trust c.self.inside.sizes c.args.event old new played.plays.0 played.plays.1)
+          (played_posts (length c.play_one-stepped.new.zones) g.D.Disk.trust c.self.inside.sizes c.args.event old new played.plays.0 played.plays.1)
+          (played_work g.D.Disk.trust c.self.inside.sizes c.args.event old new played.plays.0 played.plays.1) c.self.invariant.known;
     }
 
 pub returns-clause-plays : goal.returns-clause-plays
