@@ -30,7 +30,7 @@ use Rattle.data_vio.specs.declared.logged.Logged.TheVariants.{Remaps}
 use Rattle.core_model.specs.DeskFacts.{DeskLists, DeskWasTold, IsSoundDesk, MayReply}
 use Rattle.core_model.specs.DeviceFacts.{DeviceLists, IsToInside, IsTold, NeedsLeaf}
 use Rattle.core_model.specs.JournalFacts.{HasPageEntry, HasPendingEntry, IsEntered, IsSoundJournal, JournalLists, JournalWasTold, RestsAt, StandsAt}
-use Rattle.core_model.specs.LogicalFacts.{HasLeaf, HasSpent, Holds, IsInTurn, IsPlaced, IsReport, IsSoundLogical, IsUndrawn, IsUnmade, LogicalAnswers, LogicalLists, LogicalWasTold, Looks, MakesPage, TookNone}
+use Rattle.core_model.specs.LogicalFacts.{HasLeaf, HasSpent, Holds, IsInTurn, IsPlaced, IsReport, IsSoundLogical, IsUndrawn, IsUnmade, LogicalAnswers, LogicalLists, LogicalWasTold, Looks, MakesPage, TookNone, turn_of}
 use Rattle.core_model.specs.PhysicalFacts.{IsAsking, IsDecrement, IsSoundPhysical, IsWithdrawing, PhysicalLists}
 use Rattle.core_model.specs.RequestFacts.{ClaimOk, IsToBlock, VioOk, zone_at, zone_of_stage}
 
@@ -55,7 +55,7 @@ CarriesOwn s t v phase.Arrive = IsUndrawn t v.request v.asks
 CarriesOwn s t v phase.Wait = IsPlaced s t v × TookNone t v.request
 CarriesOwn s t v phase.Look = IsInTurn s t v × HasSpent s t v.request None
 CarriesOwn s t v phase.LoadLeaf = IsInTurn s t v × (has_taken t v.request None ≡ false) × NeedsLeaf s t v.at.0 v.leaf v.latest
-CarriesOwn s t v phase.LoadedLeaf = HasLeaf s t v.request v.asks v.at.0 v.place v.old v.latest × (has_taken t v.request None ≡ false)
+CarriesOwn s t v phase.LoadedLeaf = HasLeaf s t (turn_of v) v.old v.latest × (has_taken t v.request None ≡ false)
 CarriesOwn s t v phase.Claim = Holds s t v × (v.asks ≡ Write) × NeedsBlock t v.request v.bytes × IsLeafy s t v.at.0 × IsAsking s t v.request v.place v.tickets
 CarriesOwn s t v phase.Withdraw = Holds s t v × (v.asks ≡ Write) × IsLeafy s t v.at.0 × IsWithdrawing s t v.request v.claim v.tickets
 CarriesOwn s t v phase.Store = Holds s t v × (v.asks ≡ Write) × IsToBlock v.new × IsLeafy s t v.at.0

@@ -64,52 +64,62 @@ pub record IsDrawn (s : Session) (t : Trace) (w : Writer) (asks : Asks) (a place
 abbrev pub IsPlaced : Session → Trace → Vio → Type 0
 IsPlaced s t v = IsDrawn s t v.request v.asks v.at.0 v.place
 
+-- what a turn at an address is: whose it is, what that asks, where, and the place that it drew
+pub record Turn : Type 0 where
+  pub request : Writer
+  pub asks : Asks
+  pub at : Lba
+  pub place : ℕ
+
+abbrev pub turn_of : Vio → Turn
+turn_of v = record { request = v.request; asks = v.asks; at = v.at; place = v.place }
+
 -- one that holds the lock of its address: all entries there are done, and whatever was done or given there has a lower place
-pub record HasTurn (s : Session) (t : Trace) (w : Writer) (asks : Asks) (a place : ℕ) : Type 0 where
-  pub is_placed : IsDrawn s t w asks a place
-  pub quiet : Quiet t a
-  pub below : AllBelow t a place
+pub record HasTurn (s : Session) (t : Trace) (turn : Turn) : Type 0 where
+  pub is_placed : IsDrawn s t turn.request turn.asks turn.at.0 turn.place
+  pub quiet : Quiet t turn.at.0
+  pub below : AllBelow t turn.at.0 turn.place
 
 abbrev pub IsInTurn : Session → Trace → Vio → Type 0
-IsInTurn s t v = HasTurn s t v.request v.asks v.at.0 v.place
+IsInTurn s t v = HasTurn s t (turn_of v)
 
 -- and knows what is mapped there
-pub record HasLock (s : Session) (t : Trace) (w : Writer) (asks : Asks) (a place : ℕ) (old : Mapping) : Type 0 where
-  pub turn : HasTurn s t w asks a place
+pub record HasLock (s : Session) (t : Trace) (own : Turn) (old : Mapping) : Type 0 where
+  pub turn : HasTurn s t own
   pub old_data : IsToData s old
   -- where the session is fair, it knows what its address is mapped to, by the slots that are set
-  pub old_is : IsFair s t → old ≡ mapping_by s (applied t) a
+  pub old_is : IsFair s t → old ≡ mapping_by s (applied t) own.at.0
 
 abbrev pub Holds : Session → Trace → Vio → Type 0
-Holds s t v = HasLock s t v.request v.asks v.at.0 v.place v.old
+Holds s t v = HasLock s t (turn_of v) v.old
 
 -- a read that holds it, and knows the last write of its address
-pub record HasLooked (s : Session) (t : Trace) (w : Writer) (asks : Asks) (a place : ℕ) (old : Mapping) (last : Option Remapping) : Type 0 where
-  pub held : HasLock s t w asks a place old
-  pub is_read : asks ≡ Read
-  pub latest : last ≡ newest (of_address a (remappings (applied t)))
+pub record HasLooked (s : Session) (t : Trace) (own : Turn) (old : Mapping) (last : Option Remapping) : Type 0 where
+  pub held : HasLock s t own old
+  pub is_read : own.asks ≡ Read
+  pub latest : last ≡ newest (of_address own.at.0 (remappings (applied t)))
 
 abbrev pub Looks : Session → Trace → Vio → Type 0
-Looks s t v = HasLooked s t v.request v.asks v.at.0 v.place v.old v.latest
+Looks s t v = HasLooked s t (turn_of v) v.old v.latest
 
 -- one that holds it, and knows what its leaf says
-pub record HasLeaf (s : Session) (t : Trace) (w : Writer) (asks : Asks) (a place : ℕ) (old : Mapping) (last : Option Remapping) : Type 0 where
-  pub held : HasLock s t w asks a place old
-  pub leaf : IsLeafy s t a
-  pub unset : of_address a (remappings (applied t)) ≡ []
+pub record HasLeaf (s : Session) (t : Trace) (own : Turn) (old : Mapping) (last : Option Remapping) : Type 0 where
+  pub held : HasLock s t own old
+  pub leaf : IsLeafy s t own.at.0
+  pub unset : of_address own.at.0 (remappings (applied t)) ≡ []
   pub latest : last ≡ None
 
 -- a write that makes a page: it has the lock of its address, claimed no block for its data, handed in the pages that it made before, and
 -- lacks this page
-pub record IsMaking (s : Session) (t : Trace) (w : Writer) (asks : Asks) (at : Lba) (bytes : List ℕ) (place : ℕ) (page : PageId) : Type 0 where
-  pub turn : HasTurn s t w asks at.0 place
-  pub is_write : asks ≡ Write
-  pub spent : HasSpent s t w (Some page)
-  pub lacked : MayLack s.sizes.geometry.height (asked asks at bytes) page
+pub record IsMaking (s : Session) (t : Trace) (own : Turn) (bytes : List ℕ) (page : PageId) : Type 0 where
+  pub turn : HasTurn s t own
+  pub is_write : own.asks ≡ Write
+  pub spent : HasSpent s t own.request (Some page)
+  pub lacked : MayLack s.sizes.geometry.height (asked own.asks own.at bytes) page
   pub up : IsThere s.sizes.geometry.height s.links (applied t) (above page)
 
 abbrev pub MakesPage : Session → Trace → Vio → PageId → Type 0
-MakesPage s t v page = IsMaking s t v.request v.asks v.at v.bytes v.place page
+MakesPage s t v page = IsMaking s t (turn_of v) v.bytes page
 
 -- A report says that a decrement was taken.
 pub record IsReport (s : Session) (t : Trace) (e : Remapping) : Type 0 where

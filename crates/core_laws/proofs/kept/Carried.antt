@@ -19,7 +19,7 @@ use Rattle.data_vio.specs.declared.logged.Logged.TheVariants.{Remaps}
 use Rattle.core_model.specs.DeviceFacts.{NeedsLeaf}
 use Rattle.core_model.specs.Facts.{CarriesFor, CarriesOwn, CarriesPage}
 use Rattle.core_model.specs.JournalFacts.{HasPageEntry}
-use Rattle.core_model.specs.LogicalFacts.{ReportOk, HasLeaf, IsUnmade, MakesPage}
+use Rattle.core_model.specs.LogicalFacts.{ReportOk, HasLeaf, IsUnmade, MakesPage, turn_of}
 use Rattle.core_model.specs.PhysicalFacts.{IsDecrement}
 use Rattle.core_model.specs.RequestFacts.{ClaimOk, claim_of}
 use Rattle.core_laws.proofs.kept.Keys.{Key, OfRequest, OfAddress, OfBlock, OfJournal, OfPage, token_of, Spares, own_name, holder_one, claim_one, maker_one}
@@ -167,7 +167,7 @@ module _ (s : Session) (h : Happening) (t : Trace) where
     latest = k.latest;
   }
 
-  has_leaf_kept : (v : Vio) → SparesRequest h v.request → SparesAddress h v.at.0 → HasLeaf s t v.request v.asks v.at.0 v.place v.old v.latest → HasLeaf s (h ∷ t) v.request v.asks v.at.0 v.place v.old v.latest
+  has_leaf_kept : (v : Vio) → SparesRequest h v.request → SparesAddress h v.at.0 → HasLeaf s t (turn_of v) v.old v.latest → HasLeaf s (h ∷ t) (turn_of v) v.old v.latest
   has_leaf_kept v apart off k = record { held = holds_kept v apart off k.held; leaf = leafy_kept s h t v.at.0 k.leaf; unset = applied_at h t v.at.0 off ∙ k.unset; latest = k.latest }
 
   pub entered_kept : (v : Vio) → SparesRequest h v.request → IsEntered s t v → IsEntered s (h ∷ t) v

@@ -23,7 +23,7 @@ use Rattle.data_vio.specs.declared.items.Asks.TheVariants as asks
 use Rattle.data_vio.specs.declared.logged.Logged.TheVariants.{Makes}
 use Rattle.data_vio.specs.declared.logged.Logged.{Logged}
 use Rattle.core_model.specs.DeviceFacts.{NeedsLeaf}
-use Rattle.core_model.specs.LogicalFacts.{HasLeaf, HasTurn, MapOk}
+use Rattle.core_model.specs.LogicalFacts.{HasLeaf, HasTurn, MapOk, Turn}
 use Rattle.core_model.specs.PageLinks.{leaf_head}
 use Rattle.core_model.specs.RightTraces.{IsBlockFor, IsLeafFor, IsLinkedAt, MayFollow, StopsAtFailure}
 use Rattle.core_model.specs.Sessions.{IsFair, Session, mapping_by}
@@ -204,28 +204,31 @@ needs-not_behind_a_write is = let latest = is.latest in absurd cc
 
 -- HasLeaf: it has its turn, and a mapping to a data block or to none, which is right where the session is fair; its leaf is there, and
 -- no slot of its address was set
-turn : (s : Session) → s.sizes.zones ≡ 2 → HasTurn s drawn second asks.Write 0 1
+abbrev seconds_turn : Turn
+seconds_turn = record { request = second; asks = asks.Write; at = address 0; place = 1 }
+
+turn : (s : Session) → s.sizes.zones ≡ 2 → HasTurn s drawn seconds_turn
 turn s zones = record { is_placed = record { for_block = tt; placed = rw zones refl; not_entered = refl }; quiet = record { all_committed = refl; all_done = refl }; below = record { writes = tt; reads = tt } }
 
-has : (s : Session) → s.sizes ≡ leafy.sizes → s.links ≡ leafy.links → mapping_by s [] 0 ≡ Zero → HasLeaf s drawn second asks.Write 0 1 Zero None
+has : (s : Session) → s.sizes ≡ leafy.sizes → s.links ≡ leafy.links → mapping_by s [] 0 ≡ Zero → HasLeaf s drawn seconds_turn Zero None
 has s sizes links maps = record { held = record { turn = turn s (rw sizes refl); old_data = tt; old_is = λ fair. sym maps }; leaf = rw links (inr refl); unset = refl; latest = refl }
 
-has-not_another_mapping : (s : Session) → IsFair s drawn → mapping_by s [] 0 ≡ Zero → HasLeaf s drawn second asks.Write 0 1 Unmapped None → ⊥
+has-not_another_mapping : (s : Session) → IsFair s drawn → mapping_by s [] 0 ≡ Zero → HasLeaf s drawn seconds_turn Unmapped None → ⊥
 has-not_another_mapping s fair maps is = absurd (let both = is.held.old_is fair ∙ maps in cc)
 
-has-not_elsewhere : HasLeaf leafy drawn second asks.Write 0 1 (At (block 78)) None → ⊥
+has-not_elsewhere : HasLeaf leafy drawn seconds_turn (At (block 78)) None → ⊥
 has-not_elsewhere is = let stands = is.held.old_data.stands in absurd (omega (arith, stands))
 
-has-not_out_of_turn : HasLeaf leafy [] second asks.Write 0 1 Zero None → ⊥
+has-not_out_of_turn : HasLeaf leafy [] seconds_turn Zero None → ⊥
 has-not_out_of_turn is = let placed = is.held.turn.is_placed.placed in absurd cc
 
-has-not_without_a_leaf : HasLeaf session drawn second asks.Write 0 1 Zero None → ⊥
+has-not_without_a_leaf : HasLeaf session drawn seconds_turn Zero None → ⊥
 has-not_without_a_leaf is = elim is.leaf [ inl level ↦ absurd (omega (arith, level)) | inr some ↦ absurd cc ]
 
-has-not_where_a_slot_was_set : HasLeaf leafy set second asks.Write 0 1 Zero None → ⊥
+has-not_where_a_slot_was_set : HasLeaf leafy set seconds_turn Zero None → ⊥
 has-not_where_a_slot_was_set is = let unset = is.unset in absurd cc
 
-has-not_behind_a_write : HasLeaf leafy drawn second asks.Write 0 1 Zero (Some of_first) → ⊥
+has-not_behind_a_write : HasLeaf leafy drawn seconds_turn Zero (Some of_first) → ⊥
 has-not_behind_a_write is = let latest = is.latest in absurd cc
 
 -- MapOk: each slot that is set maps its address to a data block, or to none

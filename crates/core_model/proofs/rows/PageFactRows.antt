@@ -18,7 +18,7 @@ use Rattle.data_vio.specs.declared.logged.Logged.{Logged}
 use Rattle.data_vio.specs.declared.logged.Logged.TheVariants.{Makes}
 use Rattle.core_model.specs.Facts.{Carries}
 use Rattle.core_model.specs.JournalFacts.{HasPageEntry}
-use Rattle.core_model.specs.LogicalFacts.{AreUnmade, Awaits, HasSpent, HasTurn, IsMaking, PagesOk}
+use Rattle.core_model.specs.LogicalFacts.{AreUnmade, Awaits, HasSpent, HasTurn, IsMaking, PagesOk, Turn}
 use Rattle.core_model.specs.PageTrees.{link_at}
 use Rattle.core_model.specs.Sessions.{Session}
 use Rattle.core_model.specs.Trace.{Aborts, Asks as AsksIn, Enters, Sets, Takes, Trace}
@@ -35,10 +35,13 @@ abbrev tall : Session
 tall = record session { sizes = record sizes { geometry = record sizes.geometry { height = 3 } } }
 
 -- IsMaking: a write that has its turn, took no block, and lacks the page, which the one above it may lead to
-abbrev Makes_it : Session → Trace → Asks → PageId → Type 0
-Makes_it s t what page = IsMaking s t first what (address 0) x 0 page
+abbrev firsts_turn : Asks → Turn
+firsts_turn what = record { request = first; asks = what; at = address 0; place = 0 }
 
-turn : HasTurn session drawn first asks.Write 0 0
+abbrev Makes_it : Session → Trace → Asks → PageId → Type 0
+Makes_it s t what page = IsMaking s t (firsts_turn what) x page
+
+turn : HasTurn session drawn (firsts_turn asks.Write)
 turn = record { is_placed = record { for_block = tt; placed = refl; not_entered = refl }; quiet = record { all_committed = refl; all_done = refl }; below = record { writes = tt; reads = tt } }
 
 -- HasSpent: it took no block for its data, and what it took for other pages was handed in
