@@ -257,7 +257,8 @@ impl Desk {
         requires room { HasRoomToBegin self.old }
         requires known { IsSome (request_at self.old.requests begun.request) }
         ensures desk { self.new ≡ record self.old { log = Begin begun.request ∷ self.old.log } }
-        ensures vio { result ≡ under_way begun (value_written (request_at self.old.requests begun.request)) }
+        ensures vio { result
+            ≡ under_way begun (value_written (request_at self.old.requests begun.request)) }
     {
         let Some(mut boxed) = self.spare.pop() else {
             unreachable!();

@@ -221,8 +221,10 @@ impl LogicalZone {
     pub fn drop_page(&mut self, page: PageId)
         requires { length self.old.unlinkable ≤ most_entries }
         ensures { self.new
-            ≡ record self.old
-            { making = but_page page self.old.making; unlinkable = self.old.unlinkable ++ page ∷ [] } }
+            ≡ record self.old {
+              making = but_page page self.old.making;
+              unlinkable = self.old.unlinkable ++ page ∷ [];
+            } }
     {
         self.making.strike(page);
         self.unlinkable.push(page);

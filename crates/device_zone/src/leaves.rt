@@ -32,7 +32,8 @@ const HEAD: usize = 36;
 fn mapping_in(sizes: &Sizes, at: Lba, leaf: Pbn, bytes: &Block) -> Result<Mapping, PageFault>
     requires { IsGeometry sizes.now.geometry }
     ensures ok { IfOk result (λ mapping.
-        (mappings : List Mapped) × IsPage (leaf_head sizes.now.geometry at.0 leaf) bytes.now mappings
+        (mappings : List Mapped)
+        × IsPage (leaf_head sizes.now.geometry at.0 leaf) bytes.now mappings
         × (mapping ≡ slice_index_or mappings (slot_of_address at.0) Unmapped)) }
     ensures fault { IfErr result (λ fault.
         IsPageFault (leaf_head sizes.now.geometry at.0 leaf) bytes.now fault) }
@@ -63,7 +64,8 @@ fn has_zero_slots(bytes: &[u8]) -> bool
 fn decoded_mapping(bytes: &Block, want: &PageHead, slot: u16) -> Result<Mapping, PageFault>
     requires geometry { IsGeometry want.now.geometry }
     requires slot { slot < PAGE_SLOTS }
-    ensures ok { IfOk result (λ mapping. (mappings : List Mapped) × IsPage want.now bytes.now mappings
+    ensures ok { IfOk result (λ mapping.
+        (mappings : List Mapped) × IsPage want.now bytes.now mappings
         × (mapping ≡ slice_index_or mappings slot Unmapped)) }
     ensures fault { IfErr result (λ fault. IsPageFault want.now bytes.now fault) }
 {

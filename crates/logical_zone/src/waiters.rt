@@ -10,9 +10,12 @@ use step_parts::Posts;
 pub(crate) fn stop_all(zone: &mut LogicalZone, at: Lba, posts: &mut Posts)
     requires { length posts.old + length zone.old.waiting ≤ POST_ROOM }
     ensures zone { zone.new
-        ≡ record zone.old
-        { held = rules.without at.0 zone.old.held; waiting = rules.none_for at.0 zone.old.waiting } }
-    ensures posts { posts.new ≡ posts.old ++ rules.all_stopped (rules.all_for at.0 zone.old.waiting) }
+        ≡ record zone.old {
+          held = rules.without at.0 zone.old.held;
+          waiting = rules.none_for at.0 zone.old.waiting;
+        } }
+    ensures posts { posts.new
+        ≡ posts.old ++ rules.all_stopped (rules.all_for at.0 zone.old.waiting) }
 {
     while let Some(vio) = zone.release(at) {
         let stopped = vio.end(Phase::Reply, Answer::Stopped);

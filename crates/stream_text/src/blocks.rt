@@ -215,7 +215,8 @@ fn fill_all(
     ensures bytes { MatchOption more.entry
         (HoldsBytes (bytes_of_run (run_said first)) result block.new)
         (λ more. HoldsBytes
-        (behind (bytes_of_run (run_said first)) (bytes_of_parts (slice_split (λ byte. byte == 43) more.now)))
+        (behind (bytes_of_run (run_said first))
+        (bytes_of_parts (slice_split (λ byte. byte == 43) more.now)))
         result block.new) }
 {
     let first = held(first);
