@@ -1,6 +1,6 @@
 -- Maps: what the slots, pages and addresses of small images have. Only the blocks that are looked at have bytes, and only as
 -- many as are looked at.
-use Rattle.std.proofs.Common.{ℕ, ◌≡◌, ◌+◌, List, [], ◌∷◌, ◌++◌, replicate, slice_index_or, Some, None, refl, inl, inr, arith}
+use Rattle.std.proofs.Common.{ℕ, ◌≡◌, List, [], ◌∷◌, ◌++◌, replicate, slice_index_or, Some, None, refl, inl, inr, arith}
 use Rattle.blk_base.specs.Sectors.{zero_block}
 use Rattle.blk_base.specs.declared.journal_entry.Entry.TheVariants.{NewPage}
 use Rattle.blk_base.specs.declared.place.Mapping.TheVariants.{Unmapped, Zero, At}
@@ -16,7 +16,7 @@ use Rattle.page_codec.proofs.ReadLaws.{slots}
 use Rattle.image_model.specs.Maps.{Image, mapping_in, page_at, slot_in, mapping_of, value_of, HaveSameMap, head_of, IsReadable, IsGoodPage}
 use Rattle.image_model.specs.Pages.{IsAhead}
 use Rattle.image_model.proofs.Example.{small}
-use Rattle.image_model.proofs.MapExample.{said, blocks, image, logged, remap, new_leaf, with_root}
+use Rattle.image_model.proofs.MapExample.{said, image, logged, remap, new_leaf, with_root}
 
 says_unmapped : mapping_in (said 3 0 0) 3 ≡ Unmapped
 unfolding number_at

@@ -2,7 +2,6 @@
 -- and faults that whole images have.
 use Rattle.std.proofs.Common.{ℕ, zero, suc, ◌≡◌, ◌+◌, ◌-◌, ◌%◌, ◌<◌, ◌≤◌, ◌^◌, false, ◌==◌, if◌then◌else◌, List, [], ◌∷◌, length, get_or, Ok, refl, sym, ◌∙◌, ap, subst, inl, inr, arith, ◌/◌, drop}
 use Rattle.std.proofs.Math.Nat.{mod-lt}
-use Rattle.std.proofs.lemmas.Bool.{cases_lt}
 use Rattle.std.proofs.lemmas.Bool.Decides.{eqb_tells}
 use Rattle.std.proofs.lemmas.List.{get_or-take}
 use Rattle.blk_base.specs.declared.journal_entry.CommittedEntry.{CommittedEntry}
@@ -40,7 +39,7 @@ use Rattle.image_model.proofs.EmptyLaws.{is_sound, all_counted, blank_slot, no_s
 use Rattle.image_model.proofs.Example.{small, small_is, zeros}
 use Rattle.image_model.proofs.FaultExample.{zeros_unheaded}
 use Rattle.image_model.proofs.ZeroLaws.{no_commit, no_slab_sector, of_eight}
-use Rattle.image_model.proofs.WholeExample.{pick, pick_first, pick_second, behind_super, listed, size_listed, at_listed, empty_image, heads, empty_is, zero_super}
+use Rattle.image_model.proofs.WholeExample.{behind_super, listed, size_listed, at_listed, empty_image, heads, empty_is, zero_super, at_behind, zeros_before, zeros_behind, roots_between}
 
 -- It is sound.
 sound_is : IsSound empty_image
@@ -152,11 +151,20 @@ late_is : commit_at small (whole_with 148 late_commit) 0 0 ≡ 512
 unfolding number_at
 late_is = ap (λ (block : List ℕ). number_at 8 0 (sector 0 block)) (changed_here 148 late_commit (omega arith))
 
+-- what stands behind the superblock of the empty image: zeros before the roots, the roots, and zeros again
+first_zeros : (n : ℕ) → n < 8 → behind_super n ≡ zero_block
+first_zeros n below = sym (at_behind n (omega (arith, below))) ∙ zeros_before n (suc n) below refl
+
+then_roots : (tree : ℕ) → tree < 60 → behind_super (8 + tree) ≡ empty_root small tree
+then_roots tree below = sym (at_behind (8 + tree) (omega (arith, below))) ∙ roots_between tree (suc (8 + tree)) below refl
+
+last_zeros : (n : ℕ) → 68 ≤ n → n < 153 → behind_super n ≡ zero_block
+last_zeros n past below = sym (at_behind n below) ∙ zeros_behind n (suc n) past below refl
+
 journal_zero : (at s : ℕ) (bytes : List ℕ) → 8 ≤ at → s < 8 → get_or (journal_of small (whole_with at bytes)) s zero_block ≡ zero_block
-unfolding behind_super
 journal_zero at s bytes past below =
     get_or-take 8 (with_block at bytes) s zero_block below ∙ same_there at s bytes (omega (arith, below)) (λ same. omega (arith, same, past, below))
-    ∙ pick_first (cases_lt s 8) zero_block (pick (cases_lt s 68) (empty_root small (s - 8)) zero_block) (λ is. omega (arith, is, below))
+    ∙ first_zeros s below
 
 none_in_journal : (s h : ℕ) → IsThere small (journal_of small (whole_with 148 late_commit)) s h → ⊥
 none_in_journal s h there =
@@ -192,11 +200,7 @@ update_kept = record {
 }
 
 counters_zero : block_at (whole_with 149 journal_block) 149 ≡ zero_block
-unfolding behind_super
-counters_zero =
-    same_there 149 148 journal_block (omega arith) (λ same. omega (arith, same))
-    ∙ pick_second (cases_lt 148 8) zero_block (pick (cases_lt 148 68) (empty_root small (148 - 8)) zero_block) (λ is. omega (arith, is))
-    ∙ pick_second (cases_lt 148 68) (empty_root small (148 - 8)) zero_block (λ is. omega (arith, is))
+counters_zero = same_there 149 148 journal_block (omega arith) (λ same. omega (arith, same)) ∙ last_zeros 148 (omega arith) (omega arith)
 
 sound_closed : IsSound (whole_with 149 journal_block) → ⊥
 sound_closed sound =
@@ -223,32 +227,25 @@ few_read (suc m) counter = rw (none_left m) (omega arith)
 
 module _ (commit counter : ℕ) where
   slots_zero : (slot : ℕ) → slot < 8 → block_at (counted_with commit counter) (block_of small (JournalSlot slot)) ≡ zero_block
-  unfolding behind_super
   slots_zero slot below =
       let place : block_of small (JournalSlot slot) ≡ suc slot = omega arith in
       ap (block_at (counted_with commit counter)) place
       ∙ same_there 148 slot (counter_bytes commit counter) (omega (arith, below)) (λ same. omega (arith, same, below))
-      ∙ pick_first (cases_lt slot 8) zero_block (pick (cases_lt slot 68) (empty_root small (slot - 8)) zero_block) (λ is. omega (arith, is, below))
+      ∙ first_zeros slot below
 
   roots_are : (tree : ℕ) → tree < 60 → block_at (counted_with commit counter) (block_of small (Root tree)) ≡ empty_root small tree
-  unfolding behind_super
   roots_are tree below =
       let place : block_of small (Root tree) ≡ suc (8 + tree) = omega arith in
-      let back : 8 + tree - 8 ≡ tree = omega arith in
       ap (block_at (counted_with commit counter)) place
       ∙ same_there 148 (8 + tree) (counter_bytes commit counter) (omega (arith, below)) (λ same. omega (arith, same, below))
-      ∙ pick_second (cases_lt (8 + tree) 8) zero_block (pick (cases_lt (8 + tree) 68) (empty_root small (8 + tree - 8)) zero_block) (λ is. omega (arith, is))
-      ∙ pick_first (cases_lt (8 + tree) 68) (empty_root small (8 + tree - 8)) zero_block (λ is. omega (arith, is, below))
-      ∙ ap (empty_root small) back
+      ∙ then_roots tree below
 
   updates_zero : (slab slot : ℕ) → slab < 1 → slot < 4 → block_at (counted_with commit counter) (block_of small (SlabJournalSlot slab slot)) ≡ zero_block
-  unfolding behind_super
   updates_zero slab slot one below =
       let place : block_of small (SlabJournalSlot slab slot) ≡ suc (149 + slot) = omega (arith, one) in
       ap (block_at (counted_with commit counter)) place
       ∙ same_there 148 (149 + slot) (counter_bytes commit counter) (omega (arith, below)) (λ same. omega (arith, same))
-      ∙ pick_second (cases_lt (149 + slot) 8) zero_block (pick (cases_lt (149 + slot) 68) (empty_root small (149 + slot - 8)) zero_block) (λ is. omega (arith, is))
-      ∙ pick_second (cases_lt (149 + slot) 68) (empty_root small (149 + slot - 8)) zero_block (λ is. omega (arith, is))
+      ∙ last_zeros (149 + slot) (omega (arith, below)) (omega (arith, below))
 
   none_kept : (slab : ℕ) (entry : SlabEntry) → slab < 1 → IsKept small (counted_with commit counter) slab entry → ⊥
   none_kept slab entry one is =
