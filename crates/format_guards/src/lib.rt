@@ -5,6 +5,9 @@
 mod base;
 mod codecs;
 mod devices;
+
 mod lanes;
+mod maps;
+mod openings;
 mod pages;
 mod slabs;
