@@ -5,7 +5,7 @@
 mod base;
 mod codecs;
 mod devices;
-
+mod files;
 mod lanes;
 mod maps;
 mod openings;

@@ -1,4 +1,4 @@
-use Rattle.std.proofs.Common.{ℕ, ◌≡◌, ◌<◌, ◌^◌, ◌==◌, ◌&&◌, ◌∙◌, Bool, true, List, ◌∷◌, Some, None, reverse, refl, ap, ap₂, sym, inl, inr, arith}
+use Rattle.std.proofs.Common.{ℕ, ◌≡◌, ◌==◌, ◌∙◌, true, List, ◌∷◌, Some, refl, ap, ap₂, inl, inr, arith}
 use Rattle.std.proofs.lemmas.Bool.Decides.{eqb_tells}
 use Rattle.blk_base.specs.Forms.{at_point}
 use Rattle.blk_base.specs.Pages.{leaf_of, slot_of_address}
