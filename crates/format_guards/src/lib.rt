@@ -1,0 +1,5 @@
+//! Guards: functions that call those of the formats and of recovery, and promise what a wrong body would break. Nothing
+//! stands on this crate.
+#![tactic(auto)]
+
+mod counts;
