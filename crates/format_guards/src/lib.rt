@@ -2,4 +2,12 @@
 //! stands on this crate.
 #![tactic(auto)]
 
+mod audits;
+mod blocks;
 mod counts;
+mod crashes;
+mod formats;
+mod growth;
+mod rebuilds;
+mod recovery;
+mod slabs;
