@@ -1,5 +1,5 @@
 -- What is said of the one image of an honest device.
-use Rattle.std.proofs.Common.{ℕ, ◌≡◌, List, Result, Ok, sym, ◌∙◌, ap}
+use Rattle.std.proofs.Common.{ℕ, ◌≡◌, List, Ok, ◌∙◌, ap}
 use Rattle.audit.specs.Audits.{IsAudited}
 use Rattle.audit.specs.Reports.{HasNoFault, IsReport}
 use Rattle.audit.specs.declared.forms.Report.{Report}
@@ -9,7 +9,6 @@ use Rattle.disk_model.specs.Log.{Blocks}
 use Rattle.disk_model.specs.Seen.{Seen}
 use Rattle.disk_model.specs.Trust.{Trust}
 use Rattle.image_layout.specs.Opened.{super_of_image}
-use Rattle.image_layout.specs.declared.fault.SuperFault.{SuperFault}
 use Rattle.image_model.specs.Sound.{Opens, image_of}
 use Rattle.image_status.specs.Statuses.{IsStatusRead}
 use Rattle.image_status.specs.declared.forms.ImageStatus.{ImageStatus}

@@ -24,7 +24,7 @@ use Rattle.rebuild.specs.Openings.{IsOpening, OpensRight}
 use Rattle.rebuild.specs.Recoveries.{IsAnswer, IsRecovery, IsTold, IsUnclean, LeavesClosed}
 use Rattle.rebuild.specs.declared.forms.Recovered.{Recovered}
 use Rattle.rebuild.specs.declared.forms.Recovered.TheVariants.{Clean, Entries}
-use Rattle.recovery_laws.specs.Kept.{image_in, recovered_super}
+use Rattle.recovery_laws.specs.Kept.{image_in}
 
 -- an image has one superblock
 pub one_head : (blocks : Blocks) (head other : Superblock) → super_of_image blocks ≡ Ok head → super_of_image blocks ≡ Ok other → head ≡ other

@@ -1,5 +1,5 @@
 -- What was read of slabs, in the cases of the guards.
-use Rattle.std.proofs.Common.{ℕ, ◌≡◌, ◌+◌, ◌*◌, ◌/◌, ◌-◌, ◌%◌, ◌<◌, ◌≤◌, ◌^◌, List, ◌++◌, [], ◌∷◌, length, get_or, reverse, Contains, Result, Ok, Err, IfOk, OnOk, refl, sym, ◌∙◌, ap, inl, inr, arith, lit≤, append_assoc}
+use Rattle.std.proofs.Common.{ℕ, ◌≡◌, ◌+◌, ◌*◌, ◌/◌, ◌-◌, ◌<◌, ◌≤◌, ◌^◌, List, ◌++◌, [], ◌∷◌, length, get_or, reverse, Contains, Result, Ok, Err, IfOk, OnOk, refl, ◌∙◌, ap, inl, inr, arith, lit≤, append_assoc}
 use Rattle.std.proofs.lemmas.List.Sorted.{Contains-permutation, IsPermutation-reverse}
 use Rattle.blk_base.specs.Counters.{sector_of_offset, sectors_per_slab}
 use Rattle.blk_base.specs.Forms.{place_in}
