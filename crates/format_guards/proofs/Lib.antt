@@ -1,0 +1,9 @@
+pub mod CountFacts
+pub mod SlabFacts
+pub mod FormatFacts
+pub mod RecoveryFacts
+pub mod AuditFacts
+pub mod BlockFacts
+pub mod RebuildFacts
+pub mod GrowthFacts
+pub mod CrashFacts
