@@ -37,7 +37,7 @@ fn a_look_asks_first(index: &mut Uds, name: &Name) -> Look
     ghost chapter: { Numbered }
     requires kept { index.old.book.kept ≡ chapter ∷ [] }
     requires tagged { has_tag (tag_of name.now) chapter ≡ true }
-    requires open { index.old.book.unclosed ≡ [] }
+    requires unclosed { index.old.book.unclosed ≡ [] }
     requires cached { index.old.cached ≡ [] }
     requires given { index.old.given ≡ [] }
     requires read { index.old.unread ≡ false }

@@ -65,7 +65,9 @@ fn a_page_shows_what_was_applied(
     into: &mut Block,
 ) -> Option<(PageId, Pbn)>
     ensures { IfSome result (λ (page, at). (copy : Page)
-        × (IsThere zone.old.cache page copy ⊎ (copy.mappings ≡ mappings_of zone.old.tree page))
+        × (copy.head.page ≡ page)
+        × (IsThere zone.old.cache page copy
+        ⊎ ((1 ≤ page.level) × (copy.mappings ≡ mappings_of zone.old.tree page)))
         × (into.new ≡ page_bytes copy.head copy.mappings)) }
 {
     zone.take_expired(point, into)

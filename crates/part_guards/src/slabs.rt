@@ -1,21 +1,19 @@
-ghost use Rattle.std.specs.Prelude.{◌≡◌, ◌+◌, ◌*◌, ◌<◌, ◌≤◌, ℕ, false, None, Some, IfSome, IsSome, OnOk, length};
+ghost use Rattle.std.specs.Prelude.{◌≡◌, ◌+◌, ◌*◌, ◌<◌, ◌≤◌, ℕ, false, None, Some, IfSome, IsSome, length};
 ghost use Rattle.blk_base.specs.Regions.{SlabJournalSlot, block_of, slab_slot_of};
 ghost use Rattle.blk_base.specs.declared.point.Point.{Point as At};
 ghost use Rattle.dirty_pages.specs.DirtyPoints.{dirty_points_at};
 ghost use Rattle.reference_blocks.specs.References.{point_at, sectors_of};
 ghost use Rattle.slab_codec.specs.Reference.{reference_bytes};
 ghost use Rattle.slab_codec.specs.declared.forms.SlabEntry.{SlabEntry};
-ghost use Rattle.slab_journal.specs.Slab.{IsWriting, MayOverwrite};
+ghost use Rattle.slab_journal.specs.Slab.{MayOverwrite};
 ghost use Rattle.slab_journal.specs.Unsettled.{IsUnsettled};
-ghost use Rattle.slab_writes.specs.Writes.{IsOut, taken};
+ghost use Rattle.slab_writes.specs.Writes.{IsOut};
 ghost use Rattle.slab_writes.specs.declared.forms.SlabPart.TheVariants.{References};
 ghost use Rattle.slab_zone.specs.Whole.{writes_at, writes_of};
-ghost use Rattle.slab_zone.specs.ZoneWrites.{HasRoomAt, RisesIn};
-ghost use Rattle.zone_counts.specs.Zone.{IsOfZone, index_of, slab_at};
+ghost use Rattle.zone_counts.specs.Zone.{slab_at};
 
 use blk_base::{Block, Point, Update};
 use dirty_pages::DirtyPages;
-use slab_counts::Stray;
 use slab_writes::{Need, SlabWork, SlabWrites};
 use slab_zone::SlabZone;
 
@@ -56,17 +54,6 @@ fn no_commit_point_behind_the_block(writes: &mut SlabWrites, work: SlabWork)
     ensures { point_at writes.new.journal.commits sector ≡ point_at writes.old.journal.commits sector }
 {
     writes.durable(work);
-}
-
-// An update that is taken is to be written, of either half.
-fn each_update_is_written(zone: &mut SlabZone, update: &Update) -> Result<(), Stray>
-    requires own { IsOfZone zone.old.counts update.now.at }
-    requires room { HasRoomAt zone.old update.now.at }
-    requires rises { RisesIn zone.old update.now }
-    ensures { OnOk result
-        (writes_of zone.new update.now.at ≡ taken (writes_of zone.old update.now.at) update.now) }
-{
-    zone.apply(update)
 }
 
 // An update with a point that isn't above those before isn't taken.
