@@ -1,5 +1,5 @@
 -- A look asks for the page of a chapter with the name's tag, where nothing is cached and nothing was given.
-use Rattle.std.proofs.Common.{ℕ, ◌≡◌, true, false, Bool, cond, List, [], ◌∷◌, take, filter, refl, ◌∙◌, ap, subst, sym, arith}
+use Rattle.std.proofs.Common.{ℕ, ◌≡◌, true, false, Bool, cond, List, [], ◌∷◌, take, filter, refl, ◌∙◌, ap, subst, arith}
 use Rattle.blk_base.specs.declared.place.Pbn.{Pbn}
 use Rattle.block_names.specs.Names.{tag_of}
 use Rattle.index_advice.specs.Books.{has_tag}
