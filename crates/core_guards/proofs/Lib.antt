@@ -1,0 +1,3 @@
+mod Acts
+mod Moves
+mod Runs
