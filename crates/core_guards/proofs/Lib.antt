@@ -1,3 +1,3 @@
-mod Acts
 mod Moves
-mod Runs
+mod RunLaws
+mod ZoneActs

@@ -1,4 +1,4 @@
-use Rattle.core_guards.proofs.Acts.{harmed_so}
+use Rattle.core_guards.proofs.ZoneActs.{harmed_so}
 use Rattle.core_guards.proofs.acts.a_leaf_of_another_page_is_damage.Goals as goal
 
 pub returns : goal.returns

@@ -2,7 +2,7 @@ use Rattle.std.proofs.Common.{ap, refl}
 use Rattle.core_model.specs.LogicalData.{LogicalZone}
 use Rattle.core_model.specs.LogicalRules.LogicalServes.{makes_page}
 use Rattle.core_model.specs.Steps.Act.{serves}
-use Rattle.core_guards.proofs.Acts.{logical_does}
+use Rattle.core_guards.proofs.ZoneActs.{logical_does}
 use Rattle.core_guards.proofs.acts.a_page_is_made_before_it_is_linked.Goals as goal
 
 pub returns : goal.returns

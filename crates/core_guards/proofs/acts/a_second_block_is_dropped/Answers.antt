@@ -2,7 +2,7 @@ use Rattle.std.proofs.Common.{ap, refl}
 use Rattle.core_model.specs.PhysicalRules.PhysicalServes.{drops_block}
 use Rattle.core_model.specs.Steps.Act.{takes}
 use Rattle.core_model.specs.declared.zones.PhysicalZone.{PhysicalZone}
-use Rattle.core_guards.proofs.Acts.{physical_does}
+use Rattle.core_guards.proofs.ZoneActs.{physical_does}
 use Rattle.core_guards.proofs.acts.a_second_block_is_dropped.Goals as goal
 
 pub returns : goal.returns

@@ -1,4 +1,4 @@
-use Rattle.core_guards.proofs.Acts.{stored_on}
+use Rattle.core_guards.proofs.ZoneActs.{stored_on}
 use Rattle.core_guards.proofs.acts.a_write_that_was_stored_goes_on.Goals as goal
 
 pub returns : goal.returns

@@ -1,4 +1,4 @@
-use Rattle.core_guards.proofs.Acts.{waits_on}
+use Rattle.core_guards.proofs.ZoneActs.{waits_on}
 use Rattle.core_guards.proofs.acts.a_write_waits_for_the_superblock.Goals as goal
 
 pub returns : goal.returns

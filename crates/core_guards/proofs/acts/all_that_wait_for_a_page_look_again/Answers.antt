@@ -1,7 +1,7 @@
 use Rattle.std.proofs.Common.{refl}
 use Rattle.core_model.specs.LogicalRules.LogicalServes.{unmakes}
 use Rattle.core_model.specs.Steps.Act.{serves}
-use Rattle.core_guards.proofs.Acts.{logical_does}
+use Rattle.core_guards.proofs.ZoneActs.{logical_does}
 use Rattle.core_guards.proofs.acts.all_that_wait_for_a_page_look_again.Goals as goal
 
 pub returns : goal.returns

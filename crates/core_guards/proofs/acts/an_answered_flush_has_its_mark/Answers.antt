@@ -3,7 +3,7 @@ use Rattle.vdo_model.specs.declared.report.FlushMark.{FlushMark}
 use Rattle.core_model.specs.DeskData.{Desk}
 use Rattle.core_model.specs.DeskRules.DeskServes.{marks}
 use Rattle.core_model.specs.Steps.Act.{answers}
-use Rattle.core_guards.proofs.Acts.{desk_does}
+use Rattle.core_guards.proofs.ZoneActs.{desk_does}
 use Rattle.core_guards.proofs.acts.an_answered_flush_has_its_mark.Goals as goal
 
 pub returns : goal.returns

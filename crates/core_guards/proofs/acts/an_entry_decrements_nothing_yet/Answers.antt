@@ -1,7 +1,7 @@
 use Rattle.std.proofs.Common.{refl}
 use Rattle.core_model.specs.JournalRules.JournalServes.{enters, enters_first}
 use Rattle.core_model.specs.Steps.Act.{enters as act}
-use Rattle.core_guards.proofs.Acts.{journal_does}
+use Rattle.core_guards.proofs.ZoneActs.{journal_does}
 use Rattle.core_guards.proofs.acts.an_entry_decrements_nothing_yet.Goals as goal
 
 pub returns-clause-busy : goal.returns-clause-busy

@@ -1,4 +1,4 @@
-use Rattle.core_guards.proofs.Acts.{begins_it}
+use Rattle.core_guards.proofs.ZoneActs.{begins_it}
 use Rattle.core_guards.proofs.acts.the_lowest_stream_begins.Goals as goal
 
 pub returns : goal.returns

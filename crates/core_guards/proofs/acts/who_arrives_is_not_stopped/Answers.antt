@@ -1,7 +1,7 @@
 use Rattle.std.proofs.Common.{refl}
 use Rattle.core_model.specs.LogicalRules.LogicalServes.{arrives_free, arrives_held}
 use Rattle.core_model.specs.Steps.Act.{serves}
-use Rattle.core_guards.proofs.Acts.{logical_does}
+use Rattle.core_guards.proofs.ZoneActs.{logical_does}
 use Rattle.core_guards.proofs.acts.who_arrives_is_not_stopped.Goals as goal
 
 pub returns-clause-free : goal.returns-clause-free

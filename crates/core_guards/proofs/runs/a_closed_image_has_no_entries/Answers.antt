@@ -1,6 +1,6 @@
 use Rattle.std.proofs.Common.{Some}
 use Rattle.vdo_cli.specs.declared.words.Served.TheVariants as served
-use Rattle.core_guards.proofs.Runs.{ends_as, told_clean}
+use Rattle.core_guards.proofs.RunLaws.{ends_as, told_clean}
 use Rattle.core_guards.proofs.runs.a_closed_image_has_no_entries.Goals as goal
 
 pub returns : goal.returns

@@ -1,6 +1,6 @@
 use Rattle.std.proofs.Common.{Some}
 use Rattle.vdo_cli.specs.declared.words.Served.TheVariants as served
-use Rattle.core_guards.proofs.Runs.{ends_as}
+use Rattle.core_guards.proofs.RunLaws.{ends_as}
 use Rattle.core_guards.proofs.runs.a_crash_reads_and_no_more.Goals as goal
 
 pub returns : goal.returns

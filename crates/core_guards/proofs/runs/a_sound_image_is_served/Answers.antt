@@ -1,4 +1,4 @@
-use Rattle.core_guards.proofs.Runs.{none_or_memory}
+use Rattle.core_guards.proofs.RunLaws.{none_or_memory}
 use Rattle.core_guards.proofs.runs.a_sound_image_is_served.Goals as goal
 
 pub returns : goal.returns

@@ -1,6 +1,6 @@
 use Rattle.std.proofs.Common.{Some}
 use Rattle.vdo_cli.specs.declared.words.Served.TheVariants as served
-use Rattle.core_guards.proofs.Runs.{ends_as, refused_so}
+use Rattle.core_guards.proofs.RunLaws.{ends_as, refused_so}
 use Rattle.core_guards.proofs.runs.an_unsound_image_is_refused_for_its_fault.Goals as goal
 
 pub returns : goal.returns

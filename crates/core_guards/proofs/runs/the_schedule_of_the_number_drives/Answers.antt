@@ -1,6 +1,6 @@
 use Rattle.std.proofs.Common.{Some}
 use Rattle.vdo_cli.specs.declared.words.Served.TheVariants as served
-use Rattle.core_guards.proofs.Runs.{ends_as, driven_by, played_out}
+use Rattle.core_guards.proofs.RunLaws.{ends_as, driven_by, played_out}
 use Rattle.core_guards.proofs.runs.the_schedule_of_the_number_drives.Goals as goal
 
 pub returns : goal.returns

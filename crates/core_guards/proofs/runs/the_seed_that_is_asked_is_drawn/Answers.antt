@@ -1,6 +1,6 @@
 use Rattle.std.proofs.Common.{Some}
 use Rattle.vdo_cli.specs.declared.words.Served.TheVariants as served
-use Rattle.core_guards.proofs.Runs.{ends_as, drawn_of}
+use Rattle.core_guards.proofs.RunLaws.{ends_as, drawn_of}
 use Rattle.core_guards.proofs.runs.the_seed_that_is_asked_is_drawn.Goals as goal
 
 pub returns : goal.returns
