@@ -79,7 +79,7 @@ has_work sizes zones set to target first rest notes there left = at_bit (is_in s
 pub nothing_left : (trust : Trust) (sizes : Sizes) (from to : ℕ) (old new : Vdo) (made : Trace) → PlaysOne trust sizes (event.Move from to) old new made
     → HasNoWork sizes new.zones (event.Move from to)
 nothing_left trust sizes from to old new made (inr idle) = subst (λ (v : Vdo). HasNoWork sizes v.zones (event.Move from to)) (sym idle.1) idle.0
-nothing_left trust sizes from to old new made (inl (all, seen, none)) source target apart had_source had_target =
+nothing_left trust sizes from to old new made (inl (all, seen, none)) = λ source target apart had_source had_target.
     let left = with_outboxes all.source (slice_set all.source.ports.outboxes to []) in
     let zones = slice_set old.zones from left in
     let there : slice_get new.zones from ≡ Some left =
@@ -128,8 +128,8 @@ takes_it trust sizes (e' ∷ events) old new made e one (between, first, later, 
 pub found_behind : (write other : Remapping) (older : List Remapping) → (write.at.0 ≡ other.at.0 → ⊥) → newest (of_address write.at.0 (other ∷ write ∷ older)) ≡ Some write
 found_behind write other older apart = elim (eqb_tells other.at.0 write.at.0) [
   | inl same ↦ absurd (apart (sym same.1))
-  | inr differs ↦ elim (eqb_tells write.at.0 write.at.0) [
-    | inl same ↦ rw (differs.0, same.0) refl
-    | inr no ↦ absurd (no.1 refl)
+  | inr others ↦ elim (eqb_tells write.at.0 write.at.0) [
+    | inl same ↦ rw (others.0, same.0) refl
+    | inr differs ↦ absurd (differs.1 refl)
   ]
 ]

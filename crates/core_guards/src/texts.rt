@@ -1,7 +1,8 @@
 //! A script is read to its end, and a text is put whole.
 
-ghost use Rattle.std.specs.Prelude.{◌≡◌, ◌∷◌, [], IsTrue, IfOk, OnOk, codes};
+ghost use Rattle.std.specs.Prelude.{◌≡◌, ◌∷◌, ◌++◌, [], IsTrue, IfOk, OnOk, codes};
 ghost use Rattle.blk_base.specs.declared.request.Request.TheVariants.{Flush};
+ghost use Rattle.stream_text.specs.Runs.{later_text, run_text};
 ghost use Rattle.vdo_model.specs.Scripts.{stream_of};
 
 use disk_model::{Failed, Sink, Source};
@@ -30,7 +31,9 @@ fn the_last_line_counts<S: Source>(alloc: Global, source: &mut S) -> Result<Requ
 // Each run of a text is put, the first one too.
 fn two_runs_are_put<K: Sink>(out: &mut K) -> Result<(), Failed>
     requires { (K.seen out.old).held ≡ [] }
-    ensures { IsTrue K.tells → OnOk result ((K.seen out.new).held ≡ codes "2*61+1*62") }
+    ensures { IsTrue K.tells → OnOk result ((K.seen out.new).held
+        ≡ run_text (record { count = 2; byte = 97 })
+        ++ later_text (record { count = 1; byte = 98 } ∷ [])) }
 {
     put_runs(b"aab", out)
 }

@@ -5,6 +5,6 @@ use Rattle.core_guards.proofs.cores.not_done_while_a_line_is_missing.Goals as go
 
 pub returns : goal.returns
 returns c = λ zone desk had keeps missing. elim (cases_Bool c.done.result) [
-  | inl yes ↦ absurd (not_done _ zone desk had keeps missing (c.done.ensures.yes yes))
-  | inr no ↦ no
+  | inl done ↦ absurd (not_done _ zone desk had keeps missing (c.done.ensures.yes done))
+  | inr not_yet ↦ not_yet
 ]
