@@ -1,0 +1,7 @@
+use Rattle.std.proofs.Common.{◌∙◌, ap, rules}
+use Rattle.core_model.specs.Trace.{newest, of_address}
+use Rattle.core_guards.proofs.Moves.{found_behind}
+use Rattle.core_guards.proofs.cores.a_write_is_found_behind_another.Goals as goal
+
+pub returns : goal.returns
+returns c = rw (c.latest.ensures, c.push-2.ensures, c.push.ensures) (found_behind c.args.write c.args.other _ c.requires.apart)
