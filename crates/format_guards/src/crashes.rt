@@ -28,7 +28,8 @@ fn a_mapped_address_has_the_bytes_of_its_block<D: Disk>(
 ) -> Result<Block, ValueFault>
     requires fits { Fits found.now }
     requires room { needed_blocks found.now.head.geometry ≤ (D.seen device.old).size }
-    ensures { IfOk result (λ block. (blocks : Blocks) (window : List CommittedEntry) (where_at : Pbn)
+    ensures { IfOk result (λ block.
+        (blocks : Blocks) (window : List CommittedEntry) (where_at : Pbn)
         → IsTold D.trust (D.seen device.old) blocks → IsMapIn found.now blocks window
         → mapping_of (image_of found.now.head blocks window) at.0 ≡ At where_at
         → block ≡ block_at blocks where_at.0) }
