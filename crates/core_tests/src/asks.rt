@@ -58,14 +58,14 @@ fn wide(stream: u32, place: u32) -> Option<Ask> {
     Some(Ask::Write(number % 150 * 6, (number % 255 + 1) as u8))
 }
 
-static REUSED: [u32; 5] = [0, 7, 31, 62, 99];
+static ADDRESSES: [u32; 5] = [0, 7, 31, 62, 99];
 
 // More than six of ten are writes. Two of a stream have different bytes, and none is zero.
 fn reused(stream: u32, number: u32) -> Option<Ask> {
     if number >= 25 {
         return None;
     }
-    let at = REUSED[(stream.wrapping_add(number.wrapping_mul(2)) % 5) as usize];
+    let at = ADDRESSES[(stream.wrapping_add(number.wrapping_mul(2)) % 5) as usize];
     let nth = stream.wrapping_mul(25).wrapping_add(number);
     Some(match number % 9 {
         3 => Ask::Discard(at),
@@ -118,7 +118,7 @@ impl Script {
     // How many streams it has.
     fn streams(&self) -> u32 {
         match self {
-            Script::Table(streams) => streams.len() as u32,
+            Script::Table(streams) => streams.len().min(16) as u32,
             Script::Wide | Script::Scarce(_) => 16,
             Script::Sixteen => 4,
             Script::Reused => 3,
@@ -140,7 +140,7 @@ impl Script {
             Script::FillingOne => filling_one(number),
             Script::Sixteen => {
                 let at = stream.wrapping_mul(4).wrapping_add(number).wrapping_add(20);
-                below(number, 4, Ask::Write(at, at as u8))
+                below(number, 4, Ask::Write(at, (at % 256) as u8))
             }
         }
     }
@@ -214,7 +214,7 @@ fn asks_of(
 }
 
 /// The requests of a script.
-pub(crate) fn script(alloc: Global, script: &Script) -> Result<Requests, AllocError>
+pub(crate) fn requests_of(alloc: Global, script: &Script) -> Result<Requests, AllocError>
     ensures { IfOk result (AllByRecursion (AllByRecursion IsServed)) }
 {
     let mut streams = Vec::new(alloc);

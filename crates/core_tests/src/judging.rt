@@ -68,11 +68,12 @@ fn given_by(answer: &Answer) -> u16 {
 // The byte of a block of one byte.
 fn byte_of(block: &Block) -> Option<u8> {
     let first = block.bytes[0];
-    if block.bytes.iter().all(|byte| *byte == first) {
-        Some(first)
-    } else {
-        None
+    for byte in &block.bytes {
+        if *byte != first {
+            return None;
+        }
     }
+    Some(first)
 }
 
 /// The request of a name.
@@ -101,17 +102,20 @@ pub(crate) fn first_other(
     from: u32,
     gives: &[&[u16]],
 ) -> Option<(Writer, Option<u16>)> {
-    for (stream, row) in gives.iter().enumerate() {
-        for (place, want) in row.iter().enumerate() {
-            let asked = Writer {
-                stream: stream as u8,
-                number: from.wrapping_add(place as u32),
-            };
+    let mut asked = Writer {
+        stream: 0,
+        number: 0,
+    };
+    for row in gives {
+        asked.number = from;
+        for want in *row {
             let found = given(report, asked);
             if found != Some(*want) {
                 return Some((asked, found));
             }
+            asked.number = asked.number.wrapping_add(1);
         }
+        asked.stream = asked.stream.wrapping_add(1);
     }
     None
 }

@@ -1,6 +1,6 @@
 //! Sessions by schedules, without a fault, with a call that fails, and stopped; and what the images have that they leave.
 
-use crate::asks::script;
+use crate::asks::requests_of;
 use crate::judging::{Counts, WRONG, add, are_off, first_other, judge, judge_reads};
 use crate::plans::{PLANS, Plan};
 use crate::sessions::{Unplayed, device_of, driven, open_over};
@@ -104,7 +104,7 @@ fn run_with_trouble<R: Wait>(
     counts: &mut Counts,
 ) -> Result<(), Unplayed> {
     let mut device = device_of(alloc, &plan.image, None, u64::MAX)?;
-    let requests = script(alloc, &plan.script)?;
+    let requests = requests_of(alloc, &plan.script)?;
     let mut core = open_over(alloc, &plan.setup, requests, &mut device)?;
     let opening = device.calls().len();
     drive(

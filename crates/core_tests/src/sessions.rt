@@ -7,7 +7,7 @@ ghost use Rattle.vdo_model.specs.Scripts.{IsServed};
 ghost use Rattle.device_zone.specs.DeviceCalls.{Fits};
 ghost use Rattle.rebuild.specs.Openings.{Fits as HasItsSizes};
 
-use crate::asks::{Script, script};
+use crate::asks::{Script, requests_of};
 use blk_base::{Geometry, Layout, Opened};
 use core_model::is_limited;
 use disk_model::{Disk, FaultAt, MemDisk};
@@ -175,7 +175,7 @@ pub(crate) fn driven<R: Wait, D: Disk>(
     number: u64,
     device: &mut D,
 ) -> Result<RunReport, Unplayed> {
-    let mut core = open_over(alloc, setup, script(alloc, asks)?, device)?;
+    let mut core = open_over(alloc, setup, requests_of(alloc, asks)?, device)?;
     drive(rt, &mut core, &mut Schedule::from_number(number), device);
     Ok(core.report())
 }
@@ -222,7 +222,7 @@ pub(crate) fn played<D: Disk>(
     events: &[Event],
     device: &mut D,
 ) -> Result<(RunReport, u32), Unplayed> {
-    let mut core = open_over(alloc, setup, script(alloc, asks)?, device)?;
+    let mut core = open_over(alloc, setup, requests_of(alloc, asks)?, device)?;
     let works = works(&core);
     let middle = events.len() / 2;
     play_given(&mut core, &events[..middle], device);

@@ -29,7 +29,7 @@ fn receipts_by<R: Wait>(rt: &R, alloc: Global, number: u64) -> Result<Receipts, 
 
 // Each of the three writes that find no block asks in one step of the zone, and takes its ticket back in the next one.
 #[test]
-fn receipts(rt: HostRuntime) -> Result<(), Fail> {
+fn the_receipts_of_writes_that_find_none(rt: HostRuntime) -> Result<(), Fail> {
     let mut found = [[None; 4]; 4];
     for (number, place) in found.iter_mut().enumerate() {
         *place = receipts_by(&rt, rt.alloc(), number as u64)?;
