@@ -1,53 +1,79 @@
+//! A plain checker of reports, which says again what is right of them.
+
 use blk_base::{Answer, Block, Lba, Request, Writer};
 use vdo_model::{DeskLine, Mark, RunReport};
 
-/// What runs met.
-#[derive(Clone, Copy, Debug, PartialEq, Eq)]
-pub(crate) struct Met {
-    /// Reads that were answered with bytes, and how many of them were wrong.
-    pub(crate) reads: u32,
-    pub(crate) wrong: u32,
-    /// Requests that were answered so.
-    pub(crate) full: u32,
-    pub(crate) no_space: u32,
-    pub(crate) stopped: u32,
-    pub(crate) read_faults: u32,
-    pub(crate) ranges: u32,
+// What a request is given is a number: the byte of a block of one byte, or one of those from 256 on.
+pub(crate) const OK: u16 = 256;
+
+pub(crate) const FULL: u16 = 257;
+
+pub(crate) const NO_SPACE: u16 = 258;
+
+pub(crate) const STOPPED: u16 = 259;
+
+pub(crate) const RANGE: u16 = 260;
+
+pub(crate) const OTHER: u16 = 261;
+// A block of several bytes, and whatever else isn't right.
+pub(crate) const WRONG: u16 = 262;
+
+// What is counted beside that: answers of one byte; images that stops left; what reads of them gave that isn't zero.
+pub(crate) const READS: u16 = 255;
+
+pub(crate) const IMAGES: u16 = 263;
+
+pub(crate) const NEWER: u16 = 264;
+
+/// How often there was what, from `READS` on.
+pub(crate) type Counts = [u32; 10];
+
+/// So many more.
+pub(crate) fn add(counts: &mut Counts, what: u16, more: u32) {
+    if let Some(count) = counts.get_mut(usize::from(what.wrapping_sub(READS))) {
+        *count = count.wrapping_add(more);
+    }
 }
 
-impl Met {
-    pub(crate) const NOTHING: Met = Met {
-        reads: 0,
-        wrong: 0,
-        full: 0,
-        no_space: 0,
-        stopped: 0,
-        read_faults: 0,
-        ranges: 0,
-    };
+/// Something that is counted so often at least and at most.
+pub(crate) type Bound = (u16, u32, u32);
 
-    /// What both met.
-    pub(crate) fn and(self, other: Met) -> Met {
-        Met {
-            reads: self.reads.wrapping_add(other.reads),
-            wrong: self.wrong.wrapping_add(other.wrong),
-            full: self.full.wrapping_add(other.full),
-            no_space: self.no_space.wrapping_add(other.no_space),
-            stopped: self.stopped.wrapping_add(other.stopped),
-            read_faults: self.read_faults.wrapping_add(other.read_faults),
-            ranges: self.ranges.wrapping_add(other.ranges),
+/// Whether something isn't as often as it is to be.
+pub(crate) fn are_off(counts: &Counts, bounds: &[Bound]) -> bool {
+    for &(what, least, most) in bounds {
+        match counts.get(usize::from(what.wrapping_sub(READS))) {
+            Some(count) if least <= *count && *count <= most => {}
+            _ => return true,
         }
     }
+    false
 }
 
-/// The byte of a block of one byte.
-pub(crate) fn byte_of(block: &Block) -> Option<u8> {
-    let first = block.bytes[0];
-    if block.bytes.iter().all(|byte| *byte == first) {
-        Some(first)
-    } else {
-        None
+// What an answer gives.
+fn given_by(answer: &Answer) -> u16 {
+    match answer {
+        Answer::Ok => OK,
+        Answer::Bytes(block) => match byte_of(block.get()) {
+            Some(byte) => u16::from(byte),
+            None => WRONG,
+        },
+        Answer::Full => FULL,
+        Answer::NoSpace => NO_SPACE,
+        Answer::Stopped => STOPPED,
+        Answer::Range => RANGE,
+        Answer::ReadFault | Answer::Damaged => OTHER,
     }
+}
+
+// The byte of a block of one byte.
+fn byte_of(block: &Block) -> Option<u8> {
+    let first = block.bytes[0];
+    for byte in &block.bytes {
+        if *byte != first {
+            return None;
+        }
+    }
+    Some(first)
 }
 
 /// The request of a name.
@@ -58,23 +84,40 @@ pub(crate) fn request_of(report: &RunReport, request: Writer) -> Option<&Request
         .get(request.number as usize)
 }
 
-/// What a request was answered with.
-pub(crate) fn answer_of(report: &RunReport, request: Writer) -> Option<&Answer> {
+// What a request was given, if it was answered.
+fn given(report: &RunReport, asked: Writer) -> Option<u16> {
     for line in report.desk.as_slice() {
-        if let DeskLine::Answer {
-            request: asked,
-            answer,
-        } = line
-            && *asked == request
+        if let DeskLine::Answer { request, answer } = line
+            && *request == asked
         {
-            return Some(answer);
+            return Some(given_by(answer));
         }
     }
     None
 }
 
-fn is_settled(report: &RunReport, request: Writer) -> bool {
-    matches!(answer_of(report, request), Some(Answer::Ok))
+/// The first request that isn't given this, of those of the streams from a number on, and what it is given.
+pub(crate) fn first_other(
+    report: &RunReport,
+    from: u32,
+    gives: &[&[u16]],
+) -> Option<(Writer, Option<u16>)> {
+    let mut asked = Writer {
+        stream: 0,
+        number: 0,
+    };
+    for row in gives {
+        asked.number = from;
+        for want in *row {
+            let found = given(report, asked);
+            if found != Some(*want) {
+                return Some((asked, found));
+            }
+            asked.number = asked.number.wrapping_add(1);
+        }
+        asked.stream = asked.stream.wrapping_add(1);
+    }
+    None
 }
 
 // The byte that a request gives an address, if it is a write or a discard of it.
@@ -86,101 +129,64 @@ fn written(report: &RunReport, request: Writer, at: Lba) -> Option<u8> {
                 block,
                 ..
             },
-        ) if there.0 == at.0 => byte_of(block.get()),
+        ) if there.0 == at.0 => Some(block.get().bytes[0]),
         Some(Request::Discard(there)) if there.0 == at.0 => Some(0),
         _ => None,
     }
 }
 
-// The zone and the place of a request.
-fn place_of(report: &RunReport, request: Writer) -> Option<(u32, u64)> {
+// Whether a read gave the byte of the last write or discard of its address that was answered Ok and has an earlier place, or zero.
+fn is_right(report: &RunReport, read: Writer, byte: u16) -> bool {
+    let Some(Request::Read(at)) = request_of(report, read) else {
+        return false;
+    };
+    let mut last = 0;
     for placed in report.places.as_slice() {
-        if placed.request == request {
-            return Some((placed.zone, placed.place));
+        if placed.request == read {
+            return u16::from(last) == byte;
         }
-    }
-    None
-}
-
-// The place in the order of its zone and the byte of a request, if it is a settled write or discard of this address before
-// a place.
-fn settled_before(
-    report: &RunReport,
-    request: Writer,
-    at: Lba,
-    (zone, place): (u32, u64),
-) -> Option<(u64, u8)> {
-    let (in_zone, its) = place_of(report, request)?;
-    let byte = written(report, request, at)?;
-    if in_zone == zone && its < place && is_settled(report, request) {
-        Some((its, byte))
-    } else {
-        None
-    }
-}
-
-// The byte of the last settled write or discard of an address before a place, or that of a fresh image.
-fn byte_before(report: &RunReport, at: Lba, place: (u32, u64)) -> u8 {
-    let mut last = (0, 0);
-    for placed in report.places.as_slice() {
-        if let Some((its, byte)) = settled_before(report, placed.request, at, place)
-            && last.0 <= its
+        if let Some(new) = written(report, placed.request, *at)
+            && given(report, placed.request) == Some(OK)
         {
-            last = (its, byte);
+            last = new;
         }
     }
-    last.1
+    false
 }
 
-/// The byte of an address of the first zone at the end of a run on a fresh image.
-pub(crate) fn last_byte(report: &RunReport, at: Lba) -> u8 {
-    byte_before(report, at, (0, u64::MAX))
-}
-
-// Whether a read may be answered with this block.
-fn is_right(report: &RunReport, request: Writer, block: &Block) -> bool {
-    let Some(Request::Read(at)) = request_of(report, request) else {
-        return false;
-    };
-    let Some(place) = place_of(report, request) else {
-        return false;
-    };
-    byte_of(block) == Some(byte_before(report, *at, place))
-}
-
-fn met_by(report: &RunReport, request: Writer, answer: &Answer) -> Met {
-    let mut met = Met::NOTHING;
-    match answer {
-        Answer::Bytes(block) => {
-            met.reads = 1;
-            if !is_right(report, request, block.get()) {
-                met.wrong = 1;
-            }
+// How many places don't stand behind those of lower zones, and in their zone behind those of lower numbers and of earlier requests
+// of their stream.
+fn misplaced(report: &RunReport) -> u32 {
+    let mut wrong = 0_u32;
+    let (mut zone, mut place) = (0_u32, 0_u64);
+    let mut numbers = [0_u32; 16];
+    for placed in report.places.as_slice() {
+        if placed.zone > zone {
+            (zone, place) = (placed.zone, 0);
+            numbers = [0; 16];
         }
-        Answer::Full => met.full = 1,
-        Answer::NoSpace => met.no_space = 1,
-        Answer::Stopped => met.stopped = 1,
-        Answer::ReadFault => met.read_faults = 1,
-        Answer::Range => met.ranges = 1,
-        Answer::Ok | Answer::Damaged => {}
+        let number = &mut numbers[usize::from(placed.request.stream % 16)];
+        if placed.zone != zone || placed.place != place || placed.request.number < *number {
+            wrong = wrong.wrapping_add(1);
+        }
+        *number = placed.request.number;
+        place = place.wrapping_add(1);
     }
-    met
+    wrong
 }
 
-/// What a run on a fresh image met, each read looked at: it gives the value of the last settled write or discard of
-/// its address with an earlier place, or zeros.
-pub(crate) fn judge(report: &RunReport) -> Met {
-    let mut total = Met::NOTHING;
+/// Counts what the requests of a run on a fresh image were given, and what is wrong with it.
+pub(crate) fn judge(report: &RunReport, counts: &mut Counts) {
+    add(counts, WRONG, misplaced(report));
     for line in report.desk.as_slice() {
         if let DeskLine::Answer { request, answer } = line {
-            total = total.and(met_by(report, *request, answer));
+            let given = given_by(answer);
+            add(counts, given.max(READS), 1);
+            if given < OK && !is_right(report, *request, given) {
+                add(counts, WRONG, 1);
+            }
         }
     }
-    total
-}
-
-fn is_settled_flush(report: &RunReport, request: Writer) -> bool {
-    matches!(request_of(report, request), Some(Request::Flush)) && is_settled(report, request)
 }
 
 // Whether a request was answered before a flush was begun that was answered Ok.
@@ -190,7 +196,10 @@ fn is_flushed(report: &RunReport, request: Writer) -> bool {
         match line {
             DeskLine::Answer { request: asked, .. } => answered = answered || *asked == request,
             DeskLine::Begin { request: begun } => {
-                if answered && is_settled_flush(report, *begun) {
+                if answered
+                    && matches!(request_of(report, *begun), Some(Request::Flush))
+                    && given(report, *begun) == Some(OK)
+                {
                     return true;
                 }
             }
@@ -199,13 +208,13 @@ fn is_flushed(report: &RunReport, request: Writer) -> bool {
     false
 }
 
-/// Whether an image after a stop of a run on a fresh one may have this byte at an address: that of a write or a discard
-/// which isn't older than the last one that was flushed.
-pub(crate) fn may_show(report: &RunReport, at: Lba, byte: u8) -> bool {
+// Whether an image after a stop of a run on a fresh one may have this byte at an address: that of a write or a discard
+// which isn't older than the last one that was flushed.
+fn may_show(report: &RunReport, at: Lba, byte: u16) -> bool {
     let mut allowed = byte == 0;
     for entry in report.histories.as_slice() {
-        if entry.at.0 == at.0 {
-            let is_this = written(report, entry.request, at) == Some(byte);
+        if let Some(new) = written(report, entry.request, at) {
+            let is_this = u16::from(new) == byte;
             match entry.mark {
                 Mark::Settled if is_flushed(report, entry.request) => allowed = is_this,
                 Mark::Settled | Mark::Unsettled => allowed = allowed || is_this,
@@ -214,4 +223,22 @@ pub(crate) fn may_show(report: &RunReport, at: Lba, byte: u8) -> bool {
         }
     }
     allowed
+}
+
+/// Counts what reads of an image gave that a stop of a run on a fresh one left, and what they may not give.
+pub(crate) fn judge_reads(before: &RunReport, after: &RunReport, counts: &mut Counts) {
+    add(counts, IMAGES, 1);
+    for line in after.desk.as_slice() {
+        if let DeskLine::Answer { request, answer } = line
+            && let Some(Request::Read(at)) = request_of(after, *request)
+        {
+            let given = given_by(answer);
+            if !may_show(before, *at, given) {
+                add(counts, WRONG, 1);
+            }
+            if given != 0 {
+                add(counts, NEWER, 1);
+            }
+        }
+    }
 }

@@ -4,26 +4,18 @@
 #![tactic(auto)]
 
 #[cfg(test)]
-mod cores;
-#[cfg(test)]
-mod full_blocks;
+mod asks;
 #[cfg(test)]
 mod judging;
 #[cfg(test)]
-mod maps;
+mod orders;
 #[cfg(test)]
-mod no_space;
+mod plans;
 #[cfg(test)]
-mod one_stream;
-#[cfg(test)]
-mod reused_blocks;
+mod runs;
 #[cfg(test)]
 mod scarce_blocks;
 #[cfg(test)]
 mod sessions;
 #[cfg(test)]
-mod tables;
-#[cfg(test)]
-mod turns;
-#[cfg(test)]
-mod two_streams;
+mod spaces;

@@ -1,49 +1,56 @@
-ghost use Rattle.std.specs.Prelude.{◌≡◌, ◌≤◌, ◌<◌, IfOk};
+//! Sessions: an image, a device with it, and a core that is led to its end by a schedule or by events.
+
+ghost use Rattle.std.specs.Prelude.{◌≡◌, IfOk};
 ghost use Rattle.std.specs.List.{AllByRecursion};
 ghost use Rattle.blk_base.specs.Limits.{IsGeometry};
-ghost use Rattle.blk_base.specs.Regions.{needed_blocks};
 ghost use Rattle.vdo_model.specs.Scripts.{IsServed};
 ghost use Rattle.device_zone.specs.DeviceCalls.{Fits};
 ghost use Rattle.rebuild.specs.Openings.{Fits as HasItsSizes};
 
-use crate::cores::{Ask, Unplayed, script};
-use blk_base::{Block, Geometry, Layout, Opened, Pbn};
+use crate::asks::{Script, requests_of};
+use blk_base::{Geometry, Layout, Opened};
 use core_model::is_limited;
 use disk_model::{Disk, FaultAt, MemDisk};
 use rebuild::{open_clean, recover};
-use schedule::{Schedule, drive};
+use schedule::{Schedule, drive, play};
 use std::alloc::{AllocError, Global};
 use std::sync::Wait;
 use test_images::empty_image;
-use vdo_core::{Core, Setup};
+use vdo_core::{Core, CoreZones, Event, Setup};
 use vdo_model::{Requests, RunReport};
 
-/// The block map of an image: the default one, whose leaves stand below the roots, or one with pages between them.
-#[derive(Clone, Copy)]
-pub(crate) enum Trees {
-    Low,
-    Tall,
+/// Why a session wasn't played.
+#[derive(Clone, Copy, Debug)]
+pub(crate) enum Unplayed {
+    Memory,
+    TooLarge,
+    /// An image that it left has a fault.
+    Refused,
 }
 
-impl Trees {
-    /// The sizes of the image: the default ones, but for a longer journal where more pages take entries.
-    pub(crate) fn geometry(self) -> Geometry
-        ensures { IsGeometry result }
-    {
-        match self {
-            Trees::Low => Geometry::DEFAULT,
-            Trees::Tall => TALL,
-        }
+impl From<AllocError> for Unplayed {
+    fn from(_: AllocError) -> Unplayed {
+        Unplayed::Memory
     }
 }
 
-const TALL: Geometry = Geometry {
-    height: 3,
-    journal: 16,
-    ..Geometry::DEFAULT
-};
+/// The sizes of an image.
+pub(crate) enum Image {
+    /// The default ones: the leaves stand below the roots.
+    Low,
+    /// There are pages between them, and the journal is longer, since more pages take entries.
+    Tall,
+    /// So many slabs of 16 data blocks, of which each leaf takes one, and a journal for more entries than a run has.
+    One,
+    Two,
+    Three,
+    Four,
+    /// 100 addresses, four such slabs, and the longest journal.
+    Scarce,
+    /// 320 data blocks, and a journal of 8 blocks.
+    Wide,
+}
 
-/// One slab of 16 data blocks, of which each leaf takes one, and a journal for more entries than a run has.
 const SMALL: Geometry = Geometry {
     logical: 1000,
     slab_blocks: 16,
@@ -51,141 +58,54 @@ const SMALL: Geometry = Geometry {
     ..Geometry::DEFAULT
 };
 
-/// How many physical zones there are, each with a slab of 16 data blocks.
-#[derive(Clone, Copy, Debug, PartialEq, Eq)]
-pub(crate) enum Zones {
-    One,
-    Two,
-    Three,
-    Four,
-}
-
-impl Zones {
-    fn count(self) -> u8 {
-        match self {
-            Zones::One => 1,
-            Zones::Two => 2,
-            Zones::Three => 3,
-            Zones::Four => 4,
-        }
-    }
-
-    /// The sizes of the image.
-    pub(crate) fn geometry(self) -> Geometry
+impl Image {
+    /// The sizes.
+    pub(crate) fn geometry(&self) -> Geometry
         ensures { IsGeometry result }
     {
         match self {
-            Zones::One => SMALL,
-            Zones::Two => Geometry { slabs: 2, ..SMALL },
-            Zones::Three => Geometry { slabs: 3, ..SMALL },
-            Zones::Four => Geometry { slabs: 4, ..SMALL },
+            Image::Low => Geometry::DEFAULT,
+            Image::Tall => Geometry {
+                height: 3,
+                journal: 16,
+                ..Geometry::DEFAULT
+            },
+            Image::One => SMALL,
+            Image::Two => Geometry { slabs: 2, ..SMALL },
+            Image::Three => Geometry { slabs: 3, ..SMALL },
+            Image::Four => Geometry { slabs: 4, ..SMALL },
+            Image::Scarce => Geometry {
+                logical: 100,
+                slabs: 4,
+                journal: 1024,
+                ..SMALL
+            },
+            Image::Wide => Geometry {
+                slabs: 5,
+                slab_blocks: 64,
+                journal: 8,
+                ..SMALL
+            },
         }
     }
-
-    /// A core with one logical zone, in which so many requests of a stream are under way at most.
-    pub(crate) fn setup(self, depth: u32) -> Setup {
-        Setup {
-            logical_zones: 1,
-            physical_zones: self.count(),
-            depth,
-        }
-    }
-
-    /// How many data blocks there are.
-    pub(crate) fn total(self) -> u32 {
-        16 * u32::from(self.count())
-    }
 }
 
-/// Requests, and the core that serves them.
-#[derive(Clone, Copy)]
-pub(crate) struct Plan {
-    pub(crate) trees: Trees,
-    pub(crate) setup: Setup,
-    pub(crate) streams: &'static [&'static [Ask]],
-}
-
-/// What goes wrong with a device.
-#[derive(Clone, Copy)]
-pub(crate) enum Trouble {
-    Nothing,
-    /// This call fails.
-    Fault(FaultAt),
-    /// All calls fail behind so many.
-    Cut(u64),
-}
-
-/// A device with an empty image of the default sizes, with which this goes wrong.
-pub(crate) fn troubled(alloc: Global, trouble: Trouble) -> Result<MemDisk, AllocError> {
-    troubled_of(alloc, &Geometry::DEFAULT, trouble)
-}
-
-/// A device with an empty image of these sizes, with which this goes wrong.
-pub(crate) fn troubled_of(
+/// A device with an empty image, of whose calls this one fails, if any, and each behind so many.
+pub(crate) fn device_of(
     alloc: Global,
-    geometry: &Geometry,
-    trouble: Trouble,
-) -> Result<MemDisk, AllocError>
-    requires { IsGeometry geometry.now }
-{
-    let blocks = empty_image(alloc, geometry)?;
-    with_trouble(alloc, blocks, trouble)
-}
-
-// A device with these blocks, with which this goes wrong.
-fn with_trouble(
-    alloc: Global,
-    blocks: Vec<Block>,
-    trouble: Trouble,
+    image: &Image,
+    fault: Option<FaultAt>,
+    passes: u64,
 ) -> Result<MemDisk, AllocError> {
     let mut plan = Vec::new(alloc);
-    if let Trouble::Fault(fault) = trouble {
+    if let Some(fault) = fault {
         plan.push(fault)?;
     }
+    let blocks = empty_image(alloc, &image.geometry())?;
     let mut device = MemDisk::from_blocks(alloc, blocks)?;
-    match trouble {
-        Trouble::Nothing => {}
-        Trouble::Fault(_) => device.set_faults(plan),
-        Trouble::Cut(passes) => device.set_fuse(passes),
-    }
+    device.set_fuse(passes);
+    device.set_faults(plan);
     Ok(device)
-}
-
-/// A block of the device.
-pub(crate) fn read_block<D: Disk>(device: &mut D, at: Pbn) -> Result<Block, Unplayed>
-    requires { at.0 < (D.seen device.old).size }
-    ensures size { (D.seen device.new).size ≡ (D.seen device.old).size }
-{
-    let mut block = Block::zero();
-    let Ok(()) = device.read(at, &mut block) else {
-        return Err(Unplayed::Device);
-    };
-    Ok(block)
-}
-
-// One more item.
-fn push_block(blocks: &mut Vec<Block>, block: Block) -> Result<(), Unplayed> {
-    match blocks.push(block) {
-        Ok(()) => Ok(()),
-        Err(_) => Err(Unplayed::Memory),
-    }
-}
-
-/// The blocks of the journal.
-pub(crate) fn read_journal<D: Disk>(
-    alloc: Global,
-    layout: &Layout,
-    device: &mut D,
-) -> Result<Vec<Block>, Unplayed>
-    requires { needed_blocks layout.now.geometry ≤ (D.seen device.old).size }
-    ensures size { (D.seen device.new).size ≡ (D.seen device.old).size }
-{
-    let mut journal = Vec::new(alloc);
-    for slot in 0..u64::from(layout.geometry.journal) {
-        let block = read_block(device, layout.journal_slot(slot))?;
-        push_block(&mut journal, block)?;
-    }
-    Ok(journal)
 }
 
 // A core over what was opened of an image, if it may be as large.
@@ -246,34 +166,67 @@ pub(crate) fn open_over<D: Disk>(
     begin(alloc, setup, &opened, requests)
 }
 
-/// A core over the image of a plan on a device.
-pub(crate) fn open_core<D: Disk>(
-    alloc: Global,
-    plan: &Plan,
-    device: &mut D,
-) -> Result<Core, Unplayed>
-    ensures { IfOk result (λ core. Fits core.sizes (D.seen device.new)) }
-{
-    let requests = script(alloc, plan.streams)?;
-    open_over(alloc, &plan.setup, requests, device)
-}
-
-/// How many calls are made before the session of a plan on an empty image.
-pub(crate) fn opening_calls(alloc: Global, plan: &Plan) -> Result<u64, Unplayed> {
-    let mut device = troubled_of(alloc, &plan.trees.geometry(), Trouble::Nothing)?;
-    let _core = open_core(alloc, plan, &mut device)?;
-    Ok(device.calls().len() as u64)
-}
-
 /// The report of a session by the schedule of a number.
 pub(crate) fn driven<R: Wait, D: Disk>(
     rt: &R,
     alloc: Global,
-    plan: &Plan,
+    setup: &Setup,
+    asks: &Script,
     number: u64,
     device: &mut D,
 ) -> Result<RunReport, Unplayed> {
-    let mut core = open_core(alloc, plan, device)?;
+    let mut core = open_over(alloc, setup, requests_of(alloc, asks)?, device)?;
     drive(rt, &mut core, &mut Schedule::from_number(number), device);
     Ok(core.report())
+}
+
+// Plays events that are given.
+fn play_given<D: Disk>(core: &mut Core, events: &[Event], device: &mut D)
+    requires { Fits core.old.sizes (D.seen device.old) }
+    ensures { Fits core.new.sizes (D.seen device.new) }
+{
+    play(core, events, device);
+}
+
+// A core from its zones.
+fn reborn(core: Core) -> Core
+    ensures { result ≡ core }
+{
+    let CoreZones { sizes, zones, room } = core.into_zones();
+    Core::from_zones(CoreZones { sizes, zones, room })
+}
+
+// For how many events there is work.
+fn works(core: &Core) -> u32 {
+    let zones = core.zone_count();
+    let mut count = 0_u32;
+    for zone in 0..zones {
+        if core.ready(Event::Step(zone)) {
+            count = count.wrapping_add(1);
+        }
+        for to in 0..zones {
+            if core.ready(Event::Move(zone, to)) {
+                count = count.wrapping_add(1);
+            }
+        }
+    }
+    count
+}
+
+/// The report of a session that events lead, and for how many there is work before the first one. On the way its core is taken
+/// apart, and made again.
+pub(crate) fn played<D: Disk>(
+    alloc: Global,
+    setup: &Setup,
+    asks: &Script,
+    events: &[Event],
+    device: &mut D,
+) -> Result<(RunReport, u32), Unplayed> {
+    let mut core = open_over(alloc, setup, requests_of(alloc, asks)?, device)?;
+    let works = works(&core);
+    let middle = events.len() / 2;
+    play_given(&mut core, &events[..middle], device);
+    let mut core = reborn(core);
+    play_given(&mut core, &events[middle..], device);
+    Ok((core.report(), works))
 }

@@ -1,7 +1,7 @@
 use Rattle.std.specs.List.{AllByRecursion}
 use Rattle.vdo_model.specs.Scripts.{IsServed}
 use Rattle.core_tests.proofs.Served.{one_more, each_named}
-use Rattle.core_tests.proofs.full_blocks.all_writes.Goals as goal
+use Rattle.core_tests.proofs.asks.requests_of.Goals as goal
 
 pub loop-stream-preserved : goal.loop-stream-preserved
 loop-stream-preserved c = one_more (λ requests. AllByRecursion IsServed requests.items) _ _ _ c.in_ok-push.ensures c.loop-stream.invariant c.in_ok-requests.ensures

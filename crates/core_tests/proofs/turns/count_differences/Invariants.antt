@@ -1,5 +1,0 @@
-use Rattle.device_zone.specs.DeviceCalls.{Fits}
-use Rattle.core_tests.proofs.turns.count_differences.Given as goal
-
-abbrev pub invariant-loop-event : goal.invariant-loop-event
-invariant-loop-event g l = Fits l.core.sizes (g.D.Disk.seen l.device)

@@ -1,0 +1,136 @@
+//! What runs use up: the blocks of one of two zones, and those of a journal; and the receipts of those who find none.
+
+use crate::asks::Script;
+use crate::judging::{Counts, judge};
+use crate::plans::PLANS;
+use crate::sessions::{Image, Unplayed, device_of, driven};
+use blk_base::Layout;
+use disk_model::{Call, MemDisk};
+use journal_codec::block_prefix;
+use std::alloc::Global;
+use std::sync::Wait;
+use std::test::Fail;
+use vdo_core::Setup;
+
+/// The receipts of the first requests that found no block, the oldest first: the number of each in its stream, and its step.
+type Receipts = [Option<(u32, u64)>; 4];
+
+// The receipts where no block is free, with one physical zone.
+fn receipts_by<R: Wait>(rt: &R, alloc: Global, number: u64) -> Result<Receipts, Unplayed> {
+    let plan = &PLANS[12];
+    let mut device = device_of(alloc, &plan.image, None, u64::MAX)?;
+    let report = driven(rt, alloc, &plan.setup, &plan.script, number, &mut device)?;
+    let mut found = [None; 4];
+    for (place, receipt) in found.iter_mut().zip(report.receipts.as_slice()) {
+        *place = Some((receipt.request.number, receipt.step));
+    }
+    Ok(found)
+}
+
+// Each of the three writes that find no block asks in one step of the zone, and takes its ticket back in the next one.
+#[test]
+fn the_receipts_of_writes_that_find_none(rt: HostRuntime) -> Result<(), Fail> {
+    let mut found = [[None; 4]; 4];
+    for (number, place) in found.iter_mut().enumerate() {
+        *place = receipts_by(&rt, rt.alloc(), number as u64)?;
+    }
+    let want = [Some((15, 0)), Some((16, 2)), Some((20, 4)), None];
+    assert_eq!(rt; found, [want; 4]);
+    Ok(())
+}
+
+/// How many data blocks are used, how many of the second slab were written, and what was given.
+type Filled = (u32, u32, Counts);
+
+// What a session with two physical zones comes to.
+fn filled_by<R: Wait>(
+    rt: &R,
+    alloc: Global,
+    (script, depth): (&Script, u32),
+    number: u64,
+    device: &mut MemDisk,
+) -> Result<Filled, Unplayed> {
+    let setup = Setup {
+        logical_zones: 1,
+        physical_zones: 2,
+        depth,
+    };
+    let report = driven(rt, alloc, &setup, script, number, device)?;
+    let mut counts = [0; 10];
+    judge(&report, &mut counts);
+    let layout = Layout::of(&Image::Two.geometry());
+    let mut stored = 0_u32;
+    for call in device.calls() {
+        if let Call::Write { at, .. } = call
+            && let Some(place) = layout.place(*at)
+            && place.slab == 1
+        {
+            stored = stored.wrapping_add(1);
+        }
+    }
+    Ok((report.used, stored, counts))
+}
+
+// What comes of writes that fill one of two zones, and of sixteen more in another session.
+fn fill<R: Wait>(rt: &R, alloc: Global, number: u64) -> Result<[Filled; 2], Unplayed> {
+    let mut device = device_of(alloc, &Image::Two, None, u64::MAX)?;
+    let first = filled_by(rt, alloc, (&Script::FillingOne, 1), number, &mut device)?;
+    let then = filled_by(rt, alloc, (&Script::Sixteen, 2), number, &mut device)?;
+    Ok([first, then])
+}
+
+// The first zone is full before the sixteen writes begin, of which half ask there first: each gets one of the sixteen blocks of
+// the second.
+#[test]
+fn a_full_zone_beside_another(rt: HostRuntime) -> Result<(), Fail> {
+    let found = [
+        fill(&rt, rt.alloc(), 0)?,
+        fill(&rt, rt.alloc(), 1)?,
+        fill(&rt, rt.alloc(), 2)?,
+        fill(&rt, rt.alloc(), 3)?,
+    ];
+    let want = [
+        (16, 0, [15, 15, 0, 0, 0, 0, 0, 0, 0, 0]),
+        (32, 16, [0, 16, 0, 0, 0, 0, 0, 0, 0, 0]),
+    ];
+    assert_eq!(rt; found, [want; 4]);
+    Ok(())
+}
+
+/// How many blocks of a journal of 8 blocks are written, how many of them have more than two entries, and how many calls are made.
+type Written = (u32, u32, usize);
+
+// What a run writes of its journal.
+fn written_by<R: Wait>(rt: &R, alloc: Global, number: u64) -> Result<Written, Unplayed> {
+    let plan = &PLANS[10];
+    let mut device = device_of(alloc, &plan.image, None, u64::MAX)?;
+    let _report = driven(rt, alloc, &plan.setup, &plan.script, number, &mut device)?;
+    let (mut written, mut several) = (0_u32, 0_u32);
+    for call in device.calls() {
+        if let Call::Write { at, bytes, .. } = call
+            && at.0 <= 8
+            && let Some(prefix) = block_prefix(bytes, plan.image.geometry().nonce)
+        {
+            written = written.wrapping_add(1);
+            several = several.wrapping_add(u32::from(prefix.entries.len() > 2));
+        }
+    }
+    Ok((written, several, device.calls().len()))
+}
+
+// Of three hundred writes more are served than the ring has blocks, as some blocks have several entries. The first ones have few:
+// each of the two leaves takes one, and no write has its leaf before. How many the others have is the schedule's: so the runs
+// aren't alike.
+#[test]
+fn journal_blocks_have_several_entries(rt: HostRuntime) -> Result<(), Fail> {
+    let (mut written, mut several, mut unlike) = (0_u32, 0_u32, 0_u32);
+    let (_, _, first) = written_by(&rt, rt.alloc(), 0)?;
+    for number in 0..4 {
+        let (blocks, of_several, calls) = written_by(&rt, rt.alloc(), number)?;
+        written = written.wrapping_add(blocks);
+        several = several.wrapping_add(of_several);
+        unlike = unlike.wrapping_add(u32::from(calls != first));
+    }
+    assert_eq!(rt; (written, several > 3, unlike > 1), (28, true, true));
+    Ok(())
+}
