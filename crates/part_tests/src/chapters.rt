@@ -90,8 +90,8 @@ static THERE: [u32; 5] = [680, 1020, 1020, 0, 0];
 
 static NOT_THERE: [u32; 5] = [0, 475, 487, 318, 0];
 
-// Names that are far apart, and don't come in their order.
-fn name(number: u32) -> Name {
+/// Names that are far apart, and don't come in their order.
+pub(crate) fn name(number: u32) -> Name {
     let mut bytes = [0; 16];
     put_u32(&mut bytes, 0, number.wrapping_mul(2_654_435_761));
     put_u32(&mut bytes, 4, number);
@@ -120,79 +120,12 @@ fn fill(open: &mut OpenChapter) -> (u32, Added, Added) {
     (new, past, again)
 }
 
-fn chapter() -> Chapter {
-    let mut open = OpenChapter::new();
-    fill(&mut open);
-    open.close(NUMBER)
-}
-
 fn page(chapter: &Chapter, i: u8) -> Block
     requires { i < 4 }
 {
     let mut block = Block { bytes: [7; 4096] };
     chapter.page(i, NONCE, &mut block);
     block
-}
-
-#[test]
-fn a_chapter_has_680_names(rt: HostRuntime) {
-    let mut open = OpenChapter::new();
-    let answers = fill(&mut open);
-    let count = open.records().len();
-    let chapter = open.close(NUMBER);
-    let closed = (chapter.number(), chapter.records().len());
-    let left = open.records().len();
-    assert_eq!(rt;
-        (answers, count, closed, left),
-        ((680, Added::Full, Added::Replaced), 680, (9, 680), 0)
-    );
-}
-
-#[test]
-fn pages_are_spelled(rt: HostRuntime) {
-    let chapter = chapter();
-    let differences = [
-        difference(&page(&chapter, 0), &PAGES[0]),
-        difference(&page(&chapter, 1), &PAGES[1]),
-        difference(&page(&chapter, 2), &PAGES[2]),
-        difference(&page(&chapter, 3), &PAGES[3]),
-    ];
-    assert_eq!(rt; differences, [None; 4]);
-}
-
-// The place of an answer in a tally.
-fn kind(found: PageFind, number: u32) -> usize {
-    match found {
-        PageFind::At(at) if at == place(number) => 0,
-        PageFind::Before => 1,
-        PageFind::After => 2,
-        PageFind::Absent => 3,
-        PageFind::At(_) | PageFind::NotAPage => 4,
-    }
-}
-
-fn add_tally(tally: &mut [u32; 5], block: &Block, i: u8, numbers: (u32, u32)) {
-    for number in numbers.0..numbers.1 {
-        let kind = kind(page_find(block, NONCE, NUMBER, i, &name(number)), number);
-        if kind < 5 {
-            tally[kind] = tally[kind].wrapping_add(1);
-        }
-    }
-}
-
-fn tally(chapter: &Chapter, numbers: (u32, u32)) -> [u32; 5] {
-    let mut tally = [0; 5];
-    for i in 0..4_u8 {
-        add_tally(&mut tally, &page(chapter, i), i, numbers);
-    }
-    tally
-}
-
-#[test]
-fn names_are_found_on_their_pages(rt: HostRuntime) {
-    let chapter = chapter();
-    let tallies = (tally(&chapter, (0, 680)), tally(&chapter, (680, 1000)));
-    assert_eq!(rt; tallies, (THERE, NOT_THERE));
 }
 
 // The first record of a page, and how many it has.
@@ -203,26 +136,67 @@ fn first_of(block: &Block, i: u8) -> Option<(usize, Record)> {
     Some((slice.len(), *first))
 }
 
+// A chapter is full, closed, spelled and read, and its records are in order.
 #[test]
-fn a_page_is_read(rt: HostRuntime) {
-    let block = page(&chapter(), 0);
-    let first = Record {
-        name: name(0),
-        at: place(0),
-    };
-    assert_eq!(rt; first_of(&block, 0), Some((170, first)));
-}
-
-#[test]
-fn a_name_is_found_among_records(rt: HostRuntime) {
-    let chapter = chapter();
+fn a_chapter_has_680_names(rt: HostRuntime) {
+    let mut open = OpenChapter::new();
+    let answers = fill(&mut open);
+    let count = open.records().len();
+    let chapter = open.close(NUMBER);
+    let closed = (chapter.number(), chapter.records().len());
+    let left = open.records().len();
+    let differences = [
+        difference(&page(&chapter, 0), &PAGES[0]),
+        difference(&page(&chapter, 1), &PAGES[1]),
+        difference(&page(&chapter, 2), &PAGES[2]),
+        difference(&page(&chapter, 3), &PAGES[3]),
+    ];
     let records = chapter.records();
     let places = (
         place_of(records, &name(0)),
         location(records, &name(7)),
         location(records, &name(680)),
     );
-    assert_eq!(rt; places, (Ok(0), Some(Pbn(92)), None));
+    let first = Record {
+        name: name(0),
+        at: place(0),
+    };
+    assert_eq!(rt;
+        (answers, count, closed, left),
+        ((680, Added::Full, Added::Replaced), 680, (9, 680), 0)
+    );
+    assert_eq!(rt;
+        (differences, places, first_of(&page(&chapter, 0), 0)),
+        ([None; 4], (Ok(0), Some(Pbn(92)), None), Some((170, first)))
+    );
+}
+
+// How often each answer comes for these names on the four pages, and any other answer.
+fn tally(chapter: &Chapter, first: u32, last: u32) -> [u32; 5] {
+    let mut tally: [u32; 5] = [0; 5];
+    for i in 0..4_u8 {
+        let block = page(chapter, i);
+        for number in first..last {
+            let kind = match page_find(&block, NONCE, NUMBER, i, &name(number)) {
+                PageFind::At(at) if at == place(number) => 0,
+                PageFind::Before => 1,
+                PageFind::After => 2,
+                PageFind::Absent => 3,
+                PageFind::At(_) | PageFind::NotAPage => 4,
+            };
+            tally[kind] = tally[kind].wrapping_add(1);
+        }
+    }
+    tally
+}
+
+#[test]
+fn names_are_found_on_their_pages(rt: HostRuntime) {
+    let mut open = OpenChapter::new();
+    fill(&mut open);
+    let chapter = open.close(NUMBER);
+    let tallies = (tally(&chapter, 0, 680), tally(&chapter, 680, 1000));
+    assert_eq!(rt; tallies, (THERE, NOT_THERE));
 }
 
 // What a block says of the first name, taken for the first page.
@@ -231,42 +205,34 @@ fn first_name(block: &Block) -> PageFind {
 }
 
 // Every byte 0xff; a page of another chapter, place and image; 171 records; a byte of the head's zeros; a name above the
-// next one; and a location that is too great.
+// next one; and a location that is too great. A page without records, and one with a byte behind them.
 #[test]
 fn other_blocks_hold_nothing(rt: HostRuntime) {
-    let chapter = chapter();
+    let mut open = OpenChapter::new();
+    let empty = OpenChapter::new().close(NUMBER);
+    fill(&mut open);
+    let chapter = open.close(NUMBER);
     let block = page(&chapter, 0);
+    let ones = Block {
+        bytes: [0xff; 4096],
+    };
     let others = [
-        first_name(&Block {
-            bytes: [0xff; 4096],
-        }),
+        first_name(&ones),
         page_find(&block, NONCE, 8, 0, &name(0)),
         page_find(&page(&chapter, 1), NONCE, NUMBER, 0, &name(0)),
         page_find(&block, 1, NUMBER, 0, &name(0)),
-    ];
-    let turned = [
         first_name(&with_byte(page(&chapter, 0), 13, 171)),
         first_name(&with_byte(page(&chapter, 0), 14, 1)),
         first_name(&with_byte(page(&chapter, 0), 16, 255)),
         first_name(&with_byte(page(&chapter, 0), 36, 1)),
+        first_name(&with_byte(page(&empty, 0), 4095, 1)),
     ];
+    let pages = [first_name(&block), first_name(&page(&empty, 0))];
     assert_eq!(rt;
-        (first_name(&block), others, turned),
+        (pages, others),
         (
-            PageFind::At(place(0)),
-            [PageFind::NotAPage; 4],
-            [PageFind::NotAPage; 4]
+            [PageFind::At(place(0)), PageFind::Before],
+            [PageFind::NotAPage; 9]
         )
     );
-}
-
-// A page without records, and one with a byte behind them.
-#[test]
-fn a_page_may_have_no_records(rt: HostRuntime) {
-    let empty = OpenChapter::new().close(NUMBER);
-    let found = (
-        first_name(&page(&empty, 0)),
-        first_name(&with_byte(page(&empty, 0), 4095, 1)),
-    );
-    assert_eq!(rt; found, (PageFind::Before, PageFind::NotAPage));
 }

@@ -1,43 +1,50 @@
-ghost use Rattle.std.specs.Prelude.{◌≡◌, ◌+◌, ◌<◌, IfOk};
-ghost use Rattle.part_tests.specs.Tested.{IsFirstSlab};
+ghost use Rattle.std.specs.Prelude.{◌≡◌, IfOk};
+ghost use Rattle.blk_base.specs.Regions.{slab_start_of};
+ghost use Rattle.slab_counts.specs.Kept.{IsWithin};
 
-use crate::images::{SIZES, opened_image};
+use crate::images::{TWO_ZONES, block_of, image_of_two_zones};
 use blk_base::{Half, Pbn};
-use slab_counts::{Claim, Receipt, Refusal, SlabCounts, Stray, Ticket};
+use slab_counts::{Refusal, SlabCounts, Stray};
 use std::alloc::{AllocError, Global};
 use std::test::Fail;
 
-fn opened_counts(alloc: Global) -> Result<SlabCounts, AllocError>
-    ensures { IfOk result IsFirstSlab }
+// The second slab, whose blocks are 106 to 121.
+fn second_slab(alloc: Global) -> Result<SlabCounts, AllocError>
+    ensures within { IfOk result IsWithin }
+    ensures first { IfOk result (λ counts. slab_start_of counts.geometry counts.slab ≡ 106) }
+    ensures blocks { IfOk result (λ counts. counts.geometry.slab_blocks ≡ 16) }
 {
-    let opened = opened_image(alloc)?;
-    SlabCounts::new(alloc, &SIZES, 0, &opened)
+    let opened = image_of_two_zones(alloc)?;
+    SlabCounts::new(alloc, &TWO_ZONES, 1, &opened)
 }
 
-// The block of a claim that was given.
-fn block_of(claim: Result<Claim, Refusal>) -> Result<u32, Refusal> {
-    Ok(claim?.block().0)
-}
-
-// A block as high as can be, a free one, one with a tree page, and one on either side of the slab.
+// A block as high as can be, a free one, one with a tree page, one on either side of the slab, one that is shared, and the
+// free one once it became a tree page.
 #[test]
 fn what_cannot_be_shared(rt: HostRuntime) -> Result<(), Fail> {
-    let mut counts = opened_counts(rt.alloc())?;
-    let full = block_of(counts.claim_share(Pbn(86)));
-    let free = block_of(counts.claim_share(Pbn(91)));
-    let page = block_of(counts.claim_share(Pbn(85)));
-    let outside = block_of(counts.claim_share(Pbn(149)));
-    let below = block_of(counts.claim_share(Pbn(84)));
-    let shared = block_of(counts.claim_share(Pbn(90)));
+    let mut counts = second_slab(rt.alloc())?;
+    let before = [
+        block_of(counts.claim_share(Pbn(107))),
+        block_of(counts.claim_share(Pbn(112))),
+        block_of(counts.claim_share(Pbn(106))),
+        block_of(counts.claim_share(Pbn(122))),
+        block_of(counts.claim_share(Pbn(105))),
+        block_of(counts.claim_share(Pbn(111))),
+    ];
+    let claim = counts.claim_free().ok_or("first")?;
+    let at = counts.spend_page(claim);
+    let counted = counts.apply(Half::Increment, Pbn(112));
+    let page = block_of(counts.claim_share(at));
     let wanted = [
         Err(Refusal::Full),
         Err(Refusal::NotLive),
         Err(Refusal::NotData),
         Err(Refusal::NotData),
         Err(Refusal::NotData),
-        Ok(90),
+        Ok(111),
     ];
-    assert_eq!(rt; [full, free, page, outside, below, shared], wanted);
+    assert_eq!(rt; (before, at), (wanted, Pbn(112)));
+    assert_eq!(rt; (counted, page), (Ok(()), Err(Refusal::NotData)));
     Ok(())
 }
 
@@ -49,26 +56,21 @@ fn seen(counts: &SlabCounts) -> (Option<u8>, u32) {
 // The life of a block: claimed, extended, spent, mapped, unmapped, and claimed again.
 #[test]
 fn a_block_is_used_again(rt: HostRuntime) -> Result<(), Fail> {
-    let mut counts = opened_counts(rt.alloc())?;
+    let mut counts = second_slab(rt.alloc())?;
     let some_free = counts.has_free();
     let first = counts.claim_free().ok_or("first")?;
     let more = counts.extend(&first);
-    let claimed = (
-        some_free,
-        counts.count(Pbn(91)),
-        counts.is_free(Pbn(91)),
-        counts.used(),
-    );
+    let claimed = (some_free, counts.count(Pbn(112)), counts.is_free(Pbn(112)));
     let Ok(more) = more else {
         return Err(Fail::from("more"));
     };
     let at = counts.spend(first);
     counts.drop_claim(more);
-    let taken = counts.apply(Half::Increment, Pbn(91));
-    let stray = counts.apply(Half::Increment, Pbn(91));
+    let taken = counts.apply(Half::Increment, Pbn(112));
+    let stray = counts.apply(Half::Increment, Pbn(112));
     let mapped = seen(&counts);
-    let taken_off = counts.apply(Half::Decrement, Pbn(91));
-    let stray_too = counts.apply(Half::Decrement, Pbn(91));
+    let taken_off = counts.apply(Half::Decrement, Pbn(112));
+    let stray_too = counts.apply(Half::Decrement, Pbn(112));
     let unmapped = seen(&counts);
     let again = counts.claim_free().map(|claim| claim.block());
     let answers = [taken, stray, taken_off, stray_too];
@@ -80,48 +82,11 @@ fn a_block_is_used_again(rt: HostRuntime) -> Result<(), Fail> {
     ];
     assert_eq!(rt;
         (claimed, at, again),
-        ((true, 0, false, 63), Pbn(91), Some(Pbn(91)))
+        ((true, 0, false), Pbn(112), Some(Pbn(112)))
     );
     assert_eq!(rt;
         (answers, mapped, unmapped),
-        (wanted, (Some(1), 64), (Some(0), 63))
+        (wanted, (Some(1), 16), (Some(0), 15))
     );
-    Ok(())
-}
-
-// A block that becomes a tree page isn't shared.
-#[test]
-fn a_page_is_not_shared(rt: HostRuntime) -> Result<(), Fail> {
-    let mut counts = opened_counts(rt.alloc())?;
-    let claim = counts.claim_free().ok_or("first")?;
-    let at = counts.spend_page(claim);
-    let counted = counts.apply(Half::Increment, Pbn(91));
-    let refused = block_of(counts.claim_share(at));
-    let counters = (counts.counters().len(), counts.counters().get(6).copied());
-    let wanted = (91, Ok(()), Err(Refusal::NotData), (64, Some(1)));
-    assert_eq!(rt; (at.0, counted, refused, counters), wanted);
-    Ok(())
-}
-
-// What a ticket and a receipt say.
-#[test]
-fn tickets_and_receipts(rt: HostRuntime) -> Result<(), Fail> {
-    let ticket = Ticket {
-        zone: 1,
-        number: 2,
-        asked: 3,
-    };
-    let receipt = Receipt {
-        zone: ticket.zone,
-        asked: ticket.asked,
-        withdrawn: 4,
-    };
-    let told = (
-        ticket.number,
-        receipt.zone,
-        receipt.asked,
-        receipt.withdrawn,
-    );
-    assert_eq!(rt; told, (2, 1, 3, 4));
     Ok(())
 }

@@ -9,8 +9,6 @@ mod caches;
 #[cfg(test)]
 mod chapters;
 #[cfg(test)]
-mod claims;
-#[cfg(test)]
 mod counts;
 #[cfg(test)]
 mod flushes;
