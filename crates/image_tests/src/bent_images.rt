@@ -1,6 +1,6 @@
 use crate::answers::{Opening, Recovery, is_read, opened, recovered};
-use crate::faults::{Fault, image_fault};
-use crate::images::{Image, blocks, copied};
+use crate::named_faults::{Fault, image_fault};
+use crate::small_images::{Image, blocks, copied};
 use crate::numbers::put_number;
 use blk_base::Block;
 use disk_model::MemDisk;

@@ -1,6 +1,6 @@
-use crate::faults::Fault::{Counter, Counts};
-use crate::images::CLOSED;
-use crate::rows::{Opened, other_opening};
+use crate::named_faults::Fault::{Counter, Counts};
+use crate::small_images::CLOSED;
+use crate::bent_images::{Opened, other_opening};
 use std::test::Fail;
 
 // The counters of a slab.

@@ -1,6 +1,6 @@
-use crate::faults::Fault::{Header, NoImage, Super, Unclean, Version};
-use crate::images::{CLOSED, HIGH, UNCLEAN};
-use crate::rows::{Opened, Recovered, other_opening, other_recovery};
+use crate::named_faults::Fault::{Header, NoImage, Super, Unclean, Version};
+use crate::small_images::{CLOSED, HIGH, UNCLEAN};
+use crate::bent_images::{Opened, Recovered, other_opening, other_recovery};
 use image_layout::Field::{
     Blocks, Clean, Height, Index, Journal, Logical, Nonce, Reserved, SlabBlocks, SlabJournal,
     Slabs, Start,

@@ -1,6 +1,6 @@
-use crate::faults::Fault::{Compressed, Header, Shared, Window};
-use crate::images::{GROWN, HIGH_GROWN};
-use crate::rows::{Recovered, other_recovery};
+use crate::named_faults::Fault::{Compressed, Header, Shared, Window};
+use crate::small_images::{GROWN, HIGH_GROWN};
+use crate::bent_images::{Recovered, other_recovery};
 use std::test::Fail;
 
 // The entry of a new leaf of tree 1, at block 77: where its form is wrong there is no window.

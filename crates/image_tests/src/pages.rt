@@ -1,6 +1,6 @@
-use crate::faults::Fault::{Compressed, Counts, Header, OutOfRange, Shared};
-use crate::images::{CLOSED, HIGH, Image};
-use crate::rows::{Opened, other_head, other_opening};
+use crate::named_faults::Fault::{Compressed, Counts, Header, OutOfRange, Shared};
+use crate::small_images::{CLOSED, HIGH, Image};
+use crate::bent_images::{Opened, other_head, other_opening};
 use std::test::Fail;
 
 // Numbers that no head of a page of the images has: its first bytes, its nonce, its block, its tree, its level, its zeros,

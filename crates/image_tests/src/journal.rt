@@ -1,6 +1,6 @@
-use crate::faults::Fault::{Compressed, Counter, Header, Shared, Window};
-use crate::images::UNCLEAN;
-use crate::rows::{Recovered, other_recovery};
+use crate::named_faults::Fault::{Compressed, Counter, Header, Shared, Window};
+use crate::small_images::UNCLEAN;
+use crate::bent_images::{Recovered, other_recovery};
 use std::test::Fail;
 
 // The head of the first sector of the journal's last block: where it is wrong there is no window.

@@ -1,5 +1,5 @@
 use crate::answers::{Opening, Recovery, audited, is_read, opened, recovered};
-use crate::images::{CLOSED, COUNT, UNCLEAN, blocks, copied};
+use crate::small_images::{CLOSED, COUNT, UNCLEAN, blocks, copied};
 use crate::numbers::{Numbers, put_number};
 use blk_base::Block;
 use disk_model::MemDisk;
