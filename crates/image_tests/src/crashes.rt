@@ -1,41 +1,33 @@
-use crate::images::blocks_of;
-use crate::rows::{Row, SMALL};
+use crate::answers::is_read;
+use crate::images::{ABOVE, Image, LEAF, SMALL, blocks_of};
 use blk_base::Mapping::{At, Unmapped, Zero};
-use blk_base::{Block, BoxedBlock, Entry, Layout, Lba, PageId, Pbn, Request};
+use blk_base::{Block, BoxedBlock, Entry, Layout, Lba, Pbn, Request};
 use command_text::AddressValue;
 use crash_images::{addresses_of, copy_of, read_map, value_at, values_of};
-use disk_model::{Call, Disk, MemDisk};
+use disk_model::{Disk, MemDisk};
 use std::alloc::{AllocError, Global};
 use std::test::Fail;
 use test_images::put_block;
 use vdo_model::Requests;
 
-const LEAF: PageId = PageId {
-    tree: 0,
-    level: 0,
-    index: 0,
-};
-
 /// One leaf is linked: address 5 has block 80, address 6 has zeros, and address 7 has block 81.
-const ROW: Row = Row {
+const MAPPED: Image = Image {
     geometry: SMALL,
+    clean: true,
     start: 6,
     journal: &[(5, 5, &[])],
     pages: &[
-        (PageId { level: 1, ..LEAF }, 9, &[(0, At(Pbn(73)))]),
+        (ABOVE, 9, &[(0, At(Pbn(73)))]),
         (LEAF, 73, &[(5, At(Pbn(80))), (6, Zero), (7, At(Pbn(81)))]),
     ],
     counters: &[(0, 1), (7, 1), (8, 1)],
     commits: &[3000],
     updates: &[],
-    entries: 0,
-    next: 6,
-    used: 3,
-    differ: 0,
 };
 
 /// The same, not closed: the window maps address 5 to the other block, and unmaps address 7, and no counter is right.
-const CHANGED: Row = Row {
+const CHANGED: Image = Image {
+    clean: false,
     journal: &[(
         6,
         6,
@@ -54,23 +46,8 @@ const CHANGED: Row = Row {
     )],
     counters: &[(0, 3), (7, 4), (9, 5)],
     commits: &[60_000],
-    ..ROW
+    ..MAPPED
 };
-
-// A block of this byte.
-fn filled(byte: u8) -> Block {
-    Block {
-        bytes: [byte; 4096],
-    }
-}
-
-// A device with that image, and with bytes in the two blocks of data.
-fn device_with_data(alloc: Global, row: &Row, clean: bool) -> Result<MemDisk, AllocError> {
-    let mut blocks = blocks_of(alloc, row, clean)?;
-    put_block(&mut blocks, 80, &filled(0x61));
-    put_block(&mut blocks, 81, &filled(0x62));
-    MemDisk::from_blocks(alloc, blocks)
-}
 
 // The requests of two streams; block 0 to write, since no value matters.
 fn script(alloc: Global) -> Result<Requests, AllocError> {
@@ -97,19 +74,13 @@ fn script(alloc: Global) -> Result<Requests, AllocError> {
 // Of a value its address, and its first and its last byte.
 type Value = (u32, u8, u8);
 
-fn value_of(value: &AddressValue) -> Value {
-    (value.at.0, value.block.bytes[0], value.block.bytes[4095])
-}
-
 // What a copy of the device gives: its values at the addresses of the script below 1,000, one value alone, and whether all calls
 // on both devices read. `None` where one of them is refused.
-type Found = Option<([Option<Value>; 6], Option<u8>, bool)>;
+type Found = Option<([Option<Value>; 4], Option<u8>, bool)>;
 
-fn are_reads(device: &MemDisk) -> bool {
-    device
-        .calls()
-        .iter()
-        .all(|call| matches!(call, Call::Read { .. }))
+fn value_of(values: &[AddressValue], place: usize) -> Option<Value> {
+    let value = values.get(place)?;
+    Some((value.at.0, value.block.bytes[0], value.block.bytes[4095]))
 }
 
 fn found(alloc: Global, device: &mut MemDisk) -> Result<Found, AllocError> {
@@ -133,47 +104,52 @@ fn found(alloc: Global, device: &mut MemDisk) -> Result<Found, AllocError> {
     let Ok(alone) = value_at(&mut copy, &map, Lba(7)) else {
         return Ok(None);
     };
-    let mut shown = [None; 6];
-    for (into, value) in shown.iter_mut().zip(values.iter()) {
-        *into = Some(value_of(value));
-    }
+    let shown = [
+        value_of(&values, 0),
+        value_of(&values, 1),
+        value_of(&values, 2),
+        value_of(&values, 3),
+    ];
     let first = alone.bytes.first().copied();
-    Ok(Some((shown, first, are_reads(device) && are_reads(&copy))))
+    let all = values.len() == 4;
+    Ok(Some((shown, first, all && is_read(device) && is_read(&copy))))
 }
 
+// What is found of the image with bytes in its two blocks of data, and how many calls were made on its device.
+fn values_in(alloc: Global, image: &Image) -> Result<(Found, usize), AllocError> {
+    let mut blocks = blocks_of(alloc, image)?;
+    for (at, byte) in [(80, 0x61), (81, 0x62)] {
+        let block = Block {
+            bytes: [byte; 4096],
+        };
+        put_block(&mut blocks, at, &block);
+    }
+    let mut device = MemDisk::from_blocks(alloc, blocks)?;
+    let found = found(alloc, &mut device)?;
+    Ok((found, device.calls().len()))
+}
+
+// Each block of the device is read once. A window has its values, and no count is looked at.
 #[test]
 fn a_copy_has_the_values_of_its_device(rt: HostRuntime) -> Result<(), Fail> {
-    let mut device = device_with_data(rt.alloc(), &ROW, true)?;
-    let values = [
+    let found = [
+        values_in(rt.alloc(), &MAPPED)?,
+        values_in(rt.alloc(), &CHANGED)?,
+    ];
+    let zeros = [Some((6, 0, 0)), Some((7, 0, 0)), Some((900, 0, 0))];
+    let stored = [
         Some((5, 0x61, 0x61)),
-        Some((6, 0, 0)),
+        zeros[0],
         Some((7, 0x62, 0x62)),
-        Some((900, 0, 0)),
-        None,
-        None,
+        zeros[2],
     ];
+    let changed = [Some((5, 0x62, 0x62)), zeros[0], zeros[1], zeros[2]];
     assert_eq!(rt;
-        found(rt.alloc(), &mut device)?,
-        Some((values, Some(0x62), true))
-    );
-    assert_eq!(rt; device.calls().len(), 92);
-    Ok(())
-}
-
-#[test]
-fn a_window_has_its_values_and_no_count_is_looked_at(rt: HostRuntime) -> Result<(), Fail> {
-    let mut device = device_with_data(rt.alloc(), &CHANGED, false)?;
-    let values = [
-        Some((5, 0x62, 0x62)),
-        Some((6, 0, 0)),
-        Some((7, 0, 0)),
-        Some((900, 0, 0)),
-        None,
-        None,
-    ];
-    assert_eq!(rt;
-        found(rt.alloc(), &mut device)?,
-        Some((values, Some(0), true))
+        found,
+        [
+            (Some((stored, Some(0x62), true)), 92),
+            (Some((changed, Some(0), true)), 92)
+        ]
     );
     Ok(())
 }

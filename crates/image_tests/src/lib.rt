@@ -18,8 +18,6 @@ mod crashes;
 #[cfg(test)]
 mod faults;
 #[cfg(test)]
-mod forced;
-#[cfg(test)]
 mod formats;
 #[cfg(test)]
 mod fuses;
@@ -38,8 +36,6 @@ mod named_faults;
 #[cfg(test)]
 mod new_pages;
 #[cfg(test)]
-mod numbers;
-#[cfg(test)]
 mod openings;
 #[cfg(test)]
 mod pages;
@@ -53,8 +49,6 @@ mod random;
 mod replays;
 #[cfg(test)]
 mod rows;
-#[cfg(test)]
-mod small_images;
 #[cfg(test)]
 mod stops;
 #[cfg(test)]

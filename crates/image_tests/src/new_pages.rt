@@ -1,10 +1,10 @@
 use crate::named_faults::Fault::{Compressed, Header, Shared, Window};
-use crate::small_images::{GROWN, HIGH_GROWN};
-use crate::bent_images::{Recovered, other_recovery};
+use crate::images::{GROWN, HIGH_GROWN};
+use crate::bent_images::{Bent, other_answer};
 use std::test::Fail;
 
 // The entry of a new leaf of tree 1, at block 77: where its form is wrong there is no window.
-static LEAVES: [Recovered; 58] = [
+static LEAVES: [Bent; 58] = [
     (&[], Ok(Some(2))),
     // Its kind. The other one has no tree.
     (&[(7, 32, 1, 0)], Ok(Some(0))),
@@ -85,7 +85,7 @@ static LEAVES: [Recovered; 58] = [
 ];
 
 // The entries of two new pages of tree 1 at height 3, at blocks 79 and 78.
-static HIGH_PAGES: [Recovered; 38] = [
+static HIGH_PAGES: [Bent; 38] = [
     (&[], Ok(Some(2))),
     // The tree of the first page and of the second.
     (&[(7, 33, 1, 0)], Err(Header(79))),
@@ -159,13 +159,11 @@ static HIGH_PAGES: [Recovered; 38] = [
 ];
 
 #[test]
-fn new_leaves_are_checked(rt: HostRuntime) -> Result<(), Fail> {
-    assert_eq!(rt; other_recovery(rt.alloc(), &GROWN, &LEAVES)?, None);
-    Ok(())
-}
-
-#[test]
-fn new_pages_of_height_3_are_checked(rt: HostRuntime) -> Result<(), Fail> {
-    assert_eq!(rt; other_recovery(rt.alloc(), &HIGH_GROWN, &HIGH_PAGES)?, None);
+fn new_pages_are_checked(rt: HostRuntime) -> Result<(), Fail> {
+    let found = [
+        other_answer(rt.alloc(), &GROWN, &LEAVES)?,
+        other_answer(rt.alloc(), &HIGH_GROWN, &HIGH_PAGES)?,
+    ];
+    assert_eq!(rt; found, [None; 2]);
     Ok(())
 }

@@ -1,7 +1,7 @@
-use crate::images::{closed_device, mappings_of};
-use crate::rows::{HIGH, Row, SMALL, WIDE};
+use crate::answers::is_read;
+use crate::images::{ABOVE, Image, LEAF, SMALL, TALL, TOP, WIDE, device};
 use blk_base::Mapping::{At, Zero};
-use blk_base::{Geometry, Mappings, Opened, OpenedPage, PageId, Pbn, Point, Super, TREES};
+use blk_base::{Geometry, Mappings, Opened, OpenedPage, PageId, Pbn, Super, TREES};
 use disk_model::{Call, CallKind, FaultAt, MemDisk};
 use image_model::ImageFault;
 use rebuild::open_clean;
@@ -10,9 +10,8 @@ use std::test::Fail;
 use test_images::Page;
 
 /// An image whose last session was closed, and what it is opened with.
-#[derive(Clone, Copy)]
 struct Closed {
-    row: Row,
+    image: Image,
     /// The pages between its roots and its leaves, each with its block; and the blocks of those and of its leaves.
     inner: &'static [(PageId, u32)],
     tree_pages: &'static [u32],
@@ -24,20 +23,11 @@ struct Closed {
     calls: usize,
 }
 
-const LEAF: PageId = PageId {
-    tree: 0,
-    level: 0,
-    index: 0,
-};
-
-const ABOVE: PageId = PageId { level: 1, ..LEAF };
-
-const TOP: PageId = PageId { level: 2, ..LEAF };
-
 /// Three leaves in two trees. A block is mapped in both leaves of tree 0; of it and of another one there are updates past the
 /// commit point.
-const LOW: Row = Row {
+const LOW: Image = Image {
     geometry: SMALL,
+    clean: true,
     start: 6,
     journal: &[(5, 5, &[])],
     pages: &[
@@ -54,14 +44,10 @@ const LOW: Row = Row {
     counters: &[(0, 1), (1, 1), (2, 1), (7, 1), (8, 1), (9, 1), (15, 2)],
     commits: &[3000],
     updates: &[(2990, 8), (3000, 9), (3002, 7), (3005, 15)],
-    entries: 0,
-    next: 6,
-    used: 7,
-    differ: 0,
 };
 
 /// Two pages between the root of tree 0 and its leaves, and one in tree 5: the last one that addresses lead to.
-const TALL_PAGES: &[Page] = &[
+const STEEP_PAGES: &[Page] = &[
     (TOP, 9, &[(0, At(Pbn(73))), (2, At(Pbn(74)))]),
     (PageId { tree: 5, ..TOP }, 14, &[(101, At(Pbn(75)))]),
     (ABOVE, 73, &[(0, At(Pbn(76))), (811, At(Pbn(77)))]),
@@ -96,14 +82,15 @@ const TALL_PAGES: &[Page] = &[
     ),
 ];
 
-const TALL: Row = Row {
+const STEEP: Image = Image {
     geometry: Geometry {
         logical: 4_000_000_000,
-        ..HIGH
+        ..TALL
     },
+    clean: true,
     start: 18_014_398_509_481_983,
     journal: &[],
-    pages: TALL_PAGES,
+    pages: STEEP_PAGES,
     counters: &[
         (0, 1),
         (1, 1),
@@ -121,15 +108,12 @@ const TALL: Row = Row {
         (18_446_744_073_709_551_612, 7),
         (18_446_744_073_709_551_613, 9),
     ],
-    entries: 0,
-    next: 18_014_398_509_481_983,
-    used: 10,
-    differ: 0,
 };
 
 /// Counters in two sectors, each with a commit point of its own.
-const BROAD: Row = Row {
+const BROAD: Image = Image {
     geometry: WIDE,
+    clean: true,
     start: 1,
     journal: &[],
     pages: &[
@@ -143,15 +127,11 @@ const BROAD: Row = Row {
     counters: &[(0, 1), (503, 1), (527, 1), (599, 2)],
     commits: &[20, 3000],
     updates: &[(19, 0), (2998, 599), (3002, 527), (3005, 599), (21, 503)],
-    entries: 0,
-    next: 1,
-    used: 3,
-    differ: 0,
 };
 
 static CLOSED: [Closed; 3] = [
     Closed {
-        row: LOW,
+        image: LOW,
         inner: &[],
         tree_pages: &[73, 74, 75],
         stored: &[(0, 1), (1, 1), (2, 1), (7, 2), (8, 1), (9, 1), (15, 1)],
@@ -159,7 +139,7 @@ static CLOSED: [Closed; 3] = [
         calls: 75,
     },
     Closed {
-        row: TALL,
+        image: STEEP,
         inner: &[
             (ABOVE, 73),
             (PageId { index: 2, ..ABOVE }, 74),
@@ -189,7 +169,7 @@ static CLOSED: [Closed; 3] = [
         calls: 79,
     },
     Closed {
-        row: BROAD,
+        image: BROAD,
         inner: &[],
         tree_pages: &[73],
         stored: &[(0, 1), (527, 2), (599, 1)],
@@ -198,59 +178,52 @@ static CLOSED: [Closed; 3] = [
     },
 ];
 
-/// What an image is opened with: how many pages, counters, commit points and blocks of pages, how many of the pages and of
-/// their blocks are those that it has, each once, and the first counter and commit point that is another.
-#[derive(Clone, Copy, Debug, PartialEq, Eq)]
-struct Start {
-    head: Super,
-    pages: usize,
-    right_pages: usize,
-    counters: usize,
-    other_counter: Option<(usize, u8)>,
-    commits: usize,
-    other_commit: Option<(usize, u64)>,
-    tree_pages: usize,
-    right_tree_pages: usize,
-}
+/// What an image is opened with: the superblock; how many pages, counters, commit points and blocks of pages; and how many of
+/// each are those that it has, each page and each of the blocks once.
+type Start = (Super, [usize; 4], [usize; 4]);
 
 // What it is to be opened with.
-fn wanted(image: &Closed) -> Start {
-    let pages = image.inner.len().saturating_add(usize::from(TREES));
-    Start {
-        head: Super {
-            geometry: image.row.geometry,
-            clean: true,
-            start: image.row.start,
-        },
-        pages,
-        right_pages: pages,
-        counters: image.row.geometry.slab_blocks as usize,
-        other_counter: None,
-        commits: image.commits.len(),
-        other_commit: None,
-        tree_pages: image.tree_pages.len(),
-        right_tree_pages: image.tree_pages.len(),
-    }
+fn wanted(closed: &Closed) -> Start {
+    let counts = [
+        closed.inner.len().saturating_add(usize::from(TREES)),
+        closed.image.geometry.slab_blocks as usize,
+        closed.commits.len(),
+        closed.tree_pages.len(),
+    ];
+    let head = Super {
+        geometry: closed.image.geometry,
+        clean: true,
+        start: closed.image.start,
+    };
+    (head, counts, counts)
 }
 
 // Whether a page stands once among those, at its block and with its mappings.
-fn is_once(pages: &[OpenedPage], page: PageId, at: u32, mappings: &Mappings) -> bool {
-    let mut all = 0_usize;
-    let mut right = 0_usize;
-    for other in pages {
-        if other.page == page {
-            all = all.saturating_add(1);
-            if other.at.0 == at && other.mappings.as_slice() == mappings.as_slice() {
-                right = right.saturating_add(1);
+fn is_once(pages: &[OpenedPage], image: &Image, page: PageId, at: u32) -> bool {
+    let mut mappings = Mappings::new();
+    for &(other, _at, slots) in image.pages {
+        if other == page {
+            for &(slot, mapping) in slots {
+                if slot < 812 {
+                    mappings.set(slot, mapping);
+                }
             }
         }
     }
-    all == 1 && right == 1
+    let mut all = 0_usize;
+    let mut right = false;
+    for other in pages {
+        if other.page == page {
+            all = all.saturating_add(1);
+            right = other.at.0 == at && other.mappings.as_slice() == mappings.as_slice();
+        }
+    }
+    all == 1 && right
 }
 
 // How many of the roots and of the pages below them stand among those as they are to be.
-fn right_pages(pages: &[OpenedPage], image: &Closed) -> usize {
-    let level = if image.row.geometry.height == 3 { 2 } else { 1 };
+fn right_pages(pages: &[OpenedPage], closed: &Closed) -> usize {
+    let level = if closed.image.geometry.height == 3 { 2 } else { 1 };
     let mut right = 0_usize;
     for tree in 0..TREES {
         let root = PageId {
@@ -258,15 +231,12 @@ fn right_pages(pages: &[OpenedPage], image: &Closed) -> usize {
             level,
             index: 0,
         };
-        let mappings = mappings_of(&image.row, root);
-        if is_once(pages, root, 9 + u32::from(tree), &mappings) {
-            right = right.saturating_add(1);
-        }
+        let once = is_once(pages, &closed.image, root, 9 + u32::from(tree));
+        right = right.saturating_add(usize::from(once));
     }
-    for &(page, at) in image.inner {
-        if is_once(pages, page, at, &mappings_of(&image.row, page)) {
-            right = right.saturating_add(1);
-        }
+    for &(page, at) in closed.inner {
+        let once = is_once(pages, &closed.image, page, at);
+        right = right.saturating_add(usize::from(once));
     }
     right
 }
@@ -277,142 +247,96 @@ fn right_blocks(found: &[Pbn], blocks: &[u32]) -> usize {
     for &at in blocks {
         let mut times = 0_usize;
         for other in found {
-            if other.0 == at {
-                times = times.saturating_add(1);
-            }
+            times = times.saturating_add(usize::from(other.0 == at));
         }
-        if times == 1 {
-            right = right.saturating_add(1);
-        }
+        right = right.saturating_add(usize::from(times == 1));
     }
     right
 }
 
-// The stored count of the data block with this offset.
-fn stored_at(stored: &[(u16, u8)], place: usize) -> u8 {
-    for &(offset, count) in stored {
-        if usize::from(offset) == place {
-            return count;
-        }
-    }
-    0
-}
-
-// The first counter that isn't this stored count.
-fn other_counter(counters: &[u8], stored: &[(u16, u8)]) -> Option<(usize, u8)> {
+// How many of the counters are these stored counts, by their offsets, or else 0.
+fn right_counters(counters: &[u8], stored: &[(u16, u8)]) -> usize {
+    let mut right = 0_usize;
     for (place, &count) in counters.iter().enumerate() {
-        if count != stored_at(stored, place) {
-            return Some((place, count));
+        let mut wanted = 0;
+        for &(offset, other) in stored {
+            if usize::from(offset) == place {
+                wanted = other;
+            }
         }
+        right = right.saturating_add(usize::from(count == wanted));
     }
-    None
+    right
 }
 
-// The first commit point that isn't this one.
-fn other_commit(found: &[Point], commits: &[u64]) -> Option<(usize, u64)> {
-    for (place, point) in found.iter().enumerate() {
-        if commits.get(place) != Some(&point.0) {
-            return Some((place, point.0));
-        }
+fn start_of(opened: &Opened, closed: &Closed) -> Start {
+    let mut commits = 0_usize;
+    for (point, wanted) in opened.commits.iter().zip(closed.commits) {
+        commits = commits.saturating_add(usize::from(point.0 == *wanted));
     }
-    None
+    let counts = [
+        opened.pages.len(),
+        opened.counters.len(),
+        opened.commits.len(),
+        opened.tree_pages.len(),
+    ];
+    let right = [
+        right_pages(&opened.pages, closed),
+        right_counters(&opened.counters, closed.stored),
+        commits,
+        right_blocks(&opened.tree_pages, closed.tree_pages),
+    ];
+    (opened.head, counts, right)
 }
 
-fn start_of(opened: &Opened, image: &Closed) -> Start {
-    Start {
-        head: opened.head,
-        pages: opened.pages.len(),
-        right_pages: right_pages(&opened.pages, image),
-        counters: opened.counters.len(),
-        other_counter: other_counter(&opened.counters, image.stored),
-        commits: opened.commits.len(),
-        other_commit: other_commit(&opened.commits, image.commits),
-        tree_pages: opened.tree_pages.len(),
-        right_tree_pages: right_blocks(&opened.tree_pages, image.tree_pages),
-    }
-}
-
-// What opening the image on a device answers.
-fn open(alloc: Global, image: &Closed, device: &mut MemDisk) -> Result<Start, ImageFault> {
-    match open_clean(alloc, device) {
-        Ok(opened) => Ok(start_of(&opened, image)),
-        Err(fault) => Err(fault),
-    }
-}
-
-// What that answers, how many calls it makes, and whether all of them read.
+// What opening the image on a device answers, how many calls it makes, and whether all of them read.
 type Answer = (Result<Start, ImageFault>, usize, bool);
 
-fn answer(alloc: Global, image: &Closed, device: &mut MemDisk) -> Answer {
-    let found = open(alloc, image, device);
-    let calls = device.calls();
-    let reads = calls.iter().all(|call| matches!(call, Call::Read { .. }));
-    (found, calls.len(), reads)
+fn answer(alloc: Global, closed: &Closed, device: &mut MemDisk) -> Answer {
+    let found = match open_clean(alloc, device) {
+        Ok(opened) => Ok(start_of(&opened, closed)),
+        Err(fault) => Err(fault),
+    };
+    (found, device.calls().len(), is_read(device))
 }
 
-#[test]
-fn closed_images_are_opened(rt: HostRuntime) -> Result<(), Fail> {
-    for (i, image) in CLOSED.iter().enumerate() {
-        let mut device = closed_device(rt.alloc(), &image.row)?;
-        let found = answer(rt.alloc(), image, &mut device);
-        assert_eq!(rt; (i, found), (i, (Ok(wanted(image)), image.calls, true)));
-    }
-    Ok(())
-}
-
-// What is answered where so many calls go on and each later one fails.
-fn cut(alloc: Global, image: &Closed, passes: u64) -> Result<Answer, AllocError> {
-    let mut device = closed_device(alloc, &image.row)?;
-    device.set_fuse(passes);
-    Ok(answer(alloc, image, &mut device))
-}
-
-// What is answered where the read of this block alone fails.
-fn faulted(alloc: Global, image: &Closed, at: Pbn) -> Result<Answer, AllocError> {
-    let mut plan = Vec::new(alloc);
-    plan.push(FaultAt {
-        kind: CallKind::Read,
-        at,
-        nth: 0,
-        effect: false,
-    })?;
-    let mut device = closed_device(alloc, &image.row)?;
-    device.set_faults(plan);
-    Ok(answer(alloc, image, &mut device))
-}
-
-// The block that a call reads.
-fn block_of(call: &Call) -> Option<Pbn> {
-    match call {
-        Call::Read { at, .. } => Some(*at),
-        _ => None,
-    }
-}
-
-// How many calls were made each to fail, alone and with those behind it, and the first that was answered otherwise.
-fn failures(alloc: Global, image: &Closed) -> Result<(usize, Option<(usize, Answer)>), AllocError> {
-    let mut device = closed_device(alloc, &image.row)?;
-    let _ = answer(alloc, image, &mut device);
-    let mut tried = 0_usize;
-    for (i, call) in device.calls().iter().enumerate() {
-        let Some(at) = block_of(call) else {
-            continue;
+// The first of an image's calls that isn't a read, or that fails, alone or with those behind it, and is answered otherwise; and
+// what is answered where none fails.
+fn failures(alloc: Global, closed: &Closed) -> Result<(Answer, Option<(usize, Answer)>), AllocError> {
+    let mut whole = device(alloc, &closed.image)?;
+    let found = answer(alloc, closed, &mut whole);
+    for (i, call) in whole.calls().iter().enumerate() {
+        let Call::Read { at, .. } = call else {
+            return Ok((found, Some((i, found))));
         };
-        tried = tried.saturating_add(1);
-        for found in [cut(alloc, image, i as u64)?, faulted(alloc, image, at)?] {
-            if found != (Err(ImageFault::Device), tried, true) {
-                return Ok((tried, Some((i, found))));
+        let fault = FaultAt {
+            kind: CallKind::Read,
+            at: *at,
+            nth: 0,
+            effect: false,
+        };
+        let mut cut = device(alloc, &closed.image)?;
+        cut.set_fuse(i as u64);
+        let mut faulted = device(alloc, &closed.image)?;
+        faulted.set_faults([fault].to_vec(alloc)?);
+        for answer in [
+            answer(alloc, closed, &mut cut),
+            answer(alloc, closed, &mut faulted),
+        ] {
+            if answer != (Err(ImageFault::Device), i.saturating_add(1), true) {
+                return Ok((found, Some((i, answer))));
             }
         }
     }
-    Ok((tried, None))
+    Ok((found, None))
 }
 
 #[test]
-fn each_call_fails(rt: HostRuntime) -> Result<(), Fail> {
-    for (i, image) in CLOSED.iter().enumerate() {
-        let found = failures(rt.alloc(), image)?;
-        assert_eq!(rt; (i, found), (i, (image.calls, None)));
+fn closed_images_are_opened_or_a_call_fails(rt: HostRuntime) -> Result<(), Fail> {
+    for (i, closed) in CLOSED.iter().enumerate() {
+        let found = failures(rt.alloc(), closed)?;
+        let opened = (Ok(wanted(closed)), closed.calls, true);
+        assert_eq!(rt; (i, found), (i, (opened, None)));
     }
     Ok(())
 }

@@ -1,22 +1,11 @@
+use crate::images::{ABOVE as ROOT, Image, LEAF, SMALL, TALL, TOP, WIDE};
 use blk_base::Mapping::{At, Unmapped, Zero};
-use blk_base::{Entry, Geometry, Lba, PageId, Pbn};
+use blk_base::{Entry, Lba, Pbn};
 use test_images::Page;
 
-/// The entries of a block of the recovery journal, with its sequence and the head that it names.
-pub type Journal = &'static [(u64, u64, &'static [Entry])];
-
-/// An image. The roots that `pages` doesn't name have no mappings.
-#[derive(Clone, Copy)]
+/// An image whose last session wasn't closed, and what mends it.
 pub struct Row {
-    pub geometry: Geometry,
-    pub start: u64,
-    pub journal: Journal,
-    pub pages: &'static [Page],
-    /// Counters of data blocks by their offsets in the first slab, and the commit points of its sectors.
-    pub counters: &'static [(u16, u8)],
-    pub commits: &'static [u64],
-    /// The entries of the slab's journal, each with its point and the offset of its block.
-    pub updates: &'static [(u64, u16)],
+    pub image: Image,
     /// How many entries the window has.
     pub entries: u32,
     /// The first sequence of the next session.
@@ -24,41 +13,19 @@ pub struct Row {
     /// How many data blocks are used, and how many blocks differ from their mappings, before and afterwards.
     pub used: u32,
     pub differ: usize,
+    /// How many data blocks are mapped, or have a page: one image has a counter that says more.
+    pub mapped: u32,
 }
 
-/// An image of 92 blocks: the journal's blocks are 1 to 8, the roots 9 to 68, the data blocks 73 to 88, the reference block
-/// 89, and the slab's journal 90 and 91.
-pub const SMALL: Geometry = Geometry {
-    slab_blocks: 16,
-    index: 4,
-    slab_journal: 2,
-    ..Geometry::DEFAULT
-};
-
-pub const HIGH: Geometry = Geometry { height: 3, ..SMALL };
-
-/// Two sectors of counters: the data blocks are 73 to 672, the reference blocks 673, and the slab's journal 674 and 675.
-pub const WIDE: Geometry = Geometry {
-    slab_blocks: 600,
-    ..SMALL
-};
-
-const ROOT: PageId = PageId {
-    tree: 0,
-    level: 1,
-    index: 0,
-};
-
-const LEAF: PageId = PageId {
-    tree: 0,
-    level: 0,
-    index: 0,
-};
-
-const HIGH_ROOT: PageId = PageId {
-    tree: 0,
-    level: 2,
-    index: 0,
+const UNCLEAN: Image = Image {
+    geometry: SMALL,
+    clean: false,
+    start: 6,
+    journal: &[],
+    pages: &[],
+    counters: &[],
+    commits: &[],
+    updates: &[],
 };
 
 /// A new leaf, and addresses that are mapped, to one block twice.
@@ -124,78 +91,78 @@ const TURNS: [Entry; 192] = [Entry::Remap {
 pub static ROWS: [Row; 8] = [
     // No window.
     Row {
-        geometry: SMALL,
-        start: 6,
-        journal: &[],
-        pages: &[],
-        counters: &[],
-        commits: &[],
-        updates: &[],
+        image: Image {
+        ..UNCLEAN
+        },
         entries: 0,
         next: 7,
         used: 0,
         differ: 0,
+        mapped: 0,
     },
     // Everything is in the window: pages and counters are written whole.
     Row {
-        geometry: SMALL,
-        start: 6,
+        image: Image {
         journal: &[(6, 6, GROWS)],
         pages: &[(LEAF, 73, &[])],
-        counters: &[],
-        commits: &[],
-        updates: &[],
+        ..UNCLEAN
+        },
         entries: 5,
         next: 8,
         used: 3,
         differ: 0,
+        mapped: 3,
     },
     // A leaf that stands already; the counters have the updates up to that of the second entry's half.
     Row {
-        geometry: SMALL,
-        start: 6,
+        image: Image {
         journal: &[(6, 6, CHANGES)],
         pages: LINKED,
         counters: &[(0, 1), (2, 0), (3, 1)],
         commits: &[3075],
-        updates: &[],
+        ..UNCLEAN
+        },
         entries: 3,
         next: 8,
         used: 2,
         differ: 0,
+        mapped: 2,
     },
     // The same, with updates in the slab's journal, one of them twice, one below the commit point.
     Row {
-        geometry: SMALL,
-        start: 6,
+        image: Image {
         journal: &[(6, 6, CHANGES)],
         pages: LINKED,
         counters: &[(0, 1), (1, 1), (2, 1)],
         commits: &[3000],
         updates: &[(3072, 3), (3073, 1), (2990, 2)],
+        ..UNCLEAN
+        },
         entries: 3,
         next: 8,
         used: 2,
         differ: 0,
+        mapped: 2,
     },
     // All counters are written already, the pages aren't.
     Row {
-        geometry: SMALL,
-        start: 6,
+        image: Image {
         journal: &[(6, 6, CHANGES)],
         pages: LINKED,
         counters: &[(0, 1), (3, 2)],
         commits: &[3077],
-        updates: &[],
+        ..UNCLEAN
+        },
         entries: 3,
         next: 8,
         used: 2,
         differ: 0,
+        mapped: 2,
     },
     // A tree of height 3: the pages of two levels are new.
     Row {
-        geometry: HIGH,
-        start: 6,
+        image: Image {
+        geometry: TALL,
         journal: &[(
             6,
             6,
@@ -215,33 +182,35 @@ pub static ROWS: [Row; 8] = [
                 },
             ],
         )],
-        pages: &[(HIGH_ROOT, 9, &[]), (ROOT, 80, &[]), (LEAF, 81, &[])],
-        counters: &[],
-        commits: &[],
-        updates: &[],
+        pages: &[(TOP, 9, &[]), (ROOT, 80, &[]), (LEAF, 81, &[])],
+        ..UNCLEAN
+        },
         entries: 3,
         next: 8,
         used: 3,
         differ: 0,
+        mapped: 3,
     },
     // The window goes round the journal's end: blocks 15 and 16 stand in its last and its first slot.
     Row {
-        geometry: SMALL,
+        image: Image {
         start: 15,
         journal: &[(15, 15, &TURNS), (16, 15, CHANGES)],
         pages: LINKED,
         counters: &[(0, 1), (1, 1), (2, 1)],
         commits: &[7000],
-        updates: &[],
+        ..UNCLEAN
+        },
         entries: 195,
         next: 18,
         used: 2,
         differ: 0,
+        mapped: 2,
     },
     // Two sectors of counters, of which one changes. A count of 254 that falls, though it isn't mapped so often.
     Row {
+        image: Image {
         geometry: WIDE,
-        start: 6,
         journal: &[(
             6,
             6,
@@ -261,10 +230,12 @@ pub static ROWS: [Row; 8] = [
         pages: LINKED,
         counters: &[(0, 1), (2, 1), (527, 254)],
         commits: &[20, 30],
-        updates: &[],
+        ..UNCLEAN
+        },
         entries: 2,
         next: 8,
         used: 4,
         differ: 1,
+        mapped: 3,
     },
 ];

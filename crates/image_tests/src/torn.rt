@@ -1,7 +1,6 @@
-use crate::images::device;
 use crate::rows::{ROWS, Row};
-use crate::stops::{Outcome, calls_made, is_right, read_image, recover_twice};
-use blk_base::{Block, Pbn};
+use crate::stops::{Outcome, Said, calls_made, device_of, is_right, mend_twice, read_image};
+use blk_base::Block;
 use disk_model::{Call, Disk, MemDisk};
 use rebuild::recover;
 use std::alloc::{AllocError, Global};
@@ -13,33 +12,20 @@ const LAST: u64 = 14;
 /// Of a block that is being written one sector is new and the others are old, or the other way round.
 const PARTS: u32 = 16;
 
-// Whether a part of a block has a new sector.
-fn is_new(part: u32, sector: u32) -> bool {
-    (part % 8 == sector) == (part < 8)
-}
-
 // Puts the new sectors of a part into a block.
 fn put_part(into: &mut Block, new: &Block, part: u32) {
     for sector in 0..8 {
-        if is_new(part, sector) {
+        if (part % 8 == sector) == (part < 8) {
             let start = 512 * sector as usize;
             into.bytes[start..start + 512].copy_from_slice(&new.bytes[start..start + 512]);
         }
     }
 }
 
-// The block that the last call writes, if it is a write.
-fn last_write(calls: &[Call]) -> Option<(Pbn, &Block)> {
-    match calls.last() {
-        Some(Call::Write { at, bytes, .. }) => Some((*at, bytes)),
-        _ => None,
-    }
-}
-
 // What a stop within the last call leaves, if it is a write: this part of its block, and of the blocks that were written
 // since the last flush all or none.
 fn torn(alloc: Global, image: &MemDisk, part: u32) -> Result<Option<MemDisk>, AllocError> {
-    let Some((at, new)) = last_write(image.calls()) else {
+    let Some(Call::Write { at, bytes, .. }) = image.calls().last() else {
         return Ok(None);
     };
     let mut certain = image.pick_image(alloc, 0)?;
@@ -48,11 +34,11 @@ fn torn(alloc: Global, image: &MemDisk, part: u32) -> Result<Option<MemDisk>, Al
         return Ok(None);
     }
     let mut block = Block::zero();
-    if certain.read(at, &mut block).is_err() {
+    if certain.read(*at, &mut block).is_err() {
         return Ok(None);
     }
-    put_part(&mut block, new, part);
-    if left.write(at, &block).is_err() || left.flush().is_err() {
+    put_part(&mut block, bytes, part);
+    if left.write(*at, &block).is_err() || left.flush().is_err() {
         return Ok(None);
     }
     Ok(Some(left))
@@ -62,16 +48,15 @@ fn torn(alloc: Global, image: &MemDisk, part: u32) -> Result<Option<MemDisk>, Al
 fn recovered_from(
     alloc: Global,
     row: &Row,
+    before: &Option<Said>,
     passes: u64,
     part: u32,
 ) -> Result<Option<Outcome>, AllocError> {
-    let mut image = device(alloc, row)?;
-    let before = read_image(alloc, &mut image);
-    let mut image = device(alloc, row)?;
+    let mut image = device_of(alloc, row, false)?;
     image.set_fuse(passes);
     let _ = recover(alloc, &mut image);
     match torn(alloc, &image, part)? {
-        Some(mut left) => Ok(Some(recover_twice(alloc, row, &before, &mut left))),
+        Some(mut left) => Ok(Some(mend_twice(alloc, false, before, &mut left))),
         None => Ok(None),
     }
 }
@@ -80,13 +65,15 @@ fn recovered_from(
 fn right_parts(
     alloc: Global,
     row: &Row,
+    all: u64,
 ) -> Result<(usize, Option<(u64, u32, Outcome)>), AllocError> {
+    let mut image = device_of(alloc, row, false)?;
+    let before = read_image(alloc, &mut image);
     let mut right = 0_usize;
-    let all = calls_made(alloc, row)?.all as u64;
     for passes in all.saturating_sub(LAST)..all {
         for part in 0..PARTS {
-            if let Some(found) = recovered_from(alloc, row, passes, part)? {
-                if !is_right(row, found) {
+            if let Some(found) = recovered_from(alloc, row, &before, passes, part)? {
+                if !is_right(row, false, found) {
                     return Ok((right, Some((passes, part, found))));
                 }
                 right = right.wrapping_add(1);
@@ -100,8 +87,8 @@ fn right_parts(
 #[test]
 fn each_part_of_each_write(rt: HostRuntime) -> Result<(), Fail> {
     for (i, row) in ROWS.iter().enumerate() {
-        let writes = calls_made(rt.alloc(), row)?.writes;
-        let found = right_parts(rt.alloc(), row)?;
+        let (all, _, writes, _) = calls_made(rt.alloc(), row, false)?;
+        let found = right_parts(rt.alloc(), row, all as u64)?;
         assert_eq!(rt;
             (i, found),
             (i, (writes.wrapping_mul(PARTS as usize), None))
