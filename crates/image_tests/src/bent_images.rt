@@ -23,11 +23,7 @@ pub fn put_number(block: &mut Block, at: usize, width: u32, number: u64) {
 }
 
 // What opening or recovering the image with these bytes answers, and whether nothing was done but reads.
-fn answer(
-    alloc: Global,
-    image: &Image,
-    changes: &[Change],
-) -> Result<(Answer, bool), AllocError> {
+fn answer(alloc: Global, image: &Image, changes: &[Change]) -> Result<(Answer, bool), AllocError> {
     let mut blocks = blocks_of(alloc, image)?;
     for &(at, byte, width, number) in changes {
         if let Some(block) = blocks.get_mut(at) {

@@ -72,12 +72,7 @@ fn is_image(device: &mut MemDisk, layout: &Layout, image: &[Block]) -> bool {
     true
 }
 
-fn judge(
-    device: &mut MemDisk,
-    layout: &Layout,
-    empty: &[Block],
-    older: &[Block],
-) -> Judged {
+fn judge(device: &mut MemDisk, layout: &Layout, empty: &[Block], older: &[Block]) -> Judged {
     let first = Block {
         bytes: bytes_at(device, 0),
     };

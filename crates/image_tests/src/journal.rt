@@ -1,6 +1,6 @@
-use crate::named_faults::Fault::{Compressed, Counter, Header, Shared, Window};
-use crate::images::UNCLEAN;
 use crate::bent_images::{Bent, other_answer};
+use crate::images::UNCLEAN;
+use crate::named_faults::Fault::{Compressed, Counter, Header, Shared, Window};
 use std::test::Fail;
 
 // The head of the first sector of the journal's last block: where it is wrong there is no window.

@@ -155,8 +155,21 @@ fn pages_are_read_with_changes(rt: HostRuntime) -> Result<(), Fail> {
 type Links = (usize, [Option<(u8, u32, u32)>; 3]);
 
 static LINKS: [((u8, u32), Links); 3] = [
-    ((2, 0), (3, [Some((1, 0, 85)), Some((1, 3, 86)), Some((1, 811, 87))])),
-    ((1, 2), (3, [Some((0, 1624, 85)), Some((0, 1627, 86)), Some((0, 2435, 87))])),
+    (
+        (2, 0),
+        (3, [Some((1, 0, 85)), Some((1, 3, 86)), Some((1, 811, 87))]),
+    ),
+    (
+        (1, 2),
+        (
+            3,
+            [
+                Some((0, 1624, 85)),
+                Some((0, 1627, 86)),
+                Some((0, 2435, 87)),
+            ],
+        ),
+    ),
     ((0, 2), (0, [None; 3])),
 ];
 

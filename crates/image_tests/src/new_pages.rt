@@ -1,6 +1,6 @@
-use crate::named_faults::Fault::{Compressed, Header, Shared, Window};
-use crate::images::{GROWN, HIGH_GROWN};
 use crate::bent_images::{Bent, other_answer};
+use crate::images::{GROWN, HIGH_GROWN};
+use crate::named_faults::Fault::{Compressed, Header, Shared, Window};
 use std::test::Fail;
 
 // The entry of a new leaf of tree 1, at block 77: where its form is wrong there is no window.

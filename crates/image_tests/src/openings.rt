@@ -223,7 +223,11 @@ fn is_once(pages: &[OpenedPage], image: &Image, page: PageId, at: u32) -> bool {
 
 // How many of the roots and of the pages below them stand among those as they are to be.
 fn right_pages(pages: &[OpenedPage], closed: &Closed) -> usize {
-    let level = if closed.image.geometry.height == 3 { 2 } else { 1 };
+    let level = if closed.image.geometry.height == 3 {
+        2
+    } else {
+        1
+    };
     let mut right = 0_usize;
     for tree in 0..TREES {
         let root = PageId {
@@ -302,7 +306,10 @@ fn answer(alloc: Global, closed: &Closed, device: &mut MemDisk) -> Answer {
 
 // The first of an image's calls that isn't a read, or that fails, alone or with those behind it, and is answered otherwise; and
 // what is answered where none fails.
-fn failures(alloc: Global, closed: &Closed) -> Result<(Answer, Option<(usize, Answer)>), AllocError> {
+fn failures(
+    alloc: Global,
+    closed: &Closed,
+) -> Result<(Answer, Option<(usize, Answer)>), AllocError> {
     let mut whole = device(alloc, &closed.image)?;
     let found = answer(alloc, closed, &mut whole);
     for (i, call) in whole.calls().iter().enumerate() {

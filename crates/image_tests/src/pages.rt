@@ -1,6 +1,6 @@
-use crate::named_faults::Fault::{Compressed, Counts, Header, OutOfRange, Shared};
-use crate::images::{CLOSED, HIGH, Image};
 use crate::bent_images::{Bent, other_answer, other_head};
+use crate::images::{CLOSED, HIGH, Image};
+use crate::named_faults::Fault::{Compressed, Counts, Header, OutOfRange, Shared};
 use std::test::Fail;
 
 // Numbers that no head of a page of the images has: its first bytes, its nonce, its block, its tree, its level, its zeros,

@@ -4,7 +4,9 @@ ghost use Rattle.blk_base.specs.Regions.{needed_blocks};
 ghost use Rattle.disk_model.specs.Fuses.{HasNotCut};
 ghost use Rattle.disk_model.specs.Memory.{seen_of};
 
-use crate::images::{ABOVE as FIRST_ROOT, Image, Journal, LEAF as FIRST_LEAF, TOP as HIGH_ROOT, blocks_of};
+use crate::images::{
+    ABOVE as FIRST_ROOT, Image, Journal, LEAF as FIRST_LEAF, TOP as HIGH_ROOT, blocks_of,
+};
 use blk_base::Mapping::At;
 use blk_base::{Entry, Geometry, Lba, Mapping, PageId, Pbn, Super};
 use disk_model::MemDisk;

@@ -91,9 +91,7 @@ const TURNS: [Entry; 192] = [Entry::Remap {
 pub static ROWS: [Row; 8] = [
     // No window.
     Row {
-        image: Image {
-        ..UNCLEAN
-        },
+        image: Image { ..UNCLEAN },
         entries: 0,
         next: 7,
         used: 0,
@@ -103,9 +101,9 @@ pub static ROWS: [Row; 8] = [
     // Everything is in the window: pages and counters are written whole.
     Row {
         image: Image {
-        journal: &[(6, 6, GROWS)],
-        pages: &[(LEAF, 73, &[])],
-        ..UNCLEAN
+            journal: &[(6, 6, GROWS)],
+            pages: &[(LEAF, 73, &[])],
+            ..UNCLEAN
         },
         entries: 5,
         next: 8,
@@ -116,11 +114,11 @@ pub static ROWS: [Row; 8] = [
     // A leaf that stands already; the counters have the updates up to that of the second entry's half.
     Row {
         image: Image {
-        journal: &[(6, 6, CHANGES)],
-        pages: LINKED,
-        counters: &[(0, 1), (2, 0), (3, 1)],
-        commits: &[3075],
-        ..UNCLEAN
+            journal: &[(6, 6, CHANGES)],
+            pages: LINKED,
+            counters: &[(0, 1), (2, 0), (3, 1)],
+            commits: &[3075],
+            ..UNCLEAN
         },
         entries: 3,
         next: 8,
@@ -131,12 +129,12 @@ pub static ROWS: [Row; 8] = [
     // The same, with updates in the slab's journal, one of them twice, one below the commit point.
     Row {
         image: Image {
-        journal: &[(6, 6, CHANGES)],
-        pages: LINKED,
-        counters: &[(0, 1), (1, 1), (2, 1)],
-        commits: &[3000],
-        updates: &[(3072, 3), (3073, 1), (2990, 2)],
-        ..UNCLEAN
+            journal: &[(6, 6, CHANGES)],
+            pages: LINKED,
+            counters: &[(0, 1), (1, 1), (2, 1)],
+            commits: &[3000],
+            updates: &[(3072, 3), (3073, 1), (2990, 2)],
+            ..UNCLEAN
         },
         entries: 3,
         next: 8,
@@ -147,11 +145,11 @@ pub static ROWS: [Row; 8] = [
     // All counters are written already, the pages aren't.
     Row {
         image: Image {
-        journal: &[(6, 6, CHANGES)],
-        pages: LINKED,
-        counters: &[(0, 1), (3, 2)],
-        commits: &[3077],
-        ..UNCLEAN
+            journal: &[(6, 6, CHANGES)],
+            pages: LINKED,
+            counters: &[(0, 1), (3, 2)],
+            commits: &[3077],
+            ..UNCLEAN
         },
         entries: 3,
         next: 8,
@@ -162,28 +160,28 @@ pub static ROWS: [Row; 8] = [
     // A tree of height 3: the pages of two levels are new.
     Row {
         image: Image {
-        geometry: TALL,
-        journal: &[(
-            6,
-            6,
-            &[
-                Entry::NewPage {
-                    page: ROOT,
-                    at: Pbn(80),
-                },
-                Entry::NewPage {
-                    page: LEAF,
-                    at: Pbn(81),
-                },
-                Entry::Remap {
-                    at: Lba(3),
-                    old: Unmapped,
-                    new: At(Pbn(82)),
-                },
-            ],
-        )],
-        pages: &[(TOP, 9, &[]), (ROOT, 80, &[]), (LEAF, 81, &[])],
-        ..UNCLEAN
+            geometry: TALL,
+            journal: &[(
+                6,
+                6,
+                &[
+                    Entry::NewPage {
+                        page: ROOT,
+                        at: Pbn(80),
+                    },
+                    Entry::NewPage {
+                        page: LEAF,
+                        at: Pbn(81),
+                    },
+                    Entry::Remap {
+                        at: Lba(3),
+                        old: Unmapped,
+                        new: At(Pbn(82)),
+                    },
+                ],
+            )],
+            pages: &[(TOP, 9, &[]), (ROOT, 80, &[]), (LEAF, 81, &[])],
+            ..UNCLEAN
         },
         entries: 3,
         next: 8,
@@ -194,12 +192,12 @@ pub static ROWS: [Row; 8] = [
     // The window goes round the journal's end: blocks 15 and 16 stand in its last and its first slot.
     Row {
         image: Image {
-        start: 15,
-        journal: &[(15, 15, &TURNS), (16, 15, CHANGES)],
-        pages: LINKED,
-        counters: &[(0, 1), (1, 1), (2, 1)],
-        commits: &[7000],
-        ..UNCLEAN
+            start: 15,
+            journal: &[(15, 15, &TURNS), (16, 15, CHANGES)],
+            pages: LINKED,
+            counters: &[(0, 1), (1, 1), (2, 1)],
+            commits: &[7000],
+            ..UNCLEAN
         },
         entries: 195,
         next: 18,
@@ -210,27 +208,27 @@ pub static ROWS: [Row; 8] = [
     // Two sectors of counters, of which one changes. A count of 254 that falls, though it isn't mapped so often.
     Row {
         image: Image {
-        geometry: WIDE,
-        journal: &[(
-            6,
-            6,
-            &[
-                Entry::Remap {
-                    at: Lba(5),
-                    old: At(Pbn(600)),
-                    new: At(Pbn(601)),
-                },
-                Entry::Remap {
-                    at: Lba(5),
-                    old: At(Pbn(601)),
-                    new: At(Pbn(602)),
-                },
-            ],
-        )],
-        pages: LINKED,
-        counters: &[(0, 1), (2, 1), (527, 254)],
-        commits: &[20, 30],
-        ..UNCLEAN
+            geometry: WIDE,
+            journal: &[(
+                6,
+                6,
+                &[
+                    Entry::Remap {
+                        at: Lba(5),
+                        old: At(Pbn(600)),
+                        new: At(Pbn(601)),
+                    },
+                    Entry::Remap {
+                        at: Lba(5),
+                        old: At(Pbn(601)),
+                        new: At(Pbn(602)),
+                    },
+                ],
+            )],
+            pages: LINKED,
+            counters: &[(0, 1), (2, 1), (527, 254)],
+            commits: &[20, 30],
+            ..UNCLEAN
         },
         entries: 2,
         next: 8,

@@ -1,6 +1,6 @@
-use crate::named_faults::Fault::{Header, NoImage, Super, Unclean, Version};
-use crate::images::{CLOSED, HIGH, UNCLEAN};
 use crate::bent_images::{Bent, other_answer};
+use crate::images::{CLOSED, HIGH, UNCLEAN};
+use crate::named_faults::Fault::{Header, NoImage, Super, Unclean, Version};
 use image_layout::Field::{
     Blocks, Clean, Height, Index, Journal, Logical, Nonce, Reserved, SlabBlocks, SlabJournal,
     Slabs, Start,
