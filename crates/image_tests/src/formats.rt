@@ -1,6 +1,3 @@
-ghost use Rattle.std.specs.Prelude.{IfOk};
-ghost use Rattle.disk_model.specs.Fuses.{HasNotCut};
-
 use crate::images::SMALL;
 use blk_base::{Block, Geometry, Layout, Pbn, Super};
 use disk_model::{CallKind, Disk, FaultAt, MemDisk};
@@ -153,32 +150,25 @@ fn empty_images_are_made(rt: HostRuntime) -> Result<(), Fail> {
 }
 
 // A device with the older image, on which nothing is pending.
-fn older_device(alloc: Global) -> Result<MemDisk, AllocError>
-    ensures { IfOk result (λ device. HasNotCut device.fuse) }
-{
+fn older_device(alloc: Global) -> Result<MemDisk, AllocError> {
     let mut device = filled(alloc, BLOCKS)?;
     let _ = format(&OLDER, &mut device);
-    device.pick_image(alloc, 0)
-}
-
-// What is left of such a device.
-fn left(alloc: Global, image: &mut MemDisk) -> Result<Judged, AllocError> {
-    let layout = Layout::of(&SMALL);
-    let empty = empty_blocks(alloc, &layout)?;
-    let older = empty_blocks(alloc, &Layout::of(&OLDER))?;
-    Ok(judge(image, &layout, &empty, &older))
+    Ok(device)
 }
 
 // A stop: how many calls went on, and the number of the image that it leaves.
 type Stop = (u64, u64);
 
-// Whether the image was made before the stop, and what the stop leaves.
-fn stopped(alloc: Global, (passes, number): Stop) -> Result<(bool, Judged), AllocError> {
-    let mut device = older_device(alloc)?;
+// Whether the image was made before the stop, and what the stop leaves of this device.
+fn stopped(
+    alloc: Global,
+    before: &MemDisk,
+    (passes, number): Stop,
+) -> Result<(bool, MemDisk), AllocError> {
+    let mut device = before.pick_image(alloc, 0)?;
     device.set_fuse(passes);
     let made = format(&SMALL, &mut device).is_ok();
-    let mut image = device.pick_image(alloc, number)?;
-    Ok((made, left(alloc, &mut image)?))
+    Ok((made, device.pick_image(alloc, number)?))
 }
 
 // What may stand when so many calls went on.
@@ -208,15 +198,20 @@ static STOPS: [(Stop, Judged); 11] = [
 
 // The first stop that leaves what it may not, or where something else is answered.
 fn other_stop(alloc: Global) -> Result<Option<(Stop, bool, Judged)>, AllocError> {
+    let before = older_device(alloc)?;
+    let layout = Layout::of(&SMALL);
+    let empty = empty_blocks(alloc, &layout)?;
+    let older = empty_blocks(alloc, &Layout::of(&OLDER))?;
     for passes in 0..CALLS + 1 {
-        let stop = (passes, 7);
-        let (made, judged) = stopped(alloc, stop)?;
+        let (made, mut image) = stopped(alloc, &before, (passes, 7))?;
+        let judged = judge(&mut image, &layout, &empty, &older);
         if made != (passes == CALLS) || !may_stand(passes, judged) {
-            return Ok(Some((stop, made, judged)));
+            return Ok(Some(((passes, 7), made, judged)));
         }
     }
     for (stop, wanted) in STOPS {
-        let (made, judged) = stopped(alloc, stop)?;
+        let (made, mut image) = stopped(alloc, &before, stop)?;
+        let judged = judge(&mut image, &layout, &empty, &older);
         if judged != wanted {
             return Ok(Some((stop, made, judged)));
         }
@@ -244,6 +239,10 @@ static FAULTS: [(CallKind, u32, u32, bool, usize, Judged); 8] = [
 
 #[test]
 fn calls_fail(rt: HostRuntime) -> Result<(), Fail> {
+    let before = older_device(rt.alloc())?;
+    let layout = Layout::of(&SMALL);
+    let empty = empty_blocks(rt.alloc(), &layout)?;
+    let older = empty_blocks(rt.alloc(), &Layout::of(&OLDER))?;
     for (i, &(kind, at, nth, effect, calls, wanted)) in FAULTS.iter().enumerate() {
         let fault = FaultAt {
             kind,
@@ -251,11 +250,11 @@ fn calls_fail(rt: HostRuntime) -> Result<(), Fail> {
             nth,
             effect,
         };
-        let mut device = older_device(rt.alloc())?;
+        let mut device = before.pick_image(rt.alloc(), 0)?;
         device.set_faults([fault].to_vec(rt.alloc())?);
         let answer = format(&SMALL, &mut device).err();
         let made = device.calls().len();
-        let judged = left(rt.alloc(), &mut device)?;
+        let judged = judge(&mut device, &layout, &empty, &older);
         assert_eq!(rt;
             (i, answer, made, judged),
             (i, Some(FormatFault::Device), calls, wanted)
