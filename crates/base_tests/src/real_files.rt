@@ -110,7 +110,7 @@ fn look(rt: &HostRuntime) -> Option<[bool; 4]> {
     let mut disk = open_disk(rt, LOOKED_AT, 4, Access::Change).ok()?;
     let wrote = disk.write(Pbn(0), &block_of(1)).is_ok();
     let flushed = disk.flush().is_ok();
-    let _file: File = disk.into_file();
+    drop(disk);
     let mut disk = open_disk(rt, LOOKED_AT, 4, Access::Look).ok()?;
     let changed = disk.write(Pbn(0), &block_of(1)).is_ok();
     Some([wrote, flushed, changed, reads(&mut disk, 0, &block_of(1))])
