@@ -7,7 +7,7 @@ from collections.abc import Iterator
 
 from vector import BLOCK_BYTES, Vector, chunks, filled, spelling, u16, u32, u64
 
-FILE = "index_tests/src/chapters.rt"
+FILE = "part_tests/src/chapters.rt"
 
 NONCE = 0x1122334455667788
 NUMBER = 9

@@ -98,7 +98,7 @@ def vectors() -> Iterator[Vector]:
     yield from default_blocks()
     two = replace(DEFAULT, slabs=2)
     yield Vector(BLOCKS, "TWO_SLABS", (two.needed(), two.data_block(1, 0), two.data_block(1, 63)))
-    yield Vector(BLOCKS, "a_point", (point(3, 5, 1),))
+    yield Vector(BLOCKS, "POINT", (point(3, 5, 1),))
     for address, height in ((1000, 2), (48_720, 2), (39_560_639, 2), (39_560_640, 3)):
         tree, slots = path(address, height)
         yield Vector(PATHS, "paths_of_some_addresses", (address, height, tree, *slots))

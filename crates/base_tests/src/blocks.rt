@@ -21,27 +21,6 @@ static DEFAULT_SLAB_JOURNAL: [u32; 3] = [150, 153, 150];
 // With two slabs: how many blocks there are, and the first and the last data block of the second slab.
 static TWO_SLABS: [u32; 3] = [223, 154, 217];
 
-#[test]
-fn the_default_journal(rt: HostRuntime) {
-    let layout = Layout::of(&Geometry::DEFAULT);
-    let slots = [
-        layout.journal_slot(0).0,
-        layout.journal_slot(1).0,
-        layout.journal_slot(7).0,
-        layout.journal_slot(8).0,
-        layout.journal_slot(15).0,
-    ];
-    assert_eq!(rt; (layout.needed(), slots), (DEFAULT_NEEDED, DEFAULT_JOURNAL));
-}
-
-#[test]
-fn the_default_roots_and_index(rt: HostRuntime) {
-    let layout = Layout::of(&Geometry::DEFAULT);
-    let roots = [layout.root(0).0, layout.root(59).0];
-    let index = [layout.index_block(0).0, layout.index_block(15).0];
-    assert_eq!(rt; [roots, index], [DEFAULT_ROOTS, DEFAULT_INDEX]);
-}
-
 const FIRST: DataPlace = DataPlace { slab: 0, offset: 0 };
 
 const LAST: DataPlace = DataPlace {
@@ -49,10 +28,46 @@ const LAST: DataPlace = DataPlace {
     offset: 63,
 };
 
+// The number of a half of an entry: block 3, entry 5, and what it takes away.
+const POINT: u64 = 1547;
+
 #[test]
-fn the_default_data_blocks(rt: HostRuntime) {
+fn the_default_image(rt: HostRuntime) {
     let layout = Layout::of(&Geometry::DEFAULT);
-    let blocks = [layout.data_block(0, 0).0, layout.data_block(0, 63).0];
+    let journal = [
+        layout.journal_slot(0).0,
+        layout.journal_slot(1).0,
+        layout.journal_slot(7).0,
+        layout.journal_slot(8).0,
+        layout.journal_slot(15).0,
+    ];
+    let roots = [layout.root(0).0, layout.root(59).0];
+    let index = [layout.index_block(0).0, layout.index_block(15).0];
+    let data = [layout.data_block(0, 0).0, layout.data_block(0, 63).0];
+    let references = layout.reference_block(0, 0).0;
+    let slab_journal = [
+        layout.slab_journal_slot(0, 0).0,
+        layout.slab_journal_slot(0, 3).0,
+        layout.slab_journal_slot(0, 4).0,
+    ];
+    assert_eq!(rt;
+        (layout.needed(), journal, roots, index),
+        (
+            DEFAULT_NEEDED,
+            DEFAULT_JOURNAL,
+            DEFAULT_ROOTS,
+            DEFAULT_INDEX
+        )
+    );
+    assert_eq!(rt;
+        (data, references, slab_journal),
+        (DEFAULT_DATA, DEFAULT_REFERENCES, DEFAULT_SLAB_JOURNAL)
+    );
+}
+
+#[test]
+fn places_of_data_blocks(rt: HostRuntime) {
+    let layout = Layout::of(&Geometry::DEFAULT);
     let places = [layout.place(Pbn(85)), layout.place(Pbn(148))];
     let others = [
         layout.place(Pbn(0)),
@@ -62,30 +77,7 @@ fn the_default_data_blocks(rt: HostRuntime) {
         layout.place(Pbn(153)),
         layout.place(Pbn(154)),
     ];
-    assert_eq!(rt;
-        (blocks, places, others),
-        (DEFAULT_DATA, [Some(FIRST), Some(LAST)], [None; 6])
-    );
-}
-
-#[test]
-fn the_default_slab(rt: HostRuntime) {
-    let layout = Layout::of(&Geometry::DEFAULT);
-    let references = layout.reference_block(0, 0).0;
-    let journal = [
-        layout.slab_journal_slot(0, 0).0,
-        layout.slab_journal_slot(0, 3).0,
-        layout.slab_journal_slot(0, 4).0,
-    ];
-    assert_eq!(rt;
-        (references, journal),
-        (DEFAULT_REFERENCES, DEFAULT_SLAB_JOURNAL)
-    );
-}
-
-#[test]
-fn two_slabs(rt: HostRuntime) {
-    let layout = Layout::of(&Geometry {
+    let two = Layout::of(&Geometry {
         slabs: 2,
         ..Geometry::DEFAULT
     });
@@ -94,24 +86,21 @@ fn two_slabs(rt: HostRuntime) {
         offset: 63,
     };
     let blocks = [
-        layout.needed(),
-        layout.data_block(1, 0).0,
-        layout.data_block(1, 63).0,
+        two.needed(),
+        two.data_block(1, 0).0,
+        two.data_block(1, 63).0,
     ];
-    assert_eq!(rt; (blocks, layout.place(Pbn(217))), (TWO_SLABS, Some(last)));
+    assert_eq!(rt; (places, others), ([Some(FIRST), Some(LAST)], [None; 6]));
+    assert_eq!(rt; (blocks, two.place(Pbn(217))), (TWO_SLABS, Some(last)));
 }
 
+// A point, and a block that is copied.
 #[test]
-fn a_point(rt: HostRuntime) {
-    assert_eq!(rt; Point::of(3, 5, Half::Decrement).0, 1547);
-}
-
-#[test]
-fn a_block_is_copied(rt: HostRuntime) {
+fn points_and_copies(rt: HostRuntime) {
     let mut block = Block::zero();
     block.bytes[7] = 9;
     let mut copy = Block::zero();
     copy.copy_from(&block);
-    let copied = copy.bytes[7];
-    assert_eq!(rt; copied, 9);
+    let point = Point::of(3, 5, Half::Decrement).0;
+    assert_eq!(rt; (point, copy.bytes[7]), (POINT, 9));
 }

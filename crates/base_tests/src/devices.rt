@@ -18,15 +18,6 @@ fn block_of(byte: u8) -> Block {
 // A call by its kind, its block and its number, which fails; and whether it has its effect all the same.
 type PlannedFault = (CallKind, u32, u32, bool);
 
-fn fault((kind, at, nth, effect): PlannedFault) -> FaultAt {
-    FaultAt {
-        kind,
-        at: Pbn(at),
-        nth,
-        effect,
-    }
-}
-
 // Which of nine calls succeed.
 fn call_nine(device: &mut MemDisk) -> [bool; 9]
     requires { length device.old.opening ≡ 2 }
@@ -62,8 +53,16 @@ fn first_byte(device: &mut MemDisk, at: u32) -> u8
 type Outcome = ([bool; 9], [u8; 2]);
 
 // The outcome on a device of two blocks with these faults.
-fn outcome(alloc: Global, faults: &[FaultAt]) -> Result<Outcome, AllocError> {
-    let faults = faults.to_vec(alloc)?;
+fn outcome(alloc: Global, planned: [PlannedFault; 2]) -> Result<Outcome, AllocError> {
+    let mut faults = Vec::with_capacity(alloc, 2)?;
+    for (kind, at, nth, effect) in planned {
+        faults.push(FaultAt {
+            kind,
+            at: Pbn(at),
+            nth,
+            effect,
+        })?;
+    }
     let mut device = MemDisk::zeroed(alloc, 2)?;
     device.set_faults(faults);
     let ok = call_nine(&mut device);
@@ -78,54 +77,40 @@ const THIRD_WRITE: PlannedFault = (CallKind::Write, 0, 2, false);
 
 const THIRD_WRITE_WITH_EFFECT: PlannedFault = (CallKind::Write, 0, 2, true);
 
-// Each row: two faults, the number of the call that fails alone (9: none), and the first bytes of the blocks then.
-static ROWS: [(PlannedFault, PlannedFault, usize, [u8; 2]); 13] = [
-    (NEVER, NEVER, 9, [4, 3]),
-    ((CallKind::Write, 0, 0, false), NEVER, 0, [4, 3]),
-    (THIRD_WRITE, NEVER, 3, [2, 3]),
-    (THIRD_WRITE_WITH_EFFECT, NEVER, 3, [4, 3]),
-    ((CallKind::Write, 0, 3, true), NEVER, 9, [4, 3]),
-    ((CallKind::Write, 1, 0, false), NEVER, 2, [4, 0]),
-    ((CallKind::Read, 1, 0, true), NEVER, 5, [4, 3]),
-    ((CallKind::Read, 0, 1, false), NEVER, 6, [4, 3]),
-    ((CallKind::Flush, 7, 0, false), NEVER, 7, [4, 3]),
-    ((CallKind::Flush, 0, 1, false), NEVER, 8, [4, 3]),
-    (THIRD_WRITE, THIRD_WRITE, 3, [2, 3]),
-    (THIRD_WRITE, THIRD_WRITE_WITH_EFFECT, 3, [4, 3]),
-    (THIRD_WRITE_WITH_EFFECT, THIRD_WRITE, 3, [4, 3]),
+// Each row: two faults, the numbers of the calls that fail (9: none), and the first bytes of the blocks then.
+static ROWS: [([PlannedFault; 2], [usize; 2], [u8; 2]); 14] = [
+    ([NEVER, NEVER], [9, 9], [4, 3]),
+    ([(CallKind::Write, 0, 0, false), NEVER], [0, 9], [4, 3]),
+    ([THIRD_WRITE, NEVER], [3, 9], [2, 3]),
+    ([THIRD_WRITE_WITH_EFFECT, NEVER], [3, 9], [4, 3]),
+    ([(CallKind::Write, 0, 3, true), NEVER], [9, 9], [4, 3]),
+    ([(CallKind::Write, 1, 0, false), NEVER], [2, 9], [4, 0]),
+    ([(CallKind::Read, 1, 0, true), NEVER], [5, 9], [4, 3]),
+    ([(CallKind::Read, 0, 1, false), NEVER], [6, 9], [4, 3]),
+    ([(CallKind::Flush, 7, 0, false), NEVER], [7, 9], [4, 3]),
+    ([(CallKind::Flush, 0, 1, false), NEVER], [8, 9], [4, 3]),
+    ([THIRD_WRITE, THIRD_WRITE], [3, 9], [2, 3]),
+    ([THIRD_WRITE, THIRD_WRITE_WITH_EFFECT], [3, 9], [4, 3]),
+    ([THIRD_WRITE_WITH_EFFECT, THIRD_WRITE], [3, 9], [4, 3]),
+    (
+        [(CallKind::Write, 0, 0, false), THIRD_WRITE],
+        [0, 3],
+        [2, 3],
+    ),
 ];
-
-// All of nine calls succeed, but for the one with this number.
-fn all_but(fails: usize) -> [bool; 9] {
-    let mut ok = [true; 9];
-    if fails < 9 {
-        ok[fails] = false;
-    }
-    ok
-}
-
-// The number of the first row with another outcome, and that outcome.
-fn other_outcome(alloc: Global) -> Result<Option<(usize, Outcome)>, AllocError> {
-    for (row, &(first, second, fails, left)) in ROWS.iter().enumerate() {
-        let outcome = outcome(alloc, &[fault(first), fault(second)])?;
-        if outcome != (all_but(fails), left) {
-            return Ok(Some((row, outcome)));
-        }
-    }
-    Ok(None)
-}
 
 #[test]
 fn planned_faults(rt: HostRuntime) -> Result<(), Fail> {
-    assert_eq!(rt; other_outcome(rt.alloc())?, None);
-    Ok(())
-}
-
-#[test]
-fn two_faults(rt: HostRuntime) -> Result<(), Fail> {
-    let faults = [fault((CallKind::Write, 0, 0, false)), fault(THIRD_WRITE)];
-    let ok = [false, true, true, false, true, true, true, true, true];
-    assert_eq!(rt; outcome(rt.alloc(), &faults)?, (ok, [2, 3]));
+    for (i, &(planned, fail, left)) in ROWS.iter().enumerate() {
+        let mut ok = [true; 9];
+        for number in fail {
+            if number < 9 {
+                ok[number] = false;
+            }
+        }
+        let found = outcome(rt.alloc(), planned)?;
+        assert_eq!(rt; (i, found), (i, (ok, left)));
+    }
     Ok(())
 }
 
@@ -151,21 +136,22 @@ fn call_three(device: &mut MemDisk) -> ([Result<(), Failed>; 3], u8)
     (results, into.bytes[0])
 }
 
-// A call as its letter, its block, the first byte and whether it succeeded.
-fn told(call: &Call) -> (char, u32, u8, bool) {
-    match call {
-        Call::Read { at, bytes, ok } => ('r', at.0, bytes.bytes[0], *ok),
-        Call::Write { at, bytes, ok } => ('w', at.0, bytes.bytes[0], *ok),
-        Call::Flush { ok } => ('f', 0, 0, *ok),
-    }
-}
-
-// The calls of a log, where they are three.
-fn three_calls(calls: &[Call]) -> Option<[(char, u32, u8, bool); 3]> {
-    match calls {
-        [first, second, third] => Some([told(first), told(second), told(third)]),
-        _ => None,
-    }
+// The calls of a log, where they are a read, a write and a flush: the blocks, the first bytes, and whether each succeeded.
+fn three_calls(calls: &[Call]) -> Option<([u32; 2], [u8; 2], [bool; 3])> {
+    let [
+        Call::Read { at, bytes, ok },
+        Call::Write {
+            at: to,
+            bytes: written,
+            ok: is_written,
+        },
+        Call::Flush { ok: is_flushed },
+    ] = calls
+    else {
+        return None;
+    };
+    let first = [bytes.bytes[0], written.bytes[0]];
+    Some(([at.0, to.0], first, [*ok, *is_written, *is_flushed]))
 }
 
 #[test]
@@ -174,9 +160,9 @@ fn a_device(rt: HostRuntime) -> Result<(), Fail> {
     let size = device.blocks();
     let done = call_three(&mut device);
     let calls = three_calls(device.calls());
-    let wanted = [('r', 1, 6, true), ('w', 0, 7, true), ('f', 0, 0, true)];
     let told = (size, done, device.unkept(), calls);
-    assert_eq!(rt; told, (2, ([Ok(()), Ok(()), Ok(())], 6), 0, Some(wanted)));
+    let wanted = Some(([1, 0], [6, 7], [true; 3]));
+    assert_eq!(rt; told, (2, ([Ok(()), Ok(()), Ok(())], 6), 0, wanted));
     Ok(())
 }
 
@@ -229,14 +215,6 @@ fn take_four(source: &mut MemSource) -> ([Result<usize, Failed>; 4], [u8; 2]) {
     (taken, into)
 }
 
-#[test]
-fn a_source(rt: HostRuntime) -> Result<(), Fail> {
-    let mut source = MemSource::new(b"abc".to_vec(rt.alloc())?, Some(1));
-    let taken = take_four(&mut source);
-    assert_eq!(rt; taken, ([Ok(2), Err(Failed), Ok(1), Ok(0)], *b"cb"));
-    Ok(())
-}
-
 // The second put goes past the room of four, and the third puts nothing.
 fn put_three(sink: &mut MemSink) -> [Result<(), Failed>; 3] {
     [
@@ -247,11 +225,14 @@ fn put_three(sink: &mut MemSink) -> [Result<(), Failed>; 3] {
 }
 
 #[test]
-fn a_sink(rt: HostRuntime) -> Result<(), Fail> {
+fn a_source_and_a_sink(rt: HostRuntime) -> Result<(), Fail> {
+    let mut source = MemSource::new(b"abc".to_vec(rt.alloc())?, Some(1));
     let mut sink = MemSink::new(rt.alloc(), 4)?;
+    let taken = take_four(&mut source);
     let put = put_three(&mut sink);
     OpenGate.before(ZoneId::Device, 0);
     let kept = first_other(sink.bytes(), b"abcd".as_slice());
+    assert_eq!(rt; taken, ([Ok(2), Err(Failed), Ok(1), Ok(0)], *b"cb"));
     assert_eq!(rt; (put, kept), ([Ok(()), Err(Failed), Ok(())], None));
     Ok(())
 }

@@ -80,16 +80,6 @@ static MORE_ROWS: [Row; 15] = [
     (511, 1, BadField(Field::Reserved)),
 ];
 
-fn default_block() -> Block {
-    let mut block = Block::zero();
-    write_super(&HEAD, &mut block);
-    block
-}
-
-fn is_zero(bytes: &[u8]) -> bool {
-    bytes.iter().all(|&byte| byte == 0)
-}
-
 fn spelled(head: &Super) -> Block {
     let mut block = Block { bytes: [7; 4096] };
     write_super(head, &mut block);
@@ -100,18 +90,12 @@ fn spelled(head: &Super) -> Block {
 fn first_bytes(block: &Block) -> ([u8; 64], bool) {
     let mut first = [0; 64];
     first.copy_from_slice(&block.bytes[..64]);
-    (first, is_zero(&block.bytes[64..]))
-}
-
-#[test]
-fn written_bytes(rt: HostRuntime) {
-    let written = [first_bytes(&spelled(&HEAD)), first_bytes(&spelled(&OTHER))];
-    assert_eq!(rt; written, [(DEFAULT_BYTES, true), (OTHER_BYTES, true)]);
+    (first, block.bytes[64..].iter().all(|&byte| byte == 0))
 }
 
 type Answer = Result<Super, SuperFault>;
 
-// What is read of the head where the device has one block less than it needs, and enough. The other sectors aren't looked
+// What is read of a superblock where the device has one block less than it needs, and enough. The other sectors aren't looked
 // at.
 fn read_back(head: &Super, one_less: u32, enough: u32) -> [Answer; 3] {
     let block = spelled(head);
@@ -124,9 +108,11 @@ fn read_back(head: &Super, one_less: u32, enough: u32) -> [Answer; 3] {
 }
 
 #[test]
-fn what_is_written_is_read(rt: HostRuntime) {
+fn superblocks_are_written_and_read(rt: HostRuntime) {
+    let written = [first_bytes(&spelled(&HEAD)), first_bytes(&spelled(&OTHER))];
     let read = [read_back(&HEAD, 153, 154), read_back(&OTHER, 66778, 66779)];
     let too_small = Err(BadField(Field::Blocks));
+    assert_eq!(rt; written, [(DEFAULT_BYTES, true), (OTHER_BYTES, true)]);
     assert_eq!(rt;
         read,
         [
@@ -136,21 +122,16 @@ fn what_is_written_is_read(rt: HostRuntime) {
     );
 }
 
-// What the default superblock with two bytes changed is answered with, with a block less and with enough.
-fn answers(one: &Row, other: &Row) -> [Answer; 2] {
-    let block = with_byte(with_byte(default_block(), one.0, one.1), other.0, other.1);
-    [read_super(&block, 153), read_super(&block, 154)]
-}
-
-// The first row beside which the first of these isn't named, and the answers.
-fn unnamed_beside(rows: &[Row]) -> Option<(Row, [Answer; 2])> {
-    let [one, ..] = rows else {
-        return None;
-    };
-    for other in rows {
-        let answers = answers(one, other);
-        if answers != [Err(one.2); 2] {
-            return Some((*other, answers));
+// The first two rows, of which the second isn't before the first, that aren't answered as the first is, with a block less and
+// with enough.
+fn unnamed(firsts: &[Row], others: &[Row]) -> Option<(Row, Row, [Answer; 2])> {
+    for (i, one) in firsts.iter().enumerate() {
+        for other in others.iter().skip(i) {
+            let block = with_byte(with_byte(spelled(&HEAD), one.0, one.1), other.0, other.1);
+            let answers = [read_super(&block, 153), read_super(&block, 154)];
+            if answers != [Err(one.2); 2] {
+                return Some((*one, *other, answers));
+            }
         }
     }
     None
@@ -158,37 +139,10 @@ fn unnamed_beside(rows: &[Row]) -> Option<(Row, [Answer; 2])> {
 
 #[test]
 fn the_first_fault_is_named(rt: HostRuntime) {
-    let mut unnamed = [None; 14];
-    for first in 0..14_usize {
-        unnamed[first] = unnamed_beside(&FIRST_ROWS[first..]);
-    }
-    assert_eq!(rt; unnamed, [None; 14]);
-}
-
-// The fault with which the default superblock with another byte is refused.
-fn fault_of(at: usize, byte: u8) -> Option<SuperFault> {
-    read_super(&with_byte(default_block(), at, byte), 154).err()
-}
-
-#[test]
-fn more_faults_are_named(rt: HostRuntime) {
-    let mut found = [(0, 0, None); 15];
-    let mut wanted = found;
-    for (i, &(at, byte, fault)) in MORE_ROWS.iter().enumerate() {
-        found[i] = (at, byte, fault_of(at, byte));
-        wanted[i] = (at, byte, Some(fault));
-    }
-    assert_eq!(rt; found, wanted);
-}
-
-fn sized(height: u32, logical: u32) -> Super {
-    Super {
-        geometry: Geometry {
-            logical,
-            height,
-            ..Geometry::DEFAULT
-        },
-        ..HEAD
+    assert_eq!(rt; unnamed(&FIRST_ROWS, &FIRST_ROWS), None);
+    for (at, byte, fault) in MORE_ROWS {
+        let found = read_super(&with_byte(spelled(&HEAD), at, byte), 154);
+        assert_eq!(rt; (at, byte, found), (at, byte, Err(fault)));
     }
 }
 
@@ -206,23 +160,24 @@ static LOGICAL_ROWS: [LogicalRow; 8] = [
     (3, 4_000_000_001, false),
 ];
 
-fn answer_of(height: u32, logical: u32) -> Answer {
-    read_super(&spelled(&sized(height, logical)), 154)
-}
-
 #[test]
 fn logical_limits(rt: HostRuntime) {
-    let mut found = [Err(NotAnImage); 8];
-    let mut wanted = found;
-    for (i, &(height, logical, accepted)) in LOGICAL_ROWS.iter().enumerate() {
-        found[i] = answer_of(height, logical);
-        wanted[i] = if accepted {
-            Ok(sized(height, logical))
+    for (height, logical, accepted) in LOGICAL_ROWS {
+        let head = Super {
+            geometry: Geometry {
+                logical,
+                height,
+                ..Geometry::DEFAULT
+            },
+            ..HEAD
+        };
+        let wanted = if accepted {
+            Ok(head)
         } else {
             Err(BadField(Field::Logical))
         };
+        assert_eq!(rt; read_super(&spelled(&head), 154), wanted);
     }
-    assert_eq!(rt; found, wanted);
 }
 
 fn remap(at: u32, block: u32) -> Entry {
@@ -231,10 +186,6 @@ fn remap(at: u32, block: u32) -> Entry {
         old: Mapping::Unmapped,
         new: Mapping::At(Pbn(block)),
     }
-}
-
-fn some_entries() -> [Entry; 4] {
-    [remap(3, 1), remap(4, 2), remap(3, 2), remap(5, 9)]
 }
 
 // Where addresses 3 to 6 are mapped.
@@ -249,7 +200,7 @@ fn mappings_at(entries: &[Entry]) -> [Mapping; 4] {
 
 #[test]
 fn mappings(rt: HostRuntime) {
-    let entries = some_entries();
+    let entries = [remap(3, 1), remap(4, 2), remap(3, 2), remap(5, 9)];
     let one = Mapping::At(Pbn(1));
     let two = Mapping::At(Pbn(2));
     let nine = Mapping::At(Pbn(9));
@@ -273,31 +224,18 @@ static FIELD_NAMES: [(Field, &str); 12] = [
     (Field::Blocks, "blocks"),
 ];
 
-// The first field with another name, and that name.
-fn other_name(rows: &[(Field, &str)]) -> Option<(Field, &'static str)> {
-    for &(field, name) in rows {
-        if field.name() != name {
-            return Some((field, field.name()));
-        }
-    }
-    None
-}
-
-// The names are those of `field_name`.
-#[test]
-fn names_of_fields(rt: HostRuntime) {
-    assert_eq!(rt; other_name(&FIELD_NAMES), None);
-    assert_eq!(rt; not_shown(rt.alloc(), &FIELD_NAMES), None);
-}
-
 static SUPER_TEXTS: [(SuperFault, &str); 3] = [
     (NotAnImage, "not an image"),
     (Version(7), "version 7"),
     (BadField(Field::Journal), "field journal"),
 ];
 
-// The texts are those of `super_fault_text`.
+// Those of fields and of faults.
 #[test]
-fn texts_of_faults(rt: HostRuntime) {
+fn names_and_texts(rt: HostRuntime) {
+    for &(field, name) in &FIELD_NAMES {
+        assert_eq!(rt; field.name(), name);
+    }
+    assert_eq!(rt; not_shown(rt.alloc(), &FIELD_NAMES), None);
     assert_eq!(rt; not_shown(rt.alloc(), &SUPER_TEXTS), None);
 }

@@ -5,7 +5,13 @@ use test_images::{Spelling, difference, with_added};
 // The spellings of these tests were computed by tools/journal.py.
 const NONCE: u64 = 0x1122_3344_5566_7788;
 
-fn spelled(nonce: u64, sequence: u64, head: u64, entries: Entries<JOURNAL_ENTRIES>) -> Block {
+fn spelled(nonce: u64, sequence: u64, head: u64, all: &[Entry]) -> Block {
+    let mut entries = Entries::new();
+    for &entry in all {
+        if !entries.is_full() {
+            entries.push(entry);
+        }
+    }
     let block = JournalBlock {
         nonce,
         sequence,
@@ -16,12 +22,6 @@ fn spelled(nonce: u64, sequence: u64, head: u64, entries: Entries<JOURNAL_ENTRIE
     into.bytes[4000] = 7;
     encode(&block, &mut into);
     into
-}
-
-fn add(entries: &mut Entries<JOURNAL_ENTRIES>, entry: Entry) {
-    if !entries.is_full() {
-        entries.push(entry);
-    }
 }
 
 // Entry k of the block of 30.
@@ -41,22 +41,17 @@ fn remap(k: u32) -> Entry {
     }
 }
 
-fn first_entries(count: u32) -> Entries<JOURNAL_ENTRIES> {
-    let mut entries = Entries::new();
-    for k in 0..count {
-        add(&mut entries, remap(k));
+// A block with so many of these entries.
+fn of_many(sequence: u64, head: u64, count: usize) -> Block {
+    let mut entries = [remap(0); JOURNAL_ENTRIES];
+    for k in 0..192_u32 {
+        entries[k as usize] = remap(k);
     }
-    entries
+    spelled(NONCE, sequence, head, &entries[..count.min(192)])
 }
 
-fn first(count: u32) -> Block {
-    spelled(NONCE, 1547, 1547, first_entries(count))
-}
-
-fn of_one(entry: Entry) -> Block {
-    let mut entries = Entries::new();
-    entries.push(entry);
-    spelled(NONCE, 1547, 1547, entries)
+fn first(count: usize) -> Block {
+    of_many(1547, 1547, count)
 }
 
 // The block with sector 1 of another.
@@ -83,22 +78,6 @@ const ONE_ENTRY: Spelling = Spelling {
     ],
 };
 
-fn one_entry() -> Entries<JOURNAL_ENTRIES> {
-    let mut entries = Entries::new();
-    entries.push(Entry::Remap {
-        at: Lba(5),
-        old: Mapping::Unmapped,
-        new: Mapping::At(Pbn(86)),
-    });
-    entries
-}
-
-#[test]
-fn a_block_of_one_entry(rt: HostRuntime) {
-    let block = spelled(NONCE, 1547, 1540, one_entry());
-    assert_eq!(rt; difference(&block, &ONE_ENTRY), None);
-}
-
 const THIRTY_ENTRIES: Spelling = Spelling {
     weight: 16_224_433,
     parts: &[
@@ -122,11 +101,6 @@ const THIRTY_ENTRIES: Spelling = Spelling {
     ],
 };
 
-#[test]
-fn a_block_of_thirty_entries(rt: HostRuntime) {
-    assert_eq!(rt; difference(&first(30), &THIRTY_ENTRIES), None);
-}
-
 // The head, the entry of a new page, and another entry.
 const GREATEST_NUMBERS: Spelling = Spelling {
     weight: 28_397_922,
@@ -146,112 +120,93 @@ const GREATEST_NUMBERS: Spelling = Spelling {
     ],
 };
 
-fn greatest_entries() -> Entries<JOURNAL_ENTRIES> {
-    let mut entries = Entries::new();
-    entries.push(Entry::NewPage {
+static GREATEST: [Entry; 2] = [
+    Entry::NewPage {
         page: PageId {
             tree: 59,
             level: 2,
             index: 0x0a0b_0c0d,
         },
         at: Pbn(0x0102_0304),
-    });
-    entries.push(Entry::Remap {
+    },
+    Entry::Remap {
         at: Lba(u32::MAX),
         old: Mapping::At(Pbn(u32::MAX)),
         new: Mapping::Zero,
-    });
-    entries
-}
+    },
+];
 
+// One entry, thirty, and a new page with the greatest numbers.
 #[test]
-fn a_new_page_and_the_greatest_numbers(rt: HostRuntime) {
-    let block = spelled(1, 0x7f_ffff_ffff_ffff, 1, greatest_entries());
-    assert_eq!(rt; difference(&block, &GREATEST_NUMBERS), None);
+fn blocks_are_spelled(rt: HostRuntime) {
+    let entry = Entry::Remap {
+        at: Lba(5),
+        old: Mapping::Unmapped,
+        new: Mapping::At(Pbn(86)),
+    };
+    let greatest = spelled(1, 0x7f_ffff_ffff_ffff, 1, &GREATEST);
+    let found = [
+        difference(&spelled(NONCE, 1547, 1540, &[entry]), &ONE_ENTRY),
+        difference(&first(30), &THIRTY_ENTRIES),
+        difference(&greatest, &GREATEST_NUMBERS),
+    ];
+    assert_eq!(rt; found, [None; 3]);
 }
 
-// How many of the entries, from the first on, are those of the block of 30.
-fn count_alike(entries: &[Entry]) -> u32 {
-    let mut count = 0;
-    for &entry in entries {
-        if entry != remap(count) {
-            return count;
+// A block's sequence and head, how many entries its prefix has, how many of them are those of the block of 30, and whether it
+// is whole.
+type Prefix = Option<((u64, u64), usize, usize, bool)>;
+
+fn prefix_of(block: &Block, nonce: u64) -> Prefix {
+    let prefix = block_prefix(block, nonce)?;
+    let entries = prefix.entries.as_slice();
+    let mut alike = 0;
+    for (k, &entry) in entries.iter().enumerate() {
+        if entry != remap(k as u32) {
+            break;
         }
-        count = count.wrapping_add(1);
+        alike = k.wrapping_add(1);
     }
-    count
+    let numbers = (prefix.sequence, prefix.head);
+    Some((numbers, entries.len(), alike, prefix.whole))
 }
 
-// How many entries a block's prefix has, how many of them are those of the block of 30, and whether it is whole.
-type Prefix = Option<(usize, u32, bool)>;
-
-fn prefix_of(block: &Block) -> Prefix {
-    let prefix = block_prefix(block, NONCE)?;
-    Some((
-        prefix.entries.len(),
-        count_alike(prefix.entries.as_slice()),
-        prefix.whole,
-    ))
-}
-
-// The sequence and the head of the block of 30 entries, as they are read.
-fn numbers_read(nonce: u64) -> Option<(u64, u64)> {
-    match block_prefix(&first(30), nonce) {
-        Some(prefix) => Some((prefix.sequence, prefix.head)),
-        None => None,
-    }
-}
-
-#[test]
-fn a_whole_block_is_read_back(rt: HostRuntime) {
-    let numbers = [numbers_read(NONCE), numbers_read(NONCE - 1)];
-    let prefixes = [prefix_of(&first(30)), prefix_of(&first(192))];
-    let whole = [Some((30, 30, true)), Some((192, 192, true))];
-    assert_eq!(rt; (numbers, prefixes), ([Some((1547, 1547)), None], whole));
-}
-
-// The prefix where sector 0 of the block of 30 alone reached the device over another block.
+// Where sector 0 of the block of 30 alone reached the device over another block.
 fn prefix_over(old: &Block) -> Prefix {
     let mut block = first(30);
     block.bytes[512..].copy_from_slice(&old.bytes[512..]);
-    prefix_of(&block)
+    prefix_of(&block, NONCE)
 }
 
-fn older() -> Block {
-    spelled(NONCE, 1539, 1531, first_entries(192))
-}
-
+// A prefix ends before a sector that is older, behind one that isn't full, or has another head.
 #[test]
-fn only_sector_0_reached_the_device(rt: HostRuntime) {
-    let prefixes = [prefix_over(&Block::zero()), prefix_over(&older())];
-    assert_eq!(rt; prefixes, [Some((24, 24, false)); 2]);
-}
-
-// Whether the block has a sector 1, and its prefix.
-fn sector_1_and_prefix(block: &Block) -> (bool, Prefix) {
-    (sector(block, 1, NONCE).is_some(), prefix_of(block))
-}
-
-// A sector with entries behind one that isn't full.
-fn of_six() -> Block {
-    with_sector_1(first(6), &first(30))
-}
-
-// A sector with another head.
-fn of_another_head() -> Block {
-    let other = spelled(NONCE, 1547, 1546, first_entries(30));
-    with_sector_1(first(30), &other)
-}
-
-// Neither of these sectors is the prefix's.
-#[test]
-fn a_prefix_ends(rt: HostRuntime) {
-    let found = [
-        sector_1_and_prefix(&of_six()),
-        sector_1_and_prefix(&of_another_head()),
+fn blocks_are_read_back(rt: HostRuntime) {
+    let of_six = with_sector_1(first(6), &first(30));
+    let of_another_head = with_sector_1(first(30), &of_many(1547, 1546, 30));
+    let sectors = [
+        sector(&of_six, 1, NONCE).is_some(),
+        sector(&of_another_head, 1, NONCE).is_some(),
     ];
-    let wanted = [(true, Some((6, 6, false))), (true, Some((24, 24, false)))];
-    assert_eq!(rt; found, wanted);
+    let prefixes = [
+        prefix_of(&first(30), NONCE),
+        prefix_of(&first(192), NONCE),
+        prefix_of(&first(30), NONCE - 1),
+        prefix_over(&Block::zero()),
+        prefix_over(&of_many(1539, 1531, 192)),
+        prefix_of(&of_six, NONCE),
+        prefix_of(&of_another_head, NONCE),
+    ];
+    let numbers = (1547, 1547);
+    let wanted = [
+        Some((numbers, 30, 30, true)),
+        Some((numbers, 192, 192, true)),
+        None,
+        Some((numbers, 24, 24, false)),
+        Some((numbers, 24, 24, false)),
+        Some((numbers, 6, 6, false)),
+        Some((numbers, 24, 24, false)),
+    ];
+    assert_eq!(rt; (sectors, prefixes), ([true; 2], wanted));
 }
 
 // A byte of sector 1, what is added to it, and whether the sector is still valid. The sector has the six entries from 24
@@ -287,56 +242,32 @@ static FIELD_ROWS: [FieldRow; 26] = [
     (511, 1, false), // the last byte
 ];
 
-fn is_valid_with(at: usize, add: u8) -> bool {
-    let block = with_added(first(30), 512 + at % 512, add);
-    sector(&block, 1, NONCE).is_some()
-}
-
-// The rows with what is found of their sectors.
-fn looked_at(mut rows: [FieldRow; 26]) -> [FieldRow; 26] {
-    for (at, add, valid) in rows.iter_mut() {
-        *valid = is_valid_with(*at, *add);
-    }
-    rows
-}
-
 #[test]
 fn each_field_is_looked_at(rt: HostRuntime) {
-    assert_eq!(rt; looked_at(FIELD_ROWS), FIELD_ROWS);
+    for (at, add, valid) in FIELD_ROWS {
+        let block = with_added(first(30), 512 + at % 512, add);
+        let found = sector(&block, 1, NONCE).is_some();
+        assert_eq!(rt; (at, add, found), (at, add, valid));
+    }
 }
 
-fn of_sequence_0() -> Block {
-    spelled(NONCE, 0, 0, Entries::new())
+// How many entries sector 0 of a block of one entry has, and that entry.
+fn read_one(entry: Entry) -> Option<(usize, Option<Entry>)> {
+    let found = sector(&spelled(NONCE, 1547, 1547, &[entry]), 0, NONCE)?;
+    let entries = found.entries.as_slice();
+    Some((entries.len(), entries.first().copied()))
 }
 
-// There is no sector behind the block, and none of sequence 0.
-#[test]
-fn other_sectors(rt: HostRuntime) {
-    let found = [
-        sector(&first(30), 8, NONCE).is_some(),
-        sector(&of_sequence_0(), 0, NONCE).is_some(),
-    ];
-    assert_eq!(rt; found, [false; 2]);
-}
-
-// Whether an entry of a new page of this tree, at this block, is read.
-fn is_an_entry(tree: u8, block: u32) -> bool {
-    let page = PageId {
-        tree,
-        level: 255,
-        index: u32::MAX,
-    };
-    let spelled = of_one(Entry::NewPage {
-        page,
+// A new page of this tree, at this block.
+fn new_page(tree: u8, block: u32) -> Entry {
+    Entry::NewPage {
+        page: PageId {
+            tree,
+            level: 255,
+            index: u32::MAX,
+        },
         at: Pbn(block),
-    });
-    sector(&spelled, 0, NONCE).is_some()
-}
-
-#[test]
-fn what_no_entry_says(rt: HostRuntime) {
-    let said = [is_an_entry(59, 1), is_an_entry(60, 1), is_an_entry(59, 0)];
-    assert_eq!(rt; said, [true, false, false]);
+    }
 }
 
 fn remap_7(old: Mapping) -> Entry {
@@ -347,18 +278,25 @@ fn remap_7(old: Mapping) -> Entry {
     }
 }
 
-// How many entries sector 0 has, and the first.
-fn read_back(block: &Block) -> Option<(usize, Option<Entry>)> {
-    let found = sector(block, 0, NONCE)?;
-    let entries = found.entries.as_slice();
-    Some((entries.len(), entries.first().copied()))
-}
-
+// There is no sector behind the block, and none of sequence 0; no entry of a tree that isn't there, and none at block 0. A
+// mapping to block 0 is read as zeros.
 #[test]
-fn a_mapping_to_block_0_is_read_as_zeros(rt: HostRuntime) {
-    let nowhere = of_one(remap_7(Mapping::At(Pbn(0))));
-    assert_eq!(rt;
-        read_back(&nowhere),
-        Some((1, Some(remap_7(Mapping::Zero))))
-    );
+fn what_no_block_says(rt: HostRuntime) {
+    let others = [
+        sector(&first(30), 8, NONCE).is_some(),
+        sector(&spelled(NONCE, 0, 0, &[]), 0, NONCE).is_some(),
+    ];
+    let read = [
+        read_one(new_page(59, 1)),
+        read_one(new_page(60, 1)),
+        read_one(new_page(59, 0)),
+        read_one(remap_7(Mapping::At(Pbn(0)))),
+    ];
+    let wanted = [
+        Some((1, Some(new_page(59, 1)))),
+        None,
+        None,
+        Some((1, Some(remap_7(Mapping::Zero)))),
+    ];
+    assert_eq!(rt; (others, read), ([false; 2], wanted));
 }

@@ -57,29 +57,11 @@ fn spelled(head: PageHead, mappings: Mappings) -> Block {
     into
 }
 
-fn leaf() -> Block {
-    spelled(LEAF, all_mappings())
-}
-
-fn with_sector_0(mut block: Block, other: &Block) -> Block {
-    block.bytes[0..512].copy_from_slice(&other.bytes[0..512]);
-    block
-}
-
-fn blank() -> MapPage {
-    MapPage {
-        head: ROOT,
-        mappings: all_mappings(),
-    }
-}
-
 // How many slots are mapped.
 fn count_mapped(mappings: &Mappings) -> usize {
     let mut count: usize = 0;
     for mapping in mappings.as_slice() {
-        if *mapping != Mapping::Unmapped {
-            count = count.saturating_add(1);
-        }
+        count = count.saturating_add(usize::from(*mapping != Mapping::Unmapped));
     }
     count
 }
@@ -100,11 +82,6 @@ const LEAF_BYTES: Spelling = Spelling {
     ],
 };
 
-#[test]
-fn a_page_is_spelled(rt: HostRuntime) {
-    assert_eq!(rt; difference(&leaf(), &LEAF_BYTES), None);
-}
-
 // What a slot is read as.
 type Slot = Result<Mapping, PageFault>;
 
@@ -112,188 +89,33 @@ fn slot_of(block: &Block, number: u16) -> Slot {
     slot(block, &LEAF, number % 812)
 }
 
-// The first slot that isn't what was put into it, and what it is.
-fn other_mapping(mappings: &Mappings) -> Option<(u16, Mapping)> {
+// The first slot that isn't what was put into it, among mappings and in a block.
+fn other_slot(mappings: &Mappings, block: &Block) -> Option<(u16, Mapping, Slot)> {
     for k in 0..812 {
-        let found = mappings.get(k);
-        if found != mapping(k) {
-            return Some((k, found));
+        let found = (mappings.get(k), slot_of(block, k));
+        if found != (mapping(k), Ok(mapping(k))) {
+            return Some((k, found.0, found.1));
         }
     }
     None
 }
 
-// The first slot that isn't read as what was put into it, and what it is read as.
-fn other_slot(block: &Block) -> Option<(u16, Slot)> {
-    for k in 0..812 {
-        let found = slot_of(block, k);
-        if found != Ok(mapping(k)) {
-            return Some((k, found));
-        }
-    }
-    None
-}
-
-// How a block is read as a leaf over an empty root: the answer, the head, and the first slot that is another.
-fn read_back(block: &Block) -> (Result<(), PageFault>, PageHead, Option<(u16, Mapping)>) {
+// A leaf is written and read back, whole and slot by slot.
+#[test]
+fn a_page_is_spelled_and_read_back(rt: HostRuntime) {
+    let block = spelled(LEAF, all_mappings());
     let mut into = MapPage {
         head: ROOT,
         mappings: Mappings::new(),
     };
-    let answer = decode(block, &LEAF, &mut into);
-    (answer, into.head, other_mapping(&into.mappings))
-}
-
-#[test]
-fn a_page_is_read_back(rt: HostRuntime) {
-    assert_eq!(rt; read_back(&leaf()), (Ok(()), LEAF, None));
-}
-
-// A root without mappings, written over a leaf: whether it is what `encode` writes, how it is read over a full page, and how
-// many slots that has then.
-fn root_without_mappings() -> (bool, Result<(), PageFault>, usize) {
-    let mut block = leaf();
-    encode_unmapped(&ROOT, &mut block);
-    let is_same = block.bytes == spelled(ROOT, Mappings::new()).bytes;
-    let mut into = all_mappings();
-    let answer = decode_mappings(&block, &ROOT, &mut into);
-    (is_same, answer, count_mapped(&into))
-}
-
-#[test]
-fn a_page_without_mappings_is_written_and_read(rt: HostRuntime) {
-    assert_eq!(rt; root_without_mappings(), (true, Ok(()), 0));
-}
-
-fn copied(mappings: &Mappings) -> Mappings {
+    let answer = decode(&block, &LEAF, &mut into);
     let mut copy = Mappings::new();
-    copy.copy_from(mappings);
-    copy
-}
-
-#[test]
-fn slots_are_read_back(rt: HostRuntime) {
-    let copy = other_mapping(&copied(&all_mappings()));
-    assert_eq!(rt; (copy, other_slot(&leaf())), (None, None));
-}
-
-// The answer to a block that is read as a leaf over a full root, and how many slots are left.
-type Refusal = (Result<(), PageFault>, usize);
-
-fn refusal_and_head(block: &Block) -> (Refusal, PageHead) {
-    let mut into = blank();
-    let answer = decode(block, &LEAF, &mut into);
-    ((answer, count_mapped(&into.mappings)), into.head)
-}
-
-fn refusal(block: &Block) -> Refusal {
-    refusal_and_head(block).0
-}
-
-static HEAD_PLACES: [usize; 14] = [0, 3, 4, 11, 12, 19, 20, 21, 22, 23, 24, 27, 28, 35];
-
-// How the leaf with another byte in its head is refused, though its first slot has a fault too; and its last slot.
-fn another_page(at: usize) -> (Refusal, Slot) {
-    let block = with_added(with_byte(leaf(), 36, 2), at, 1);
-    (refusal(&block), slot_of(&block, 811))
-}
-
-#[test]
-fn another_head(rt: HostRuntime) {
-    let mut found = [((Ok(()), 0), Err(Header)); 14];
-    for (i, &at) in HEAD_PLACES.iter().enumerate() {
-        found[i] = another_page(at);
-    }
-    assert_eq!(rt; found, [((Err(Header), 0), Err(Header)); 14]);
-}
-
-// A byte of the leaf that is changed, the slot that it is of, and the fault. Slots 0 and 405 lead to blocks, and slot 811
-// to zeros.
-static SLOT_ROWS: [(usize, u8, u16, PageFault); 14] = [
-    (36, 2, 0, Compressed(0)),
-    (36, 0x12, 0, Compressed(0)),
-    (36, 0, 0, OutOfRange(0)), // unmapped, with a block
-    (36, 0x11, 0, OutOfRange(0)), // bit 32 of the block
-    (36, 0x81, 0, OutOfRange(0)), // bit 35 of the block
-    (37, 84, 0, OutOfRange(0)), // a block of the index
-    (37, 149, 0, OutOfRange(0)), // a reference block
-    (40, 1, 0, OutOfRange(0)), // past the device
-    (2061, 15, 405, Compressed(405)),
-    (2061, 0x21, 405, OutOfRange(405)),
-    (2062, 154, 405, OutOfRange(405)), // just past the device
-    (4091, 3, 811, Compressed(811)),
-    (4091, 0x10, 811, OutOfRange(811)),
-    (4095, 1, 811, OutOfRange(811)),
-];
-
-// How a block is refused, of which the head alone is read then; the slot at fault; and another slot.
-type Refused = ((Refusal, PageHead), [Slot; 2]);
-
-fn refused(block: &Block, number: u16) -> Refused {
-    let slots = [slot_of(block, number), slot_of(block, 406)];
-    (refusal_and_head(block), slots)
-}
-
-// The first row that is refused otherwise, by its byte, and how.
-fn other_refusal(rows: &[(usize, u8, u16, PageFault)]) -> Option<(usize, u8, Refused)> {
-    for &(at, byte, number, fault) in rows {
-        let found = refused(&with_byte(leaf(), at, byte), number);
-        let wanted = (((Err(fault), 0), LEAF), [Err(fault), Ok(Mapping::Zero)]);
-        if found != wanted {
-            return Some((at, byte, found));
-        }
-    }
-    None
-}
-
-#[test]
-fn a_fault_of_one_slot(rt: HostRuntime) {
-    assert_eq!(rt; other_refusal(&SLOT_ROWS), None);
-}
-
-// The first bytes of slots 3 and 7, and the fault.
-static TWO_SLOT_ROWS: [(u8, u8, PageFault); 3] = [
-    (2, 0x10, Compressed(3)),
-    (0x10, 2, OutOfRange(3)),
-    (0x10, 0x10, OutOfRange(3)),
-];
-
-// How the leaf with these bytes is refused, whether slot 7 is at fault too, and slot 5, which isn't.
-type OfTwo = (Refusal, bool, Slot);
-
-fn refusal_of_two(third: u8, seventh: u8) -> OfTwo {
-    let block = with_byte(with_byte(leaf(), 51, third), 71, seventh);
-    (
-        refusal(&block),
-        slot_of(&block, 7).is_err(),
-        slot_of(&block, 5),
-    )
-}
-
-#[test]
-fn the_least_slot_is_named(rt: HostRuntime) {
-    let mut found = [((Ok(()), 0), false, Err(Header)); 3];
-    let mut wanted = found;
-    for (i, &(third, seventh, fault)) in TWO_SLOT_ROWS.iter().enumerate() {
-        found[i] = refusal_of_two(third, seventh);
-        wanted[i] = ((Err(fault), 0), true, Ok(mapping(5)));
-    }
-    assert_eq!(rt; found, wanted);
-}
-
-// How a block is read as a root, and the slot of it that is read by itself.
-fn root_and_slot(block: &Block, number: u16) -> (Result<(), PageFault>, Slot) {
-    let mut into = blank();
-    (
-        decode(block, &ROOT, &mut into),
-        slot(block, &ROOT, number % 812),
-    )
-}
-
-#[test]
-fn no_zeros_in_a_root(rt: HostRuntime) {
-    let read = root_and_slot(&spelled(ROOT, all_mappings()), 0);
-    assert_eq!(rt; read, (Err(OutOfRange(1)), Ok(Mapping::At(Pbn(86)))));
+    copy.copy_from(&into.mappings);
+    assert_eq!(rt; difference(&block, &LEAF_BYTES), None);
+    assert_eq!(rt;
+        (answer, into.head, other_slot(&copy, &block)),
+        (Ok(()), LEAF, None)
+    );
 }
 
 // A root whose last slot alone leads to a block.
@@ -303,44 +125,126 @@ fn root_with_link() -> Block {
     spelled(ROOT, mappings)
 }
 
-// Slots 811 and 0 of a root, and whether it was read whole.
-fn read_links(block: &Block) -> ([Mapping; 2], bool) {
-    let mut into = blank();
-    let whole = decode(block, &ROOT, &mut into).is_ok();
-    ([into.mappings.get(811), into.mappings.get(0)], whole)
+// How a block is read as a root over a full page: the answer, how many slots are mapped, and the last slot.
+fn read_root(block: &Block) -> (Result<(), PageFault>, usize, Mapping) {
+    let mut into = MapPage {
+        head: LEAF,
+        mappings: all_mappings(),
+    };
+    let answer = decode(block, &ROOT, &mut into);
+    let mapped = count_mapped(&into.mappings);
+    (answer, mapped, into.mappings.get(811))
 }
 
+// A root without mappings, written over a leaf, is what `encode` writes. A root has no zeros.
 #[test]
-fn links_of_a_root(rt: HostRuntime) {
-    let links = [Mapping::At(Pbn(148)), Mapping::Unmapped];
-    assert_eq!(rt; read_links(&root_with_link()), (links, true));
+fn roots_are_written_and_read(rt: HostRuntime) {
+    let mut block = spelled(LEAF, all_mappings());
+    encode_unmapped(&ROOT, &mut block);
+    let is_same = block.bytes == spelled(ROOT, Mappings::new()).bytes;
+    let mut into = all_mappings();
+    let emptied = (
+        decode_mappings(&block, &ROOT, &mut into),
+        count_mapped(&into),
+    );
+    let full = spelled(ROOT, all_mappings());
+    let read = [
+        read_root(&block),
+        read_root(&root_with_link()),
+        read_root(&full),
+    ];
+    let none = Mapping::Unmapped;
+    let last = Mapping::At(Pbn(148));
+    let wanted = [
+        (Ok(()), 0, none),
+        (Ok(()), 1, last),
+        (Err(OutOfRange(1)), 0, none),
+    ];
+    assert_eq!(rt; (is_same, emptied), (true, (Ok(()), 0)));
+    assert_eq!(rt;
+        (read, slot(&full, &ROOT, 0)),
+        (wanted, Ok(Mapping::At(Pbn(86))))
+    );
 }
 
-// A slot, and what it is read as where sector 0 is from an empty page, and the others aren't.
-type TornRow = (u16, Slot);
+// The answer to a block that is read as a leaf over a full root, how many slots are left, and the head; a slot, and slot 406.
+type Refused = (Result<(), PageFault>, usize, PageHead, [Slot; 2]);
 
-static TORN_ROWS: [TornRow; 4] = [
-    (90, Ok(Mapping::Unmapped)),
-    (95, Err(OutOfRange(95))),
-    (96, Ok(Mapping::Zero)),
-    (405, Ok(Mapping::At(Pbn(119)))),
+fn refused(block: &Block, number: u16) -> Refused {
+    let mut into = MapPage {
+        head: ROOT,
+        mappings: all_mappings(),
+    };
+    let answer = decode(block, &LEAF, &mut into);
+    let slots = [slot_of(block, number), slot_of(block, 406)];
+    (answer, count_mapped(&into.mappings), into.head, slots)
+}
+
+static HEAD_PLACES: [usize; 14] = [0, 3, 4, 11, 12, 19, 20, 21, 22, 23, 24, 27, 28, 35];
+
+// Where a byte of the head is another, no slot is read, though the first one has a fault too.
+#[test]
+fn another_head(rt: HostRuntime) {
+    let wanted = (Err(Header), 0, LEAF, [Err(Header); 2]);
+    for at in HEAD_PLACES {
+        let block = with_added(with_byte(spelled(LEAF, all_mappings()), 36, 2), at, 1);
+        assert_eq!(rt; (at, refused(&block, 0)), (at, wanted));
+    }
+}
+
+// Two bytes of the leaf that are changed, the least slot at fault, and its fault. Slots 0, 3, 7 and 405 lead to blocks or
+// nowhere, and slot 811 to zeros. The head alone is read then, and no other slot is at fault.
+static SLOT_ROWS: [([(usize, u8); 2], u16, PageFault); 19] = [
+    ([(36, 2), (36, 2)], 0, Compressed(0)),
+    ([(36, 0x12), (36, 0x12)], 0, Compressed(0)),
+    ([(36, 0), (36, 0)], 0, OutOfRange(0)), // unmapped, with a block
+    ([(36, 0x11), (36, 0x11)], 0, OutOfRange(0)), // bit 32 of the block
+    ([(36, 0x81), (36, 0x81)], 0, OutOfRange(0)), // bit 35 of the block
+    ([(37, 84), (37, 84)], 0, OutOfRange(0)), // a block of the index
+    ([(37, 149), (37, 149)], 0, OutOfRange(0)), // a reference block
+    ([(40, 1), (40, 1)], 0, OutOfRange(0)), // past the device
+    ([(2061, 15), (2061, 15)], 405, Compressed(405)),
+    ([(2061, 0x21), (2061, 0x21)], 405, OutOfRange(405)),
+    ([(2062, 154), (2062, 154)], 405, OutOfRange(405)), // just past the device
+    ([(4091, 3), (4091, 3)], 811, Compressed(811)),
+    ([(4091, 0x10), (4091, 0x10)], 811, OutOfRange(811)),
+    ([(4095, 1), (4095, 1)], 811, OutOfRange(811)),
+    ([(71, 2), (71, 2)], 7, Compressed(7)),
+    ([(71, 0x10), (71, 0x10)], 7, OutOfRange(7)),
+    ([(51, 2), (71, 0x10)], 3, Compressed(3)),
+    ([(51, 0x10), (71, 2)], 3, OutOfRange(3)),
+    ([(51, 0x10), (71, 0x10)], 3, OutOfRange(3)),
 ];
 
-fn torn_leaf() -> Block {
-    with_sector_0(leaf(), &spelled(LEAF, Mappings::new()))
-}
-
-// The rows with what their slots are read as.
-fn read_torn(mut rows: [TornRow; 4]) -> [TornRow; 4] {
-    for (number, answer) in rows.iter_mut() {
-        *answer = slot_of(&torn_leaf(), *number);
+#[test]
+fn the_least_slot_at_fault_is_named(rt: HostRuntime) {
+    for (i, &([one, other], number, fault)) in SLOT_ROWS.iter().enumerate() {
+        let changed = with_byte(spelled(LEAF, all_mappings()), one.0, one.1);
+        let found = refused(&with_byte(changed, other.0, other.1), number);
+        let wanted = (Err(fault), 0, LEAF, [Err(fault), Ok(Mapping::Zero)]);
+        assert_eq!(rt; (i, found), (i, wanted));
     }
-    rows
 }
 
+// Slots of a leaf whose sector 0 is from an empty page, and the others aren't.
 #[test]
 fn a_torn_page(rt: HostRuntime) {
-    assert_eq!(rt; read_torn(TORN_ROWS), TORN_ROWS);
+    let mut torn = spelled(LEAF, all_mappings());
+    let empty = spelled(LEAF, Mappings::new());
+    torn.bytes[0..512].copy_from_slice(&empty.bytes[0..512]);
+    let slots = [
+        slot_of(&torn, 90),
+        slot_of(&torn, 95),
+        slot_of(&torn, 96),
+        slot_of(&torn, 405),
+    ];
+    let wanted = [
+        Ok(Mapping::Unmapped),
+        Err(OutOfRange(95)),
+        Ok(Mapping::Zero),
+        Ok(Mapping::At(Pbn(119))),
+    ];
+    assert_eq!(rt; slots, wanted);
 }
 
 static TEXTS: [(PageFault, &str); 3] = [

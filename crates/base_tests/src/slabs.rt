@@ -8,13 +8,6 @@ use test_images::{Spelling, difference, with_added, with_byte};
 // The spellings of these tests, and the places of counters, were computed by tools/slab.py.
 const NONCE: u64 = 0x1122_3344_5566_7788;
 
-fn old_block() -> Block {
-    let mut block = Block::zero();
-    block.bytes[30] = 7;
-    block.bytes[4095] = 7;
-    block
-}
-
 // Sector j of the block of counters.
 fn counted(j: u16) -> ReferenceSector {
     let mut counters = [0; SECTOR_COUNTERS];
@@ -28,22 +21,6 @@ fn counted(j: u16) -> ReferenceSector {
     }
 }
 
-fn all_counted() -> ReferenceBlock {
-    let mut block = ReferenceBlock {
-        sectors: [counted(0); 8],
-    };
-    for j in 0..8_u16 {
-        block.sectors[usize::from(j)] = counted(j);
-    }
-    block
-}
-
-fn spelled_counters() -> Block {
-    let mut block = old_block();
-    encode_reference(&all_counted(), &mut block);
-    block
-}
-
 const COUNTER_BYTES: Spelling = Spelling {
     weight: 1_035_179_652,
     parts: &[
@@ -53,34 +30,26 @@ const COUNTER_BYTES: Spelling = Spelling {
     ],
 };
 
+// Of counters that were written, each sector is read back; any bytes are counters.
 #[test]
-fn counters_are_spelled(rt: HostRuntime) {
-    assert_eq!(rt; difference(&spelled_counters(), &COUNTER_BYTES), None);
-}
-
-// The first sector that isn't read as it was written, and what it is read as.
-fn other_sector(block: &Block) -> Option<(u16, ReferenceSector)> {
-    for j in 0..8 {
-        let found = reference_sector(block, j);
-        if found != counted(j) {
-            return Some((j, found));
-        }
+fn counters_are_spelled_and_read_back(rt: HostRuntime) {
+    let mut sectors = [counted(0); 8];
+    for j in 0..8_u16 {
+        sectors[usize::from(j)] = counted(j);
     }
-    None
-}
-
-#[test]
-fn counters_are_read_back(rt: HostRuntime) {
-    assert_eq!(rt; other_sector(&spelled_counters()), None);
-}
-
-#[test]
-fn any_bytes_are_counters(rt: HostRuntime) {
-    let want = ReferenceSector {
+    let mut block = Block { bytes: [7; 4096] };
+    encode_reference(&ReferenceBlock { sectors }, &mut block);
+    assert_eq!(rt; difference(&block, &COUNTER_BYTES), None);
+    for j in 0..8_u16 {
+        let is_read = reference_sector(&block, j) == counted(j);
+        assert_eq!(rt; (j, is_read), (j, true));
+    }
+    let any = ReferenceSector {
         commit: Point(u64::MAX),
         counters: [255; SECTOR_COUNTERS],
     };
-    assert_eq!(rt; reference_sector(&Block { bytes: [255; 4096] }, 7), want);
+    let ones = Block { bytes: [255; 4096] };
+    assert_eq!(rt; reference_sector(&ones, 7) == any, true);
 }
 
 // An offset, and the block, the sector and the place in it where its counter stands.
@@ -95,52 +64,28 @@ static PLACE_ROWS: [PlaceRow; 6] = [
     (32767, 8, 1, 7),
 ];
 
-// The rows with the places that are computed.
-fn placed(mut rows: [PlaceRow; 6]) -> [PlaceRow; 6] {
-    let layout = Layout::of(&Geometry::DEFAULT);
-    for row in rows.iter_mut() {
-        let place = layout.counter_place(row.0);
-        *row = (row.0, place.block, place.sector, place.counter);
-    }
-    rows
-}
-
 #[test]
 fn places_of_counters(rt: HostRuntime) {
-    assert_eq!(rt; placed(PLACE_ROWS), PLACE_ROWS);
+    let layout = Layout::of(&Geometry::DEFAULT);
+    for row in PLACE_ROWS {
+        let place = layout.counter_place(row.0);
+        assert_eq!(rt; (row.0, place.block, place.sector, place.counter), row);
+    }
 }
 
 // The counters of a slab of 600 data blocks, in three sectors.
-fn counters_of_600() -> [[u8; SECTOR_COUNTERS]; 3] {
-    let layout = Layout::of(&Geometry::DEFAULT);
-    let counters = [9; 600];
-    [
-        sector_counters(&layout, &counters, 0),
-        sector_counters(&layout, &counters, 1),
-        sector_counters(&layout, &counters, 2),
-    ]
-}
-
 #[test]
 fn zeros_past_the_end_of_a_slab(rt: HostRuntime) {
+    let layout = Layout::of(&Geometry::DEFAULT);
+    let counters = [9; 600];
     let mut second = [0; SECTOR_COUNTERS];
     second[0..96].fill(9);
-    assert_eq!(rt;
-        counters_of_600(),
-        [[9; SECTOR_COUNTERS], second, [0; SECTOR_COUNTERS]]
-    );
-}
-
-fn spelled(sequence: u64, slab: u32, entries: SlabEntries<320>) -> Block {
-    let block = SlabJournalBlock {
-        nonce: NONCE,
-        sequence,
-        slab,
-        entries,
-    };
-    let mut into = old_block();
-    encode_slab(&block, &mut into);
-    into
+    let found = [
+        sector_counters(&layout, &counters, 0) == [9; SECTOR_COUNTERS],
+        sector_counters(&layout, &counters, 1) == second,
+        sector_counters(&layout, &counters, 2) == [0; SECTOR_COUNTERS],
+    ];
+    assert_eq!(rt; found, [true; 3]);
 }
 
 fn entry(k: u16) -> SlabEntry {
@@ -150,20 +95,23 @@ fn entry(k: u16) -> SlabEntry {
     }
 }
 
-// Entries first to first + count - 1.
-fn entries<const N: usize>(first: u16, count: u16) -> SlabEntries<N> {
+// A block with so many entries.
+fn spelled(sequence: u64, count: u16) -> Block {
     let mut entries = SlabEntries::new();
     for k in 0..count {
         if !entries.is_full() {
-            entries.push(entry(k.wrapping_add(first)));
+            entries.push(entry(k));
         }
     }
-    entries
-}
-
-// Block 5 of slab 7, with so many entries.
-fn of_entries(count: u16) -> Block {
-    spelled(5, 7, entries(0, count))
+    let block = SlabJournalBlock {
+        nonce: NONCE,
+        sequence,
+        slab: 7,
+        entries,
+    };
+    let mut into = Block { bytes: [7; 4096] };
+    encode_slab(&block, &mut into);
+    into
 }
 
 const FORTY_TWO_ENTRIES: Spelling = Spelling {
@@ -183,55 +131,49 @@ const FORTY_TWO_ENTRIES: Spelling = Spelling {
     ],
 };
 
-#[test]
-fn a_block_of_42_entries(rt: HostRuntime) {
-    assert_eq!(rt; difference(&of_entries(42), &FORTY_TWO_ENTRIES), None);
-}
-
-fn greatest_entries() -> SlabEntries<320> {
-    let mut entries = SlabEntries::new();
-    for (point, offset) in [(u64::MAX, u16::MAX), (0, 0)] {
-        if !entries.is_full() {
-            entries.push(SlabEntry {
-                point: Point(point),
-                offset,
-            });
-        }
-    }
-    entries
-}
-
-// The sequence of the first sector, and how many entries it has.
-fn sequence_and_count(block: &Block) -> Option<(u64, usize)> {
-    let sector = slab_sector(block, 0, NONCE, 1023, u32::MAX)?;
-    Some((sector.sequence, sector.entries.len()))
-}
-
 const GREATEST_NUMBERS: Spelling = Spelling {
     weight: 46_519_678,
     parts: &[],
 };
 
-#[test]
-fn the_greatest_numbers(rt: HostRuntime) {
-    let block = spelled(u64::MAX, 1023, greatest_entries());
-    let read = (
-        difference(&block, &GREATEST_NUMBERS),
-        sequence_and_count(&block),
-    );
-    assert_eq!(rt; read, (None, Some((u64::MAX, 2))));
+fn greatest_block() -> Block {
+    let mut entries = SlabEntries::new();
+    entries.push(SlabEntry {
+        point: Point(u64::MAX),
+        offset: u16::MAX,
+    });
+    if !entries.is_full() {
+        entries.push(SlabEntry {
+            point: Point(0),
+            offset: 0,
+        });
+    }
+    let block = SlabJournalBlock {
+        nonce: NONCE,
+        sequence: u64::MAX,
+        slab: 1023,
+        entries,
+    };
+    let mut into = Block { bytes: [7; 4096] };
+    encode_slab(&block, &mut into);
+    into
 }
 
-// How many of the entries are those from `first` on.
-fn count_alike(found: &[SlabEntry], first: u16) -> u16 {
-    let mut count: u16 = 0;
-    for &one in found {
-        if one != entry(first.wrapping_add(count)) {
-            return count;
-        }
-        count = count.wrapping_add(1);
-    }
-    count
+#[test]
+fn journals_are_spelled(rt: HostRuntime) {
+    let block = greatest_block();
+    let read = match slab_sector(&block, 0, NONCE, 1023, u32::MAX) {
+        Some(sector) => Some((sector.sequence, sector.entries.len())),
+        None => None,
+    };
+    assert_eq!(rt;
+        (
+            difference(&spelled(5, 42), &FORTY_TWO_ENTRIES),
+            difference(&block, &GREATEST_NUMBERS),
+            read
+        ),
+        (None, None, Some((u64::MAX, 2)))
+    );
 }
 
 // The sequence of a sector, how many entries it has, and how many of them are those from `first` on.
@@ -240,7 +182,14 @@ type Told = Option<(u64, usize, u16)>;
 fn told(sector: Option<SlabSector>, first: u16) -> Told {
     let sector = sector?;
     let entries = sector.entries.as_slice();
-    Some((sector.sequence, entries.len(), count_alike(entries, first)))
+    let mut count: u16 = 0;
+    for &one in entries {
+        if one != entry(first.wrapping_add(count)) {
+            break;
+        }
+        count = count.wrapping_add(1);
+    }
+    Some((sector.sequence, entries.len(), count))
 }
 
 // Sectors 1 and 7 of slab 7, and a sector of another nonce, of another slab, and behind the block.
@@ -254,30 +203,21 @@ fn five_sectors(block: &Block) -> [Told; 5] {
     ]
 }
 
+// A sector is read by itself, whatever that before it says, and its sequence may be any.
 #[test]
 fn sectors_are_read_back(rt: HostRuntime) {
     let found = [
-        five_sectors(&of_entries(42)),
-        five_sectors(&of_entries(320)),
+        five_sectors(&spelled(5, 42)),
+        five_sectors(&spelled(5, 320)),
     ];
     let of_42 = [Some((5, 2, 2)), Some((5, 0, 0)), None, None, None];
     let of_320 = [Some((5, 40, 40)), Some((5, 40, 40)), None, None, None];
-    assert_eq!(rt; found, [of_42, of_320]);
-}
-
-// Sectors 0 and 1 of slab 7.
-fn two_sectors(block: &Block) -> [Told; 2] {
-    [
-        told(slab_sector(block, 0, NONCE, 7, 64), 0),
-        told(slab_sector(block, 1, NONCE, 7, 64), 40),
-    ]
-}
-
-// A sector is read by itself, and its sequence may be any.
-#[test]
-fn a_sector_by_itself(rt: HostRuntime) {
-    let block = with_byte(spelled(0, 7, entries(0, 42)), 0, 0);
-    assert_eq!(rt; two_sectors(&block), [None, Some((0, 2, 2))]);
+    let block = with_byte(spelled(0, 42), 0, 0);
+    let alone = [
+        told(slab_sector(&block, 0, NONCE, 7, 64), 0),
+        told(slab_sector(&block, 1, NONCE, 7, 64), 40),
+    ];
+    assert_eq!(rt; (found, alone), ([of_42, of_320], [None, Some((0, 2, 2))]));
 }
 
 // A byte of sector 1, what is added to it, and whether the sector is still valid. The slab has 64 data blocks, and the
@@ -314,20 +254,11 @@ static FIELD_ROWS: [FieldRow; 27] = [
     (511, 1, false), // the last byte
 ];
 
-fn is_valid_with(at: usize, add: u8) -> bool {
-    let block = with_added(of_entries(42), 512 + at % 512, add);
-    slab_sector(&block, 1, NONCE, 7, 64).is_some()
-}
-
-// The rows with what is found of their sectors.
-fn looked_at(mut rows: [FieldRow; 27]) -> [FieldRow; 27] {
-    for (at, add, valid) in rows.iter_mut() {
-        *valid = is_valid_with(*at, *add);
-    }
-    rows
-}
-
 #[test]
 fn each_field_is_looked_at(rt: HostRuntime) {
-    assert_eq!(rt; looked_at(FIELD_ROWS), FIELD_ROWS);
+    for (at, add, valid) in FIELD_ROWS {
+        let block = with_added(spelled(5, 42), 512 + at % 512, add);
+        let found = slab_sector(&block, 1, NONCE, 7, 64).is_some();
+        assert_eq!(rt; (at, add, found), (at, add, valid));
+    }
 }

@@ -160,9 +160,18 @@ fn with_failure(fails_at: u32) -> ([bool; 4], u64, u32) {
 fn failures_are_counted(rt: HostRuntime) -> Result<(), Fail> {
     // The read and the write take a call of the file each. The third call is interrupted, and the sync of a file is not
     // made again by the device.
-    assert_eq!(rt; with_failure(NEVER), ([true, true, false, true], 1, 1));
-    assert_eq!(rt; with_failure(0), ([false, true, false, true], 2, 1));
-    assert_eq!(rt; with_failure(1), ([true, false, false, true], 2, 1));
-    assert_eq!(rt; with_failure(3), ([true, true, false, false], 2, 0));
+    let found = [
+        with_failure(NEVER),
+        with_failure(0),
+        with_failure(1),
+        with_failure(3),
+    ];
+    let wanted = [
+        ([true, true, false, true], 1, 1),
+        ([false, true, false, true], 2, 1),
+        ([true, false, false, true], 2, 1),
+        ([true, true, false, false], 2, 0),
+    ];
+    assert_eq!(rt; found, wanted);
     Ok(())
 }

@@ -15,32 +15,3 @@ mod parts;
 
 pub use part::Part;
 pub use parts::HandedParts;
-
-#[cfg(test)]
-mod tests {
-    use super::*;
-    use blk_base::Point;
-    use std::test::Fail;
-
-    // One entry: its slot is of zone 0, and zone 1 counts a block down.
-    #[test]
-    fn a_watermark_waits_for_each_part_and_for_the_low_point(rt: HostRuntime) -> Result<(), Fail> {
-        let front = Point(514);
-        let mut parts = HandedParts::new(rt.alloc(), 2, 2)?;
-        let opened = (parts.has_room(), parts.watermark(1, front));
-        parts.hand_out(0, Point(512));
-        parts.hand_out(1, Point(513));
-        let handed = (parts.has_room(), parts.watermark(1, front));
-        let out = (parts.is_out(1, Point(513)), parts.is_out(0, Point(513)));
-        parts.report(1, Some(Point(513)), Some(Point(513)));
-        let reported = (parts.is_out(1, Point(513)), parts.watermark(1, front));
-        parts.report(1, None, None);
-        let durable = (parts.watermark(0, front), parts.watermark(1, front));
-        assert_eq!(rt; opened, (true, front));
-        assert_eq!(rt; handed, (false, Point(512)));
-        assert_eq!(rt; out, (true, false));
-        assert_eq!(rt; reported, (false, Point(512)));
-        assert_eq!(rt; durable, (Point(512), front));
-        Ok(())
-    }
-}

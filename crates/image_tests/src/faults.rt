@@ -3,7 +3,7 @@ use image_format::FormatFault;
 use image_layout::{Field, LayoutFault, SuperFault};
 use image_model::ImageFault;
 use page_codec::PageFault;
-use std::fmt::Display;
+use test_images::not_shown;
 
 static LAYOUT: [(LayoutFault, &str); 5] = [
     (
@@ -80,26 +80,9 @@ static IMAGE: [(ImageFault, &str); 13] = [
     (ImageFault::Memory, "no memory"),
 ];
 
-fn is_shown_as(rt: &HostRuntime, value: &impl Display, text: &str) -> bool {
-    match format!(in rt.alloc(); "{value}") {
-        Ok(shown) => shown.as_str() == text,
-        Err(_) => false,
-    }
-}
-
-// The first of these texts as which its value isn't shown.
-fn not_shown<T: Display>(rt: &HostRuntime, rows: &[(T, &'static str)]) -> Option<&'static str> {
-    for (value, text) in rows {
-        if !is_shown_as(rt, value, text) {
-            return Some(*text);
-        }
-    }
-    None
-}
-
 #[test]
 fn faults_are_printed(rt: HostRuntime) {
-    assert_eq!(rt; not_shown(&rt, &LAYOUT), None);
-    assert_eq!(rt; not_shown(&rt, &FORMAT), None);
-    assert_eq!(rt; not_shown(&rt, &IMAGE), None);
+    assert_eq!(rt; not_shown(rt.alloc(), &LAYOUT), None);
+    assert_eq!(rt; not_shown(rt.alloc(), &FORMAT), None);
+    assert_eq!(rt; not_shown(rt.alloc(), &IMAGE), None);
 }

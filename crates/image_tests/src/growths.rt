@@ -1,25 +1,16 @@
-use blk_base::{Block, Geometry, Pbn, Super};
+use crate::formats::{bytes_at, filled};
+use crate::images::SMALL;
+use blk_base::{Block, Geometry, Pbn};
 use disk_model::{CallKind, Disk, FaultAt, MemDisk};
 use grow_image::GrowFault::{Image, Layout, Smaller};
 use grow_image::{GrowFault, Grown, grow};
 use image_format::format;
-use image_layout::{Field, LayoutFault, SuperFault, read_super};
+use image_layout::{Field, LayoutFault, read_super};
 use image_model::ImageFault;
 use std::alloc::{AllocError, Global};
 use std::test::Fail;
 
-// An image of 92 blocks, of which a slab takes 19, with 1,000 addresses.
-const SMALL: Geometry = Geometry {
-    slab_blocks: 16,
-    index: 4,
-    slab_journal: 2,
-    ..Geometry::DEFAULT
-};
-
 const BLOCKS: u32 = 149;
-
-// What stands in the blocks of the device at first.
-static FILL: [u8; 4096] = [7; 4096];
 
 // The sizes that are asked for one after the other, how many addresses and slabs, and what is answered.
 static GROWTHS: [(u32, u32, Result<Grown, GrowFault>); 7] = [
@@ -66,94 +57,67 @@ static GROWTHS: [(u32, u32, Result<Grown, GrowFault>); 7] = [
     ),
 ];
 
-fn empty_image(alloc: Global) -> Result<MemDisk, AllocError> {
-    let mut all = Vec::new(alloc);
-    for _ in 0..BLOCKS {
-        all.push(Block { bytes: FILL })?;
-    }
-    let mut device = MemDisk::from_blocks(alloc, all)?;
+fn small_image(alloc: Global) -> Result<MemDisk, AllocError> {
+    let mut device = filled(alloc, BLOCKS)?;
     let _layout = format(&SMALL, &mut device);
     Ok(device)
 }
 
-// A block; zeros where it can't be read.
-fn block_at(device: &mut MemDisk, at: u32) -> Block {
-    let mut block = Block::zero();
-    if at < device.blocks() && device.read(Pbn(at), &mut block).is_err() {
-        block = Block::zero();
+// The sizes that the superblock says, and whether it is that of a closed image with the first session's start.
+fn sizes_of(device: &mut MemDisk) -> Option<(Geometry, bool)> {
+    let first = Block {
+        bytes: bytes_at(device, 0),
+    };
+    match read_super(&first, device.blocks()) {
+        Ok(head) => Some((head.geometry, head.clean && head.start == 1)),
+        Err(_) => None,
     }
-    block
-}
-
-fn superblock(device: &mut MemDisk) -> Result<Super, SuperFault> {
-    let first = block_at(device, 0);
-    read_super(&first, device.blocks())
-}
-
-// The first growth that is answered otherwise, with that.
-fn other_answer(alloc: Global) -> Result<Option<(usize, Result<Grown, GrowFault>)>, AllocError> {
-    let mut device = empty_image(alloc)?;
-    for (i, (logical, slabs, wanted)) in GROWTHS.iter().enumerate() {
-        let answer = grow(alloc, &mut device, *logical, *slabs);
-        if answer != *wanted {
-            return Ok(Some((i, answer)));
-        }
-    }
-    Ok(None)
 }
 
 #[test]
 fn images_grow_or_are_refused(rt: HostRuntime) -> Result<(), Fail> {
-    assert_eq!(rt; other_answer(rt.alloc())?, None);
-    Ok(())
-}
-
-#[test]
-fn new_slabs_have_no_counts(rt: HostRuntime) -> Result<(), Fail> {
-    let mut device = empty_image(rt.alloc())?;
-    let answer = grow(rt.alloc(), &mut device, 2000, 2);
-    assert_eq!(rt; answer.map(|grown| grown.blocks), Ok(111));
-    let grown = Super {
-        geometry: Geometry {
-            logical: 2000,
-            slabs: 2,
-            ..SMALL
-        },
-        clean: true,
-        start: 1,
-    };
-    assert_eq!(rt; superblock(&mut device), Ok(grown));
-    // The second slab's data, and behind it its counters and its journal.
-    let parts = [
-        (92, FILL),
-        (107, FILL),
-        (108, [0; 4096]),
-        (109, [0; 4096]),
-        (110, [0; 4096]),
-        (111, FILL),
-    ];
-    for (at, bytes) in parts {
-        assert_eq!(rt; block_at(&mut device, at).bytes == bytes, true);
+    let mut device = small_image(rt.alloc())?;
+    for (i, &(logical, slabs, wanted)) in GROWTHS.iter().enumerate() {
+        let answer = grow(rt.alloc(), &mut device, logical, slabs);
+        assert_eq!(rt; (i, answer), (i, wanted));
     }
     Ok(())
 }
 
+// Of the second slab's data, and behind it of its counters and its journal, and of a block behind the image, what all bytes are.
+static PARTS: [(u32, u8); 6] = [(92, 7), (107, 7), (108, 0), (109, 0), (110, 0), (111, 7)];
+
+// Where the superblock's write fails the old sizes stay. New slabs have no counts.
 #[test]
-fn the_superblock_of_a_growth_fails(rt: HostRuntime) -> Result<(), Fail> {
-    let before = empty_image(rt.alloc())?;
+fn a_growth_fails_and_is_made(rt: HostRuntime) -> Result<(), Fail> {
+    let mut device = small_image(rt.alloc())?;
     let fault = FaultAt {
         kind: CallKind::Write,
         at: Pbn(0),
         nth: 0,
         effect: false,
     };
-    let mut device = before.pick_image(rt.alloc(), 0)?;
     device.set_faults([fault].to_vec(rt.alloc())?);
-    let answer = grow(rt.alloc(), &mut device, 2000, 2);
-    assert_eq!(rt; answer, Err(Image(ImageFault::Device)));
+    let refused = grow(rt.alloc(), &mut device, 2000, 2);
+    let before = sizes_of(&mut device);
+    let grown = Geometry {
+        logical: 2000,
+        slabs: 2,
+        ..SMALL
+    };
+    let made = grow(rt.alloc(), &mut device, 2000, 2).map(|grown| grown.blocks);
+    let after = sizes_of(&mut device);
     assert_eq!(rt;
-        superblock(&mut device).map(|head| head.geometry),
-        Ok(SMALL)
+        (refused, before, made, after),
+        (
+            Err(Image(ImageFault::Device)),
+            Some((SMALL, true)),
+            Ok(111),
+            Some((grown, true))
+        )
     );
+    for (at, byte) in PARTS {
+        assert_eq!(rt; (at, bytes_at(&mut device, at) == [byte; 4096]), (at, true));
+    }
     Ok(())
 }

@@ -2,7 +2,6 @@ ghost use Rattle.std.specs.Prelude.{◌≡◌, length};
 
 use blk_base::{Block, Pbn};
 use disk_model::{CallKind, Disk, FaultAt, MemDisk};
-use std::alloc::{AllocError, Global};
 use std::test::Fail;
 
 // A number, and the byte of each sector of each of four blocks in the image that it picks, computed by tools/picks.py.
@@ -90,48 +89,29 @@ fn write_all(device: &mut MemDisk)
     write(device, 0, 6);
 }
 
-// A device of four blocks that was cut off at the seventh of these calls.
-fn cut_device(alloc: Global) -> Result<MemDisk, AllocError> {
-    let faults = FAULTS.to_vec(alloc)?;
-    let mut device = MemDisk::zeroed(alloc, 4)?;
-    device.set_faults(faults);
-    device.set_fuse(6);
-    write_all(&mut device);
-    Ok(device)
-}
-
-// The byte of a sector; 255 where it can't be read.
-fn byte_of(image: &mut MemDisk, at: u32, sector: usize) -> u8 {
-    let mut into = Block::zero();
-    if at < image.blocks() && image.read(Pbn(at), &mut into).is_ok() {
-        into.bytes.get(512 * (sector % 8)).copied().unwrap_or(255)
-    } else {
-        255
-    }
-}
-
+// The byte of each sector of each block; 255 where it can't be read.
 fn bytes_of(image: &mut MemDisk) -> [u8; 32] {
-    let mut bytes = [0; 32];
+    let mut bytes = [255; 32];
+    let mut into = Block::zero();
     for (i, byte) in bytes.iter_mut().enumerate() {
-        *byte = byte_of(image, (i / 8) as u32, i % 8);
+        let at = Pbn((i / 8) as u32);
+        if at.0 < image.blocks() && image.read(at, &mut into).is_ok() {
+            *byte = into.bytes[512 * (i % 8)];
+        }
     }
     bytes
 }
 
-// The first number that picks something else, with that.
-fn other_pick(alloc: Global) -> Result<Option<(u64, [u8; 32])>, AllocError> {
-    let device = cut_device(alloc)?;
-    for (number, wanted) in PICKED {
-        let found = bytes_of(&mut device.pick_image(alloc, number)?);
-        if found != wanted {
-            return Ok(Some((number, found)));
-        }
-    }
-    Ok(None)
-}
-
+// A device of four blocks that was cut off at the seventh of these calls.
 #[test]
 fn numbers_pick_images(rt: HostRuntime) -> Result<(), Fail> {
-    assert_eq!(rt; other_pick(rt.alloc())?, None);
+    let mut device = MemDisk::zeroed(rt.alloc(), 4)?;
+    device.set_faults(FAULTS.to_vec(rt.alloc())?);
+    device.set_fuse(6);
+    write_all(&mut device);
+    for (number, wanted) in PICKED {
+        let mut image = device.pick_image(rt.alloc(), number)?;
+        assert_eq!(rt; (number, bytes_of(&mut image)), (number, wanted));
+    }
     Ok(())
 }

@@ -197,12 +197,8 @@ fn wrong_row(
     None
 }
 
+// Faults come in their order, and ranges have ends.
 #[test]
-fn faults_come_in_order(rt: HostRuntime) {
-    assert_eq!(rt; wrong_row(&ORDER), None);
-}
-
-#[test]
-fn ranges_have_ends(rt: HostRuntime) {
-    assert_eq!(rt; wrong_row(&ENDS), None);
+fn sizes_are_planned(rt: HostRuntime) {
+    assert_eq!(rt; [wrong_row(&ORDER), wrong_row(&ENDS)], [None; 2]);
 }

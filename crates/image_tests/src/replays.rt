@@ -1,28 +1,28 @@
 ghost use Rattle.std.specs.Prelude.{◌≤◌, ◌<◌, ◌^◌, IfOk};
 ghost use Rattle.blk_base.specs.Limits.{IsGeometry};
 ghost use Rattle.blk_base.specs.Regions.{needed_blocks};
+ghost use Rattle.disk_model.specs.Fuses.{HasNotCut};
+ghost use Rattle.disk_model.specs.Memory.{seen_of};
 
+use crate::images::{
+    ABOVE as FIRST_ROOT, Image, Journal, LEAF as FIRST_LEAF, TOP as HIGH_ROOT, blocks_of,
+};
 use blk_base::Mapping::At;
-use blk_base::{Block, Entry, Geometry, Lba, Mapping, Mappings, PageId, Pbn, Super};
-use disk_model::{Disk, MemDisk};
-use image_layout::{Field, SuperFault, read_super, write_super};
+use blk_base::{Entry, Geometry, Lba, Mapping, PageId, Pbn, Super};
+use disk_model::MemDisk;
+use image_layout::{Field, SuperFault};
 use image_model::ImageFault;
-use journal_codec::{Entries, JournalBlock, encode as encode_journal};
+use image_opening::read_head;
 use journal_window::read_window;
-use page_codec::{MapPage, PageFault, PageHead, encode as encode_page};
+use page_codec::PageFault;
 use replay_map::{Link, RecoveredMap, SlotChange, replay, replay_with};
 use std::alloc::{AllocError, Global};
 use std::test::Fail;
+use test_images::Page;
 
 // The images have one slab. Their bytes are put together from the definitions of the formats by their codecs, and what is
 // found was worked out by hand. The journal's blocks are 1 to 8, the roots 9 to 68, and the data blocks 85 to 148. The
 // logical size is 1000: addresses 812 to 999 have the first leaf of tree 1.
-
-// A page, its block, and what its slots say.
-type Page = (PageId, u32, &'static [(u16, Mapping)]);
-
-// The blocks of the journal: each has its sequence, the head that it names, and its entries.
-type Journal = &'static [(u64, u64, &'static [Entry])];
 
 // The height, the session's first sequence, the journal, the pages (other roots have no mappings), and bytes that are put
 // elsewhere: a block, the number of the byte, and the byte.
@@ -31,7 +31,7 @@ type Written = (
     u64,
     Journal,
     &'static [Page],
-    &'static [(u32, usize, u8)],
+    &'static [(usize, usize, u8)],
 );
 
 // The first links, changes and mapped blocks (0 where there are no more), the last sequence and the window's length.
@@ -45,36 +45,16 @@ type Found = (
 
 type Replayed = Result<Found, ImageFault>;
 
-// The roots and leaves of the first two trees.
-const FIRST_ROOT: PageId = PageId {
-    tree: 0,
-    level: 1,
-    index: 0,
-};
-
+// The roots and leaves of the first two trees. At height 3 the page above the first leaves has the name of the first root at
+// height 2.
 const SECOND_ROOT: PageId = PageId {
     tree: 1,
-    level: 1,
-    index: 0,
-};
-
-const FIRST_LEAF: PageId = PageId {
-    tree: 0,
-    level: 0,
-    index: 0,
+    ..FIRST_ROOT
 };
 
 const SECOND_LEAF: PageId = PageId {
     tree: 1,
-    level: 0,
-    index: 0,
-};
-
-// At height 3 the first root, and the page above the first leaves has the name of the root at height 2.
-const HIGH_ROOT: PageId = PageId {
-    tree: 0,
-    level: 2,
-    index: 0,
+    ..FIRST_LEAF
 };
 
 const NEXT_LEAF: PageId = PageId {
@@ -150,7 +130,7 @@ const ENTRIES: &[Entry] = &[
     },
 ];
 
-const ROWS: [(Written, Replayed); 16] = [
+static ROWS: [(Written, Replayed); 16] = [
     (
         (2, 6, &[], PAGES, &[]),
         Ok((
@@ -497,94 +477,6 @@ const ROWS: [(Written, Replayed); 16] = [
     ),
 ];
 
-// The sizes of these heights, 2 or 3.
-fn sizes(height: u32) -> Geometry {
-    if height == 3 {
-        Geometry {
-            height: 3,
-            ..Geometry::DEFAULT
-        }
-    } else {
-        Geometry::DEFAULT
-    }
-}
-
-fn page_block(geometry: Geometry, (page, at, slots): Page) -> Block {
-    let mut mappings = Mappings::new();
-    for &(slot, mapping) in slots {
-        if slot < 812 {
-            mappings.set(slot, mapping);
-        }
-    }
-    let head = PageHead {
-        geometry,
-        page,
-        at: Pbn(at),
-    };
-    let mut into = Block::zero();
-    encode_page(&MapPage { head, mappings }, &mut into);
-    into
-}
-
-fn journal_block(sequence: u64, head: u64, written: &[Entry]) -> Block {
-    let mut entries = Entries::new();
-    for &entry in written {
-        if !entries.is_full() {
-            entries.push(entry);
-        }
-    }
-    let block = JournalBlock {
-        nonce: 1,
-        sequence,
-        head,
-        entries,
-    };
-    let mut into = Block::zero();
-    encode_journal(&block, &mut into);
-    into
-}
-
-// What stands at a block: a page, a root without mappings, a block of the journal, or zeros.
-fn block_at(geometry: Geometry, (_, _, journal, pages, _): Written, at: u32) -> Block {
-    for &page in pages {
-        if page.1 == at {
-            return page_block(geometry, page);
-        }
-    }
-    for &(sequence, head, entries) in journal {
-        if sequence % 8 + 1 == u64::from(at) {
-            return journal_block(sequence, head, entries);
-        }
-    }
-    if at >= 9 && at < 69 {
-        let root = PageId {
-            tree: (at - 9) as u8,
-            level: if geometry.height == 3 { 2 } else { 1 },
-            index: 0,
-        };
-        return page_block(geometry, (root, at, &[]));
-    }
-    Block::zero()
-}
-
-fn blocks_of(
-    alloc: Global,
-    geometry: Geometry,
-    written: Written,
-) -> Result<Vec<Block>, AllocError> {
-    let mut blocks = Vec::new(alloc);
-    for at in 0..154_u32 {
-        let mut block = block_at(geometry, written, at);
-        for &(other, place, byte) in written.4 {
-            if other == at && place < 4096 {
-                block.bytes[place] = byte;
-            }
-        }
-        blocks.push(block)?;
-    }
-    Ok(blocks)
-}
-
 // What was found, as far as it is compared; there are no more links and changes than three, and no more mapped blocks than
 // five.
 fn shown(map: &RecoveredMap) -> Found {
@@ -605,47 +497,76 @@ fn shown(map: &RecoveredMap) -> Found {
     (links, slots, mapped, map.last, map.entries)
 }
 
-// The superblock of an image.
-fn head_of(written: Written) -> Super {
-    Super {
-        geometry: sizes(written.0),
-        clean: false,
-        start: written.1,
-    }
-}
-
-// The superblock as it is read on a device with so many blocks.
-fn accepted(head: &Super, blocks: u32) -> Result<Super, AllocError>
-    ensures sizes { IfOk result (λ head. IsGeometry head.geometry) }
-    ensures start { IfOk result (λ head. (1 ≤ head.start) × (head.start < 2 ^ 54)) }
-    ensures room { IfOk result (λ head. needed_blocks head.geometry ≤ blocks) }
+fn device_of(alloc: Global, written: Written) -> Result<MemDisk, AllocError>
+    ensures { IfOk result (λ device. HasNotCut device.fuse) }
 {
-    let mut block = Block::zero();
-    write_super(head, &mut block);
-    match read_super(&block, blocks) {
-        Ok(head) => Ok(head),
-        Err(_) => Err(AllocError),
+    let (height, start, journal, pages, others) = written;
+    let image = Image {
+        geometry: Geometry {
+            height,
+            ..Geometry::DEFAULT
+        },
+        clean: false,
+        start,
+        journal,
+        pages,
+        counters: &[],
+        commits: &[],
+        updates: &[],
+    };
+    let mut blocks = blocks_of(alloc, &image)?;
+    for &(at, place, byte) in others {
+        if let Some(block) = blocks.get_mut(at)
+            && let Some(into) = block.bytes.get_mut(place)
+        {
+            *into = byte;
+        }
     }
+    MemDisk::from_blocks(alloc, blocks)
 }
 
-// What is found on a device of which so many calls go on, and how many calls its log has then.
-fn find(alloc: Global, written: Written, passes: u64) -> Result<(Replayed, usize), AllocError> {
-    let head = head_of(written);
-    let blocks = blocks_of(alloc, head.geometry, written)?;
-    let mut device = MemDisk::from_blocks(alloc, blocks)?;
-    let head = accepted(&head, device.blocks())?;
-    device.set_fuse(passes);
-    let found = match replay(alloc, &head, &mut device) {
+// What is found on a device with this superblock; whether with a window that is read before.
+fn found(alloc: Global, head: &Super, device: &mut MemDisk, with_window: bool) -> Replayed
+    requires sizes { IsGeometry head.now.geometry }
+    requires some { 1 ≤ head.now.start }
+    requires below { head.now.start < 2 ^ 54 }
+    requires room { needed_blocks head.now.geometry ≤ (seen_of device.old).size }
+{
+    let replayed = if with_window {
+        let window = match read_window(alloc, head, device) {
+            Ok(window) => window,
+            Err(fault) => return Err(fault),
+        };
+        replay_with(alloc, head, &window, device)
+    } else {
+        replay(alloc, head, device)
+    };
+    match replayed {
         Ok(map) => Ok(shown(&map)),
         Err(fault) => Err(fault),
+    }
+}
+
+// What is found on a device of which so many calls go on behind the first, and how many its log has then.
+fn find(
+    alloc: Global,
+    written: Written,
+    passes: u64,
+    with_window: bool,
+) -> Result<(Replayed, usize), AllocError> {
+    let mut device = device_of(alloc, written)?;
+    device.set_fuse(passes.saturating_add(1));
+    let found = match read_head(&mut device) {
+        Ok(head) => found(alloc, &head, &mut device, with_window),
+        Err(fault) => Err(fault),
     };
-    Ok((found, device.calls().len()))
+    Ok((found, device.calls().len().saturating_sub(1)))
 }
 
 // The first row of which something else is found.
-fn other_row(alloc: Global) -> Result<Option<(usize, Replayed)>, AllocError> {
+fn other_row(alloc: Global, with_window: bool) -> Result<Option<(usize, Replayed)>, AllocError> {
     for (i, &(written, wanted)) in ROWS.iter().enumerate() {
-        let (found, _) = find(alloc, written, 1000)?;
+        let (found, _) = find(alloc, written, 1000, with_window)?;
         if found != wanted {
             return Ok(Some((i, found)));
         }
@@ -655,63 +576,24 @@ fn other_row(alloc: Global) -> Result<Option<(usize, Replayed)>, AllocError> {
 
 #[test]
 fn images_are_replayed(rt: HostRuntime) -> Result<(), Fail> {
-    assert_eq!(rt; other_row(rt.alloc())?, None);
+    let others = [other_row(rt.alloc(), false)?, other_row(rt.alloc(), true)?];
+    assert_eq!(rt; others, [None; 2]);
     Ok(())
 }
 
 // After so many calls the next one fails: of the journal's 8 blocks, of the 60 roots, or the last one, of a leaf.
 static CUTS: [u64; 4] = [0, 7, 8, 69];
 
-// The first cut of which something else is told.
-fn other_failure(alloc: Global) -> Result<Option<(u64, Replayed, usize)>, AllocError> {
-    for passes in CUTS {
-        let (found, calls) = find(alloc, ROWS[1].0, passes)?;
-        if found != Err(ImageFault::Device) || calls as u64 != passes + 1 {
-            return Ok(Some((passes, found, calls)));
-        }
-    }
-    let (found, calls) = find(alloc, ROWS[1].0, 70)?;
-    if found != ROWS[1].1 || calls != 70 {
-        return Ok(Some((70, found, calls)));
-    }
-    Ok(None)
-}
-
 #[test]
 fn a_page_that_is_not_read_is_told(rt: HostRuntime) -> Result<(), Fail> {
-    assert_eq!(rt; other_failure(rt.alloc())?, None);
-    Ok(())
-}
-
-// What is found with a window that was read before.
-fn find_with(alloc: Global, written: Written) -> Result<Replayed, AllocError> {
-    let head = head_of(written);
-    let blocks = blocks_of(alloc, head.geometry, written)?;
-    let mut device = MemDisk::from_blocks(alloc, blocks)?;
-    let head = accepted(&head, device.blocks())?;
-    let window = match read_window(alloc, &head, &mut device) {
-        Ok(window) => window,
-        Err(fault) => return Ok(Err(fault)),
-    };
-    Ok(match replay_with(alloc, &head, &window, &mut device) {
-        Ok(map) => Ok(shown(&map)),
-        Err(fault) => Err(fault),
-    })
-}
-
-// The first row of which something else is found so.
-fn other_window(alloc: Global) -> Result<Option<(usize, Replayed)>, AllocError> {
-    for (i, &(written, wanted)) in ROWS.iter().enumerate() {
-        let found = find_with(alloc, written)?;
-        if found != wanted {
-            return Ok(Some((i, found)));
-        }
+    for passes in CUTS {
+        let found = find(rt.alloc(), ROWS[1].0, passes, false)?;
+        assert_eq!(rt;
+            (passes, found),
+            (passes, (Err(ImageFault::Device), passes as usize + 1))
+        );
     }
-    Ok(None)
-}
-
-#[test]
-fn a_window_is_replayed(rt: HostRuntime) -> Result<(), Fail> {
-    assert_eq!(rt; other_window(rt.alloc())?, None);
+    let whole = find(rt.alloc(), ROWS[1].0, 70, false)?;
+    assert_eq!(rt; whole, (ROWS[1].1, 70));
     Ok(())
 }

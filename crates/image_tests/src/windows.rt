@@ -2,9 +2,10 @@ use blk_base::{Block, Entry, Geometry, Lba, Mapping, PageId, Pbn, Super};
 use disk_model::{Disk, MemDisk};
 use image_layout::{Field, SuperFault};
 use image_model::ImageFault;
-use journal_codec::{Entries, JournalBlock, encode};
 use journal_window::{read_window, window_of};
 use std::alloc::{AllocError, Global};
+use std::test::Fail;
+use test_images::{journal_block, put_journal, zeros};
 
 // The blocks of these tests are put together from the definitions of the format by `journal_codec`, and what they are to
 // give was worked out by hand. The journal has 8 slots, and the data blocks are 85 to 148.
@@ -21,27 +22,9 @@ const GOOD: Entry = Entry::Remap {
     new: Mapping::At(Pbn(86)),
 };
 
-// A block whose entries are all the same.
-fn journal_block(nonce: u64, (sequence, head, count): Written, entry: Entry) -> Block {
-    let mut entries = Entries::new();
-    for _ in 0..count {
-        if !entries.is_full() {
-            entries.push(entry);
-        }
-    }
-    let block = JournalBlock {
-        nonce,
-        sequence,
-        head,
-        entries,
-    };
-    let mut into = Block::zero();
-    encode(&block, &mut into);
-    into
-}
-
-fn empty_journal() -> [Block; 8] {
-    [
+// A journal with these blocks, each in its slot; the entries of each are all this one.
+fn journal_of(blocks: &[Written], entry: Entry) -> [Block; 8] {
+    let mut journal = [
         Block::zero(),
         Block::zero(),
         Block::zero(),
@@ -50,14 +33,11 @@ fn empty_journal() -> [Block; 8] {
         Block::zero(),
         Block::zero(),
         Block::zero(),
-    ]
-}
-
-// A journal with these blocks, each in its slot.
-fn journal_of(blocks: &[Written]) -> [Block; 8] {
-    let mut journal = empty_journal();
-    for &written in blocks {
-        journal[(written.0 % 8) as usize].copy_from(&journal_block(1, written, GOOD));
+    ];
+    let entries = [entry; 192];
+    for &(sequence, head, count) in blocks {
+        let block = journal_block(1, sequence, head, &entries[..count.min(192)]);
+        journal[(sequence % 8) as usize].copy_from(&block);
     }
     journal
 }
@@ -162,20 +142,12 @@ static ROWS: [(u64, bool, &[Written], Found); 16] = [
     ((1 << 54) - 1, true, &[], Ok(((1 << 54) - 2, 0))),
 ];
 
-// The first row of which something else is found, and that.
-fn other_row(alloc: Global) -> Option<(usize, Option<Found>)> {
-    for (i, &(start, clean, blocks, wanted)) in ROWS.iter().enumerate() {
-        let found = find(alloc, start, clean, &journal_of(blocks));
-        if found != Some(wanted) {
-            return Some((i, found));
-        }
-    }
-    None
-}
-
 #[test]
 fn windows_are_found(rt: HostRuntime) {
-    assert_eq!(rt; other_row(rt.alloc()), None);
+    for (i, &(start, clean, blocks, wanted)) in ROWS.iter().enumerate() {
+        let found = find(rt.alloc(), start, clean, &journal_of(blocks, GOOD));
+        assert_eq!(rt; (i, found), (i, Some(wanted)));
+    }
 }
 
 // Makes a block of which some sectors are those of another one: sector `i` where bit `i` is 0.
@@ -187,45 +159,28 @@ fn tear(into: &mut Block, new: &Block, old: &Block, bits: u32) {
     }
 }
 
-// What is found in a window of the blocks 9 and 10, where the last one was torn: without its sector 0 it isn't there, else
-// it has its first new sectors, of 24 entries each.
-fn wanted_of_last(bits: u32) -> Found {
-    if bits % 2 == 0 {
+// What is found in a window of the blocks 9 and 10, of which the other has 2 entries. Where the first one isn't whole, there is
+// none. Without its sector 0 the last one isn't there, else it has its first new sectors, of 24 entries each.
+fn wanted_of(sequence: u64, bits: u32) -> Found {
+    let whole = bits.trailing_ones() as usize;
+    if sequence == 9 && bits != 255 {
+        Err(ImageFault::Window { sequence: 9 })
+    } else if bits % 2 == 0 {
         Ok((9, 2))
     } else {
-        Ok((
-            10,
-            24_usize
-                .wrapping_mul(bits.trailing_ones() as usize)
-                .wrapping_add(2),
-        ))
+        Ok((10, whole.wrapping_mul(24).wrapping_add(2)))
     }
 }
 
-// Where the first one isn't whole, there is no window.
-fn wanted_of_first(bits: u32) -> Found {
-    if bits == 255 {
-        Ok((10, 194))
-    } else {
-        Err(ImageFault::Window { sequence: 9 })
-    }
-}
-
-// The first way to tear this block of 192 entries, over one of an earlier session, for which something else is found. The
-// other block has 2.
+// The first way to tear this block of 192 entries, over one of an earlier session, for which something else is found.
 fn other_torn(alloc: Global, sequence: u64) -> Option<(u32, Option<Found>)> {
-    let mut journal = journal_of(&[(9, 9, 2), (10, 9, 2)]);
-    let old = journal_block(1, (sequence.wrapping_sub(8), 1, 192), GOOD);
-    let new = journal_block(1, (sequence, 9, 192), GOOD);
+    let mut journal = journal_of(&[(9, 9, 2), (10, 9, 2)], GOOD);
+    let old = journal_block(1, sequence.wrapping_sub(8), 1, &[GOOD; 192]);
+    let new = journal_block(1, sequence, 9, &[GOOD; 192]);
     for bits in 0..256 {
         tear(&mut journal[(sequence % 8) as usize], &new, &old, bits);
         let found = find(alloc, 3, false, &journal);
-        let wanted = if sequence == 10 {
-            wanted_of_last(bits)
-        } else {
-            wanted_of_first(bits)
-        };
-        if found != Some(wanted) {
+        if found != Some(wanted_of(sequence, bits)) {
             return Some((bits, found));
         }
     }
@@ -238,75 +193,50 @@ fn torn_blocks_are_read(rt: HostRuntime) {
     assert_eq!(rt; other_torn(rt.alloc(), 10), None);
 }
 
-fn maps(at: u32, old: Mapping, new: Mapping) -> Entry {
-    Entry::Remap {
-        at: Lba(at),
-        old,
-        new,
-    }
-}
+// Entries of the image with 1000 addresses, which are on the leaves 0 of the trees 0 and 1, and entries that aren't: an address
+// with its old and its new mapping; and the tree, the level, the index and the block of a new page.
+static REMAPS: [(u32, Mapping, Mapping, bool); 6] = [
+    (999, Mapping::Unmapped, Mapping::At(Pbn(85)), true),
+    (1000, Mapping::Unmapped, Mapping::At(Pbn(85)), false),
+    (0, Mapping::At(Pbn(148)), Mapping::Zero, true),
+    (0, Mapping::At(Pbn(149)), Mapping::Zero, false),
+    (0, Mapping::Zero, Mapping::At(Pbn(84)), false),
+    (0, Mapping::Zero, Mapping::At(Pbn(154)), false),
+];
 
-fn page(tree: u8, level: u8, index: u32, at: u32) -> Entry {
-    Entry::NewPage {
-        page: PageId { tree, level, index },
-        at: Pbn(at),
-    }
-}
+static NEW_PAGES: [(u8, u8, u32, u32, bool); 8] = [
+    (0, 0, 0, 85, true),
+    (1, 0, 0, 148, true),
+    (2, 0, 0, 85, false),
+    (59, 0, 0, 85, false),
+    (0, 0, 1, 85, false),
+    (0, 1, 0, 85, false),
+    (0, 255, 0, 85, false),
+    (0, 0, 0, 84, false),
+];
 
-// Entries of the image with 1000 addresses, which are on the leaves 0 of the trees 0 and 1, and entries that aren't.
-fn entries() -> [(Entry, bool); 14] {
-    [
-        (maps(999, Mapping::Unmapped, Mapping::At(Pbn(85))), true),
-        (maps(1000, Mapping::Unmapped, Mapping::At(Pbn(85))), false),
-        (maps(0, Mapping::At(Pbn(148)), Mapping::Zero), true),
-        (maps(0, Mapping::At(Pbn(149)), Mapping::Zero), false),
-        (maps(0, Mapping::Zero, Mapping::At(Pbn(84))), false),
-        (maps(0, Mapping::Zero, Mapping::At(Pbn(154))), false),
-        (page(0, 0, 0, 85), true),
-        (page(1, 0, 0, 148), true),
-        (page(2, 0, 0, 85), false),
-        (page(59, 0, 0, 85), false),
-        (page(0, 0, 1, 85), false),
-        (page(0, 1, 0, 85), false),
-        (page(0, 255, 0, 85), false),
-        (page(0, 0, 0, 84), false),
-    ]
-}
-
-// The first of these entries that is judged otherwise.
-fn other_entry(alloc: Global) -> Option<(usize, Option<Found>)> {
-    for (i, &(entry, is_good)) in entries().iter().enumerate() {
-        let mut journal = empty_journal();
-        journal[1].copy_from(&journal_block(1, (1, 1, 30), entry));
-        let found = find(alloc, 1, false, &journal);
-        let wanted = if is_good {
-            Ok((1, 30))
-        } else {
-            Err(ImageFault::Window { sequence: 1 })
-        };
-        if found != Some(wanted) {
-            return Some((i, found));
-        }
+// Whether a window with 30 times this entry is found, or named as one that can't be replayed.
+fn is_good(alloc: Global, entry: Entry) -> Option<bool> {
+    let journal = journal_of(&[(1, 1, 30)], entry);
+    match find(alloc, 1, false, &journal)? {
+        Ok((1, 30)) => Some(true),
+        Err(ImageFault::Window { sequence: 1 }) => Some(false),
+        _ => None,
     }
-    None
 }
 
 #[test]
 fn entries_are_of_the_image(rt: HostRuntime) {
-    assert_eq!(rt; other_entry(rt.alloc()), None);
-}
-
-// The blocks of a device with this journal.
-fn blocks_with(alloc: Global, journal: &[Block; 8]) -> Result<Vec<Block>, AllocError> {
-    let mut blocks = Vec::new(alloc);
-    for at in 0..154_usize {
-        let mut block = Block::zero();
-        if at >= 1 && at < 9 {
-            block.copy_from(&journal[at - 1]);
-        }
-        blocks.push(block)?;
+    for (i, &(at, old, new, wanted)) in REMAPS.iter().enumerate() {
+        let at = Lba(at);
+        let good = is_good(rt.alloc(), Entry::Remap { at, old, new });
+        assert_eq!(rt; (i, good), (i, Some(wanted)));
     }
-    Ok(blocks)
+    for (i, &(tree, level, index, at, wanted)) in NEW_PAGES.iter().enumerate() {
+        let page = PageId { tree, level, index };
+        let good = is_good(rt.alloc(), Entry::NewPage { page, at: Pbn(at) });
+        assert_eq!(rt; (i, good), (i, Some(wanted)));
+    }
 }
 
 // What is found on a device of which so many calls go on, and how many calls its log has then.
@@ -316,7 +246,9 @@ fn read_from(alloc: Global, passes: u64) -> Result<(Found, usize), AllocError> {
         clean: false,
         start: 1,
     };
-    let blocks = blocks_with(alloc, &journal_of(&[(1, 1, 1), (2, 1, 2)]))?;
+    let mut blocks = zeros(alloc, 154)?;
+    put_journal(&mut blocks, 1, 1, &[GOOD]);
+    put_journal(&mut blocks, 2, 1, &[GOOD; 2]);
     let mut device = MemDisk::from_blocks(alloc, blocks)?;
     if device.blocks() != 154 {
         return Err(AllocError);
@@ -330,23 +262,14 @@ fn read_from(alloc: Global, passes: u64) -> Result<(Found, usize), AllocError> {
 }
 
 // Each block is read once, and the first read that fails is the last one.
-static READS: [(u64, Found, usize); 3] = [
-    (0, Err(ImageFault::Device), 1),
-    (7, Err(ImageFault::Device), 8),
-    (8, Ok((2, 3)), 8),
-];
-
-fn other_reads(alloc: Global) -> Result<Option<(u64, Found, usize)>, AllocError> {
-    for (passes, wanted, calls) in READS {
-        let (found, logged) = read_from(alloc, passes)?;
-        if found != wanted || logged != calls {
-            return Ok(Some((passes, found, logged)));
-        }
-    }
-    Ok(None)
-}
-
 #[test]
-fn windows_are_read_from_devices(rt: HostRuntime) {
-    assert_eq!(rt; other_reads(rt.alloc()), Ok(None));
+fn windows_are_read_from_devices(rt: HostRuntime) -> Result<(), Fail> {
+    let found = [
+        read_from(rt.alloc(), 0)?,
+        read_from(rt.alloc(), 7)?,
+        read_from(rt.alloc(), 8)?,
+    ];
+    let fails = Err(ImageFault::Device);
+    assert_eq!(rt; found, [(fails, 1), (fails, 8), (Ok((2, 3)), 8)]);
+    Ok(())
 }

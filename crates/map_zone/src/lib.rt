@@ -25,6 +25,3 @@ pub use laws::{
     nothing_unwritten_is_below_the_low_point, what_was_applied_is_shown,
 };
 pub use zone::MapZone;
-
-#[cfg(test)]
-mod tests;

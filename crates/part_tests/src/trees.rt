@@ -11,7 +11,8 @@ use page_codec::{MapPage, PageHead};
 use std::alloc::{AllocError, Global};
 use std::test::Fail;
 
-const GEOMETRY: Geometry = Geometry {
+/// Trees of height 3.
+pub(crate) const GEOMETRY: Geometry = Geometry {
     logical: 40_000_000,
     height: 3,
     nonce: 7,
@@ -45,8 +46,8 @@ fn paths_of_some_addresses(rt: HostRuntime) {
     assert_eq!(rt; lead, [true; 4]);
 }
 
-// The page of a level above an address.
-fn page_at(at: Lba, level: u8) -> PageId
+/// The page of a level above an address.
+pub(crate) fn page_at(at: Lba, level: u8) -> PageId
     requires { level < 3 }
     ensures { result ≡ page_of level at.0 }
 {
@@ -60,18 +61,6 @@ fn page_at(at: Lba, level: u8) -> PageId
         tree: (leaf % 60) as u8,
         level,
         index,
-    }
-}
-
-// A page of an image of these sizes, as `take_expired` fills it.
-fn blank_page() -> MapPage {
-    MapPage {
-        head: PageHead {
-            geometry: GEOMETRY,
-            page: page_at(Lba(0), 0),
-            at: Pbn(0),
-        },
-        mappings: Mappings::new(),
     }
 }
 
@@ -138,12 +127,13 @@ fn small_pages(alloc: Global) -> Result<Vec<OpenedPage>, AllocError>
     Ok(pages)
 }
 
-// What a session starts with that has these pages.
-fn opened(alloc: Global, pages: Vec<OpenedPage>) -> Opened
-    ensures head { result.head.geometry ≡ GEOMETRY }
-    ensures pages { result.pages ≡ pages }
+/// What a session starts with that has these pages.
+pub(crate) fn small_image(alloc: Global) -> Result<Opened, AllocError>
+    ensures head { IfOk result (λ opened. opened.head.geometry ≡ GEOMETRY) }
+    ensures pages { IfOk result (λ opened. IsOpened FOREST opened.pages.items) }
 {
-    Opened {
+    let pages = small_pages(alloc)?;
+    Ok(Opened {
         head: Super {
             geometry: GEOMETRY,
             clean: true,
@@ -153,56 +143,38 @@ fn opened(alloc: Global, pages: Vec<OpenedPage>) -> Opened
         counters: Vec::new(alloc),
         commits: Vec::new(alloc),
         tree_pages: Vec::new(alloc),
-    }
+    })
 }
 
 fn small_tree(alloc: Global) -> Result<TreeNodes, AllocError>
     ensures { IfOk result (λ tree. IsTree tree × (tree.forest ≡ FOREST)) }
 {
-    let opened = opened(alloc, small_pages(alloc)?);
+    let opened = small_image(alloc)?;
     TreeNodes::from_opened(alloc, &opened, FOREST.zone, FOREST.zones)
 }
 
-// What an address of the leaf leads to, one beside it, and one of the other tree.
-fn find_three(tree: &TreeNodes) -> [Found; 3]
-    requires { tree.now.forest ≡ FOREST }
-{
-    [
-        tree.find(&path(Lba(243_600), 3)),
-        tree.find(&path(Lba(0), 3)),
-        tree.find(&path(Lba(24_360), 3)),
-    ]
-}
-
-// Links the two pages that the path of an address misses, and finds it then.
-fn link_two(tree: &mut TreeNodes) -> Found
+// What an address of the leaf leads to, one beside it, and one of the other tree; where two pages of that one stand; and the
+// address of it once the two pages are linked that its path misses.
+fn find_and_link(tree: &mut TreeNodes) -> ([Found; 4], [Option<Pbn>; 2])
     requires form { IsTree tree.old }
     requires sizes { tree.old.forest ≡ FOREST }
+    ensures form { IsTree tree.new }
+    ensures sizes { tree.new.forest ≡ FOREST }
 {
-    let _ = link_next(tree, Lba(24_360), Pbn(92), Point(8));
-    let _ = link_next(tree, Lba(24_360), Pbn(93), Point(6));
-    tree.find(&path(Lba(24_360), 3))
-}
-
-#[test]
-fn opened_pages_lead_on(rt: HostRuntime) -> Result<(), Fail> {
-    let mut tree = small_tree(rt.alloc())?;
-    let found = find_three(&tree);
+    let of_other = path(Lba(24_360), 3);
+    let before = [
+        tree.find(&path(Lba(243_600), 3)),
+        tree.find(&path(Lba(0), 3)),
+        tree.find(&of_other),
+    ];
     let stand = [
         tree.at(page_at(Lba(24_360), 2)),
         tree.at(page_at(Lba(24_360), 1)),
     ];
-    let clean = tree.low_point();
-    let linked = link_two(&mut tree);
-    let marks = [clean, tree.low_point()];
-    let wanted = [Found::Leaf(Pbn(91)), Found::Missing(0), Found::Missing(1)];
-    let wanted_then = (
-        [Some(Pbn(39)), None],
-        Found::Leaf(Pbn(93)),
-        [None, Some(Point(6))],
-    );
-    assert_eq!(rt; (found, (stand, linked, marks)), (wanted, wanted_then));
-    Ok(())
+    let _ = link_next(tree, Lba(24_360), Pbn(92), Point(8));
+    let _ = link_next(tree, Lba(24_360), Pbn(93), Point(6));
+    let [first, second, third] = before;
+    ([first, second, third, tree.find(&of_other)], stand)
 }
 
 // What is handed out to be written: the page, its block and two of its mappings; and the low point then.
@@ -213,7 +185,14 @@ fn write_changed(tree: &mut TreeNodes, limit: Point) -> Option<Changed>
     requires { IsTree tree.old }
     ensures form { IsTree tree.new }
 {
-    let mut into = blank_page();
+    let mut into = MapPage {
+        head: PageHead {
+            geometry: GEOMETRY,
+            page: page_at(Lba(0), 0),
+            at: Pbn(0),
+        },
+        mappings: Mappings::new(),
+    };
     let page = tree.take_expired(limit, &mut into)?;
     let low = tree.low_point();
     tree.written(page);
@@ -221,22 +200,44 @@ fn write_changed(tree: &mut TreeNodes, limit: Point) -> Option<Changed>
     Some((page, into.head.at, mappings, low))
 }
 
-// A page is linked at point 8: what is due at point 7, at point 8, and the low point then.
-fn link_and_write(tree: &mut TreeNodes) -> ([Option<Changed>; 2], Option<Point>)
-    requires form { IsTree tree.old }
-    requires sizes { tree.old.forest ≡ FOREST }
-{
-    let _ = link_next(tree, Lba(0), Pbn(92), Point(8));
-    let written = [write_changed(tree, Point(7)), write_changed(tree, Point(8))];
-    (written, tree.low_point())
-}
-
+// Pages that are opened lead on, and so do those that are linked, at the points 8 and 6. Each page that was changed is written.
 #[test]
-fn a_changed_page_is_written(rt: HostRuntime) -> Result<(), Fail> {
+fn opened_pages_lead_on(rt: HostRuntime) -> Result<(), Fail> {
     let mut tree = small_tree(rt.alloc())?;
-    let written = link_and_write(&mut tree);
-    let mappings = [Mapping::At(Pbn(92)), Mapping::At(Pbn(91))];
-    let changed = (page_at(Lba(0), 1), Pbn(90), mappings, Some(Point(8)));
-    assert_eq!(rt; written, ([None, Some(changed)], None));
+    let clean = tree.low_point();
+    let found = find_and_link(&mut tree);
+    let low = tree.low_point();
+    let written = [
+        write_changed(&mut tree, Point(5)),
+        write_changed(&mut tree, Point(6)),
+        write_changed(&mut tree, Point(8)),
+    ];
+    let finds = [
+        Found::Leaf(Pbn(91)),
+        Found::Missing(0),
+        Found::Missing(1),
+        Found::Leaf(Pbn(93)),
+    ];
+    let none = Mapping::Unmapped;
+    let middle = (
+        page_at(Lba(24_360), 1),
+        Pbn(92),
+        [Mapping::At(Pbn(93)), none],
+        Some(Point(6)),
+    );
+    let root = (
+        page_at(Lba(24_360), 2),
+        Pbn(39),
+        [Mapping::At(Pbn(92)), none],
+        Some(Point(8)),
+    );
+    assert_eq!(rt;
+        (found, clean, low),
+        ((finds, [Some(Pbn(39)), None]), None, Some(Point(6)))
+    );
+    assert_eq!(rt;
+        (written, tree.low_point()),
+        ([None, Some(middle), Some(root)], None)
+    );
     Ok(())
 }

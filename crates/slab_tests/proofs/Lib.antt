@@ -1,2 +1,0 @@
-pub mod OutLaws
-pub mod TestedLaws

@@ -1,8 +1,0 @@
-use Rattle.std.proofs.Common.{◌≡◌, ◌≤◌, length, All}
-use Rattle.slab_tests.proofs.images.counters_in_two_zones.Given as goal
-
-abbrev pub invariant-loop-k : goal.invariant-loop-k
-invariant-loop-k l = record {
-  count : length l.counters.items ≡ l.k;
-  limit : All (λ counter. counter ≤ 254) l.counters.items;
-}
