@@ -1,7 +1,7 @@
 ghost use Rattle.std.specs.Prelude.{◌≡◌, Some, length, reverse, slice_set};
 ghost use Rattle.vdo_model.specs.Notes.{NotesAnswers, NotesPlaces};
 
-use vdo_model::{DeskLine, Placed};
+use crate::{DeskLine, Placed};
 
 // Notes this of a request, if there is room for a request of this number.
 fn note<T: Copy>(notes: &mut [Option<T>], number: u32, item: T)
