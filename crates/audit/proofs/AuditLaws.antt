@@ -18,7 +18,7 @@ use Rattle.image_model.specs.Pages.{address_count}
 use Rattle.image_model.specs.Sound.{AreUnshared, IsDataPlace, image_of}
 use Rattle.image_model.specs.declared.fault.ImageFault.{ImageFault}
 use Rattle.image_model.specs.declared.fault.ImageFault.TheVariants.{Super, Window, Page, Counter, SharedPage, Counts, Device, Unclean, Memory}
-use Rattle.image_model.proofs.WholeRows.{listed, at_listed}
+use Rattle.image_model.proofs.WholeExample.{listed, at_listed}
 use Rattle.blk_base.specs.declared.place.Pbn.{Pbn}
 use Rattle.journal_window.specs.States.{WindowState}
 use Rattle.replay_counts.specs.Recovered.{AreCountsRead, CountsFail, HasCounts, Holds}

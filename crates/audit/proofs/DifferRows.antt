@@ -17,7 +17,7 @@ use Rattle.disk_model.specs.Trust.{trust_of}
 use Rattle.image_model.proofs.CountLaws.{none_in_nothing, one_number, one_stored}
 use Rattle.image_model.proofs.EmptyLaws.{all_counted, blank_slot, no_updates, none_kept_in_zeros, not_shared, pages_good, root_says, stored_counter, the_image, zero_first}
 use Rattle.image_model.proofs.Example.{small, small_is}
-use Rattle.image_model.proofs.FaultRows.{zeros_unheaded}
+use Rattle.image_model.proofs.FaultExample.{zeros_unheaded}
 use Rattle.image_model.proofs.MapLaws.{page_in_range}
 use Rattle.image_model.specs.Counts.{HasMappings, Stores, block_of_data, counter_of, reference_sector_at}
 use Rattle.image_model.specs.Empty.{empty_root}

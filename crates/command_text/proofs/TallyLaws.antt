@@ -2,7 +2,7 @@
 use Rattle.std.specs.Prelude.{ℕ, ◌≡◌, ◌<◌, ◌+◌, List, length, get_or, take, reverse}
 use Rattle.std.proofs.Common.{ap}
 use Rattle.vdo_model.specs.declared.report.DeskLine.{DeskLine}
-use Rattle.answer_notes.proofs.NoteLaws.{one_more}
+use Rattle.vdo_model.proofs.NoteLaws.{one_more}
 use Rattle.command_text.specs.Tallies.{tally_of, with_line}
 
 -- the answers so far, and of one line more

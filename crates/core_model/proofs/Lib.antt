@@ -1,4 +1,3 @@
-pub mod rows
 pub mod ListForms
 pub mod ZoneSetLaws
 pub mod PortLaws
@@ -7,3 +6,5 @@ pub mod LockLaws
 pub mod CountLaws
 pub mod FairLaws
 pub mod TreeLinks
+pub mod ZoneForms
+pub mod WorkedTraces

@@ -19,7 +19,7 @@ use Rattle.blk_base.specs.declared.request.Writer.{Writer}
 use Rattle.disk_model.specs.declared.call.Call.{Call}
 use Rattle.disk_model.specs.declared.call.Call.TheVariants.{Read, Write, Flush}
 use Rattle.journal_codec.specs.BlockBytes.{block_bytes}
-use Rattle.stop_laws.specs.Journals.{block_of_slot}
+use Rattle.vdo_model.specs.Journals.{block_of_slot}
 use Rattle.data_vio.specs.declared.items.Item.{Item}
 use Rattle.data_vio.specs.declared.items.Item.TheVariants as item
 use Rattle.data_vio.specs.declared.items.Phase.TheVariants as phase

@@ -19,7 +19,7 @@ use Rattle.disk_model.specs.OneImages.{HasOneImageIn}
 use Rattle.image_model.specs.Counts.{HasMappings}
 use Rattle.image_model.specs.Sound.{AreUnshared}
 use Rattle.image_model.specs.Maps.{ArePagesGood, Image, image_with, mapping_of, page_at, value_of}
-use Rattle.stop_laws.specs.Journals.{Surely}
+use Rattle.vdo_model.specs.Journals.{Surely}
 use Rattle.vdo_model.specs.Scripts.{IsServed, Script, request_at, value_written}
 use Rattle.data_vio.specs.declared.sizes.Sizes.{Sizes}
 use Rattle.data_vio.specs.declared.logged.Logged.{Logged}

@@ -4,7 +4,7 @@ ghost use Rattle.core_model.specs.ZoneSets.{IsBelow, Puts, TakesFirst, is_in};
 use std::marker::Model;
 
 /// A set of zones of a core, by their numbers. A contract sees it as the number whose bits are set at them.
-#[derive(Clone, Copy, Debug, PartialEq, Eq)]
+#[derive(Clone, Copy, PartialEq, Eq)]
 pub struct ZoneSet {
     bits: u32,
 }

@@ -15,7 +15,7 @@ pub struct PhysicalZone {
 }
 
 /// How far the superblock of a session has come, which says that the session isn't closed.
-#[derive(Clone, Copy, Debug, PartialEq, Eq)]
+#[derive(Clone, Copy, PartialEq, Eq)]
 pub enum SuperblockStage {
     /// Block 0 is as it was opened, or its write failed.
     AsOpened,

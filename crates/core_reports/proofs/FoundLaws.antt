@@ -10,8 +10,8 @@ use Rattle.blk_base.specs.declared.request.Answer.{Answer as Reply}
 use Rattle.blk_base.specs.declared.request.Request.{Request}
 use Rattle.blk_base.specs.declared.request.Request.TheVariants as request
 use Rattle.blk_base.specs.declared.request.Writer.{Writer}
-use Rattle.answer_notes.proofs.NoteLaws.{one_more}
-use Rattle.answer_notes.specs.Notes.{NotesAnswer}
+use Rattle.vdo_model.proofs.NoteLaws.{one_more}
+use Rattle.vdo_model.specs.Notes.{NotesAnswer}
 use Rattle.plain_laws.proofs.ListLaws.{every-front, every-get}
 use Rattle.vdo_model.specs.declared.report.DeskLine.{DeskLine}
 use Rattle.vdo_model.specs.declared.report.HistoryEntry.{HistoryEntry}

@@ -32,8 +32,8 @@ use Rattle.data_vio.specs.declared.logged.Remapping.{Remapping}
 use Rattle.core_model.specs.declared.zones.Zone.{Zone}
 use Rattle.core_model.specs.declared.zones.ZoneData.{ZoneData}
 use Rattle.core_model.specs.declared.zones.ZoneData.TheVariants as at
-use Rattle.core_model.proofs.rows.PhaseRows.{desk, device, empty_log, journal, logical, nothing, one, physical, slab_with, zone_with}
-use Rattle.core_model.proofs.rows.WorkedTraces.{first, of_first, other, place, script, second}
+use Rattle.core_model.proofs.ZoneForms.{desk, device, empty_log, journal, logical, nothing, one, physical, slab_with, zone_with}
+use Rattle.core_model.proofs.WorkedTraces.{first, of_first, other, place, script, second}
 use Rattle.core_reports.specs.Found.{AreEntered, AreFound, AreNoted, IsFound, entered_in}
 use Rattle.core_reports.specs.Listed.{HasDamage, HasDesk, HasEntered, HasGeometry, places_at, places_of_all, used_by, used_by_all}
 use Rattle.core_reports.specs.Rooms.{IsRoomFor}

@@ -3,7 +3,7 @@
 //! The requests, the desk log, the marks and the receipts are moved out of the desk, and the places of the zones are
 //! listed one zone's behind the other's: in a legal core the logical zones stand behind the desk, in the order of their
 //! numbers (`proofs/ReportLaws`). For the histories the newest answer of each request is noted, in one pass through the
-//! desk log for each stream (`answer_notes`), and whether its entry was handed in, in one pass through the entries. The
+//! desk log for each stream (`note_answers`), and whether its entry was handed in, in one pass through the entries. The
 //! code doesn't ask whether the core is legal: what its functions give is said by what of that they need (`HasDesk`,
 //! `HasEntered`, `AreFound`).
 //!

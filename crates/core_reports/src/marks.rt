@@ -1,7 +1,7 @@
 ghost use Rattle.std.specs.Prelude.{◌≡◌, Bool, Some, reverse};
 ghost use Rattle.blk_base.specs.declared.request.Answer.{Answer as Reply};
 ghost use Rattle.blk_base.specs.declared.request.Writer.{Writer};
-ghost use Rattle.answer_notes.specs.Notes.{NotesAnswer};
+ghost use Rattle.vdo_model.specs.Notes.{NotesAnswer};
 ghost use Rattle.vdo_model.specs.DeskLog.{answer_of};
 ghost use Rattle.vdo_model.specs.Histories.{mark_of};
 

@@ -1,13 +1,12 @@
 ghost use Rattle.std.specs.Prelude.{◌≡◌, ◌≢◌, ◌<◌, ℕ, [], None, IfOk, get_or, length, map, reverse};
-ghost use Rattle.answer_notes.specs.Notes.{NotesAnswers};
+ghost use Rattle.vdo_model.specs.Notes.{NotesAnswers};
 ghost use Rattle.core_reports.specs.Found.{AreNoted};
 
-use answer_notes::note_answers;
 use blk_base::Writer;
 use data_vio::MOST_STREAMS;
 use std::alloc::{AllocError, Global};
 use std::marker::Model;
-use vdo_model::DeskLine;
+use vdo_model::{DeskLine, note_answers};
 
 /// Where the newest answers of one stream's requests stand in a desk log: for each number the line, from 0.
 #[derive(Drop)]

@@ -26,7 +26,7 @@ use Rattle.journal_stops.specs.Mapped.{slot_after}
 use Rattle.page_codec.specs.Grammar.{HasHead, IsSlot}
 use Rattle.session_stops.proofs.PageSteps.{begins}
 use Rattle.session_stops.specs.Pages.{PagesStand}
-use Rattle.stop_laws.specs.Journals.{Surely}
+use Rattle.vdo_model.specs.Journals.{Surely}
 
 module _ (s : Session) (u : Trace) (session : IsSession s) (opened : IsAsOpened s) (left : KeptStands s u) where
   abbrev g : Geometry

@@ -26,8 +26,8 @@ use Rattle.image_model.specs.Maps.{image_with, value_of}
 use Rattle.image_model.specs.Sound.{IsSound}
 use Rattle.image_model.specs.Windows.{IsWindow}
 use Rattle.recovery_laws.specs.Kept.{PutsOnly, image_in}
-use Rattle.session_seams.proofs.SequenceLaws.{opened_next, rest_next, torn_next}
-use Rattle.session_seams.specs.Sequences.{ShowsValues, next_start}
+use Rattle.core_stops.proofs.SequenceLaws.{opened_next, rest_next, torn_next}
+use Rattle.core_stops.specs.Sequences.{ShowsValues, next_start}
 use Rattle.session_stops.proofs.BeginLaws.{beginning_goes_on, begins_with, head_is_read, image_is_as_opened}
 use Rattle.session_stops.proofs.SoundImages.{rest_sound, way_sound}
 use Rattle.session_stops.specs.Beginnings.{IsBeginning, IsHeadOf, IsToServe, head_in, opened_in}

@@ -41,7 +41,7 @@ use Rattle.session_stops.proofs.PointedBlocks.{blocks_pointed}
 use Rattle.session_stops.specs.Beginnings.{HeadStands, IsToServe, opened_in}
 use Rattle.session_stops.specs.Pages.{EmptyPageStands, NewPagesStand, PagesStand}
 use Rattle.session_stops.specs.Sessions.{AreFew, IsBehind, StandsAtRest, StandsUnderWay, entries_next, window_from}
-use Rattle.stop_laws.specs.Journals.{Surely}
+use Rattle.vdo_model.specs.Journals.{Surely}
 use Rattle.core_stops.proofs.OpenedStands.{counts_opened, pages_opened}
 use Rattle.core_laws.proofs.trace.EntriesInTurn.{AreOrdered, in_turn, older_ordered, ordered}
 

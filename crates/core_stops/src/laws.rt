@@ -4,7 +4,7 @@ ghost use Rattle.core_model.specs.Reports.{opening_values, report_of};
 ghost use Rattle.core_model.specs.Sessions.{Session, IsFair, IsSession};
 ghost use Rattle.core_model.specs.Steps.{Core};
 ghost use Rattle.core_model.specs.Trace.{calls};
-ghost use Rattle.session_seams.specs.Sequences.{ShowsValues};
+ghost use Rattle.core_stops.specs.Sequences.{ShowsValues};
 ghost use Rattle.session_stops.specs.Beginnings.{IsToServe};
 ghost use Rattle.vdo_model.specs.Stops.{RightAfterStops};
 

@@ -30,7 +30,7 @@ use Rattle.slab_codec.proofs.ReadLaws.{written}
 use Rattle.slab_codec.specs.Grammar.{HoldsEntry, IsSlabSector}
 use Rattle.slab_codec.specs.BlockBytes.{block_bytes}
 use Rattle.slab_codec.specs.declared.forms.SlabEntry.{SlabEntry}
-use Rattle.stop_laws.specs.Journals.{Surely}
+use Rattle.vdo_model.specs.Journals.{Surely}
 use Rattle.count_laws.specs.Closed.{HasClosedCounts}
 use Rattle.count_laws.specs.Counters.{CountsStand, HasUpdate, IsCounted, IsKnown, IsOfSector, MayWrite, SurelyCounters, UpdateStands, counter_in, entry_at, points_at}
 use Rattle.count_laws.specs.Points.{up_to}

@@ -13,7 +13,7 @@ use Rattle.image_model.specs.Counts.{block_of_data, count_from}
 use Rattle.image_model.specs.Sound.{IsDataPlace}
 use Rattle.image_model.proofs.CountLaws.{one_rising, none_in_nothing, is_first_or_behind}
 use Rattle.image_model.proofs.Example.{small}
-use Rattle.image_model.proofs.CountRows.{remap}
+use Rattle.image_model.proofs.CountExample.{remap}
 use Rattle.count_updates.specs.Applied.{IsGreatest, AreApplied}
 use Rattle.count_updates.specs.Counted.{IsCountedAt, AreCounted, Leaves}
 use Rattle.count_updates.specs.Entries.{updates_in}

@@ -12,7 +12,7 @@ pub struct Found {
 }
 
 /// Why there are no counts.
-#[derive(Clone, Copy, Debug, PartialEq, Eq)]
+#[derive(Clone, Copy, PartialEq, Eq)]
 pub enum CountFault {
     /// The count of this data block leaves 0 to 254 at this point: the least such block.
     Counter { at: Pbn, point: Point },

@@ -2,7 +2,7 @@ use blk_base::Pbn;
 use page_codec::PageFault;
 
 /// Why a value wasn't read.
-#[derive(Clone, Copy, Debug, PartialEq, Eq)]
+#[derive(Clone, Copy, PartialEq, Eq)]
 pub enum ValueFault {
     /// A read of the device failed.
     Device,

@@ -6,7 +6,7 @@ use blk_base::Point;
 /// What of a page isn't durable.
 ///
 /// A page that is changed again while it is being written has two points.
-#[derive(Clone, Copy, Debug, PartialEq, Eq)]
+#[derive(Clone, Copy, PartialEq, Eq)]
 pub struct DirtyPoints {
     /// The least point of the changes since the page was last handed out to be written.
     pub dirty: Option<Point>,

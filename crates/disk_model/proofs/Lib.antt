@@ -1,6 +1,3 @@
-pub mod CausePins
-pub mod StreamPins
-pub mod SincePins
 pub mod Honest
 pub mod ImageLaws
 pub mod ContentLaws
@@ -14,7 +11,4 @@ pub mod Taken
 pub mod FuseLaws
 pub mod PickLaws
 pub mod PickImageLaws
-pub mod PickRows
-mod ImageRows
-mod LookedRows
-mod RamRows
+pub mod StreamExample

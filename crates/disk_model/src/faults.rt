@@ -63,7 +63,7 @@ impl FaultAt {
 }
 
 /// What a fuse and planned faults make of a call.
-#[derive(Clone, Copy, Debug)]
+#[derive(Clone, Copy)]
 pub(crate) struct Course {
     pub fails: bool,
     /// Whether a call that fails takes effect first.

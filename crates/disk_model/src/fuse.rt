@@ -5,7 +5,7 @@ ghost use Rattle.disk_model.specs.Fuses.{is_cut, burnt, burnt_all};
 use crate::Call;
 
 /// When the calls of a device in memory begin to fail for good.
-#[derive(Clone, Copy, Debug, PartialEq, Eq)]
+#[derive(Clone, Copy, PartialEq, Eq)]
 pub enum Fuse {
     /// Never.
     Unset,

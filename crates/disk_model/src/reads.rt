@@ -6,7 +6,7 @@ use blk_base::{Block, Pbn};
 use std::alloc::Global;
 
 /// Why the blocks of a device weren't read.
-#[derive(Clone, Copy, Debug, PartialEq, Eq)]
+#[derive(Clone, Copy, PartialEq, Eq)]
 pub enum BlocksFault {
     /// A read failed.
     Device,

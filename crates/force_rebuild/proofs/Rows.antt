@@ -24,8 +24,8 @@ use Rattle.image_layout.specs.Superblock.{super_block}
 use Rattle.image_layout.specs.Values.{journal_of}
 use Rattle.image_model.proofs.CountLaws.{one_number}
 use Rattle.image_model.proofs.Example.{small}
-use Rattle.image_model.proofs.FaultRows.{zeros_unheaded}
-use Rattle.image_model.proofs.MapRows.{image as mapped, remap, said, with_root}
+use Rattle.image_model.proofs.FaultExample.{zeros_unheaded}
+use Rattle.image_model.proofs.MapExample.{image as mapped, remap, said, with_root}
 use Rattle.image_model.specs.Counts.{HasMappings, block_of_data}
 use Rattle.image_model.specs.Looked.{is_looked_at}
 use Rattle.image_model.specs.Maps.{Image, page_at}

@@ -7,7 +7,7 @@ ghost use Rattle.grow_image.specs.NewAddresses.{IsWithin, address_in};
 use blk_base::{Lba, PAGE_SLOTS, PageId, TREES};
 
 /// The addresses from one on to below another.
-#[derive(Clone, Copy, Debug, PartialEq, Eq)]
+#[derive(Clone, Copy, PartialEq, Eq)]
 pub(crate) struct AddressRange {
     pub(crate) first: u32,
     pub(crate) end: u32,

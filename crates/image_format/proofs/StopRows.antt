@@ -18,7 +18,7 @@ use Rattle.image_layout.proofs.SpellingLaws.{super_size}
 use Rattle.image_layout.specs.Opened.{super_of_image}
 use Rattle.image_layout.specs.Superblock.{super_block}
 use Rattle.image_model.proofs.Example.{small, small_is}
-use Rattle.image_model.proofs.FaultRows.{zeros_unheaded}
+use Rattle.image_model.proofs.FaultExample.{zeros_unheaded}
 use Rattle.image_model.specs.Empty.{IsEmpty, IsUnused, empty_super}
 use Rattle.image_model.specs.Maps.{ArePagesGood}
 use Rattle.image_model.specs.Sound.{image_of}

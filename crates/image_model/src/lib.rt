@@ -11,7 +11,7 @@
 //! Only tested: the texts of the faults.
 //!
 //! No rows yet: of whole images (`IsSound`) the empty one of the default sizes is accepted, and one is refused for each
-//! clause but `unshared`, of which the part alone is pinned (`proofs/WholeRows`). Of `IsImageFault` as a whole a device
+//! clause but `unshared`, of which the part alone is pinned (`WholeRows` of `model_rows`). Of `IsImageFault` as a whole a device
 //! without a superblock is accepted, and sound images are refused by a law.
 #![tactic(auto)]
 

@@ -2,7 +2,7 @@ use blk_base::Pbn;
 use block_names::Name;
 
 /// What was asked of an advisor, and what it answered.
-#[derive(Clone, Copy, Debug, PartialEq, Eq)]
+#[derive(Clone, Copy, PartialEq, Eq)]
 pub enum Advice {
     /// A look ended. It is `failed` only where an index block couldn't be read for it, or where the advisor asked for a
     /// block outside the index, or for a 13th one.

@@ -21,7 +21,7 @@ use Rattle.image_model.specs.Maps.{mapping_in, mapping_with, mapping_of, page_at
 use Rattle.image_model.specs.Windows.{in_slot, IsThere, IsWindow}
 use Rattle.image_model.specs.Pages.{is_page}
 use Rattle.image_model.proofs.Example.{small}
-use Rattle.image_model.proofs.MapRows.{said, blocks, image, logged, remap, new_leaf, mapped}
+use Rattle.image_model.proofs.MapExample.{said, blocks, image, logged, remap, new_leaf, mapped}
 use Rattle.image_model.proofs.WindowLaws.{one_window}
 use Rattle.image_model.proofs.ZeroLaws.{of_eight}
 use Rattle.image_model.proofs.EmptyLaws.{zero_first}

@@ -16,7 +16,7 @@ use Rattle.image_model.proofs.EmptyLaws.{sizes_of_image}
 use Rattle.journal_codec.specs.Grammar.{IsSector, IsRun, IsPrefix}
 use Rattle.journal_codec.specs.BlockBytes.{entries_in}
 use Rattle.journal_codec.proofs.ReadLaws.{one_reading}
-use Rattle.stop_laws.specs.Journals.{Surely, block_of_slot}
+use Rattle.vdo_model.specs.Journals.{Surely, block_of_slot}
 use Rattle.journal_stops.specs.Rings.{ring_slot_of, IsWhole, HasNothingLater, StandWhole, IsAtRest}
 use Rattle.journal_stops.specs.Sealed.{Sealed, next_of, head_of, lists_of, since, window_of}
 use Rattle.journal_stops.proofs.ShownLaws.{slot_there, begins_anew}

@@ -18,7 +18,7 @@ use Rattle.journal_codec.specs.Grammar.{IsSector}
 use Rattle.journal_codec.specs.BlockBytes.{entries_in}
 use Rattle.journal_codec.proofs.PrefixLaws.{written}
 use Rattle.journal_codec.proofs.ReadLaws.{length-sector_bytes}
-use Rattle.stop_laws.specs.Journals.{Surely, block_of_slot}
+use Rattle.vdo_model.specs.Journals.{Surely, block_of_slot}
 use Rattle.journal_stops.specs.Rings.{ring_slot_of, IsWhole, HasNothingLater, IsTornOver, StandWhole, IsRing, IsAtRest, IsUnderWay, IsWritten}
 use Rattle.journal_stops.specs.Sealed.{Sealed, head_of}
 use Rattle.journal_stops.proofs.SealedRows.{names, first_sealed}

@@ -6,7 +6,7 @@ use Rattle.blk_base.proofs.Example.{maps}
 use Rattle.blk_base.specs.Forms.{at_point}
 use Rattle.image_model.specs.Windows.{IsOfImage}
 use Rattle.image_model.proofs.Example.{small, one, holds}
-use Rattle.image_model.proofs.WindowRows.{each_is}
+use Rattle.image_model.proofs.WindowExample.{each_is}
 use Rattle.journal_stops.specs.Sealed.{Sealed, IsSealed, next_of, head_of, lists_of, entries_of, since, before, window_of, front_of}
 
 -- a block with this head and the entry of the example, and one with two entries

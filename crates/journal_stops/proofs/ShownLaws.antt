@@ -20,7 +20,7 @@ use Rattle.journal_codec.specs.Grammar.{IsSector, IsRun, IsPrefix}
 use Rattle.journal_codec.specs.BlockBytes.{entries_in}
 use Rattle.journal_codec.proofs.PrefixLaws.{prefix_partial, prefix_whole}
 use Rattle.journal_codec.proofs.ReadLaws.{one_reading}
-use Rattle.stop_laws.specs.Journals.{Surely, block_of_slot}
+use Rattle.vdo_model.specs.Journals.{Surely, block_of_slot}
 use Rattle.journal_stops.specs.Rings.{ring_slot_of, IsWhole, IsEarlier, HasNothingLater, IsTornOver, StandWhole, IsRing, IsAtRest, IsUnderWay}
 use Rattle.journal_stops.specs.Sealed.{Sealed, IsSealed, next_of, head_of, lists_of, since, window_of, front_of}
 use Rattle.journal_stops.proofs.StepLaws.{head_within, ring_has_slots}

@@ -16,8 +16,8 @@ use Rattle.journal_codec.specs.Grammar.{HoldsBlock}
 use Rattle.journal_codec.specs.BlockBytes.{block_bytes, entries_in}
 use Rattle.journal_codec.proofs.PrefixLaws.{written}
 use Rattle.journal_codec.proofs.ReadLaws.{one_reading}
-use Rattle.stop_laws.specs.Journals.{Surely, MissesJournal, block_of_slot}
-use Rattle.stop_laws.proofs.JournalLaws.{slots_apart}
+use Rattle.vdo_model.specs.Journals.{Surely, MissesJournal, block_of_slot}
+use Rattle.vdo_model.proofs.JournalLaws.{slots_apart}
 use Rattle.journal_stops.specs.Rings.{ring_slot_of, IsWhole, HasNothingLater, IsTornOver, StandWhole, IsRing, IsAtRest, IsUnderWay, IsWritten}
 use Rattle.journal_stops.specs.Sealed.{Sealed, IsSealed, next_of, head_of, front_of}
 use Rattle.image_model.proofs.LookedLaws.{looked_low}

@@ -12,7 +12,7 @@ use Rattle.disk_model.specs.Log.{Blocks, settled}
 use Rattle.image_model.specs.Windows.{IsOfImage}
 use Rattle.journal_codec.specs.Grammar.{IsSector, IsRun}
 use Rattle.journal_codec.specs.BlockBytes.{entries_in}
-use Rattle.stop_laws.specs.Journals.{Surely, block_of_slot}
+use Rattle.vdo_model.specs.Journals.{Surely, block_of_slot}
 use Rattle.journal_stops.specs.Sealed.{Sealed, IsSealed, next_of, head_of}
 
 -- the block in which a sequence stands

@@ -16,7 +16,7 @@ ghost use Rattle.image_model.specs.Windows.{in_slot, IsWindow};
 ghost use Rattle.image_model.specs.Looked.{is_looked_at};
 ghost use Rattle.journal_codec.specs.Grammar.{HoldsBlock, IsSector, IsPrefix};
 ghost use Rattle.journal_codec.specs.BlockBytes.{block_bytes};
-ghost use Rattle.stop_laws.specs.Journals.{MissesJournal};
+ghost use Rattle.vdo_model.specs.Journals.{MissesJournal};
 ghost use Rattle.journal_stops.specs.Rings.{IsWhole, IsRing, IsAtRest, IsUnderWay, IsWritten, ring_slot_of};
 ghost use Rattle.journal_stops.specs.Sealed.{Sealed, IsSealed, next_of, head_of, window_of, front_of};
 

@@ -20,7 +20,7 @@ use Rattle.image_model.proofs.Example.{small, one, block, holds, has_sector, onl
 use Rattle.image_model.proofs.WindowLaws.{one_last, one_window, one_fault}
 use Rattle.image_model.proofs.ZeroLaws.{of_eight}
 use Rattle.image_model.proofs.ReadExample.{zero_journal, none_there}
-use Rattle.image_model.proofs.WindowRows.{data_86}
+use Rattle.image_model.proofs.WindowExample.{data_86}
 use Rattle.journal_codec.specs.Grammar.{IsSector}
 use Rattle.journal_codec.proofs.PrefixLaws.{written_prefix}
 use Rattle.journal_window.proofs.ReplayLaws.{no_prefix}

@@ -20,8 +20,8 @@ use Rattle.image_format.specs.Runs.{as_failed}
 use Rattle.image_layout.specs.Opened.{super_of_image}
 use Rattle.image_model.specs.Empty.{IsMade, made_block}
 use Rattle.image_model.specs.Maps.{Image, page_at}
-use Rattle.image_model.proofs.FaultRows.{zeros_unheaded}
-use Rattle.image_model.proofs.MapRows.{with_root}
+use Rattle.image_model.proofs.FaultExample.{zeros_unheaded}
+use Rattle.image_model.proofs.MapExample.{with_root}
 use Rattle.image_model.proofs.LookedLaws.{looked_first}
 use Rattle.recovery_laws.proofs.OpenedExample.{opened_is_to_recover, opened_super}
 use Rattle.recovery_laws.specs.Calls.{IsPut}

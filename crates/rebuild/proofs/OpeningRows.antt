@@ -14,7 +14,7 @@ use Rattle.disk_model.specs.Trust.{trust_of}
 use Rattle.image_layout.specs.Opened.{super_of_image}
 use Rattle.image_model.proofs.CountLaws.{one_number, one_stored}
 use Rattle.image_model.proofs.Example.{small}
-use Rattle.image_model.proofs.MapRows.{bad_head, with_root}
+use Rattle.image_model.proofs.MapExample.{bad_head, with_root}
 use Rattle.image_model.specs.Counts.{HasMappings, Stores, block_of_data}
 use Rattle.image_model.specs.Maps.{Image, IsTreePage, mapping_of}
 use Rattle.image_model.specs.Sound.{IsDataPlace}

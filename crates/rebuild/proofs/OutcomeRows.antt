@@ -23,7 +23,7 @@ use Rattle.image_layout.specs.Superblock.{super_of}
 use Rattle.image_layout.specs.declared.fault.SuperFault.{SuperFault}
 use Rattle.image_layout.specs.declared.fault.SuperFault.TheVariants.{NotAnImage}
 use Rattle.image_model.proofs.Example.{small}
-use Rattle.image_model.proofs.MapRows.{logged, with_root}
+use Rattle.image_model.proofs.MapExample.{logged, with_root}
 use Rattle.image_model.proofs.WindowLaws.{one_last, one_window}
 use Rattle.image_model.specs.Maps.{Image}
 use Rattle.image_model.specs.Sound.{IsSound, image_of}
@@ -31,7 +31,7 @@ use Rattle.image_model.specs.Windows.{IsFaulty}
 use Rattle.image_model.specs.declared.fault.ImageFault.{ImageFault}
 use Rattle.image_model.specs.declared.fault.ImageFault.TheVariants.{Super, Window, Counts, Device, Unclean, Memory}
 use Rattle.image_model.proofs.ReadExample.{next_failed, failed}
-use Rattle.image_model.proofs.FaultRows.{nothing as blank}
+use Rattle.image_model.proofs.FaultExample.{nothing as blank}
 use Rattle.journal_window.specs.States.{WindowState}
 use Rattle.journal_window.specs.Windows.{IsWindowOf}
 use Rattle.recovery_laws.proofs.KeptRows.{kept_by_itself, kept_by_nothing}

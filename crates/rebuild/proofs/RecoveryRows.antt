@@ -29,7 +29,7 @@ use Rattle.image_model.specs.declared.fault.ImageFault.TheVariants.{Window, Coun
 use Rattle.image_model.specs.Looked.{looked_in}
 use Rattle.image_model.proofs.LookedLaws.{looked_first}
 use Rattle.image_model.proofs.ReadExample.{next_failed, failed}
-use Rattle.image_model.proofs.WholeRows.{zero_super}
+use Rattle.image_model.proofs.WholeExample.{zero_super}
 use Rattle.image_opening.specs.Heads.{IsHeadRead}
 use Rattle.recovery_laws.proofs.OpenedExample.{opened_super, whole_run}
 use Rattle.recovery_laws.specs.Calls.{recovery_calls}

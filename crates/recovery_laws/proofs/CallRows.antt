@@ -12,9 +12,9 @@ use Rattle.byte_fields.specs.Fields.{number_at}
 use Rattle.disk_model.specs.declared.call.Call.TheVariants.{Read, Write, Flush}
 use Rattle.disk_model.specs.Log.{Blocks, block_at, IsWritten}
 use Rattle.image_layout.specs.Superblock.{super_block}
-use Rattle.image_model.proofs.CountRows.{kept_is, updated}
+use Rattle.image_model.proofs.CountExample.{kept_is, updated}
 use Rattle.image_model.proofs.Example.{small}
-use Rattle.image_model.proofs.MapRows.{image as mapped, remap}
+use Rattle.image_model.proofs.MapExample.{image as mapped, remap}
 use Rattle.image_model.specs.Maps.{Image, page_at}
 use Rattle.image_model.specs.Sound.{IsSound}
 use Rattle.recovery_laws.specs.Calls.{ArePuts, IsCountersPut, IsPut, recovery_calls}

@@ -14,7 +14,7 @@ use Rattle.image_layout.specs.Superblock.{super_of}
 use Rattle.image_layout.specs.declared.fault.SuperFault.{SuperFault}
 use Rattle.image_model.proofs.CountLaws.{none_in_nothing, one_stored}
 use Rattle.image_model.proofs.Example.{small}
-use Rattle.image_model.proofs.MapRows.{image as mapped, remap, said}
+use Rattle.image_model.proofs.MapExample.{image as mapped, remap, said}
 use Rattle.image_model.proofs.ZeroLaws.{no_slab_sector}
 use Rattle.image_model.specs.Counts.{IsKept, IsUpdate, Stores, counter_of}
 use Rattle.image_model.specs.Maps.{Image}

@@ -15,12 +15,12 @@ use Rattle.byte_fields.proofs.FieldLaws.{number_at-drop}
 use Rattle.byte_fields.specs.Fields.{number_at}
 use Rattle.disk_model.specs.Log.{Blocks, block_at}
 use Rattle.image_model.proofs.CountLaws.{one_stored}
-use Rattle.image_model.proofs.CountRows.{kept_is, updated}
+use Rattle.image_model.proofs.CountExample.{kept_is, updated}
 use Rattle.image_model.proofs.Example.{small}
-use Rattle.image_model.proofs.FaultRows.{zeros_unheaded}
+use Rattle.image_model.proofs.FaultExample.{zeros_unheaded}
 use Rattle.image_model.proofs.LookedLaws.{looked_high, looked_place, looked_where}
 use Rattle.image_model.proofs.MapLaws.{slot_says_its_mapping}
-use Rattle.image_model.proofs.MapRows.{image as mapped, remap, said, with_root}
+use Rattle.image_model.proofs.MapExample.{image as mapped, remap, said, with_root}
 use Rattle.image_model.specs.Counts.{Stores, commit_at, reference_sector_at}
 use Rattle.image_model.specs.Maps.{Image, IsGoodPage, head_of, page_at, put_last}
 use Rattle.image_model.specs.Sound.{IsDataPlace, IsSound}

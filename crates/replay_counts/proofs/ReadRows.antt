@@ -16,7 +16,7 @@ use Rattle.disk_model.specs.Seen.{Seen}
 use Rattle.disk_model.specs.Trust.{Trust, trust_of}
 use Rattle.image_layout.specs.declared.fault.SuperFault.TheVariants.{NotAnImage}
 use Rattle.image_model.proofs.CountLaws.{one_stored}
-use Rattle.image_model.proofs.CountRows.{kept_is, updated}
+use Rattle.image_model.proofs.CountExample.{kept_is, updated}
 use Rattle.image_model.proofs.Example.{small}
 use Rattle.image_model.specs.Counts.{Stores, commit_at}
 use Rattle.image_model.specs.Maps.{Image, image_with}

@@ -2,7 +2,7 @@
 use Rattle.std.proofs.Common.{ℕ, ◌≡◌, ◌<◌, List, [], ◌∷◌, length, refl, ap, inl, arith}
 use Rattle.blk_base.specs.Sectors.{zero_block}
 use Rattle.blk_base.specs.Forms.{point}
-use Rattle.image_model.proofs.CountRows.{kept_is, updated}
+use Rattle.image_model.proofs.CountExample.{kept_is, updated}
 use Rattle.image_model.proofs.Example.{small}
 use Rattle.image_model.specs.Maps.{image_with}
 use Rattle.replay_counts.specs.Recovered.{ArePaired, ArePointsOf, HasCounts, Holds, IsInSector}

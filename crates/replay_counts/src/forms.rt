@@ -2,7 +2,7 @@ use blk_base::Point;
 
 /// The points of a sector of reference counters: its commit point, and the greatest one that was applied to it, or its
 /// commit point again where there is none.
-#[derive(Clone, Copy, Debug, PartialEq, Eq)]
+#[derive(Clone, Copy, PartialEq, Eq)]
 pub struct SectorPoints {
     pub commit: Point,
     pub applied: Point,

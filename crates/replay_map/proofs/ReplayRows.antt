@@ -18,7 +18,7 @@ use Rattle.disk_model.specs.Log.{Blocks, block_at}
 use Rattle.disk_model.specs.Trust.{trust_of}
 use Rattle.image_model.proofs.EmptyLaws.{all_counted, blank_slot, no_tree_page, not_shared, pages_good, root_says, the_image}
 use Rattle.image_model.proofs.Example.{small}
-use Rattle.image_model.proofs.MapRows.{bad_head, image, remap, with_root}
+use Rattle.image_model.proofs.MapExample.{bad_head, image, remap, with_root}
 use Rattle.image_model.specs.Counts.{leads_to}
 use Rattle.image_model.specs.Empty.{empty_root}
 use Rattle.image_model.specs.Faults.{IsPageFault, IsShareFault}

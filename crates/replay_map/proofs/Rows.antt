@@ -12,7 +12,7 @@ use Rattle.blk_base.specs.declared.sizes.TheConstants.{PAGE_SLOTS}
 use Rattle.blk_base.specs.Forms.{page, pbn}
 use Rattle.blk_base.proofs.Example.{root, blank}
 use Rattle.image_model.proofs.Example.{small, head_of_root}
-use Rattle.image_model.proofs.MapRows.{with_root, bad_head, logged}
+use Rattle.image_model.proofs.MapExample.{with_root, bad_head, logged}
 use Rattle.image_model.specs.Maps.{or_else, says, target_of}
 use Rattle.page_codec.proofs.ReadLaws.{slots}
 use Rattle.page_codec.proofs.HeldLaws.{held_unmapped}

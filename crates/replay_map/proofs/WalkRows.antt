@@ -18,12 +18,12 @@ use Rattle.disk_model.specs.Since.{WereRead}
 use Rattle.disk_model.specs.declared.call.Call.{Call}
 use Rattle.disk_model.specs.declared.call.Call.TheVariants.{Read}
 use Rattle.image_model.proofs.Example.{small, head_of_root}
-use Rattle.image_model.proofs.MapRows.{bad_head, image, logged, remap, with_root}
+use Rattle.image_model.proofs.MapExample.{bad_head, image, logged, remap, with_root}
 use Rattle.image_model.specs.Counts.{leads_to, mapped_below}
 use Rattle.image_model.specs.Maps.{Image, IsGoodPage, page_at, slot_in}
 use Rattle.image_model.specs.Pages.{IsAhead}
 use Rattle.image_model.specs.declared.fault.ImageFault.TheVariants.{Page, Counter, Device, Memory}
-use Rattle.image_model.proofs.FaultRows.{header_is}
+use Rattle.image_model.proofs.FaultExample.{header_is}
 use Rattle.page_codec.specs.declared.fault.PageFault.TheVariants.{Header}
 use Rattle.plain_laws.specs.Sums.{bit}
 use Rattle.replay_map.proofs.ReadLaws.{blocks_untouched}

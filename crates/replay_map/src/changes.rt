@@ -16,7 +16,7 @@ use std::collections::btree_map::Range;
 use std::marker::Model;
 
 /// A slot of a page of the block map. The order is that of the pages' trees, levels and numbers, and then of the slots.
-#[derive(Clone, Copy, Debug, PartialEq, Eq, PartialOrd, Ord)]
+#[derive(Clone, Copy, PartialEq, Eq, PartialOrd, Ord)]
 pub struct SlotId {
     pub page: PageId,
     /// 0 to 811.

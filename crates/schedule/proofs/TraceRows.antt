@@ -6,7 +6,7 @@ use Rattle.disk_model.specs.Seen.{Seen}
 use Rattle.disk_model.specs.Trust.{Trust}
 use Rattle.core_model.specs.declared.zones.Zone.{Zone}
 use Rattle.core_model.specs.Trace.{Says}
-use Rattle.core_model.proofs.rows.WorkedTraces.{sizes}
+use Rattle.core_model.proofs.WorkedTraces.{sizes}
 use Rattle.vdo_core.specs.Plays.{HasNoWork, vdo}
 use Rattle.vdo_core.specs.declared.events.Event.{Event}
 use Rattle.vdo_core.specs.declared.events.Event.TheVariants as event

@@ -5,14 +5,14 @@ use Rattle.disk_model.specs.Numbers.{next_state, number_in}
 use Rattle.disk_model.specs.Seen.{Seen}
 use Rattle.disk_model.specs.Trust.{Trust}
 use Rattle.data_vio.specs.declared.items.Item.{Item}
+use Rattle.data_vio.specs.declared.items.Item.TheVariants.{StopNotice}
 use Rattle.data_vio.specs.declared.sizes.Sizes.{Sizes}
 use Rattle.core_model.specs.declared.zones.Zone.{Zone}
 use Rattle.core_model.specs.declared.zones.ZoneData.{ZoneData}
 use Rattle.core_model.specs.declared.zones.ZoneData.TheVariants as at
 use Rattle.core_model.specs.Steps.{IsIdle}
 use Rattle.core_model.specs.Trace.{Seals, Trace}
-use Rattle.core_model.proofs.rows.PhaseRows.{nothing, physical}
-use Rattle.core_model.proofs.rows.ViewRows.{one}
+use Rattle.core_model.proofs.ZoneForms.{nothing, physical}
 use Rattle.vdo_core.specs.Done.{IsDone}
 use Rattle.vdo_core.specs.Moves.{has_items}
 use Rattle.vdo_core.specs.Plays.{HasNoWork, PlaysOne, Vdo, vdo}
@@ -40,6 +40,10 @@ then_moves-not_by_receiver is = absurd cc
 
 steps_first-not_past_the_zones : event_of 3 3 ≡ event.Step 3 → ⊥
 steps_first-not_past_the_zones is = absurd cc
+
+-- one item
+abbrev one : List Item
+one = StopNotice ∷ []
 
 -- Two zones. The first has an item in its inbox and one for the other; the second has no work.
 abbrev sender : ZoneData → List Item → Zone

@@ -18,7 +18,7 @@ use Rattle.blk_base.specs.Forms.{page, pbn}
 use Rattle.blk_base.proofs.Example.{root, blank}
 use Rattle.image_model.proofs.CountLaws.{is_first, none_in_nothing, one_stored}
 use Rattle.image_model.proofs.Example.{small}
-use Rattle.image_model.proofs.MapRows.{with_root}
+use Rattle.image_model.proofs.MapExample.{with_root}
 use Rattle.image_model.specs.Counts.{Stores, commit_at}
 use Rattle.image_model.specs.Empty.{HasNothing}
 use Rattle.image_model.specs.Maps.{Image, IsTreePage}

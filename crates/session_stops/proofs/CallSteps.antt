@@ -19,7 +19,7 @@ use Rattle.journal_stops.specs.Sealed.{Sealed, entries_of, window_of}
 use Rattle.journal_stops.proofs.OpenedLaws.{rooted_old_page}
 use Rattle.journal_stops.proofs.StepLaws as journal
 use Rattle.plain_laws.proofs.OptionLaws.{option_cases}
-use Rattle.stop_laws.specs.Journals.{MissesJournal, block_of_slot}
+use Rattle.vdo_model.specs.Journals.{MissesJournal, block_of_slot}
 use Rattle.count_laws.specs.Counters.{MayWrite}
 use Rattle.count_laws.specs.Turns.{AreInTurn, ComesInTurn}
 use Rattle.count_laws.proofs.StepLaws.{in_turn_rooted}

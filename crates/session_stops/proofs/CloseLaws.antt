@@ -30,7 +30,7 @@ use Rattle.blk_base.specs.declared.journal_entry.CommittedEntry.{CommittedEntry}
 use Rattle.image_layout.specs.Values.{journal_of}
 use Rattle.image_model.proofs.WindowLaws.{one_window}
 use Rattle.image_model.specs.Windows.{IsWindow}
-use Rattle.stop_laws.specs.Journals.{Surely}
+use Rattle.vdo_model.specs.Journals.{Surely}
 use Rattle.journal_stops.specs.Sealed.{Sealed, entries_of, next_of, window_of}
 use Rattle.journal_stops.proofs.ShownLaws.{window_at_rest}
 use Rattle.recovery_laws.proofs.StillLaws.{same_journal}

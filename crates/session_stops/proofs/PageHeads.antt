@@ -12,7 +12,7 @@ use Rattle.image_model.specs.Maps.{Image, ArePagesGood, head_of}
 use Rattle.page_codec.proofs.HeadLaws.{one_head}
 use Rattle.page_codec.proofs.HeldLaws.{holds_block}
 use Rattle.page_codec.specs.Grammar.{HasHead, IsHead}
-use Rattle.stop_laws.specs.Journals.{Surely}
+use Rattle.vdo_model.specs.Journals.{Surely}
 use Rattle.recovery_laws.proofs.WindowFacts.{IsKnown}
 use Rattle.journal_stops.specs.Mapped.{page_after}
 use Rattle.journal_stops.proofs.GrowLaws.{in_range}

@@ -26,7 +26,7 @@ use Rattle.page_codec.specs.declared.forms.PageHead.{PageHead}
 use Rattle.plain_laws.proofs.OptionLaws.{option_cases}
 use Rattle.recovery_laws.proofs.OldLaws.{own_slot}
 use Rattle.recovery_laws.specs.Kept.{PutsOnly}
-use Rattle.stop_laws.specs.Journals.{Surely}
+use Rattle.vdo_model.specs.Journals.{Surely}
 use Rattle.journal_stops.specs.Mapped.{AreRooted, newest_page, page_after, put_page, slot_after}
 use Rattle.journal_stops.proofs.GrowLaws.{page_new, page_stays, slot_left}
 use Rattle.journal_stops.proofs.MapLaws.{put_append}

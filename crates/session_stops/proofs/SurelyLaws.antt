@@ -17,7 +17,7 @@ use Rattle.page_codec.specs.Grammar.{HasHead, HoldsMapping, IsSlot, slot_bytes}
 use Rattle.page_codec.specs.PageBytes.{head_bytes}
 use Rattle.page_codec.specs.declared.forms.PageHead.{PageHead}
 use Rattle.recovery_laws.specs.Kept.{PutsOnly}
-use Rattle.stop_laws.specs.Journals.{Surely}
+use Rattle.vdo_model.specs.Journals.{Surely}
 use Rattle.recovery_laws.proofs.BlockLaws.{part_of_mix}
 use Rattle.disk_model.proofs.ContentLaws.{after_write}
 use Rattle.session_stops.specs.Pages.{Settles}

@@ -8,7 +8,7 @@ use Rattle.image_model.specs.Maps.{Image}
 use Rattle.image_model.specs.Sound.{IsSound}
 use Rattle.image_model.specs.Looked.{is_looked_at}
 use Rattle.recovery_laws.specs.Kept.{SayTheSame, image_in}
-use Rattle.stop_laws.specs.Journals.{Surely}
+use Rattle.vdo_model.specs.Journals.{Surely}
 
 -- An image on which a session may begin: it is sound and closed, has sequences left for the session, and its nonce can be
 -- written.

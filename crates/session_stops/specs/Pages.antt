@@ -14,7 +14,7 @@ use Rattle.disk_model.specs.Log.{Blocks, Misses, settled}
 use Rattle.image_model.specs.Maps.{Image, head_of, put_last}
 use Rattle.page_codec.specs.Grammar.{HasHead, IsPage, IsSlot}
 use Rattle.page_codec.specs.declared.forms.PageHead.{PageHead}
-use Rattle.stop_laws.specs.Journals.{Surely}
+use Rattle.vdo_model.specs.Journals.{Surely}
 use Rattle.journal_stops.specs.Mapped.{page_after, slot_after}
 
 -- once all is flushed, whatever stands in a block has this property

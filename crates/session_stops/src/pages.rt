@@ -14,7 +14,7 @@ ghost use Rattle.image_model.specs.Maps.{Image, ArePagesGood, head_of, mapping_i
 ghost use Rattle.image_model.specs.Sound.{IsSound};
 ghost use Rattle.page_codec.specs.Grammar.{IsSlot};
 ghost use Rattle.page_codec.specs.declared.forms.PageHead.{PageHead};
-ghost use Rattle.stop_laws.specs.Journals.{Surely};
+ghost use Rattle.vdo_model.specs.Journals.{Surely};
 ghost use Rattle.recovery_laws.specs.Kept.{image_in, PutsOnly};
 ghost use Rattle.recovery_laws.specs.Written.{IsFullPage};
 ghost use Rattle.journal_stops.specs.Mapped.{ArePagesShown, later_image, page_after};

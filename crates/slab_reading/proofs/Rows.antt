@@ -11,7 +11,7 @@ use Rattle.disk_model.specs.Seen.{Seen}
 use Rattle.disk_model.specs.Trust.{trust_of}
 use Rattle.disk_model.specs.declared.call.Call.TheVariants.{Flush}
 use Rattle.image_model.proofs.CountLaws.{none_in_nothing}
-use Rattle.image_model.proofs.CountRows.{holds, journaled}
+use Rattle.image_model.proofs.CountExample.{holds, journaled}
 use Rattle.image_model.proofs.Example.{small}
 use Rattle.image_model.proofs.ZeroLaws.{no_commit, no_slab_sector}
 use Rattle.slab_codec.proofs.ReadLaws.{written}

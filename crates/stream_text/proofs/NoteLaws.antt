@@ -5,7 +5,7 @@ use Rattle.blk_base.specs.declared.request.Request.{Request}
 use Rattle.vdo_model.specs.declared.report.DeskLine.{DeskLine}
 use Rattle.vdo_model.specs.declared.report.Placed.{Placed}
 use Rattle.vdo_model.specs.DeskLog.{answer_of}
-use Rattle.answer_notes.specs.Notes.{NotesPlaces}
+use Rattle.vdo_model.specs.Notes.{NotesPlaces}
 use Rattle.stream_text.specs.Texts.{line_text, stream_text, writer}
 use Rattle.stream_text.proofs.TextLaws.{stream_text-next}
 

@@ -1,17 +1,16 @@
 ghost use Rattle.std.specs.Prelude.{◌≡◌, ◌≤◌, None, length, reverse, IfOk};
 ghost use Rattle.vdo_model.specs.DeskLog.{answer_of};
-ghost use Rattle.answer_notes.specs.Notes.{NotesAnswer, NotesAnswers, NotesPlaces};
+ghost use Rattle.vdo_model.specs.Notes.{NotesAnswer, NotesAnswers, NotesPlaces};
 ghost use Rattle.stream_text.specs.AnswerRooms.{HasRoomFor};
 ghost use Rattle.disk_model.specs.Streams.{Puts};
 ghost use Rattle.stream_text.specs.Texts.{line_text, stream_text, answers_text, writer};
 
 use crate::lines::put_line;
-use answer_notes::{note_answers, note_places};
 use blk_base::Request;
 use disk_model::{Failed, Sink};
 use std::alloc::{AllocError, Global};
 use std::marker::Model;
-use vdo_model::{DeskLine, Placed, Requests, RunReport};
+use vdo_model::{DeskLine, Placed, Requests, RunReport, note_answers, note_places};
 
 /// Room to note where the answers and the places of one stream stand. A contract sees for how many requests it is.
 #[derive(Drop)]

@@ -15,7 +15,7 @@ use blk_base::{Block, BoxedBlock};
 use std::alloc::{AllocError, Global};
 
 /// So many times the same byte.
-#[derive(Clone, Copy, Debug, PartialEq, Eq)]
+#[derive(Clone, Copy, PartialEq, Eq)]
 pub struct PlainRun {
     count: u32,
     byte: u8,

@@ -35,7 +35,7 @@ pub struct ScriptFault {
 }
 
 /// Why a line adds nothing to the requests.
-#[derive(Clone, Copy, Debug, PartialEq, Eq)]
+#[derive(Clone, Copy, PartialEq, Eq)]
 pub enum AddFault {
     /// The line has this fault.
     Fault(LineFault),

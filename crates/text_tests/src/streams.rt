@@ -1,6 +1,6 @@
 //! The answers of several streams, put where they stand.
 use crate::reports::{Put, report_of};
-use answer_notes::{note_answers, note_places};
+use vdo_model::{note_answers, note_places};
 use blk_base::{Answer, Block, BoxedBlock, Lba, Request, Writer};
 use disk_model::{Failed, MemSink};
 use std::alloc::{AllocError, Global};

@@ -27,7 +27,7 @@ const ASKED: usize = 12;
 const ASKED_OF_CHAPTER: usize = 3;
 
 /// Where the index stands on the device.
-#[derive(Clone, Copy, Debug)]
+#[derive(Clone, Copy)]
 pub(crate) struct Region {
     /// The first index block.
     pub(crate) first: u32,

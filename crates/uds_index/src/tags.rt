@@ -15,7 +15,7 @@ use uds_chapters::Chapter;
 const TAGS: usize = 680;
 
 /// A tag that some name of a chapter has, and the chapter's number.
-#[derive(Clone, Copy, Debug, PartialEq, Eq)]
+#[derive(Clone, Copy, PartialEq, Eq)]
 pub(crate) struct Tagged {
     pub(crate) tag: u32,
     pub(crate) number: u32,

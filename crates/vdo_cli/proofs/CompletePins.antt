@@ -1,7 +1,7 @@
 -- Rows that pin what a run does in which nothing failed (`NoneRose`, `NeedsNoFault`, `IsComplete`): for each some that it accepts, and
 -- some that break one part alone.
 use Rattle.std.proofs.Common.{◌≡◌, [], ◌∷◌, length, Some, None, refl, ap, inl, inr, arith}
-use Rattle.disk_model.proofs.StreamPins.{sink}
+use Rattle.disk_model.proofs.StreamExample.{sink}
 use Rattle.blk_base.specs.declared.request.Answer.{Answer as Reply}
 use Rattle.blk_base.specs.declared.request.Answer.TheVariants as reply
 use Rattle.blk_base.specs.declared.request.Request.TheVariants as request

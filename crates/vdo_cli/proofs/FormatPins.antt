@@ -7,7 +7,7 @@ use Rattle.disk_model.specs.Images.{HasOneImage}
 use Rattle.disk_model.specs.Log.{Blocks}
 use Rattle.disk_model.specs.Seen.{Seen, Stays}
 use Rattle.disk_model.specs.Streams.{SourceSeen}
-use Rattle.disk_model.proofs.StreamPins.{sink}
+use Rattle.disk_model.proofs.StreamExample.{sink}
 use Rattle.image_format.specs.Formats.{LeavesEmpty, StopsAreRight}
 use Rattle.image_layout.specs.PossibleSizes.{plan_of}
 use Rattle.image_layout.specs.Superblock as superblock

@@ -10,7 +10,7 @@ use Rattle.disk_model.specs.Trust.{trust_of}
 use Rattle.image_model.specs.Looked.{looked_in}
 use Rattle.image_model.specs.Sound.{IsSound}
 use Rattle.rebuild.specs.Recoveries.{IsTold}
-use Rattle.session_seams.specs.Sequences.{CanBegin, next_start}
+use Rattle.core_stops.specs.Sequences.{CanBegin, next_start}
 use Rattle.vdo_cli.specs.Onward.{IsJustMade, LeavesRunnable}
 use Rattle.vdo_cli.proofs.NextRuns.{made_told}
 use Rattle.vdo_cli.proofs.PlayPins.{device}

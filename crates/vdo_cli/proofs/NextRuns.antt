@@ -12,11 +12,11 @@ use Rattle.image_model.specs.Maps.{value_of}
 use Rattle.rebuild.specs.Recoveries.{IsTold}
 use Rattle.rebuild.specs.declared.forms.Recovered.{Recovered}
 use Rattle.recovery_laws.specs.Kept.{image_in}
-use Rattle.session_seams.proofs.EarlyLaws.{run_after_run}
-use Rattle.session_seams.proofs.LogLaws.{same_front}
-use Rattle.session_seams.proofs.SequenceLaws.{may_begin}
-use Rattle.session_seams.specs.Logs.{report_from}
-use Rattle.session_seams.specs.Sequences.{CanBegin, next_start}
+use Rattle.core_stops.proofs.EarlyLaws.{run_after_run}
+use Rattle.core_stops.proofs.LogLaws.{same_front}
+use Rattle.core_stops.proofs.SequenceLaws.{may_begin}
+use Rattle.core_stops.specs.Logs.{report_from}
+use Rattle.core_stops.specs.Sequences.{CanBegin, next_start}
 use Rattle.vdo_model.specs.FlushMarks.{successes}
 use Rattle.vdo_cli.specs.declared.fault.Fault.{Fault}
 use Rattle.vdo_cli.specs.declared.fault.Fault.TheVariants as fault

@@ -4,7 +4,7 @@ use Rattle.disk_model.specs.declared.call.Call.{Call}
 use Rattle.disk_model.specs.Log.{Blocks}
 use Rattle.disk_model.specs.Seen.{Seen}
 use Rattle.disk_model.specs.Streams.{SourceSeen}
-use Rattle.disk_model.proofs.StreamPins.{sink}
+use Rattle.disk_model.proofs.StreamExample.{sink}
 use Rattle.image_layout.specs.declared.fault.SuperFault.TheVariants.{NotAnImage}
 use Rattle.image_model.specs.declared.fault.ImageFault.TheVariants as image
 use Rattle.vdo_cli.specs.declared.fault.Fault.{Fault}

@@ -6,7 +6,7 @@ use Rattle.disk_model.specs.declared.call.Call.TheVariants.{Read, Flush}
 use Rattle.disk_model.specs.Seen.{Seen}
 use Rattle.disk_model.specs.Trust.{trust_of}
 use Rattle.disk_model.specs.Since.{IsUntouched}
-use Rattle.disk_model.proofs.StreamPins.{sink}
+use Rattle.disk_model.proofs.StreamExample.{sink}
 use Rattle.image_layout.specs.declared.fault.SuperFault.TheVariants.{NotAnImage}
 use Rattle.image_model.specs.declared.fault.ImageFault.{ImageFault}
 use Rattle.image_model.specs.declared.fault.ImageFault.TheVariants as image

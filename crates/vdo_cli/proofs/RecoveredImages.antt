@@ -18,10 +18,10 @@ use Rattle.rebuild.specs.Outcomes.{IsKeptSince}
 use Rattle.rebuild.specs.Recoveries.{IsRecovery, IsTold}
 use Rattle.rebuild.specs.declared.forms.Recovered.{Recovered}
 use Rattle.rebuild.specs.declared.forms.Recovered.TheVariants.{Clean, Entries}
-use Rattle.session_seams.proofs.EarlyLaws.{early_shows}
-use Rattle.session_seams.proofs.SequenceLaws.{recovered_next, served}
-use Rattle.session_seams.specs.Logs.{StopsShow}
-use Rattle.session_seams.specs.Sequences.{ShowsValues, next_start}
+use Rattle.core_stops.proofs.EarlyLaws.{early_shows}
+use Rattle.core_stops.proofs.SequenceLaws.{recovered_next, served}
+use Rattle.core_stops.specs.Logs.{StopsShow}
+use Rattle.core_stops.specs.Sequences.{ShowsValues, next_start}
 use Rattle.vdo_cli.specs.Endings.{KeepsImage}
 use Rattle.vdo_cli.specs.Openings.{IsReady, IsUnready}
 

@@ -10,7 +10,7 @@ use Rattle.disk_model.specs.Trust.{trust_of}
 use Rattle.disk_model.specs.Since.{IsUntouched, NextFailed, OnlyReads}
 use Rattle.disk_model.specs.Streams.{SinkSeen, SourceSeen}
 use Rattle.disk_model.specs.LogSteps.{FailedInLog}
-use Rattle.disk_model.proofs.StreamPins.{sink}
+use Rattle.disk_model.proofs.StreamExample.{sink}
 use Rattle.image_format.specs.Formats.{IsFailed}
 use Rattle.image_model.specs.declared.fault.ImageFault.{ImageFault}
 use Rattle.image_model.specs.declared.fault.ImageFault.TheVariants as image

@@ -6,7 +6,7 @@ use Rattle.disk_model.specs.declared.call.Call.TheVariants.{Read, Flush}
 use Rattle.disk_model.specs.Seen.{Seen}
 use Rattle.disk_model.specs.Trust.{trust_of}
 use Rattle.disk_model.specs.Streams.{SourceSeen}
-use Rattle.disk_model.proofs.StreamPins.{sink}
+use Rattle.disk_model.proofs.StreamExample.{sink}
 use Rattle.rebuild.specs.declared.forms.Recovered.{Recovered}
 use Rattle.vdo_model.specs.declared.report.RunReport.{RunReport}
 use Rattle.image_model.specs.declared.fault.ImageFault.{ImageFault}

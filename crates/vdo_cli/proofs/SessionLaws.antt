@@ -46,11 +46,11 @@ use Rattle.rebuild.specs.Recoveries.{IsTold}
 use Rattle.rebuild.specs.declared.forms.Recovered.{Recovered}
 use Rattle.recovery_laws.specs.Kept.{image_in}
 use Rattle.core_stops.proofs.SoundStops.{sound_stops}
-use Rattle.session_seams.proofs.EarlyLaws.{run_is_right}
-use Rattle.session_seams.proofs.LogLaws.{marks_within}
-use Rattle.session_seams.proofs.SequenceLaws.{next_clean}
-use Rattle.session_seams.specs.Logs.{StopsRight, report_from}
-use Rattle.session_seams.specs.Sequences.{ShowsValues, next_start}
+use Rattle.core_stops.proofs.EarlyLaws.{run_is_right}
+use Rattle.core_stops.proofs.LogLaws.{marks_within}
+use Rattle.core_stops.proofs.SequenceLaws.{next_clean}
+use Rattle.core_stops.specs.Logs.{StopsRight, report_from}
+use Rattle.core_stops.specs.Sequences.{ShowsValues, next_start}
 use Rattle.session_stops.specs.Beginnings.{IsToServe}
 use Rattle.vdo_core.specs.Cores.{CanBegin, sizes_of}
 use Rattle.vdo_core.specs.Plays.{core_with}

@@ -17,7 +17,7 @@ use Rattle.disk_model.specs.Images.{IsImage}
 use Rattle.disk_model.specs.Log.{Blocks}
 use Rattle.disk_model.specs.Seen.{Seen}
 use Rattle.disk_model.specs.Trust.{trust_of}
-use Rattle.disk_model.proofs.StreamPins.{sink}
+use Rattle.disk_model.proofs.StreamExample.{sink}
 use Rattle.image_layout.specs.Opened.{super_of_image}
 use Rattle.image_layout.specs.declared.fault.SuperFault.{SuperFault}
 use Rattle.image_model.specs.Maps.{value_of}
@@ -26,9 +26,9 @@ use Rattle.page_codec.specs.declared.fault.PageFault.TheVariants.{Header}
 use Rattle.rebuild.specs.Recoveries.{IsTold}
 use Rattle.rebuild.specs.declared.forms.Recovered.{Recovered}
 use Rattle.recovery_laws.specs.Kept.{image_in}
-use Rattle.session_seams.proofs.SequenceLaws.{next_clean}
-use Rattle.session_seams.specs.Sequences.{ShowsValues, next_start}
-use Rattle.stop_laws.proofs.HistoryLaws.{length_at_within}
+use Rattle.core_stops.proofs.SequenceLaws.{next_clean}
+use Rattle.core_stops.specs.Sequences.{ShowsValues, next_start}
+use Rattle.vdo_model.proofs.HistoryLaws.{length_at_within}
 use Rattle.vdo_model.specs.Scripts.{Script}
 use Rattle.vdo_model.specs.FlushMarks.{successes}
 use Rattle.vdo_model.specs.Stops.{last_value, length_at}

@@ -12,8 +12,8 @@ use Rattle.core_model.specs.Reports.{IsMappedIn}
 use Rattle.core_model.specs.Trace.{Trace, calls, moments}
 use Rattle.rebuild.specs.declared.forms.Recovered.{Recovered}
 use Rattle.recovery_laws.specs.Kept.{image_in}
-use Rattle.session_seams.specs.Logs.{StopsRight, StopsShow, report_from}
-use Rattle.session_seams.specs.Sequences.{ShowsValues, next_start}
+use Rattle.core_stops.specs.Logs.{StopsRight, StopsShow, report_from}
+use Rattle.core_stops.specs.Sequences.{ShowsValues, next_start}
 use Rattle.stream_text.specs.WholeScript.{whole_script}
 use Rattle.vdo_model.specs.declared.report.RunReport.{RunReport}
 use Rattle.vdo_model.specs.FlushMarks.{successes}

@@ -6,7 +6,7 @@ use Rattle.disk_model.specs.Log.{Blocks}
 use Rattle.disk_model.specs.Seen.{Seen, Stays}
 use Rattle.disk_model.specs.Trust.{Trust}
 use Rattle.rebuild.specs.Recoveries.{IsTold}
-use Rattle.session_seams.specs.Sequences.{CanBegin}
+use Rattle.core_stops.specs.Sequences.{CanBegin}
 
 -- a device went on: its opening blocks and its size are the same, and its log is longer
 pub record GoesOn (tells : Bool) (before after : Seen) : Type 0 where

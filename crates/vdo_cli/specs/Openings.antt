@@ -10,7 +10,7 @@ use Rattle.rebuild.specs.Openings.{IsOpening}
 use Rattle.rebuild.specs.Recoveries.{IsRecovery, IsTold}
 use Rattle.rebuild.specs.declared.forms.Recovered.{Recovered}
 use Rattle.rebuild.specs.declared.forms.Recovered.TheVariants.{Clean, Entries}
-use Rattle.session_seams.specs.Sequences.{next_start}
+use Rattle.core_stops.specs.Sequences.{next_start}
 
 -- how many entries of the journal were used, where there was a recovery
 abbrev pub recovered_of : Recovered → Option ℕ

@@ -3,7 +3,7 @@ ghost use Rattle.disk_model.specs.Log.{Blocks};
 ghost use Rattle.disk_model.specs.Seen.{Seen};
 ghost use Rattle.image_model.specs.Sound.{IsSound};
 ghost use Rattle.rebuild.specs.Recoveries.{IsTold};
-ghost use Rattle.session_seams.specs.Sequences.{CanBegin};
+ghost use Rattle.core_stops.specs.Sequences.{CanBegin};
 ghost use Rattle.stream_text.specs.WholeScript.{whole_script};
 ghost use Rattle.vdo_model.specs.Scripts.{Script};
 ghost use Rattle.vdo_cli.specs.declared.words.Served.TheVariants as served;

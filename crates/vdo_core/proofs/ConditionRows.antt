@@ -14,7 +14,7 @@ use Rattle.data_vio.specs.declared.sizes.Sizes.{Sizes}
 use Rattle.core_model.specs.declared.zones.Zone.{Zone}
 use Rattle.core_model.specs.declared.zones.ZoneData.{ZoneData}
 use Rattle.core_model.specs.declared.zones.ZoneData.TheVariants as at
-use Rattle.core_model.proofs.rows.PhaseRows.{nothing, slab_with, zone_with}
+use Rattle.core_model.proofs.ZoneForms.{nothing, slab_with, zone_with}
 use Rattle.core_model.specs.PhysicalRules.PhysicalServes.{asks, claims, counts, drops, drops_block, drops_none, has_none, spends, takes_block}
 use Rattle.core_model.specs.DeskLimits.{HasRoomToBegin}
 use Rattle.core_model.specs.Steps.{Act, HasAct, MayBegin, takes, takes_notice}

@@ -26,7 +26,7 @@ use Rattle.core_model.specs.SessionLimits.{requests_in}
 use Rattle.core_model.specs.Steps.{Act, ZoneStep, begins, step_limit}
 use Rattle.core_model.specs.Trace.{Says, Seals, Trace}
 use Rattle.data_vio.specs.Vios.{Post, begun_vio, turned}
-use Rattle.core_model.proofs.rows.WorkedTraces.{sizes}
+use Rattle.core_model.proofs.WorkedTraces.{sizes}
 use Rattle.step_parts.specs.DeviceLog.{HasCalled}
 use Rattle.step_parts.proofs.SilentLaws.{none_called}
 use Rattle.vdo_core.specs.Done.{IsDone}

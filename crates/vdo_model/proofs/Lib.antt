@@ -12,3 +12,8 @@ pub mod AfterStopRows
 pub mod QuietRows
 pub mod RunRows
 pub mod ZoneOrderRows
+pub mod NoteLaws
+pub mod NoteRows
+pub mod JournalLaws
+pub mod HistoryLaws
+mod LastPartRows

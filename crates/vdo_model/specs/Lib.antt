@@ -8,3 +8,6 @@ pub mod FlushMarks
 pub mod Stops
 pub mod QuietWrites
 pub mod RightRuns
+pub mod Notes
+pub mod Journals
+pub mod LastParts

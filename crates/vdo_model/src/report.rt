@@ -29,7 +29,7 @@ pub enum Mark {
 }
 
 /// A write or discard in the history of its address.
-#[derive(Clone, Copy, Debug, PartialEq, Eq)]
+#[derive(Clone, Copy, PartialEq, Eq)]
 pub struct HistoryEntry {
     pub at: Lba,
     pub request: Writer,
@@ -37,7 +37,7 @@ pub struct HistoryEntry {
 }
 
 /// The mark of a flush that was answered Ok: the flush of the device that made it last.
-#[derive(Clone, Copy, Debug, PartialEq, Eq)]
+#[derive(Clone, Copy, PartialEq, Eq)]
 pub struct FlushMark {
     pub request: Writer,
     /// How many calls of the device had succeeded in the session when that flush returned, itself among them.
@@ -45,7 +45,7 @@ pub struct FlushMark {
 }
 
 /// The receipt of a request that was answered `no space`.
-#[derive(Clone, Copy, Debug, PartialEq, Eq)]
+#[derive(Clone, Copy, PartialEq, Eq)]
 pub struct NoSpaceReceipt {
     pub request: Writer,
     /// When it asked the physical zone that it asked last: the number, from 0, among the steps in which that zone gave
@@ -54,7 +54,7 @@ pub struct NoSpaceReceipt {
 }
 
 /// What was found wrong on the device in a session that was opened without a fault.
-#[derive(Clone, Copy, Debug, PartialEq, Eq)]
+#[derive(Clone, Copy, PartialEq, Eq)]
 pub enum Damage {
     /// The page of the block map at this block doesn't decode.
     Page { at: Pbn, fault: PageFault },

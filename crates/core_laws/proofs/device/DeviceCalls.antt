@@ -10,7 +10,7 @@ use Rattle.blk_base.proofs.RegionLaws.{data_block_high, data_block_inside}
 use Rattle.blk_base.specs.declared.place.Mapping.TheVariants.{Unmapped, Zero, At}
 use Rattle.disk_model.specs.Log.{block_at, Misses, settled}
 use Rattle.disk_model.specs.declared.call.Call.TheVariants.{Write}
-use Rattle.stop_laws.specs.Journals.{MissesJournal, block_of_slot}
+use Rattle.vdo_model.specs.Journals.{MissesJournal, block_of_slot}
 use Rattle.disk_model.specs.Images.{IsMixOf}
 use Rattle.disk_model.proofs.ImageLaws.{settled_are_contents, block_of_mix, settled-write}
 use Rattle.core_laws.proofs.lists.Zeros.{zeros_length}

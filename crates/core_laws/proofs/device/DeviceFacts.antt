@@ -38,7 +38,7 @@ use Rattle.core_model.specs.declared.zones.SuperblockStage.TheVariants.{AsOpened
 use Rattle.core_laws.proofs.kept.StandsOn.{IsCallOf, block_spared, call_sealed, failed, harmed as is_harm, journal_spared, map_kept, map_more, mapped_all, new_kept, on_each, pages_kept, pages_more, rests_kept, rests_unlogged, spares_all, succeeded, unused_spared, way_kept}
 use Rattle.blk_base.specs.Regions.{journal_slot_of, IsDataBlock}
 use Rattle.journal_codec.specs.BlockBytes.{block_bytes}
-use Rattle.stop_laws.specs.Journals.{block_of_slot}
+use Rattle.vdo_model.specs.Journals.{block_of_slot}
 use Rattle.blk_base.specs.declared.geometry.Geometry.{Geometry}
 use Rattle.blk_base.specs.declared.place.Mapping.TheVariants.{At, Unmapped, Zero}
 use Rattle.blk_base.specs.declared.request.Answer.{Answer as Reply}

@@ -6,7 +6,7 @@ use Rattle.core_laws.proofs.Common.{AllByRecursion, Desk, DeviceZone, Each, IsFa
 use Rattle.blk_base.specs.Sectors.{zero_block}
 use Rattle.blk_base.specs.declared.request.Request.TheVariants as request
 use Rattle.image_model.proofs.Example.{small, small_is}
-use Rattle.image_model.proofs.WholeRows.{empty_image, empty_is, empty_size, empty_whole}
+use Rattle.image_model.proofs.WholeExample.{empty_image, empty_is, empty_size, empty_whole}
 use Rattle.core_model.specs.declared.zones.SuperblockStage.TheVariants.{AsOpened}
 use Rattle.core_model.specs.declared.zones.ZoneData.TheVariants as at
 use Rattle.core_model.specs.Legal.{Legal}

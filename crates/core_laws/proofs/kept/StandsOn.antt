@@ -11,7 +11,7 @@ use Rattle.disk_model.specs.Log.{Misses}
 use Rattle.page_codec.specs.declared.fault.PageFault.{PageFault}
 use Rattle.disk_model.specs.declared.call.Call.TheVariants.{Read, Write, Flush}
 use Rattle.disk_model.proofs.ImageLaws.{kept, settled-misses}
-use Rattle.stop_laws.specs.Journals.{MissesJournal}
+use Rattle.vdo_model.specs.Journals.{MissesJournal}
 use Rattle.journal_stops.proofs.StepLaws.{rest_kept, under_way_kept, written_kept}
 use Rattle.core_model.specs.Sessions.{IsKept, IsSuperblock, SuperblockStands, blocks_of, sealed_with}
 use Rattle.core_model.specs.Superblocks.{stage_flushed}

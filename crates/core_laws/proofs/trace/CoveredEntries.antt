@@ -4,7 +4,7 @@ use Rattle.core_laws.proofs.Common.{AllByRecursion, Answer as Reply, Call, Calls
 use Rattle.core_laws.proofs.lists.Between.{every_between}
 use Rattle.core_laws.proofs.trace.Growth.{entered_grows, begun_stays}
 use Rattle.disk_model.specs.declared.call.Call.TheVariants.{Flush}
-use Rattle.stop_laws.specs.Histories.{is_lasting}
+use Rattle.vdo_model.specs.LastParts.{is_lasting}
 use Rattle.vdo_model.specs.Histories.{is_settled}
 use Rattle.vdo_model.specs.Stops.{length_at, is_answered, is_covered}
 use Rattle.vdo_model.specs.declared.report.Mark.TheVariants.{Settled, Unsettled, Refused}

@@ -4,7 +4,7 @@ use Rattle.core_laws.proofs.Common.{Call, Calls, DeskLine, Enters, Fails, Flushe
 use Rattle.blk_base.specs.declared.request.Answer.TheVariants.{Ok}
 use Rattle.vdo_model.specs.declared.report.DeskLine.TheVariants.{Answer}
 use Rattle.disk_model.specs.declared.call.Call.TheVariants.{Flush, Read}
-use Rattle.stop_laws.proofs.HistoryLaws.{length_at_later, length_at_next}
+use Rattle.vdo_model.proofs.HistoryLaws.{length_at_later, length_at_next}
 use Rattle.vdo_model.specs.FlushMarks.{successes}
 use Rattle.vdo_model.specs.Stops.{length_at}
 use Rattle.core_laws.proofs.trace.MarksOfTrace.{HasMark}

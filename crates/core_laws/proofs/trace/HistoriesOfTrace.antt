@@ -1,7 +1,7 @@
 -- The histories of a right trace: which entries of its address one walks, and what each entry says.
 use Rattle.std.proofs.Common.{ℕ, ◌≡◌, ◌==◌, Bool, true, false, List, [], ◌∷◌, Some, None, refl, sym, ◌∙◌, ap, subst, inl, inr, ◌+◌, ◌<◌, ◌≤◌, ◌++◌, Option, IsNone, arith}
 use Rattle.core_laws.proofs.Common.{AllByRecursion, AreDrawn, DeskLine, HistoryEntry, IsWrite, Lba, Remapping, Mark, Placed, Request, RightTrace, Script, Session, Trace, Writer, address_of, asked, cases_Bool, done, drawn, each_both, entered, eqb_tells, every-map, lines, logged_of, not_both, of_address, place_of, places, request_at, same_self, same_Some, same_tells, zone_of}
-use Rattle.stop_laws.specs.Histories.{is_lasting}
+use Rattle.vdo_model.specs.LastParts.{is_lasting}
 use Rattle.vdo_model.specs.Histories.{mark_of, history_of, is_settled, histories_of}
 use Rattle.core_model.specs.Reports.{is_there, set_in, handed_in, drawn_histories}
 use Rattle.core_laws.proofs.lists.Changes.{change_address, maps_change}

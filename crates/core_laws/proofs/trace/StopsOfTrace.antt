@@ -11,10 +11,10 @@ use Rattle.image_layout.specs.Values.{journal_of}
 use Rattle.blk_base.proofs.RegionLaws.{data_block_inside}
 use Rattle.core_laws.proofs.device.DeviceCalls.{mapped_is_data, value_whole}
 use Rattle.core_laws.proofs.journal.SealedBlocks.{front_part, heads_start, said_by_blocks}
-use Rattle.stop_laws.specs.Histories.{is_lasting}
+use Rattle.vdo_model.specs.LastParts.{is_lasting}
 use Rattle.vdo_model.specs.Stops.{is_covered, covered, MayLast, last_value, IsBegunBefore, before_answer, length_at, MayShow, RightAfterStops}
 use Rattle.vdo_model.specs.declared.report.Mark.TheVariants.{Settled, Unsettled, Refused}
-use Rattle.stop_laws.proofs.HistoryLaws.{covered_within}
+use Rattle.vdo_model.proofs.HistoryLaws.{covered_within}
 use Rattle.core_model.specs.Reports.{opening_values, SaysSuperblock, ShowsValues, report_of, drawn_histories}
 use Rattle.core_model.specs.declared.zones.SuperblockStage.TheVariants.{AsOpened, Written, Durable}
 use Rattle.core_laws.proofs.trace.CoveredEntries.{IsBegunBy, entered_begun, not_covered}
@@ -33,7 +33,7 @@ use Rattle.image_model.specs.Looked.{is_looked_at}
 use Rattle.image_model.specs.Windows.{IsWindow}
 use Rattle.journal_stops.specs.Sealed.{Sealed, next_of, window_of}
 use Rattle.journal_stops.proofs.ShownLaws.{window_at_rest, window_under_way}
-use Rattle.stop_laws.specs.Journals.{Surely}
+use Rattle.vdo_model.specs.Journals.{Surely}
 use Rattle.blk_base.specs.Sectors.{sector}
 use Rattle.journal_stops.proofs.EntryLaws.{window_of_all}
 use Rattle.core_model.specs.Sessions.{HasSuperblock, IsSuperblock, SuperblockStands, blocks_of, said_by, sealed_with}

@@ -1,6 +1,6 @@
 use Rattle.std.proofs.Common.{List, arith, get_or, reverse, subst, sym, take, take_all}
 use Rattle.std.proofs.lemmas.List.{get_or_default}
-use Rattle.answer_notes.proofs.NoteLaws.{one_more}
+use Rattle.vdo_model.proofs.NoteLaws.{one_more}
 use Rattle.data_vio.specs.declared.logged.Logged.{Logged}
 use Rattle.blk_base.specs.declared.place.Mapping.TheVariants.{Unmapped}
 use Rattle.data_vio.specs.declared.logged.Logged.TheVariants.{Remaps}

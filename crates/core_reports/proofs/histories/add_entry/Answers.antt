@@ -1,5 +1,5 @@
 use Rattle.std.proofs.Common.{◌≡◌, ◌∙◌, ap, reverse, sym, subst, Bool, Option, Some, ℕ}
-use Rattle.answer_notes.specs.Notes.{NotesAnswer}
+use Rattle.vdo_model.specs.Notes.{NotesAnswer}
 use Rattle.plain_laws.proofs.OptionLaws.{some_of}
 use Rattle.vdo_model.specs.DeskLog.{answer_of}
 use Rattle.vdo_model.specs.Histories.{mark_of}

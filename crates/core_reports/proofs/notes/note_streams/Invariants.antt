@@ -1,5 +1,5 @@
 use Rattle.std.proofs.Common.{◌≡◌, ◌<◌, ℕ, [], get_or, length, map, reverse}
-use Rattle.answer_notes.specs.Notes.{NotesAnswers}
+use Rattle.vdo_model.specs.Notes.{NotesAnswers}
 use Rattle.core_reports.proofs.notes.note_streams.Given as goal
 
 abbrev pub invariant-loop-stream : goal.invariant-loop-stream

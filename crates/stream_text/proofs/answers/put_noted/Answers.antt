@@ -1,6 +1,6 @@
 use Rattle.stream_text.specs.Texts.{writer}
 use Rattle.std.specs.Prelude.{reverse}
-use Rattle.answer_notes.proofs.NoteLaws.{noted_answer}
+use Rattle.vdo_model.proofs.NoteLaws.{noted_answer}
 use Rattle.stream_text.proofs.answers.put_noted.Goals as goal
 
 pub returns : goal.returns

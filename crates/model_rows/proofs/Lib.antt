@@ -1,0 +1,3 @@
+mod sessions
+mod images
+mod devices

@@ -1,0 +1,17 @@
+pub mod TakenLaws
+pub mod TakenRows
+pub mod StreamLaws
+pub mod DueLaws
+pub mod DueZoneLaws
+pub mod StillRows
+pub mod ListLaws
+pub mod HeardLaws
+pub mod WatermarkLaws
+pub mod FallLaws
+pub mod FlowLaws
+pub mod StillLaws
+pub mod KeepLaws
+pub mod WatermarkRows
+pub mod ReapLaws
+pub mod ClauseRows
+pub mod TraceRows

@@ -1,0 +1,5 @@
+use Rattle.part_laws.proofs.DueLaws.{slab_still}
+use Rattle.part_laws.proofs.due_writes.no_update_is_dirty_when_none_is_due.Goals as goal
+
+pub returns : goal.returns
+returns c = slab_still

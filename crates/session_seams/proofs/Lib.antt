@@ -1,5 +1,0 @@
-pub mod LogLaws
-pub mod SequenceLaws
-pub mod EarlyLaws
-pub mod LogRows
-pub mod SequenceRows

@@ -1,3 +1,0 @@
-pub mod JournalLaws
-pub mod HistoryLaws
-mod Rows

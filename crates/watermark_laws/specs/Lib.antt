@@ -1,8 +1,0 @@
-pub mod Parts
-pub mod Trace
-pub mod Watermarks
-pub mod RightTraces
-pub mod Stillness
-pub mod Flows
-pub mod KeptParts
-pub mod ReapedEntries
