@@ -126,7 +126,7 @@ fn served<R: Threads + Wait + Sync>(
 }
 
 // Serves the runs of a row, the one with this number, one after the other on an image.
-fn row_is_right<R: Threads + Wait + Sync + Abort>(
+pub(crate) fn row_is_right<R: Threads + Wait + Sync + Abort>(
     rt: &R,
     alloc: Global,
     image: MemDisk,
