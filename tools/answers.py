@@ -4,8 +4,8 @@
     python3 tools/answers.py script
     python3 tools/answers.py lines
 
-Each of 16 streams writes its own address once, and then reads it, and reads, discards and flushes in turn: the addresses that it reads
-were never written, and those that it discards are too large.
+Each of 16 streams writes its own address once, and then reads, discards and flushes in turn: it reads its own address and others,
+that were never written, and those that it discards are too large.
 """
 
 from __future__ import annotations
