@@ -13,33 +13,13 @@ differs.
 from __future__ import annotations
 
 import argparse
-import difflib
 import os
-import subprocess
 import sys
 import tempfile
-from collections.abc import Iterable, Iterator
-from dataclasses import dataclass, field
+from collections.abc import Iterator
 from pathlib import Path
 
-TOP = Path(__file__).resolve().parent.parent
-PROMPT = "$ "
-SECONDS = 600
-
-
-@dataclass
-class Example:
-    """A command, the line of the document where it stands, and what it prints."""
-
-    line: int
-    command: str
-    output: list[str] = field(default_factory=list)
-
-    def text(self) -> str:
-        return "".join(f"{line}\n" for line in self.output)
-
-
-Numbered = Iterable[tuple[int, str]]
+from transcripts import TOP, Example, Folder, Numbered, differences, examples
 
 
 def fenced(lines: Numbered) -> Iterator[list[tuple[int, str]]]:
@@ -77,59 +57,18 @@ def displayed(lines: Numbered) -> Iterator[list[tuple[int, str]]]:
 DOCUMENTS = {"README.md": fenced, "docs/vdo.1": displayed}
 
 
-def examples(document: str) -> Iterator[Example]:
+def examples_of(document: str) -> Iterator[Example]:
     lines = (TOP / document).read_text(encoding="utf-8").split("\n")
     for block in DOCUMENTS[document](enumerate(lines, 1)):
-        example = None
-        for number, line in block:
-            if line.startswith(PROMPT):
-                if example is not None:
-                    yield example
-                example = Example(number, line.removeprefix(PROMPT))
-            elif example is not None:
-                example.output.append(line)
-        if example is not None:
-            yield example
-
-
-class Folder:
-    """A new folder in which examples run."""
-
-    def __init__(self, folder: str, program: Path) -> None:
-        self.folder = folder
-        self.status = 0
-        os.symlink(program, f"{folder}/vdo")
-        os.symlink(TOP / "tools", f"{folder}/tools")
-        self.environment = {**os.environ, "PATH": f"{folder}{os.pathsep}{os.environ.get('PATH', '')}"}
-
-    def run(self, command: str) -> tuple[bytes, bytes]:
-        """What a command prints, on standard output and on standard error."""
-        ran = subprocess.run(
-            ["sh", "-c", f"(exit {self.status})\n{command}"],
-            cwd=self.folder,
-            env=self.environment,
-            stdin=subprocess.DEVNULL,
-            capture_output=True,
-            timeout=SECONDS,
-        )
-        self.status = ran.returncode & 255
-        return ran.stdout, ran.stderr
-
-
-def differences(wanted: bytes, found: bytes) -> str:
-    if wanted.split() == found.split():
-        return f"  wanted {wanted!r}\n  found  {found!r}\n"
-    texts = (text.decode("utf-8", "backslashreplace").splitlines() for text in (wanted, found))
-    lines = difflib.unified_diff(*texts, "wanted", "found", lineterm="")
-    return "".join(f"  {line}\n" for line in lines)
+        yield from examples(block)
 
 
 def try_document(document: str, program: Path) -> tuple[int, int]:
     """How many examples of a document passed, and how many differ."""
     passed = failed = 0
     with tempfile.TemporaryDirectory(prefix="vdo-examples-") as name:
-        folder = Folder(name, program)
-        for example in examples(document):
+        folder = Folder(name, program, "tools")
+        for example in examples_of(document):
             wanted = example.text().encode()
             found, errors = folder.run(example.command)
             if found == wanted:
@@ -137,9 +76,7 @@ def try_document(document: str, program: Path) -> tuple[int, int]:
                 continue
             failed += 1
             print(f"{document}:{example.line}: {example.command}")
-            print(differences(wanted, found), end="")
-            if errors:
-                print(f"  standard error: {errors.decode('utf-8', 'backslashreplace').strip()}")
+            print(differences(wanted, found, errors), end="")
     return passed, failed
 
 

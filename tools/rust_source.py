@@ -1,4 +1,4 @@
-"""The literals of a constant or a function in a source file: numbers, and byte strings."""
+"""The literals of a constant, a static or a function in a source file: numbers, and byte strings."""
 
 from __future__ import annotations
 
@@ -53,7 +53,7 @@ def item_tokens(source: str, item: str) -> list[tuple[str, str]]:
     head = re.search(rf"\b(const|static|fn) {item}\b", source)
     if head is None:
         return []
-    first, last = ("=", ";") if head[1] != "fn" else ("{", "}")
+    first, last = ("{", "}") if head[1] == "fn" else ("=", ";")
     depth = 0
     kept: list[tuple[str, str]] = []
     for kind, text in tokens(source[head.end() :]):

@@ -24,6 +24,17 @@ class Vector:
         return f"{self.file} {self.item}: {' '.join(map(shown, self.literals))}"
 
 
+@dataclass(frozen=True)
+class Steps:
+    """Commands that stand one after the other in a section of a file of cases, each with what it prints and its status."""
+
+    file: str
+    commands: tuple[tuple[str, str, int], ...]
+
+    def __str__(self) -> str:
+        return f"{self.file}: " + "; ".join(f"{command}: {text!r} {status}" for command, text, status in self.commands)
+
+
 def numbers(literals: Iterable[Literal]) -> list[int]:
     """The numbers, and those of the bytes: a test has bytes as a string or as an array."""
     flat: list[int] = []

@@ -1,14 +1,15 @@
 #!/usr/bin/env python3
-"""Prints the vectors that the tests compare with, or looks each of them up in the tests (README.md)."""
+"""Prints the vectors that the tests compare with, or looks each of them up in the tests and the cases (README.md)."""
 
 from __future__ import annotations
 
 import argparse
 import sys
 from collections.abc import Iterator
+from functools import cache
 from pathlib import Path
 
-import answers
+import case_images
 import chapters
 import journal
 import layout
@@ -17,20 +18,31 @@ import names
 import picks
 import slab
 import superblock
-import whole_image
+from cases import sections
 from rust_source import literals
-from vector import Vector, numbers
+from vector import Steps, Vector, numbers
 
-CRATES = Path(__file__).resolve().parent.parent / "crates"
+TOP = Path(__file__).resolve().parent.parent
+CRATES = TOP / "crates"
 
 
-def vectors() -> Iterator[Vector]:
-    for module in (layout, superblock, journal, map_page, slab, names, picks, answers, chapters, whole_image):
+def vectors() -> Iterator[Vector | Steps]:
+    for module in (layout, superblock, journal, map_page, slab, names, picks, chapters, case_images):
         yield from module.vectors()
 
 
-def is_found(vector: Vector) -> bool:
-    """Whether the vector's literals stand one after the other in its item."""
+@cache
+def commands(file: str) -> list[tuple[tuple[str, str, int], ...]]:
+    """The commands of each section of a file of cases."""
+    found = (section.cases for section in sections(TOP / "cases" / file))
+    return [tuple((case.command, case.text, case.status) for case in cases) for cases in found]
+
+
+def is_found(vector: Vector | Steps) -> bool:
+    """Whether the vector's literals stand one after the other in its item, or its commands in a section."""
+    if isinstance(vector, Steps):
+        count = len(vector.commands)
+        return any(vector.commands == found[at : at + count] for found in commands(vector.file) for at in range(len(found)))
     wanted = numbers(vector.literals)
     found = numbers(literals((CRATES / vector.file).read_text(), vector.item))
     starts = range(len(found) - len(wanted) + 1)

@@ -1,26 +1,17 @@
-//! Tests of whole runs of the program: scripts with faults, runs one after the other on one device, refused images,
-//! stops, audits of what they leave, workloads, crashes, and images whose blocks are used up.
+//! Tests of whole runs of the program of which no text tells enough: devices, sources and sinks that fail, blocks that read
+//! otherwise, calls, receipts, and stops at each call. What words, a script and a text show, `cases/` tries on the proved program;
+//! one case of each kind is here too.
 #![tactic(auto)]
 
 #[cfg(test)]
-mod audits;
+mod printed;
 #[cfg(test)]
-mod bends;
-#[cfg(test)]
-mod crashes;
-#[cfg(test)]
-mod journals;
-#[cfg(test)]
-mod later_runs;
+mod rows;
 #[cfg(test)]
 mod runs;
 #[cfg(test)]
-mod spaces;
-#[cfg(test)]
-mod stopped_runs;
-#[cfg(test)]
 mod stops;
 #[cfg(test)]
-mod torn;
+mod tool_faults;
 #[cfg(test)]
-mod workloads;
+mod tools;
