@@ -43,7 +43,7 @@ const FIRST_THIRD: &[u8] = b"0 0 read 1 4096*61 z0:0\n0 1 read 2 4096*63 z0:1\nu
 
 const SECOND_THIRD: &[u8] = b"0 0 read 1 4096*62 z0:0\n0 1 read 2 4096*63 z0:1\nused 3 of 64\n";
 
-/// The calls of the session are two for the superblock, four for the leaf and for each of the three writes, one for each read of the
+/// The calls of its session are two for the superblock, four for the leaf and for each of the three writes, one for each read of the
 /// leaf, which the first and the third write make, and one for each of the two flushes.
 static ON_AN_EMPTY_IMAGE: Stopped = Stopped {
     earlier: b"",
@@ -64,12 +64,15 @@ static ON_AN_EMPTY_IMAGE: Stopped = Stopped {
 /// written; then come a flush, block 0, and a flush.
 const RECOVERY: usize = 84;
 
+/// The calls up to the session's first one.
+const OPENED: usize = RECOVERY + OPENING;
+
 /// The calls of the session are two for the superblock, four for each of the three writes, one for each of the two flushes, one for
 /// each read of the leaf, which the first two writes make, and one for the read at the end.
 static BEHIND_AN_EARLIER_RUN: Stopped = Stopped {
     earlier: b"0 write 1 4096*60\n0 flush\n",
     script: b"0 write 1 4096*61\n0 flush\n0 write 2 4096*61\n0 flush\n0 write 1 4096*62\n0 read 2\n",
-    calls: RECOVERY + OPENING + 19,
+    calls: OPENED + 19,
     shown: &[
         &[EARLIER_ZEROS, FIRST_ZEROS],
         &[EARLIER_ZEROS, FIRST_ZEROS],
@@ -175,7 +178,7 @@ fn stops_between<R: Threads + Wait + Sync + Abort>(
     assert_eq!(rt; calls.len(), stopped.calls);
     for passes in first..=last {
         if is_tried(calls, passes) {
-            for number in [0, 1, 2, 7, 12_345] {
+            for number in [0, 1, 7, 12_345] {
                 let status = if passes < stopped.calls { 3 } else { 0 };
                 let tried = tried(rt, alloc, &left, stopped, (passes, number))?;
                 assert_eq!(rt;
@@ -189,24 +192,49 @@ fn stops_between<R: Threads + Wait + Sync + Abort>(
 }
 
 #[test]
-fn stops_on_an_empty_image(rt: HostRuntime) -> Result<(), Fail> {
-    let stopped = &ON_AN_EMPTY_IMAGE;
-    stops_between(&rt, rt.alloc(), stopped, OPENING, stopped.calls)
+fn stops_up_to_the_first_flush(rt: HostRuntime) -> Result<(), Fail> {
+    stops_between(&rt, rt.alloc(), &ON_AN_EMPTY_IMAGE, OPENING, OPENING + 11)
 }
 
 #[test]
-fn stops_within_a_recovery_and_an_opening(rt: HostRuntime) -> Result<(), Fail> {
+fn stops_behind_the_first_flush(rt: HostRuntime) -> Result<(), Fail> {
     stops_between(
         &rt,
         rt.alloc(),
-        &BEHIND_AN_EARLIER_RUN,
-        0,
-        RECOVERY + OPENING - 1,
+        &ON_AN_EMPTY_IMAGE,
+        OPENING + 12,
+        OPENING + 22,
     )
 }
 
 #[test]
-fn stops_behind_a_recovery(rt: HostRuntime) -> Result<(), Fail> {
-    let stopped = &BEHIND_AN_EARLIER_RUN;
-    stops_between(&rt, rt.alloc(), stopped, RECOVERY + OPENING, stopped.calls)
+fn stops_within_a_recovery(rt: HostRuntime) -> Result<(), Fail> {
+    stops_between(&rt, rt.alloc(), &BEHIND_AN_EARLIER_RUN, 0, RECOVERY)
+}
+
+#[test]
+fn stops_within_an_opening(rt: HostRuntime) -> Result<(), Fail> {
+    stops_between(
+        &rt,
+        rt.alloc(),
+        &BEHIND_AN_EARLIER_RUN,
+        RECOVERY + 1,
+        OPENED - 1,
+    )
+}
+
+#[test]
+fn stops_up_to_the_second_data(rt: HostRuntime) -> Result<(), Fail> {
+    stops_between(&rt, rt.alloc(), &BEHIND_AN_EARLIER_RUN, OPENED, OPENED + 9)
+}
+
+#[test]
+fn stops_up_to_the_end(rt: HostRuntime) -> Result<(), Fail> {
+    stops_between(
+        &rt,
+        rt.alloc(),
+        &BEHIND_AN_EARLIER_RUN,
+        OPENED + 10,
+        OPENED + 19,
+    )
 }
