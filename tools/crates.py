@@ -3,7 +3,7 @@
 
     python3 tools/crates.py write
     python3 tools/crates.py check    whether docs/CRATES.md is what `write` would make (status 1 where it isn't)
-    python3 tools/crates.py count    the numbers that the first page tells: crates, lines and edits
+    python3 tools/crates.py count    the numbers that the first page tells: crates, lines, guards and edits
 
 Of each crate it takes the first paragraph of the comment at the head of src/lib.rt or src/main.rt, and the crates and libraries of
 the kit on which crates.txt lets it stand, but for those on which another one of these crates stands.
@@ -12,6 +12,7 @@ the kit on which crates.txt lets it stand, but for those on which another one of
 from __future__ import annotations
 
 import argparse
+import re
 import sys
 import textwrap
 from collections.abc import Iterable
@@ -21,6 +22,7 @@ from pathlib import Path
 TOP = Path(__file__).resolve().parent.parent
 DOCUMENT = TOP / "docs/CRATES.md"
 WIDTH = 120
+GUARD = re.compile(r"^fn ", re.MULTILINE)
 
 HEAD = """\
 # The crates
@@ -98,20 +100,22 @@ def lines_of(paths: Iterable[Path]) -> int:
 
 
 def counts() -> str:
-    """How many crates there are, their lines of code, of tests, of definitions and proofs, and the edits."""
-    code = tests = proofs = edits = 0
+    """How many crates there are, their lines of code, of tests, of definitions and proofs, the guards, and the edits."""
+    code = tests = proofs = guards = edits = 0
     for crate in listed():
         folder = TOP / "crates" / crate.name
         lines = lines_of(folder.glob("src/**/*.rt"))
         if crate.heading == "Tests":
             tests += lines
+        elif crate.heading == "Guards":
+            guards += sum(len(GUARD.findall(path.read_text(encoding="utf-8"))) for path in folder.glob("src/**/*.rt"))
         else:
             code += lines
         proofs += lines_of(folder.glob("specs/**/*.antt")) + lines_of(folder.glob("proofs/**/*.antt"))
         edits += len(list(folder.glob("must-fail/*.edit")))
     return (
         f"{len(listed())} crates, {code} lines of code, {tests} of tests, "
-        f"{proofs} of definitions and proofs, {edits} edits"
+        f"{proofs} of definitions and proofs, {guards} guards, {edits} edits"
     )
 
 

@@ -6,7 +6,7 @@
 
 A law is a public function with an empty body: it stands there with its comment, its file and the names of its clauses.
 Of the calls in TOP_CALLS the clauses stand there with their comments, and the definitions of the same crate on which
-they rest, each with the comment above it. The head of a crate is the first paragraph of the comment in src/lib.rt or
+they rest, each with the comment above it. Of the crates of guards each function stands there with its comment. The head of a crate is the first paragraph of the comment in src/lib.rt or
 src/main.rt; its paragraphs that begin with one of the words in REMARKS say what is only tested or missing.
 """
 
@@ -233,7 +233,11 @@ def rows_of(crate: str) -> list[str]:
     return sorted(str(path.relative_to(folder).with_suffix("")) for path in found)
 
 
-def section(crate: str) -> str:
+def of_guard(guard: Function) -> str:
+    return wrapped(f"`{guard.name}` (`{guard.file}`) {guard.comment}")
+
+
+def section(crate: str, heading: str) -> str:
     head = head_of(crate)
     functions = list(functions_of(crate))
     known = definitions_of(crate)
@@ -242,6 +246,8 @@ def section(crate: str) -> str:
     parts = [f"\n### `{crate}`\n", textwrap.fill(head[0], WIDTH, break_on_hyphens=False), ""]
     parts += [of_law(function) for function in functions if function.is_law and function.public]
     parts += of_calls(calls, known)
+    if heading == "Guards":
+        parts += [of_guard(function) for function in functions]
     if rows := rows_of(crate):
         parts.append(wrapped(f"*Rows:* {', '.join(f'`{row}`' for row in rows)}."))
     for remark in (paragraph for paragraph in head[1:] if paragraph.startswith(REMARKS)):
@@ -259,7 +265,7 @@ def document() -> str:
         if crate.heading != heading:
             heading = crate.heading
             parts.append(f"\n## {heading}\n")
-        parts.append(section(crate.name))
+        parts.append(section(crate.name, heading))
     return "".join(parts)
 
 
