@@ -4,5 +4,4 @@
 
 mod acts;
 mod cores;
-mod runs;
 mod texts;
