@@ -55,7 +55,7 @@ pub stands : (old new : List Zone) (from to : ℕ) (target : Zone) (items : List
 stands old new from to target items apart had moved =
     ap (λ (zones : List Zone). slice_get zones to) moved.moved
     ∙ get-put_same (slice_set old from moved.source) to target (with_inbox target (target.ports.inbox ++ items))
-        (get-put_other old from to moved.source (λ (e : to ≡ from). apart (sym e)) ∙ had)
+    (get-put_other old from to moved.source (λ (e : to ≡ from). apart (sym e)) ∙ had)
 
 -- a list with an item isn't empty
 some_left : (items : List Item) (first : Item) (rest : List Item) → items ++ (first ∷ rest) ≡ [] → ⊥
@@ -71,6 +71,7 @@ has_work sizes zones set to target first rest notes there left = at_bit (is_in s
     not_idle : IsIdle sizes (with_inbox target (target.ports.inbox ++ (first ∷ rest))) → ⊥
     not_idle (inl nothing) = some_left target.ports.inbox first rest nothing.inbox
     not_idle (inr no_steps) = omega (arith, no_steps, left)
+
     at_bit : (b : Bool) → (b ≡ false → HasNoWork sizes zones (event.Step to)) → b ≡ true
     at_bit true none = refl
     at_bit false none = absurd (not_idle (none refl _ there))
@@ -83,9 +84,9 @@ nothing_left trust sizes from to old new made (inl (all, seen, none)) = λ sourc
     let left = with_outboxes all.source (slice_set all.source.ports.outboxes to []) in
     let zones = slice_set old.zones from left in
     let there : slice_get new.zones from ≡ Some left =
-        ap (λ (zs : List Zone). slice_get zs from) all.has
-        ∙ get-put_other zones to from _ (λ (e : from ≡ to). apart e)
-        ∙ get-put_same old.zones from all.source left all.had_source in
+    ap (λ (zs : List Zone). slice_get zs from) all.has
+    ∙ get-put_other zones to from _ (λ (e : from ≡ to). apart e)
+    ∙ get-put_same old.zones from all.source left all.had_source in
     let same : source ≡ left = same_Some _ _ (sym had_source ∙ there) in
     let lane : slice_get left.ports.outboxes to ≡ Some [] = get-put_same all.source.ports.outboxes to all.part [] all.outbox in
     ap (λ (z : Zone). has_items (slice_get z.ports.outboxes to)) same ∙ ap has_items lane
