@@ -31,6 +31,7 @@ pub(crate) enum Calls {
 pub(crate) type Receipts = [Option<(u32, u64)>; 2];
 
 /// A run: its words and its script, what fails and what reads otherwise, and how it ends.
+#[derive(Clone, Copy)]
 pub(crate) struct Run {
     pub(crate) words: &'static [&'static str],
     pub(crate) script: &'static [u8],
