@@ -11,14 +11,16 @@ use vdo_cli::Fault;
 /// journal, the roots, and of the slab its counters and its journal.
 pub(crate) const OPENING: usize = 1 + 1 + 8 + 60 + 1 + 4;
 
-// A run without words, of which nothing fails.
-const RUN: Run = Run {
+/// A run of which nothing fails.
+pub(crate) const RUN: Run = Run {
     words: &["run"],
     script: b"",
     faults: &[],
     bends: &[],
+    fuse: None,
     source: None,
-    room: 2000,
+    room: 4000,
+    image: 0,
     text: b"",
     status: 0,
     calls: Calls::Any,

@@ -13,10 +13,11 @@ use vdo_cli::{Ended, Words, run};
 use vdo_model::RunReport;
 
 /// What a run has beside its device: its words, its script, and what it puts.
-pub(crate) type Outside = (Words, MemSource, MemSink);
+type Outside = (Words, MemSource, MemSink);
 
-/// How a run ended, and what it put.
-pub(crate) type Ran = (Ended<BentDisk>, MemSink);
+/// What a run leaves: an image that a stop behind it may leave, its status, whether the calls of its device are as wanted, and its
+/// receipts.
+type Left = (MemDisk, u8, bool, Receipts);
 
 /// What the calls of a device are: any, so many, or so many writes and other calls that write nothing.
 #[derive(Clone, Copy)]
@@ -30,55 +31,45 @@ pub(crate) enum Calls {
 pub(crate) type Receipts = [Option<(u32, u64)>; 2];
 
 /// A run: its words and its script, what fails and what reads otherwise, and how it ends.
+#[derive(Clone, Copy)]
 pub(crate) struct Run {
     pub(crate) words: &'static [&'static str],
     pub(crate) script: &'static [u8],
     pub(crate) faults: &'static [FaultAt],
     pub(crate) bends: &'static [BendAt],
+    /// How many calls of the device go on before all fail.
+    pub(crate) fuse: Option<u64>,
     /// How many bytes the source gives before it fails.
     pub(crate) source: Option<u64>,
     /// The room of the sink.
     pub(crate) room: usize,
+    /// The number of the image that is picked behind it: 0 is what was flushed.
+    pub(crate) image: u64,
     pub(crate) text: &'static [u8],
     pub(crate) status: u8,
     pub(crate) calls: Calls,
     pub(crate) receipts: Receipts,
 }
 
-/// How a run ended: its status, the place of the first byte of its text that is another, whether its calls are as wanted, and
-/// its receipts.
-type Outcome = (u8, Option<usize>, bool, Receipts);
-
-/// These words, a source of this script that fails after so many bytes, and a sink with so much room.
-pub(crate) fn outside_of(
-    alloc: Global,
-    row: &[&str],
-    script: &[u8],
-    fails_at: Option<u64>,
-    room: usize,
-) -> Result<Outside, AllocError> {
+fn outside_of(alloc: Global, asked: &Run) -> Result<Outside, AllocError> {
     let mut words = Words::new(alloc);
-    for word in row {
+    for word in asked.words {
         words.push(word)?;
     }
-    let source = MemSource::new(script.to_vec(alloc)?, fails_at);
-    Ok((words, source, MemSink::new(alloc, room)?))
-}
-
-/// Runs these words on a device.
-pub(crate) fn run_in<R: Threads + Wait + Sync>(rt: &R, outside: Outside, device: BentDisk) -> Ran {
-    let (words, mut source, mut sink) = outside;
-    let ended = run(rt, &words, device, &mut source, &mut sink, &OpenGate);
-    (ended, sink)
+    let source = MemSource::new(asked.script.to_vec(alloc)?, asked.source);
+    Ok((words, source, MemSink::new(alloc, asked.room)?))
 }
 
 // A device of these contents on which the run's calls fail and read otherwise.
-fn device_of(alloc: Global, image: MemDisk, asked: &Run) -> Result<BentDisk, AllocError> {
+fn device_of(alloc: Global, image: &MemDisk, asked: &Run) -> Result<BentDisk, AllocError> {
     let faults = asked.faults.to_vec(alloc)?;
     let bends = asked.bends.to_vec(alloc)?;
-    let mut image = image;
-    image.set_faults(faults);
-    Ok(BentDisk::over(image, bends))
+    let mut device = image.pick_image(alloc, 0)?;
+    device.set_faults(faults);
+    if let Some(passes) = asked.fuse {
+        device.set_fuse(passes);
+    }
+    Ok(BentDisk::over(device, bends))
 }
 
 fn are_calls(calls: &[Call], want: Calls) -> bool {
@@ -105,24 +96,53 @@ fn receipts_of(report: &RunReport) -> Receipts {
     found
 }
 
-// Serves a run on a device of these contents: how it ends, and what it leaves that was flushed.
-fn served<R: Threads + Wait + Sync>(
+// What a run left that ended so.
+fn left_by(alloc: Global, ended: &Ended<BentDisk>, asked: &Run) -> Result<Left, AllocError> {
+    let device = ended.device.inner();
+    let image = device.pick_image(alloc, asked.image)?;
+    let calls = are_calls(device.calls(), asked.calls);
+    Ok((image, ended.status, calls, receipts_of(&ended.report)))
+}
+
+// What a run leaves, and what it put. All that it owns is let go here.
+fn run_in<R: Threads + Wait + Sync>(
     rt: &R,
     alloc: Global,
-    image: MemDisk,
+    outside: Outside,
+    device: BentDisk,
+    asked: &Run,
+) -> (Result<Left, AllocError>, MemSink) {
+    let (words, mut source, mut sink) = outside;
+    let ended = run(rt, &words, device, &mut source, &mut sink, &OpenGate);
+    (left_by(alloc, &ended, asked), sink)
+}
+
+/// Serves a run on a device of these contents: what it leaves, and what it put.
+pub(crate) fn served<R: Threads + Wait + Sync>(
+    rt: &R,
+    alloc: Global,
+    image: &MemDisk,
+    asked: &Run,
+) -> Result<(Left, MemSink), AllocError> {
+    let outside = outside_of(alloc, asked)?;
+    let device = device_of(alloc, image, asked)?;
+    let (left, sink) = run_in(rt, alloc, outside, device, asked);
+    Ok((left?, sink))
+}
+
+/// How a run ended: its status, the place of the first byte of its text that is another, whether its calls are as wanted, and
+/// its receipts.
+type Outcome = (u8, Option<usize>, bool, Receipts);
+
+fn outcome_of<R: Threads + Wait + Sync>(
+    rt: &R,
+    alloc: Global,
+    image: &MemDisk,
     asked: &Run,
 ) -> Result<(MemDisk, Outcome), AllocError> {
-    let outside = outside_of(alloc, asked.words, asked.script, asked.source, asked.room)?;
-    let device = device_of(alloc, image, asked)?;
-    let (ended, sink) = run_in(rt, outside, device);
-    let left = ended.device.inner();
-    let outcome = (
-        ended.status,
-        first_other(sink.bytes(), asked.text),
-        are_calls(left.calls(), asked.calls),
-        receipts_of(&ended.report),
-    );
-    Ok((left.pick_image(alloc, 0)?, outcome))
+    let ((left, status, calls, receipts), sink) = served(rt, alloc, image, asked)?;
+    let other = first_other(sink.bytes(), asked.text);
+    Ok((left, (status, other, calls, receipts)))
 }
 
 // Serves the runs of a row, the one with this number, one after the other on an image.
@@ -135,7 +155,7 @@ pub(crate) fn row_is_right<R: Threads + Wait + Sync + Abort>(
 ) -> Result<(), Fail> {
     let mut image = image;
     for (k, asked) in runs.iter().enumerate() {
-        let (left, outcome) = served(rt, alloc, image, asked)?;
+        let (left, outcome) = outcome_of(rt, alloc, &image, asked)?;
         assert_eq!(rt;
             (row, k, outcome),
             (row, k, (asked.status, None, true, asked.receipts))

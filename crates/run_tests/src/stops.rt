@@ -1,18 +1,16 @@
 //! A run that is stopped at a call of its device: on an empty image, and on the one that an earlier run left, within its recovery, the
 //! opening and its session. The run behind it shows what the answers allow, and each block is counted as often as it is mapped.
 
-use crate::rows::OPENING;
-use crate::runs::{Ran, outside_of, run_in};
+use crate::rows::{OPENING, RUN};
+use crate::runs::{Run, served};
 use blk_base::Geometry;
-use disk_model::{BentDisk, Call, MemDisk};
+use disk_model::MemDisk;
 use std::alloc::{AllocError, Global};
 use std::process::Abort;
 use std::sync::Wait;
 use std::test::Fail;
 use std::thread::Threads;
 use test_images::fresh;
-use vdo_cli::Ended;
-
 /// A script that is stopped.
 struct Stopped {
     /// What an earlier run served.
@@ -105,32 +103,34 @@ fn may_show(shown: &[&[&[u8]]], answered: usize, text: &[u8]) -> bool {
     }
 }
 
-// The run of a command on a device of these contents.
-fn run_on<R: Threads + Wait + Sync>(
-    rt: &R,
-    alloc: Global,
-    device: MemDisk,
-    command: &str,
-    script: &[u8],
-) -> Result<Ran, AllocError> {
-    let outside = outside_of(alloc, &[command], script, None, 2000)?;
-    Ok(run_in(rt, outside, BentDisk::over(device, Vec::new(alloc))))
-}
+static READS: Run = Run {
+    script: b"0 read 1\n0 read 2\n",
+    ..RUN
+};
 
-// Runs a script, and then what was flushed is left.
-fn left_by<R: Threads + Wait + Sync>(
+static AUDIT: Run = Run {
+    words: &["audit"],
+    ..RUN
+};
+
+// Whether the run behind a stop shows what may be, and each block is counted then as often as it is mapped.
+fn shows<R: Threads + Wait + Sync>(
     rt: &R,
     alloc: Global,
-    script: &[u8],
-) -> Result<MemDisk, AllocError> {
-    let device = fresh(alloc, &Geometry::DEFAULT)?;
-    let (ended, _) = run_on(rt, alloc, device, "run", script)?;
-    ended.device.inner().pick_image(alloc, 0)
+    image: &MemDisk,
+    stopped: &Stopped,
+    answered: usize,
+) -> Result<(bool, bool), AllocError> {
+    let ((left, status, ..), sink) = served(rt, alloc, image, &READS)?;
+    let shows = status == 0 && may_show(stopped.shown, answered, sink.bytes());
+    let ((_, status, ..), sink) = served(rt, alloc, &left, &AUDIT)?;
+    let is_counted = status == 0 && sink.bytes().starts_with(b"audit clean");
+    Ok((shows, is_counted))
 }
 
 /// A stop that was tried: the status of the run that was stopped; the run behind it showed what may be, and each block is
 /// counted as often as it is mapped.
-type Tried = (u8, bool, bool);
+type Tried = (u8, (bool, bool));
 
 // The script on an image, of whose calls those behind so many fail; and then the image of this number.
 fn tried<R: Threads + Wait + Sync>(
@@ -140,52 +140,39 @@ fn tried<R: Threads + Wait + Sync>(
     stopped: &Stopped,
     (passes, number): (usize, u64),
 ) -> Result<Tried, AllocError> {
-    let mut device = left.pick_image(alloc, 0)?;
-    device.set_fuse(passes as u64);
-    let (ended, sink) = run_on(rt, alloc, device, "run", stopped.script)?;
+    let stop = Run {
+        script: stopped.script,
+        fuse: Some(passes as u64),
+        image: number,
+        ..RUN
+    };
+    let ((image, status, ..), sink) = served(rt, alloc, left, &stop)?;
     let answered = answered_ok(sink.bytes());
-    let image = ended.device.inner().pick_image(alloc, number)?;
-    let (again, sink) = run_on(rt, alloc, image, "run", b"0 read 1\n0 read 2\n")?;
-    let shows = again.status == 0 && may_show(stopped.shown, answered, sink.bytes());
-    let image = again.device.inner().pick_image(alloc, 0)?;
-    let (audit, sink) = run_on(rt, alloc, image, "audit", b"")?;
-    let is_counted = audit.status == 0 && sink.bytes().starts_with(b"audit clean");
-    Ok((ended.status, shows, is_counted))
+    Ok((status, shows(rt, alloc, &image, stopped, answered)?))
 }
 
-fn is_read(calls: &[Call], at: usize) -> bool {
-    matches!(calls.get(at), Some(Call::Read { .. }))
-}
-
-// A stop between two reads leaves what one before them leaves: every seventh is tried, and each at a write or a flush.
-fn is_tried(calls: &[Call], passes: usize) -> bool {
-    let between = is_read(calls, passes) && (passes == 0 || is_read(calls, passes - 1));
-    passes % 7 == 0 || !between
-}
-
-// Stops behind these numbers of calls. Of each there is the image of all that was flushed, that of all that was written, and some in
-// which sectors of the last write are new or old.
-fn stops_between<R: Threads + Wait + Sync + Abort>(
+// So many stops, behind these numbers of calls: from the first on, each the same step behind the one before. Of each there is the image
+// of all that was flushed, that of all that was written, and two in which sectors of the last write are new or old.
+fn stops<R: Threads + Wait + Sync + Abort>(
     rt: &R,
     alloc: Global,
     stopped: &Stopped,
-    first: usize,
-    last: usize,
+    (first, step, count): (usize, usize, usize),
 ) -> Result<(), Fail> {
-    let left = left_by(rt, alloc, stopped.earlier)?;
-    let (whole, _) = run_on(rt, alloc, left.pick_image(alloc, 0)?, "run", stopped.script)?;
-    let calls = whole.device.inner().calls();
-    assert_eq!(rt; calls.len(), stopped.calls);
-    for passes in first..=last {
-        if is_tried(calls, passes) {
-            for number in [0, 1, 7, 12_345] {
-                let status = if passes < stopped.calls { 3 } else { 0 };
-                let tried = tried(rt, alloc, &left, stopped, (passes, number))?;
-                assert_eq!(rt;
-                    (passes, number, tried),
-                    (passes, number, (status, true, true))
-                );
-            }
+    let earlier = Run {
+        script: stopped.earlier,
+        ..RUN
+    };
+    let ((left, ..), _) = served(rt, alloc, &fresh(alloc, &Geometry::DEFAULT)?, &earlier)?;
+    for k in 0..count {
+        let passes = first.saturating_add(step.saturating_mul(k));
+        let status = if passes < stopped.calls { 3 } else { 0 };
+        for number in [0, 1, 7, 12_345] {
+            let tried = tried(rt, alloc, &left, stopped, (passes, number))?;
+            assert_eq!(rt;
+                (passes, number, tried),
+                (passes, number, (status, (true, true)))
+            );
         }
     }
     Ok(())
@@ -193,48 +180,51 @@ fn stops_between<R: Threads + Wait + Sync + Abort>(
 
 #[test]
 fn stops_up_to_the_first_flush(rt: HostRuntime) -> Result<(), Fail> {
-    stops_between(&rt, rt.alloc(), &ON_AN_EMPTY_IMAGE, OPENING, OPENING + 11)
+    stops(&rt, rt.alloc(), &ON_AN_EMPTY_IMAGE, (OPENING, 1, 12))
 }
 
 #[test]
 fn stops_behind_the_first_flush(rt: HostRuntime) -> Result<(), Fail> {
-    stops_between(
+    stops(&rt, rt.alloc(), &ON_AN_EMPTY_IMAGE, (OPENING + 12, 1, 11))
+}
+
+// A stop between two reads leaves what one before them leaves: every seventh is tried.
+#[test]
+fn stops_before_a_recovery_writes(rt: HostRuntime) -> Result<(), Fail> {
+    stops(&rt, rt.alloc(), &BEHIND_AN_EARLIER_RUN, (0, 7, 11))
+}
+
+#[test]
+fn stops_while_a_recovery_writes(rt: HostRuntime) -> Result<(), Fail> {
+    stops(
         &rt,
         rt.alloc(),
-        &ON_AN_EMPTY_IMAGE,
-        OPENING + 12,
-        OPENING + 22,
+        &BEHIND_AN_EARLIER_RUN,
+        (RECOVERY - 9, 1, 10),
     )
 }
 
 #[test]
-fn stops_within_a_recovery(rt: HostRuntime) -> Result<(), Fail> {
-    stops_between(&rt, rt.alloc(), &BEHIND_AN_EARLIER_RUN, 0, RECOVERY)
-}
-
-#[test]
 fn stops_within_an_opening(rt: HostRuntime) -> Result<(), Fail> {
-    stops_between(
+    stops(
         &rt,
         rt.alloc(),
         &BEHIND_AN_EARLIER_RUN,
-        RECOVERY + 1,
-        OPENED - 1,
+        (RECOVERY + 7, 7, 10),
     )
 }
 
 #[test]
 fn stops_up_to_the_second_data(rt: HostRuntime) -> Result<(), Fail> {
-    stops_between(&rt, rt.alloc(), &BEHIND_AN_EARLIER_RUN, OPENED, OPENED + 9)
+    stops(&rt, rt.alloc(), &BEHIND_AN_EARLIER_RUN, (OPENED, 1, 10))
 }
 
 #[test]
 fn stops_up_to_the_end(rt: HostRuntime) -> Result<(), Fail> {
-    stops_between(
+    stops(
         &rt,
         rt.alloc(),
         &BEHIND_AN_EARLIER_RUN,
-        OPENED + 10,
-        OPENED + 19,
+        (OPENED + 10, 1, 10),
     )
 }
