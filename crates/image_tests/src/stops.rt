@@ -261,19 +261,19 @@ fn stopped(
     Ok((ended, mend_twice(alloc, forced, before, &mut left)))
 }
 
-// The first stop that leaves something else, from this call on. Number 0 is what was certain, 1 all that was written since, 7 a
-// mix of both, sector by sector.
+// The first stop that leaves something else, from this call on.
 fn other_stop(
     alloc: Global,
     row: &Row,
     forced: bool,
     first: u64,
+    numbers: &[u64],
 ) -> Result<Option<(Stop, Outcome)>, AllocError> {
     let mut image = device_of(alloc, row, forced)?;
     let before = read_image(alloc, &mut image);
     let all = calls_made(alloc, row, forced)?.0 as u64;
     for passes in first..all.min(200) + 1 {
-        for number in [0, 1, 7] {
+        for &number in numbers {
             let stop = (passes, number);
             let (ended, found) = stopped(alloc, row, forced, &before, stop)?;
             if ended != (passes == all) || !is_right(row, forced, found) {
@@ -284,12 +284,32 @@ fn other_stop(
     Ok(None)
 }
 
-#[test]
-fn what_is_left_is_recovered(rt: HostRuntime) -> Result<(), Fail> {
+// The first image of which a stop of its recovery leaves something else. Number 0 is what was certain, 1 all that was written
+// since, 7 a mix of both, sector by sector.
+fn other_image(alloc: Global, number: u64) -> Result<Option<(usize, Stop, Outcome)>, AllocError> {
     for (i, row) in ROWS.iter().enumerate() {
-        let found = other_stop(rt.alloc(), row, false, 0)?;
-        assert_eq!(rt; (i, found), (i, None));
+        if let Some((stop, found)) = other_stop(alloc, row, false, 0, &[number])? {
+            return Ok(Some((i, stop, found)));
+        }
     }
+    Ok(None)
+}
+
+#[test]
+fn what_was_certain_is_recovered(rt: HostRuntime) -> Result<(), Fail> {
+    assert_eq!(rt; other_image(rt.alloc(), 0)?, None);
+    Ok(())
+}
+
+#[test]
+fn what_was_written_is_recovered(rt: HostRuntime) -> Result<(), Fail> {
+    assert_eq!(rt; other_image(rt.alloc(), 1)?, None);
+    Ok(())
+}
+
+#[test]
+fn what_was_torn_is_recovered(rt: HostRuntime) -> Result<(), Fail> {
+    assert_eq!(rt; other_image(rt.alloc(), 7)?, None);
     Ok(())
 }
 
@@ -299,6 +319,6 @@ fn what_is_left_is_rebuilt(rt: HostRuntime) -> Result<(), Fail> {
     let Some(row) = ROWS.get(STOPPED) else {
         return Ok(());
     };
-    assert_eq!(rt; other_stop(rt.alloc(), row, true, 72)?, None);
+    assert_eq!(rt; other_stop(rt.alloc(), row, true, 72, &[0, 1, 7])?, None);
     Ok(())
 }
