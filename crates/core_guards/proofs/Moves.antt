@@ -1,10 +1,9 @@
 -- What a move and a schedule's turns leave.
-use Rattle.std.proofs.Common.{ℕ, ◌≡◌, ◌≢◌, ◌<◌, ◌≤◌, ◌+◌, ◌*◌, Bool, true, false, List, [], ◌∷◌, ◌++◌, Some, length, slice_get, slice_set, inl, inr, refl, sym, ◌∙◌, ap, subst, arith}
+use Rattle.std.proofs.Common.{ℕ, ◌≡◌, ◌≢◌, ◌<◌, ◌*◌, Bool, true, false, List, [], ◌∷◌, ◌++◌, Some, length, slice_get, slice_set, inl, inr, refl, sym, ◌∙◌, ap, subst, arith}
 use Rattle.std.proofs.lemmas.Bool.Decides.{eqb_tells}
 use Rattle.std.proofs.lemmas.Option.{same_Some}
 use Rattle.plain_laws.proofs.ListLaws.{get-put_same, get-put_other, length-put}
 use Rattle.disk_model.specs.Numbers.{next_state}
-use Rattle.disk_model.specs.Seen.{Seen}
 use Rattle.disk_model.specs.Trust.{Trust}
 use Rattle.data_vio.specs.declared.items.Item.{Item}
 use Rattle.data_vio.specs.declared.logged.Remapping.{Remapping}
@@ -18,9 +17,9 @@ use Rattle.core_model.specs.declared.zones.Zone.{Zone}
 use Rattle.core_model.specs.declared.zones.ZoneData.TheVariants as at
 use Rattle.schedule.specs.Turns.{Driving, Drives, IsTurn, driving}
 use Rattle.vdo_core.specs.Done.{IsDone}
-use Rattle.vdo_core.specs.Moves.{MovesNothing, has_items}
+use Rattle.vdo_core.specs.Moves.{has_items}
 use Rattle.vdo_core.specs.Notes.{IsSetOfWork}
-use Rattle.vdo_core.specs.Plays.{HasNoWork, MovesAll, PlaysOne, Vdo, vdo}
+use Rattle.vdo_core.specs.Plays.{HasNoWork, PlaysOne, Vdo}
 use Rattle.vdo_core.specs.declared.events.Event.{Event}
 use Rattle.vdo_core.specs.declared.events.Event.TheVariants as event
 
@@ -55,7 +54,7 @@ pub stands : (old new : List Zone) (from to : ℕ) (target : Zone) (items : List
 stands old new from to target items apart had moved =
     ap (λ (zones : List Zone). slice_get zones to) moved.moved
     ∙ get-put_same (slice_set old from moved.source) to target (with_inbox target (target.ports.inbox ++ items))
-        (get-put_other old from to moved.source (λ (e : to ≡ from). apart (sym e)) ∙ had)
+    (get-put_other old from to moved.source (λ (e : to ≡ from). apart (sym e)) ∙ had)
 
 -- a list with an item isn't empty
 some_left : (items : List Item) (first : Item) (rest : List Item) → items ++ (first ∷ rest) ≡ [] → ⊥
@@ -71,6 +70,7 @@ has_work sizes zones set to target first rest notes there left = at_bit (is_in s
     not_idle : IsIdle sizes (with_inbox target (target.ports.inbox ++ (first ∷ rest))) → ⊥
     not_idle (inl nothing) = some_left target.ports.inbox first rest nothing.inbox
     not_idle (inr no_steps) = omega (arith, no_steps, left)
+
     at_bit : (b : Bool) → (b ≡ false → HasNoWork sizes zones (event.Step to)) → b ≡ true
     at_bit true none = refl
     at_bit false none = absurd (not_idle (none refl _ there))
@@ -83,9 +83,9 @@ nothing_left trust sizes from to old new made (inl (all, seen, none)) = λ sourc
     let left = with_outboxes all.source (slice_set all.source.ports.outboxes to []) in
     let zones = slice_set old.zones from left in
     let there : slice_get new.zones from ≡ Some left =
-        ap (λ (zs : List Zone). slice_get zs from) all.has
-        ∙ get-put_other zones to from _ (λ (e : from ≡ to). apart e)
-        ∙ get-put_same old.zones from all.source left all.had_source in
+    ap (λ (zs : List Zone). slice_get zs from) all.has
+    ∙ get-put_other zones to from _ (λ (e : from ≡ to). apart e)
+    ∙ get-put_same old.zones from all.source left all.had_source in
     let same : source ≡ left = same_Some _ _ (sym had_source ∙ there) in
     let lane : slice_get left.ports.outboxes to ≡ Some [] = get-put_same all.source.ports.outboxes to all.part [] all.outbox in
     ap (λ (z : Zone). has_items (slice_get z.ports.outboxes to)) same ∙ ap has_items lane

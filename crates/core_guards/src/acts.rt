@@ -137,12 +137,7 @@ fn all_that_wait_for_a_page_look_again(
 }
 
 // A write claims a block where one is free.
-fn a_free_block_is_claimed(
-    sizes: &Sizes,
-    zone: &mut PhysicalZone,
-    vio: BoxedVio,
-    posts: &mut Posts,
-)
+fn a_free_block_is_claimed(sizes: &Sizes, zone: &mut PhysicalZone, vio: BoxedVio, posts: &mut Posts)
     requires zones { 0 < sizes.now.zones }
     requires physical { HasPhysical sizes.now }
     requires few { AreFew sizes.now }
@@ -279,12 +274,15 @@ fn a_sealed_block_is_covered_first(
     requires due { journal.IsSealable zone.old.log }
     ensures { (v : Vio) (vs : List Vio) → zone.old.filling ≡ v ∷ vs
         → posts.new
-        ≡ (id.Device, item.Block (record {
-          stage = stage.Cover;
-          sequence = zone.old.log.sequence;
-          head = (journal.next_block zone.old stage.Cover []).head;
-          vios = v ∷ vs;
-        }))
+        ≡ (
+          id.Device,
+          item.Block (record {
+            stage = stage.Cover;
+            sequence = zone.old.log.sequence;
+            head = (journal.next_block zone.old stage.Cover []).head;
+            vios = v ∷ vs;
+          }),
+        )
         ∷ journal.all_again zone.old.waiting }
 {
     journal_zone::act(sizes, zone, Item::Block(block), posts);
