@@ -1,2 +1,3 @@
 mod Moves
+mod RunLaws
 mod ZoneActs

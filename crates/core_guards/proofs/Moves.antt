@@ -1,10 +1,9 @@
 -- What a move and a schedule's turns leave.
-use Rattle.std.proofs.Common.{ℕ, ◌≡◌, ◌≢◌, ◌<◌, ◌≤◌, ◌+◌, ◌*◌, Bool, true, false, List, [], ◌∷◌, ◌++◌, Some, length, slice_get, slice_set, inl, inr, refl, sym, ◌∙◌, ap, subst, arith}
+use Rattle.std.proofs.Common.{ℕ, ◌≡◌, ◌≢◌, ◌<◌, ◌*◌, Bool, true, false, List, [], ◌∷◌, ◌++◌, Some, length, slice_get, slice_set, inl, inr, refl, sym, ◌∙◌, ap, subst, arith}
 use Rattle.std.proofs.lemmas.Bool.Decides.{eqb_tells}
 use Rattle.std.proofs.lemmas.Option.{same_Some}
 use Rattle.plain_laws.proofs.ListLaws.{get-put_same, get-put_other, length-put}
 use Rattle.disk_model.specs.Numbers.{next_state}
-use Rattle.disk_model.specs.Seen.{Seen}
 use Rattle.disk_model.specs.Trust.{Trust}
 use Rattle.data_vio.specs.declared.items.Item.{Item}
 use Rattle.data_vio.specs.declared.logged.Remapping.{Remapping}
@@ -18,9 +17,9 @@ use Rattle.core_model.specs.declared.zones.Zone.{Zone}
 use Rattle.core_model.specs.declared.zones.ZoneData.TheVariants as at
 use Rattle.schedule.specs.Turns.{Driving, Drives, IsTurn, driving}
 use Rattle.vdo_core.specs.Done.{IsDone}
-use Rattle.vdo_core.specs.Moves.{MovesNothing, has_items}
+use Rattle.vdo_core.specs.Moves.{has_items}
 use Rattle.vdo_core.specs.Notes.{IsSetOfWork}
-use Rattle.vdo_core.specs.Plays.{HasNoWork, MovesAll, PlaysOne, Vdo, vdo}
+use Rattle.vdo_core.specs.Plays.{HasNoWork, PlaysOne, Vdo}
 use Rattle.vdo_core.specs.declared.events.Event.{Event}
 use Rattle.vdo_core.specs.declared.events.Event.TheVariants as event
 

@@ -1,5 +1,5 @@
 -- What an act of one zone comes to, where a rule says it.
-use Rattle.std.proofs.Common.{ℕ, ◌≡◌, ◌≢◌, ◌⊎◌, ◌+◌, ◌-◌, ◌^◌, ◌≤◌, Bool, true, false, IsTrue, List, [], ◌∷◌, ◌++◌, None, Some, length, inl, inr, refl, sym, ◌∙◌, ap, subst, arith}
+use Rattle.std.proofs.Common.{ℕ, ◌≡◌, ◌⊎◌, Bool, true, false, IsTrue, List, [], ◌∷◌, ◌++◌, None, Some, length, inl, inr, sym, ◌∙◌, ap, subst, arith}
 use Rattle.blk_base.specs.declared.place.Mapping.{Mapping}
 use Rattle.blk_base.specs.declared.place.Pbn.{Pbn}
 use Rattle.blk_base.specs.declared.place.ZoneId.TheVariants as id
@@ -29,12 +29,11 @@ use Rattle.core_model.specs.LogicalData.{LogicalZone}
 use Rattle.core_model.specs.PageLinks.{leaf_head}
 use Rattle.core_model.specs.Steps.{Act}
 use Rattle.core_model.specs.Steps as steps
-use Rattle.core_model.specs.Trace.{Trace, Calls, Fails, Harms, calls}
+use Rattle.core_model.specs.Trace.{Trace, Fails, calls}
 use Rattle.core_model.specs.declared.zones.DeviceZone.{DeviceZone}
 use Rattle.core_model.specs.declared.zones.PhysicalZone.{PhysicalZone}
 use Rattle.core_model.specs.declared.zones.SuperblockStage.{SuperblockStage}
 use Rattle.core_model.specs.declared.zones.SuperblockStage.TheVariants.{Durable, Written}
-use Rattle.core_model.specs.declared.zones.ZoneData.{ZoneData}
 use Rattle.core_model.specs.declared.zones.ZoneData.TheVariants as at
 use Rattle.step_parts.specs.Acts.{Acts, ActsAlone}
 use Rattle.step_parts.specs.DeviceLog.{HasCalled, RoseBy, failed_calls}

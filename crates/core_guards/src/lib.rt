@@ -4,4 +4,5 @@
 
 mod acts;
 mod cores;
+mod runs;
 mod texts;

@@ -1,7 +1,6 @@
-use Rattle.std.proofs.Common.{ap, refl}
+use Rattle.std.proofs.Common.{refl}
 use Rattle.core_model.specs.PhysicalRules.PhysicalServes.{spends}
 use Rattle.core_model.specs.Steps.Act.{takes}
-use Rattle.core_model.specs.declared.zones.PhysicalZone.{PhysicalZone}
 use Rattle.core_guards.proofs.ZoneActs.{physical_does}
 use Rattle.core_guards.proofs.acts.a_block_in_the_journal_stays_claimed.Goals as goal
 

@@ -1,5 +1,4 @@
-use Rattle.std.proofs.Common.{List, ap, refl}
-use Rattle.vdo_model.specs.declared.report.FlushMark.{FlushMark}
+use Rattle.std.proofs.Common.{ap, refl}
 use Rattle.core_model.specs.DeskData.{Desk}
 use Rattle.core_model.specs.DeskRules.DeskServes.{marks}
 use Rattle.core_model.specs.Steps.Act.{answers}

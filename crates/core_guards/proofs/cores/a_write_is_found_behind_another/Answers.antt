@@ -1,5 +1,3 @@
-use Rattle.std.proofs.Common.{◌∙◌, ap, rules}
-use Rattle.core_model.specs.Trace.{newest, of_address}
 use Rattle.core_guards.proofs.Moves.{found_behind}
 use Rattle.core_guards.proofs.cores.a_write_is_found_behind_another.Goals as goal
 

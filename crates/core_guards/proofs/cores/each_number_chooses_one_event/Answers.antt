@@ -1,4 +1,3 @@
-use Rattle.std.proofs.Common.{◌∷◌}
 use Rattle.core_guards.proofs.Moves.{takes_it}
 use Rattle.core_guards.proofs.cores.each_number_chooses_one_event.Goals as goal
 

@@ -1,8 +1,5 @@
 use Rattle.std.proofs.Common.{subst, sym, ◌<◌, ℕ}
-use Rattle.data_vio.specs.declared.sizes.Sizes.{Sizes}
 use Rattle.core_guards.proofs.Moves.{as_many, no_move, nothing_left}
-use Rattle.vdo_core.specs.Plays.{HasNoWork}
-use Rattle.vdo_core.specs.declared.events.Event.TheVariants as event
 use Rattle.core_guards.proofs.cores.what_has_moved_moves_no_more.Goals as goal
 
 pub receivers-requires : goal.receivers-requires

@@ -1,4 +1,4 @@
-use Rattle.std.proofs.Common.{◌++◌, ◌∷◌, refl}
+use Rattle.std.proofs.Common.{◌∷◌}
 use Rattle.core_guards.proofs.Moves.{arrives, has_work, stands}
 use Rattle.core_guards.proofs.cores.who_gets_something_has_work.Goals as goal
 
