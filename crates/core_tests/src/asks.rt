@@ -109,11 +109,6 @@ fn filling_one(number: u32) -> Option<Ask> {
     })
 }
 
-// Whether a number is below a count.
-fn below(number: u32, count: u32, ask: Ask) -> Option<Ask> {
-    if number < count { Some(ask) } else { None }
-}
-
 impl Script {
     // How many streams it has.
     fn streams(&self) -> u32 {
@@ -130,18 +125,19 @@ impl Script {
     fn ask(&self, stream: u32, number: u32, state: u64) -> Option<Ask> {
         match self {
             Script::Table(streams) => streams.get(stream as usize)?.get(number as usize).copied(),
-            Script::Reads { count, apart } => {
-                below(number, *count, Ask::Read(number.wrapping_mul(*apart)))
+            Script::Reads { count, apart } if number < *count => {
+                Some(Ask::Read(number.wrapping_mul(*apart)))
             }
             Script::Wide => wide(stream, number),
             Script::Reused => reused(stream, number),
-            Script::Scarce(count) => below(number, *count, scarce(number, state)),
+            Script::Scarce(count) if number < *count => Some(scarce(number, state)),
             Script::Filling(writes, then) => filling(*writes, then, number),
             Script::FillingOne => filling_one(number),
-            Script::Sixteen => {
+            Script::Sixteen if number < 4 => {
                 let at = stream.wrapping_mul(4).wrapping_add(number).wrapping_add(20);
-                below(number, 4, Ask::Write(at, (at % 256) as u8))
+                Some(Ask::Write(at, (at % 256) as u8))
             }
+            _ => None,
         }
     }
 }

@@ -49,8 +49,8 @@ pub(crate) fn are_off(counts: &Counts, bounds: &[Bound]) -> bool {
     false
 }
 
-// What an answer gives.
-fn given_by(answer: &Answer) -> u16 {
+/// What an answer gives.
+pub(crate) fn given_by(answer: &Answer) -> u16 {
     match answer {
         Answer::Ok => OK,
         Answer::Bytes(block) => match byte_of(block.get()) {

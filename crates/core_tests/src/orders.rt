@@ -41,7 +41,7 @@ struct Row {
 }
 
 const ONE: Row = Row {
-    image: Image::Low,
+    image: Image::LOW,
     setup: Setup {
         logical_zones: 1,
         physical_zones: 1,
@@ -95,14 +95,17 @@ const TWO: Row = Row {
 /// asks from the zone of its place on. So the writes to even addresses have blocks of the first of two zones. Each block that is
 /// freed is used again.
 const FULL_ONE: Row = Row {
-    image: Image::One,
+    image: Image::SMALL,
     filling: Some(Script::Filling(15, &[])),
     used: 16,
     ..ONE
 };
 
 const FULL_TWO: Row = Row {
-    image: Image::Two,
+    image: Image {
+        slabs: 2,
+        ..Image::SMALL
+    },
     setup: Setup {
         logical_zones: 1,
         physical_zones: 2,

@@ -44,7 +44,7 @@ const ONE_ZONE: Setup = Setup {
 
 /// Each call is tried by one of the four schedules.
 const TABLE: Plan = Plan {
-    image: Image::Low,
+    image: Image::LOW,
     setup: TWO_ZONES,
     script: Script::Sixteen,
     reads: Script::Table(&[&[Read(5), Read(6), Read(900), Read(901)]]),
@@ -59,7 +59,7 @@ const TABLE: Plan = Plan {
 
 /// Blocks are written, let go and written again, more than fifty times by each schedule, and no write is without one.
 const REUSED: Plan = Plan {
-    image: Image::One,
+    image: Image::SMALL,
     setup: Setup {
         depth: 2,
         ..ONE_ZONE
@@ -90,8 +90,8 @@ const ASKED: &[Ask] = &[
 const GIVEN: &[&[u16]] = &[&[NO_SPACE, NO_SPACE, OK, OK, OK, NO_SPACE, 1, 0, 0xa2]];
 
 /// One request after the other, where no block is free.
-const FILLED: Plan = Plan {
-    image: Image::One,
+pub(crate) const FILLED: Plan = Plan {
+    image: Image::SMALL,
     setup: ONE_ZONE,
     script: Script::Filling(15, ASKED),
     reads: Script::Table(&[&[Read(0), Read(1), Read(2), Read(90), Read(91), Read(92)]]),
@@ -106,7 +106,12 @@ const FILLED: Plan = Plan {
 /// 1,280 requests of sixteen streams; three times as many fill the longest journal. There are more addresses than the 64 data
 /// blocks, of which a leaf takes one. Each slab has a physical zone. One request of a stream is under way at a time.
 pub(crate) static SCARCE: Plan = Plan {
-    image: Image::Scarce,
+    image: Image {
+        logical: 100,
+        slabs: 4,
+        journal: 1024,
+        ..Image::SMALL
+    },
     setup: Setup {
         physical_zones: 4,
         ..ONE_ZONE
@@ -129,7 +134,33 @@ pub(crate) static SCARCE: Plan = Plan {
     ..TABLE
 };
 
-pub(crate) static PLANS: [Plan; 16] = [
+/// More writes than the journal has blocks, of which some have several entries.
+pub(crate) const WIDE: Plan = Plan {
+    image: Image {
+        slabs: 5,
+        ..Image::LOW
+    },
+    setup: Setup {
+        depth: 16,
+        ..TWO_ZONES
+    },
+    script: Script::Wide,
+    reads: Script::Reads {
+        count: 150,
+        apart: 6,
+    },
+    tried: (524, 131, 0),
+    whole: &[
+        (OK, 225, MANY),
+        (NO_SPACE, 0, 0),
+        (STOPPED, 0, 0),
+        (OTHER, 0, 0),
+    ],
+    cut: &[(IMAGES, 8, MANY), (NEWER, 31, MANY)],
+    ..TABLE
+};
+
+pub(crate) static TABLES: [Plan; 5] = [
     // Addresses from 812 on are of the second logical zone. No two writes of a plan have the same byte.
     Plan {
         script: Script::Table(&[
@@ -204,7 +235,11 @@ pub(crate) static PLANS: [Plan; 16] = [
     },
     // Streams that lack the same pages, a leaf and the one above it in each of two trees.
     Plan {
-        image: Image::Tall,
+        image: Image {
+            is_tall: true,
+            journal: 16,
+            ..Image::LOW
+        },
         setup: Setup {
             depth: 2,
             ..TWO_ZONES
@@ -218,9 +253,15 @@ pub(crate) static PLANS: [Plan; 16] = [
         whole: &[(READS, 20, 20), (FULL, 0, 0), (OK, 36, 36)],
         ..TABLE
     },
+];
+
+pub(crate) static AGAIN: [Plan; 6] = [
     REUSED,
     Plan {
-        image: Image::Two,
+        image: Image {
+            slabs: 2,
+            ..Image::SMALL
+        },
         setup: Setup {
             physical_zones: 2,
             depth: 2,
@@ -229,7 +270,10 @@ pub(crate) static PLANS: [Plan; 16] = [
         ..REUSED
     },
     Plan {
-        image: Image::Three,
+        image: Image {
+            slabs: 3,
+            ..Image::SMALL
+        },
         setup: Setup {
             physical_zones: 3,
             depth: 2,
@@ -238,7 +282,10 @@ pub(crate) static PLANS: [Plan; 16] = [
         ..REUSED
     },
     Plan {
-        image: Image::Four,
+        image: Image {
+            slabs: 4,
+            ..Image::SMALL
+        },
         setup: Setup {
             physical_zones: 4,
             depth: 2,
@@ -248,7 +295,10 @@ pub(crate) static PLANS: [Plan; 16] = [
     },
     // Data blocks are scarce, and requests that wait for one are answered where a stop comes. At these stops most are used.
     Plan {
-        image: Image::Four,
+        image: Image {
+            slabs: 4,
+            ..Image::SMALL
+        },
         setup: Setup {
             physical_zones: 4,
             ..ONE_ZONE
@@ -266,28 +316,10 @@ pub(crate) static PLANS: [Plan; 16] = [
         cut: &[(NO_SPACE, 101, MANY), (STOPPED, 101, MANY)],
         ..REUSED
     },
-    // More writes than the journal has blocks, of which some have several entries.
-    Plan {
-        image: Image::Wide,
-        setup: Setup {
-            depth: 16,
-            ..TWO_ZONES
-        },
-        script: Script::Wide,
-        reads: Script::Reads {
-            count: 150,
-            apart: 6,
-        },
-        tried: (524, 131, 0),
-        whole: &[
-            (OK, 225, MANY),
-            (NO_SPACE, 0, 0),
-            (STOPPED, 0, 0),
-            (OTHER, 0, 0),
-        ],
-        cut: &[(IMAGES, 8, MANY), (NEWER, 31, MANY)],
-        ..TABLE
-    },
+    WIDE,
+];
+
+pub(crate) static OTHERS: [Plan; 5] = [
     // Addresses below 812 are of the first of four zones, and those from there on of the second.
     Plan {
         setup: Setup {
@@ -305,7 +337,10 @@ pub(crate) static PLANS: [Plan; 16] = [
     },
     FILLED,
     Plan {
-        image: Image::Two,
+        image: Image {
+            slabs: 2,
+            ..Image::SMALL
+        },
         setup: Setup {
             physical_zones: 2,
             ..ONE_ZONE
@@ -316,7 +351,10 @@ pub(crate) static PLANS: [Plan; 16] = [
         ..FILLED
     },
     Plan {
-        image: Image::Three,
+        image: Image {
+            slabs: 3,
+            ..Image::SMALL
+        },
         setup: Setup {
             physical_zones: 3,
             ..ONE_ZONE
@@ -327,7 +365,10 @@ pub(crate) static PLANS: [Plan; 16] = [
         ..FILLED
     },
     Plan {
-        image: Image::Four,
+        image: Image {
+            slabs: 4,
+            ..Image::SMALL
+        },
         setup: Setup {
             physical_zones: 4,
             ..ONE_ZONE

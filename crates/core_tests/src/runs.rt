@@ -2,7 +2,7 @@
 
 use crate::asks::requests_of;
 use crate::judging::{Counts, WRONG, add, are_off, first_other, judge, judge_reads};
-use crate::plans::{PLANS, Plan};
+use crate::plans::{AGAIN, OTHERS, Plan, TABLES};
 use crate::sessions::{Unplayed, device_of, driven, open_over};
 use audit::audit;
 use blk_base::Pbn;
@@ -12,6 +12,14 @@ use std::alloc::Global;
 use std::sync::Wait;
 use std::test::Fail;
 use vdo_model::RunReport;
+
+// How many blocks of an image are counted otherwise than they are mapped, and how many are used.
+fn audited(alloc: Global, image: &mut MemDisk) -> Result<(u32, u32), Unplayed> {
+    match audit(alloc, image) {
+        Ok(report) => Ok((report.differs.len() as u32, report.used)),
+        Err(_) => Err(Unplayed::Refused),
+    }
+}
 
 /// How many blocks of an image that a run left are used. What reads of it give is counted, and so is as wrong how many blocks
 /// are counted otherwise than they are mapped.
@@ -23,10 +31,7 @@ pub(crate) fn look_at<R: Wait>(
     image: &mut MemDisk,
     counts: &mut Counts,
 ) -> Result<u32, Unplayed> {
-    let (differ, used) = match audit(alloc, image) {
-        Ok(report) => (report.differs.len() as u32, report.used),
-        Err(_) => return Err(Unplayed::Refused),
-    };
+    let (differ, used) = audited(alloc, image)?;
     add(counts, WRONG, differ);
     let after = driven(rt, alloc, &plan.setup, &plan.reads, 0, image)?;
     judge_reads(before, &after, counts);
@@ -173,24 +178,27 @@ fn first_off<R: Wait>(
 #[test]
 fn without_a_fault(rt: HostRuntime) -> Result<(), Fail> {
     assert_eq!(rt; number_in(next_state(0)), 167_951_807);
-    assert_eq!(rt; first_off(&rt, rt.alloc(), &PLANS, WHOLE)?, None);
+    let tables = first_off(&rt, rt.alloc(), &TABLES, WHOLE)?;
+    let again = first_off(&rt, rt.alloc(), &AGAIN, WHOLE)?;
+    let others = first_off(&rt, rt.alloc(), &OTHERS, WHOLE)?;
+    assert_eq!(rt; [tables, again, others], [None; 3]);
     Ok(())
 }
 
 #[test]
 fn each_call_fails(rt: HostRuntime) -> Result<(), Fail> {
-    assert_eq!(rt; first_off(&rt, rt.alloc(), &PLANS[..5], FAILING)?, None);
+    assert_eq!(rt; first_off(&rt, rt.alloc(), &TABLES, FAILING)?, None);
     Ok(())
 }
 
 #[test]
 fn stopped_at_each_call(rt: HostRuntime) -> Result<(), Fail> {
-    assert_eq!(rt; first_off(&rt, rt.alloc(), &PLANS[..5], CUT)?, None);
+    assert_eq!(rt; first_off(&rt, rt.alloc(), &TABLES, CUT)?, None);
     Ok(())
 }
 
 #[test]
 fn stopped_where_blocks_are_used_again(rt: HostRuntime) -> Result<(), Fail> {
-    assert_eq!(rt; first_off(&rt, rt.alloc(), &PLANS[5..11], CUT)?, None);
+    assert_eq!(rt; first_off(&rt, rt.alloc(), &AGAIN, CUT)?, None);
     Ok(())
 }

@@ -1,10 +1,10 @@
 //! Many writes and discards where data blocks are scarce. A plain checker judges each write that found none, by the desk log.
 
-use crate::judging::{Counts, WRONG, add, are_off, judge, request_of};
+use crate::judging::{Counts, NO_SPACE, OK, WRONG, add, are_off, given_by, judge, request_of};
 use crate::plans::SCARCE;
 use crate::runs::look_at;
 use crate::sessions::{Unplayed, device_of, driven};
-use blk_base::{Answer, Request};
+use blk_base::{Request, Writer};
 use std::alloc::Global;
 use std::sync::Wait;
 use std::test::Fail;
@@ -29,15 +29,42 @@ fn bound(known: &[Known; 100]) -> u32 {
     bound
 }
 
-// A write is answered. Whether it found no block, though some block was free as long as it was under way, as far as can be told:
-// a write without a block has no claim, and its address has no block but the one that it is mapped to. And whether it was
-// answered Ok, and would be wrong otherwise.
-fn answer_write(known: &mut Known, greatest: u32, answer: &Answer) -> (bool, bool) {
-    let others = greatest.wrapping_sub(most(*known));
-    let had_free = others.wrapping_add(u32::from(known.0)) < 64;
-    let is_ok = matches!(answer, Answer::Ok);
-    *known = (known.0 || is_ok, known.1.wrapping_sub(1));
-    (had_free && !is_ok, had_free && is_ok)
+/// A line that begins a request, in place of what an answer gives.
+const BEGUN: u16 = 300;
+
+// The request of a line, and what it is given.
+fn parts(line: &DeskLine) -> (Writer, u16) {
+    match line {
+        DeskLine::Begin { request } => (*request, BEGUN),
+        DeskLine::Answer { request, answer } => (*request, given_by(answer)),
+    }
+}
+
+// Whether a request is a write, and its address; none of a flush.
+fn asked(report: &RunReport, request: Writer) -> Option<(bool, u32)> {
+    match request_of(report, request) {
+        Some(Request::Write { at, .. }) => Some((true, at.0)),
+        Some(Request::Discard(at)) => Some((false, at.0)),
+        _ => None,
+    }
+}
+
+// What is known of an address behind a line of a request of it.
+fn known_behind((is_mapped, writes): Known, is_write: bool, given: u16) -> Known {
+    match (is_write, given) {
+        (true, BEGUN) => (is_mapped, writes.wrapping_add(1)),
+        (true, OK) => (true, writes.wrapping_sub(1)),
+        (true, _) => (is_mapped, writes.wrapping_sub(1)),
+        (false, OK) => (false, writes),
+        (false, _) => (is_mapped, writes),
+    }
+}
+
+// Whether some block was free as long as a write was under way that is answered, as far as can be told. A write without a block
+// has no claim, and its address has no block but the one that it is mapped to.
+fn had_free(known: Known, greatest: u32) -> bool {
+    let others = greatest.wrapping_sub(most(known));
+    others.wrapping_add(u32::from(known.0)) < 64
 }
 
 // How many writes found no block, though some block was free as long as they were under way; and how many were answered Ok, and
@@ -51,24 +78,17 @@ fn read_answers(report: &RunReport) -> (u32, u32) {
     // For each stream the greatest bound since its last request was begun.
     let mut greatest = [0_u32; 16];
     for line in report.desk.as_slice() {
-        let (DeskLine::Begin { request } | DeskLine::Answer { request, .. }) = line;
+        let (request, given) = parts(line);
         let stream = usize::from(request.stream % 16);
-        match (line, request_of(report, *request)) {
-            (DeskLine::Begin { .. }, Some(Request::Write { at, .. })) => {
-                greatest[stream] = 0;
-                let known = &mut known[(at.0 % 100) as usize];
-                known.1 = known.1.wrapping_add(1);
-            }
-            (DeskLine::Answer { answer, .. }, Some(Request::Write { at, .. })) => {
-                let known = &mut known[(at.0 % 100) as usize];
-                let (is_wrong, tells) = answer_write(known, greatest[stream], answer);
-                wrong = wrong.wrapping_add(u32::from(is_wrong));
-                telling = telling.wrapping_add(u32::from(tells));
-            }
-            (DeskLine::Answer { .. }, Some(Request::Discard(at))) => {
-                known[(at.0 % 100) as usize].0 = false;
-            }
-            _ => {}
+        if given == BEGUN {
+            greatest[stream] = 0;
+        }
+        if let Some((is_write, at)) = asked(report, request) {
+            let place = (at % 100) as usize;
+            let tells = is_write && had_free(known[place], greatest[stream]);
+            wrong = wrong.wrapping_add(u32::from(tells && given == NO_SPACE));
+            telling = telling.wrapping_add(u32::from(tells && given == OK));
+            known[place] = known_behind(known[place], is_write, given);
         }
         let bound = bound(&known);
         for greatest in &mut greatest {

@@ -34,58 +34,43 @@ impl From<AllocError> for Unplayed {
     }
 }
 
-/// The sizes of an image.
-pub(crate) enum Image {
-    /// The default ones: the leaves stand below the roots.
-    Low,
-    /// There are pages between them, and the journal is longer, since more pages take entries.
-    Tall,
-    /// So many slabs of 16 data blocks, of which each leaf takes one, and a journal for more entries than a run has.
-    One,
-    Two,
-    Three,
-    Four,
-    /// 100 addresses, four such slabs, and the longest journal.
-    Scarce,
-    /// 320 data blocks, and a journal of 8 blocks.
-    Wide,
+/// The sizes of an image: the default ones but for these. In a tall one there are pages between the leaves and the roots.
+pub(crate) struct Image {
+    pub(crate) is_tall: bool,
+    pub(crate) logical: u32,
+    pub(crate) slabs: u32,
+    pub(crate) slab_blocks: u32,
+    pub(crate) journal: u32,
 }
 
-const SMALL: Geometry = Geometry {
-    logical: 1000,
-    slab_blocks: 16,
-    journal: 128,
-    ..Geometry::DEFAULT
-};
-
 impl Image {
-    /// The sizes.
+    pub(crate) const LOW: Image = Image {
+        is_tall: false,
+        logical: 1000,
+        slabs: 1,
+        slab_blocks: 64,
+        journal: 8,
+    };
+
+    /// A slab of 16 data blocks, of which each leaf takes one, and a journal for more entries than a run has.
+    pub(crate) const SMALL: Image = Image {
+        slab_blocks: 16,
+        journal: 128,
+        ..Image::LOW
+    };
+
+    /// The sizes. One that isn't within its limits is moved there.
     pub(crate) fn geometry(&self) -> Geometry
         ensures { IsGeometry result }
     {
-        match self {
-            Image::Low => Geometry::DEFAULT,
-            Image::Tall => Geometry {
-                height: 3,
-                journal: 16,
-                ..Geometry::DEFAULT
-            },
-            Image::One => SMALL,
-            Image::Two => Geometry { slabs: 2, ..SMALL },
-            Image::Three => Geometry { slabs: 3, ..SMALL },
-            Image::Four => Geometry { slabs: 4, ..SMALL },
-            Image::Scarce => Geometry {
-                logical: 100,
-                slabs: 4,
-                journal: 1024,
-                ..SMALL
-            },
-            Image::Wide => Geometry {
-                slabs: 5,
-                slab_blocks: 64,
-                journal: 8,
-                ..SMALL
-            },
+        let height = if self.is_tall { 3 } else { 2 };
+        Geometry {
+            height,
+            logical: self.logical.max(1).min(1000),
+            slabs: self.slabs.max(1).min(1024),
+            slab_blocks: self.slab_blocks.max(16).min(32768),
+            journal: self.journal.max(8).min(1024),
+            ..Geometry::DEFAULT
         }
     }
 }

@@ -2,45 +2,86 @@
 
 use crate::asks::Script;
 use crate::judging::{Counts, judge};
-use crate::plans::PLANS;
+use crate::plans::{FILLED, Plan, WIDE};
 use crate::sessions::{Image, Unplayed, device_of, driven};
-use blk_base::Layout;
+use blk_base::{Layout, Pbn};
 use disk_model::{Call, MemDisk};
 use journal_codec::block_prefix;
 use std::alloc::Global;
 use std::sync::Wait;
 use std::test::Fail;
 use vdo_core::Setup;
+use vdo_model::RunReport;
+
+static FILLED_ONE: Plan = FILLED;
+
+static WIDE_ONE: Plan = WIDE;
 
 /// The receipts of the first requests that found no block, the oldest first: the number of each in its stream, and its step.
 type Receipts = [Option<(u32, u64)>; 4];
 
+// The first receipts of a report.
+fn receipts_of(report: &RunReport) -> Receipts {
+    let mut found = [None; 4];
+    for (place, receipt) in report.receipts.as_slice().iter().enumerate() {
+        if place < 4 {
+            found[place] = Some((receipt.request.number, receipt.step));
+        }
+    }
+    found
+}
+
 // The receipts where no block is free, with one physical zone.
 fn receipts_by<R: Wait>(rt: &R, alloc: Global, number: u64) -> Result<Receipts, Unplayed> {
-    let plan = &PLANS[12];
+    let plan = &FILLED_ONE;
     let mut device = device_of(alloc, &plan.image, None, u64::MAX)?;
     let report = driven(rt, alloc, &plan.setup, &plan.script, number, &mut device)?;
-    let mut found = [None; 4];
-    for (place, receipt) in found.iter_mut().zip(report.receipts.as_slice()) {
-        *place = Some((receipt.request.number, receipt.step));
-    }
-    Ok(found)
+    Ok(receipts_of(&report))
 }
 
 // Each of the three writes that find no block asks in one step of the zone, and takes its ticket back in the next one.
 #[test]
 fn the_receipts_of_writes_that_find_none(rt: HostRuntime) -> Result<(), Fail> {
-    let mut found = [[None; 4]; 4];
-    for (number, place) in found.iter_mut().enumerate() {
-        *place = receipts_by(&rt, rt.alloc(), number as u64)?;
-    }
+    let found = [
+        receipts_by(&rt, rt.alloc(), 0)?,
+        receipts_by(&rt, rt.alloc(), 1)?,
+        receipts_by(&rt, rt.alloc(), 2)?,
+        receipts_by(&rt, rt.alloc(), 3)?,
+    ];
     let want = [Some((15, 0)), Some((16, 2)), Some((20, 4)), None];
     assert_eq!(rt; found, [want; 4]);
     Ok(())
 }
 
+/// An image of two slabs.
+static TWO: Image = Image {
+    slabs: 2,
+    ..Image::SMALL
+};
+
 /// How many data blocks are used, how many of the second slab were written, and what was given.
 type Filled = (u32, u32, Counts);
+
+// Whether a block is a data block of the second slab.
+fn is_in_second(at: Pbn) -> bool {
+    match Layout::of(&TWO.geometry()).place(at) {
+        Some(place) => place.slab == 1,
+        None => false,
+    }
+}
+
+// How many data blocks of the second slab are written.
+fn stored(calls: &[Call]) -> u32 {
+    let mut stored = 0_u32;
+    for call in calls {
+        if let Call::Write { at, .. } = call
+            && is_in_second(*at)
+        {
+            stored = stored.wrapping_add(1);
+        }
+    }
+    stored
+}
 
 // What a session with two physical zones comes to.
 fn filled_by<R: Wait>(
@@ -58,22 +99,12 @@ fn filled_by<R: Wait>(
     let report = driven(rt, alloc, &setup, script, number, device)?;
     let mut counts = [0; 10];
     judge(&report, &mut counts);
-    let layout = Layout::of(&Image::Two.geometry());
-    let mut stored = 0_u32;
-    for call in device.calls() {
-        if let Call::Write { at, .. } = call
-            && let Some(place) = layout.place(*at)
-            && place.slab == 1
-        {
-            stored = stored.wrapping_add(1);
-        }
-    }
-    Ok((report.used, stored, counts))
+    Ok((report.used, stored(device.calls()), counts))
 }
 
 // What comes of writes that fill one of two zones, and of sixteen more in another session.
 fn fill<R: Wait>(rt: &R, alloc: Global, number: u64) -> Result<[Filled; 2], Unplayed> {
-    let mut device = device_of(alloc, &Image::Two, None, u64::MAX)?;
+    let mut device = device_of(alloc, &TWO, None, u64::MAX)?;
     let first = filled_by(rt, alloc, (&Script::FillingOne, 1), number, &mut device)?;
     let then = filled_by(rt, alloc, (&Script::Sixteen, 2), number, &mut device)?;
     Ok([first, then])
@@ -102,7 +133,7 @@ type Written = (u32, u32, usize);
 
 // What a run writes of its journal.
 fn written_by<R: Wait>(rt: &R, alloc: Global, number: u64) -> Result<Written, Unplayed> {
-    let plan = &PLANS[10];
+    let plan = &WIDE_ONE;
     let mut device = device_of(alloc, &plan.image, None, u64::MAX)?;
     let _report = driven(rt, alloc, &plan.setup, &plan.script, number, &mut device)?;
     let (mut written, mut several) = (0_u32, 0_u32);
