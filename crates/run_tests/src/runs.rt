@@ -117,17 +117,21 @@ fn run_in<R: Threads + Wait + Sync>(
     (left_by(alloc, &ended, asked), sink)
 }
 
-/// Serves a run on a device of these contents: what it leaves, and what it put.
+/// The same with what it put.
+pub(crate) type Served = (MemDisk, MemSink, u8, bool, Receipts);
+
+/// Serves a run on a device of these contents.
 pub(crate) fn served<R: Threads + Wait + Sync>(
     rt: &R,
     alloc: Global,
     image: &MemDisk,
     asked: &Run,
-) -> Result<(Left, MemSink), AllocError> {
+) -> Result<Served, AllocError> {
     let outside = outside_of(alloc, asked)?;
     let device = device_of(alloc, image, asked)?;
     let (left, sink) = run_in(rt, alloc, outside, device, asked);
-    Ok((left?, sink))
+    let (image, status, calls, receipts) = left?;
+    Ok((image, sink, status, calls, receipts))
 }
 
 /// How a run ended: its status, the place of the first byte of its text that is another, whether its calls are as wanted, and
@@ -140,7 +144,7 @@ fn outcome_of<R: Threads + Wait + Sync>(
     image: &MemDisk,
     asked: &Run,
 ) -> Result<(MemDisk, Outcome), AllocError> {
-    let ((left, status, calls, receipts), sink) = served(rt, alloc, image, asked)?;
+    let (left, sink, status, calls, receipts) = served(rt, alloc, image, asked)?;
     let other = first_other(sink.bytes(), asked.text);
     Ok((left, (status, other, calls, receipts)))
 }

@@ -121,9 +121,9 @@ fn shows<R: Threads + Wait + Sync>(
     stopped: &Stopped,
     answered: usize,
 ) -> Result<(bool, bool), AllocError> {
-    let ((left, status, ..), sink) = served(rt, alloc, image, &READS)?;
+    let (left, sink, status, ..) = served(rt, alloc, image, &READS)?;
     let shows = status == 0 && may_show(stopped.shown, answered, sink.bytes());
-    let ((_, status, ..), sink) = served(rt, alloc, &left, &AUDIT)?;
+    let (_, sink, status, ..) = served(rt, alloc, &left, &AUDIT)?;
     let is_counted = status == 0 && sink.bytes().starts_with(b"audit clean");
     Ok((shows, is_counted))
 }
@@ -146,7 +146,7 @@ fn tried<R: Threads + Wait + Sync>(
         image: number,
         ..RUN
     };
-    let ((image, status, ..), sink) = served(rt, alloc, left, &stop)?;
+    let (image, sink, status, ..) = served(rt, alloc, left, &stop)?;
     let answered = answered_ok(sink.bytes());
     Ok((status, shows(rt, alloc, &image, stopped, answered)?))
 }
@@ -163,7 +163,7 @@ fn stops<R: Threads + Wait + Sync + Abort>(
         script: stopped.earlier,
         ..RUN
     };
-    let ((left, ..), _) = served(rt, alloc, &fresh(alloc, &Geometry::DEFAULT)?, &earlier)?;
+    let (left, ..) = served(rt, alloc, &fresh(alloc, &Geometry::DEFAULT)?, &earlier)?;
     for k in 0..count {
         let passes = first.saturating_add(step.saturating_mul(k));
         let status = if passes < stopped.calls { 3 } else { 0 };
