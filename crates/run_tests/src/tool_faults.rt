@@ -192,14 +192,14 @@ fn stops_behind<R: Threads + Wait + Sync + Abort>(
     tool: &Tool,
     passes: usize,
 ) -> Result<(), Fail> {
-    let fails = passes + tool.spare < tool.calls;
+    let fails = passes.saturating_add(tool.spare) < tool.calls;
     let text = if fails {
         b"device fault\n".as_slice()
     } else {
         tool.text
     };
     let (status, calls) = if fails {
-        (3, passes + 1)
+        (3, passes.saturating_add(1))
     } else {
         (0, tool.calls)
     };
