@@ -101,7 +101,8 @@ static ROWS: [([PlannedFault; 2], [usize; 2], [u8; 2]); 14] = [
 
 #[test]
 fn planned_faults(rt: HostRuntime) -> Result<(), Fail> {
-    for (i, &(planned, fail, left)) in ROWS.iter().enumerate() {
+    let rows = ROWS;
+    for (i, &(planned, fail, left)) in rows.iter().enumerate() {
         let mut ok = [true; 9];
         for number in fail {
             if number < 9 {

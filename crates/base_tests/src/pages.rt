@@ -218,7 +218,8 @@ static SLOT_ROWS: [([(usize, u8); 2], u16, PageFault); 19] = [
 
 #[test]
 fn the_least_slot_at_fault_is_named(rt: HostRuntime) {
-    for (i, &([one, other], number, fault)) in SLOT_ROWS.iter().enumerate() {
+    let rows = SLOT_ROWS;
+    for (i, &([one, other], number, fault)) in rows.iter().enumerate() {
         let changed = with_byte(spelled(LEAF, all_mappings()), one.0, one.1);
         let found = refused(&with_byte(changed, other.0, other.1), number);
         let wanted = (Err(fault), 0, LEAF, [Err(fault), Ok(Mapping::Zero)]);

@@ -130,7 +130,7 @@ const ENTRIES: &[Entry] = &[
     },
 ];
 
-static ROWS: [(Written, Replayed); 16] = [
+const ROWS: [(Written, Replayed); 16] = [
     (
         (2, 6, &[], PAGES, &[]),
         Ok((
@@ -586,14 +586,15 @@ static CUTS: [u64; 4] = [0, 7, 8, 69];
 
 #[test]
 fn a_page_that_is_not_read_is_told(rt: HostRuntime) -> Result<(), Fail> {
+    let (written, replayed) = ROWS[1];
     for passes in CUTS {
-        let found = find(rt.alloc(), ROWS[1].0, passes, false)?;
+        let found = find(rt.alloc(), written, passes, false)?;
         assert_eq!(rt;
             (passes, found),
             (passes, (Err(ImageFault::Device), passes as usize + 1))
         );
     }
-    let whole = find(rt.alloc(), ROWS[1].0, 70, false)?;
-    assert_eq!(rt; whole, (ROWS[1].1, 70));
+    let whole = find(rt.alloc(), written, 70, false)?;
+    assert_eq!(rt; whole, (replayed, 70));
     Ok(())
 }
