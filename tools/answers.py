@@ -1,35 +1,52 @@
-"""The lines of answered requests, as the test of the largest script has them: puts, bytes and weight of the text."""
+#!/usr/bin/env python3
+"""The largest script, and what a run prints of it but for places and the space.
+
+    python3 tools/answers.py script
+    python3 tools/answers.py lines
+
+Each of 16 streams writes its own address once, and then reads, discards and flushes in turn: it reads its own address and others,
+that were never written, and those that it discards are too large.
+"""
 
 from __future__ import annotations
 
-from collections.abc import Iterator
-
-from vector import Vector, weight
-
-FILE = "text_tests/src/large.rt"
+import argparse
+import sys
 
 STREAMS = 16
+REQUESTS = 65536
+LOGICAL = 1000
+BLOCK = 4096
 
 
-def line(number: int) -> tuple[str, int]:
-    """The line of the request with this number in the script, and in how many pieces it is put."""
-    stream, place = number % STREAMS, number // STREAMS
-    asked = [f"read {number}", f"write {number}", f"discard {number}", "flush"][place % 4]
-    read, flush = place % 4 == 0, place % 4 == 3
-    answer = f"4096*{number % 256:02x}" if read else "ok"
-    ending = "" if flush else f" z{number % 3}:{number // 3}"
-    # The name in 4 pieces, the request in 3 or 1, the answer's run in 4 or its word in 1, the place in 5 or its end in 1.
-    pieces = 4 + (1 if flush else 3) + (4 if read else 1) + (1 if flush else 5)
-    return f"{stream} {place} {asked} {answer}{ending}\n", pieces
+def pair(stream: int, number: int) -> tuple[str, str]:
+    """What a request of a stream asks for, and its answer."""
+    own = f"{BLOCK}*{stream + 1:02x}"
+    if number == 0:
+        return f"write {stream} {own}", f"write {stream} ok"
+    address = (number * STREAMS + stream) % (LOGICAL - STREAMS) + STREAMS
+    asked = (f"read {stream}", f"read {address}", f"discard {LOGICAL + number} 1", "flush")[number % 4]
+    answer = (f"{asked} {own}", f"{asked} {BLOCK}*00", f"discard {LOGICAL + number} range", "flush ok")[number % 4]
+    return asked, answer
 
 
-def put(requests: int) -> tuple[int, int, int]:
-    """The puts, the bytes and the weight of all lines, stream after stream."""
-    lines = [line(number) for stream in range(STREAMS) for number in range(stream, requests, STREAMS)]
-    text = "".join(text for text, _ in lines).encode()
-    return sum(pieces for _, pieces in lines), len(text), weight(text) % 2**64
+def script() -> str:
+    """The requests of all streams in turn."""
+    return "".join(f"{k % STREAMS} {pair(k % STREAMS, k // STREAMS)[0]}\n" for k in range(REQUESTS))
 
 
-def vectors() -> Iterator[Vector]:
-    for requests in (1024, 65536):
-        yield Vector(FILE, f"answers_of_{requests}_requests_are_put", (requests, *put(requests)))
+def lines() -> str:
+    """The lines, stream after stream."""
+    named = ((stream, number) for stream in range(STREAMS) for number in range(REQUESTS // STREAMS))
+    return "".join(f"{stream} {number} {pair(stream, number)[1]}\n" for stream, number in named)
+
+
+def main() -> int:
+    parser = argparse.ArgumentParser(description=__doc__, formatter_class=argparse.RawDescriptionHelpFormatter)
+    parser.add_argument("text", choices=("script", "lines"))
+    sys.stdout.write(script() if parser.parse_args().text == "script" else lines())
+    return 0
+
+
+if __name__ == "__main__":
+    sys.exit(main())

@@ -21,13 +21,14 @@ import mapping
 import slab
 import superblock
 from layout import DEFAULT, SLOTS_PER_PAGE, TREES, point
-from vector import BLOCK_BYTES, Steps
+from vector import BLOCK_BYTES, Steps, Vector
 from whole_image import INCREMENT, Image, audit, crash, force_rebuild, grow, recover, status
 
 Patch = tuple[int, int, bytes]
 Patches = tuple[Patch, ...]
 Told = tuple[str, int]
 
+TOOLS = "run_tests/src/tools.rt"
 UNCLEAN: Patch = (0, 48, bytes([0]))
 ROOT = DEFAULT.root(0)
 ZEROS = bytes([mapping.MAPPED, 0, 0, 0, 0])
@@ -156,7 +157,7 @@ INSPECTED: dict[str, Patches] = {
     "counter": (*written(), (149, 11, bytes([255]))),
     "shared-page": shared_page(),
 }
-# The last place of a block's sequence.
+# The last sequence that a block can have.
 LATE_END: Patch = field(56, 8, 2**54 - 1)
 # More images that a recovery refuses.
 UNRECOVERED: dict[str, Patches] = {
@@ -180,14 +181,15 @@ OTHERS: dict[str, Patches] = {
     "written-past-5-addresses": (*written(), logical_size(5)),
     "zeros-past-3-addresses": (*written(), logical_size(3), slot(85, 3, ZEROS)),
     "two-leaves-past-3-addresses": two_leaves(),
-    **{f"{name}{WITH_DATA}": (*INSPECTED[name], (86, 0, b"abbb")) for name in ("counted-twice", "counted-never", "stopped-later")},
+    **{f"{one}{WITH_DATA}": (*INSPECTED[one], (86, 0, b"abbb")) for one in ("counted-twice", "counted-never", "stopped-later")},
 }
 IMAGES = {**INSPECTED, **UNRECOVERED, **OTHERS}
 
 # The superblock and the window are found by every command in the same way.
 HEADS = ("not-an-image", "another-version", "small-journal", "late-start", "block-is-missing")
 RECOVERED = ("fresh", "closed-without-a-root", "unclean", "stopped", "stopped-later")
-REBUILT = ("fresh", "counted-twice", "counted-never", "counter", "written-with-noise", "stopped-later", "stopped-with-noise", "mapped-254-times")
+NOISY = ("written-with-noise", "stopped-with-noise", "mapped-254-times")
+REBUILT = ("fresh", "counted-twice", "counted-never", "counter", "stopped-later", *NOISY)
 UNREBUILT = (*HEADS, "late-end", "header", "compressed", "out-of-range", "shared-page", "mapped-255-times")
 # The blocks of the device, the addresses and slabs that an image gets, and how many blocks are used.
 GROWN = (
@@ -216,9 +218,9 @@ SCRIPT = "0 read 900\n0 read 5\n1 write 6 4096*61\n1 flush\n0 discard 1000 1\n0 
 KEPT = ("cmp image kept", "", 0)
 
 
-def steps(file: str, name: str, *steps: tuple[str, str, int]) -> Steps:
+def steps(file: str, name: str, *behind: tuple[str, str, int]) -> Steps:
     """An image is made, and then come these commands."""
-    return Steps(f"{file}.case", ((f"python3 tools/case_images.py {name} image kept", "", 0), *steps))
+    return Steps(f"{file}.case", ((f"python3 tools/case_images.py {name} image kept", "", 0), *behind))
 
 
 def did(words: str, told: Told, blocks: int = DEFAULT.needed()) -> tuple[str, str, int]:
@@ -266,7 +268,17 @@ def crashes() -> Iterator[Steps]:
     yield steps("crashes", f"stopped-later{WITH_DATA}", did(f"crash --after=1000000 --image=1 <<END\n{SCRIPT}END", told), KEPT)
 
 
-def vectors() -> Iterator[Steps]:
+def spelled() -> Iterator[Vector]:
+    """What the tests of calls that fail change in an empty image, without the zeros that end a block's front."""
+    unclean, front, head = stopped()
+    link, _, mapped, counts = written()
+    for item, (at, place, content) in (("LINK", link), ("MAPPING", mapped), ("COUNTS", counts), ("UNCLEAN", unclean)):
+        yield Vector(TOOLS, item, (at, place, content))
+    for item, (at, place, content) in (("LEAF", head), ("WINDOW", front)):
+        yield Vector(TOOLS, item, (at, place, content.rstrip(b"\0")))
+
+
+def vectors() -> Iterator[Steps | Vector]:
     for name, patches in INSPECTED.items():
         image = patched(patches)
         yield steps("inspections", name, did("audit", audit(image)), did("status", status(image)), KEPT)
@@ -274,6 +286,7 @@ def vectors() -> Iterator[Steps]:
     yield from rebuilds()
     yield from growths()
     yield from crashes()
+    yield from spelled()
 
 
 def main() -> int:

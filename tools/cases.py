@@ -4,8 +4,8 @@
     python3 tools/cases.py PROGRAM [FILE ..]
 
 Without a FILE all files `cases/*.case` are tried. A file has sections. Each begins with a line `# ` that says what is tried, and
-has commands: a line that begins with `$ `, lines with `> ` that go on with it (a text on standard input, as <<END), what it prints on
-standard output, and its status as `[N]`, where that isn't 0. Empty lines count for nothing.
+has commands: a line that begins with `$ `, lines with `> ` that go on with it (a text on standard input, as <<END), what it
+prints on standard output, and its status as `[N]`, where that isn't 0. Empty lines count for nothing.
 
     # Sizes that can't be had.
     $ vdo image 154 format --height 4

@@ -635,7 +635,7 @@ fi
 # Images and scripts of which none is served, and the stops of two scripts.
 if [ -n "$python" ]; then
     printed=$($python "$top/tools/refused_runs.py" "$vdo" 2>errors)
-    same "$? $printed" '0 refused runs: 230 tries, 0 went wrong' 'runs that were refused'
+    same "$? $printed" '0 refused runs: 215 tries, 0 went wrong' 'runs that were refused'
     printed=$($python "$top/tools/crash_stops.py" "$vdo" 2>errors)
     same "$? $printed" '0 one stream: 2532 images of 633 stops
 four streams: 3732 images of 933 stops

@@ -3,7 +3,7 @@
 
     python3 tools/refused_runs.py PROGRAM
 
-The images are those of the vectors whose recovery, audit or counts have a fault, and those whose superblock has one in a field:
+The images are those of the cases whose recovery, audit or counts have a fault, and those whose superblock has one in a field:
 each of the three commands tells that fault, with status 4, and leaves the file as it is; of counts that differ `crash` tells the
 value of the script's address, and then all of them, as an audit does. The scripts have one fault each: `run` and `crash` tell it,
 with status 2, and a workload reads none. And a script is cut behind each of its first bytes: it is served where its last line is
@@ -25,7 +25,9 @@ from dataclasses import dataclass, field
 from pathlib import Path
 
 import whole_image
-from whole_image import DEFAULT, Image, Patch, patched
+from case_images import INSPECTED, UNRECOVERED, Patch, Patches, empty, patched
+from layout import DEFAULT
+from whole_image import Image
 
 IMAGE_BLOCKS = DEFAULT.needed()
 WRITE = "0 write 5 4096*61\n"
@@ -83,14 +85,12 @@ def faults_of(image: Image) -> tuple[tuple[str, int], tuple[str, int]] | None:
     return None
 
 
-def faulty_images() -> Iterator[tuple[str, tuple[Patch, ...]]]:
-    """The images of the vectors, and superblocks with a fault in each field, with names for them. Where an update is counted twice,
+def faulty_images() -> Iterator[tuple[str, Patches]]:
+    """The images of the cases, and superblocks with a fault in each field, with names for them. Where an update is counted twice,
     the recovery is written before that is found."""
-    for name, patches in whole_image.cases().items():
-        if name != "STOPPED_LATER":
+    for name, patches in {**INSPECTED, **UNRECOVERED}.items():
+        if name != "stopped-later":
             yield name, patches
-    for number, patches in enumerate(whole_image.refused_cases()):
-        yield f"refused image {number}", patches
     for field, start, length, _, _ in whole_image.SIZES:
         yield f"a superblock with the greatest {field}", ((0, start, b"\xff" * length),)
     for place, byte in ((28, 2), (48, 2), (52, 1), (63, 64), (64, 1), (511, 1)):
@@ -111,7 +111,7 @@ def try_images(tries: Tries) -> None:
 
 def try_scripts(tries: Tries) -> None:
     """Each fault of a script."""
-    image = bytes(whole_image.empty())
+    image = bytes(empty())
     for script, text in FAULTS:
         for words in (("run",), CRASH):
             tries.look(f"{words[0]} with {text}", tries.told(image, words, script), (f"script {text}\n", 2, True))
@@ -121,7 +121,7 @@ def try_scripts(tries: Tries) -> None:
 
 def try_cuts(tries: Tries) -> None:
     """A script that is cut behind each of its first bytes."""
-    image = bytes(whole_image.empty())
+    image = bytes(empty())
     for length in range(len(CUT) + 1):
         script = CUT[:length]
         lines = script.split("\n")

@@ -9,7 +9,6 @@ from collections.abc import Iterator
 from functools import cache
 from pathlib import Path
 
-import answers
 import case_images
 import chapters
 import journal
@@ -28,7 +27,7 @@ CRATES = TOP / "crates"
 
 
 def vectors() -> Iterator[Vector | Steps]:
-    for module in (layout, superblock, journal, map_page, slab, names, picks, answers, chapters, case_images):
+    for module in (layout, superblock, journal, map_page, slab, names, picks, chapters, case_images):
         yield from module.vectors()
 
 

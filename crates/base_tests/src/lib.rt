@@ -6,6 +6,8 @@
 #[cfg(test)]
 mod blocks;
 #[cfg(test)]
+mod byte_sources;
+#[cfg(test)]
 mod devices;
 #[cfg(test)]
 mod fields;

@@ -4,8 +4,14 @@
 #![tactic(auto)]
 
 #[cfg(test)]
+mod printed;
+#[cfg(test)]
 mod rows;
 #[cfg(test)]
 mod runs;
 #[cfg(test)]
 mod stops;
+#[cfg(test)]
+mod tool_faults;
+#[cfg(test)]
+mod tools;

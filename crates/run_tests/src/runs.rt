@@ -150,7 +150,7 @@ fn outcome_of<R: Threads + Wait + Sync>(
 }
 
 // Serves the runs of a row, the one with this number, one after the other on an image.
-fn row_is_right<R: Threads + Wait + Sync + Abort>(
+pub(crate) fn row_is_right<R: Threads + Wait + Sync + Abort>(
     rt: &R,
     alloc: Global,
     image: MemDisk,
