@@ -136,9 +136,10 @@ pub(crate) fn served<R: Threads + Wait + Sync>(
 
 /// How a run ended: its status, the place of the first byte of its text that is another, whether its calls are as wanted, and
 /// its receipts.
-type Outcome = (u8, Option<usize>, bool, Receipts);
+pub(crate) type Outcome = (u8, Option<usize>, bool, Receipts);
 
-fn outcome_of<R: Threads + Wait + Sync>(
+/// Serves a run on a device of these contents: the image that it leaves, and how it ended.
+pub(crate) fn outcome_of<R: Threads + Wait + Sync>(
     rt: &R,
     alloc: Global,
     image: &MemDisk,
@@ -149,7 +150,7 @@ fn outcome_of<R: Threads + Wait + Sync>(
     Ok((left, (status, other, calls, receipts)))
 }
 
-// Serves the runs of a row, the one with this number, one after the other on an image.
+/// Serves the runs of a row, the one with this number, one after the other on an image.
 pub(crate) fn row_is_right<R: Threads + Wait + Sync + Abort>(
     rt: &R,
     alloc: Global,

@@ -128,6 +128,17 @@ fn shows<R: Threads + Wait + Sync>(
     Ok((shows, is_counted))
 }
 
+// What a run leaves, its status, and how many requests it answered `ok`.
+fn answered_by<R: Threads + Wait + Sync>(
+    rt: &R,
+    alloc: Global,
+    left: &MemDisk,
+    asked: &Run,
+) -> Result<(MemDisk, u8, usize), AllocError> {
+    let (image, sink, status, ..) = served(rt, alloc, left, asked)?;
+    Ok((image, status, answered_ok(sink.bytes())))
+}
+
 /// A stop that was tried: the status of the run that was stopped; the run behind it showed what may be, and each block is
 /// counted as often as it is mapped.
 type Tried = (u8, (bool, bool));
@@ -146,29 +157,24 @@ fn tried<R: Threads + Wait + Sync>(
         image: number,
         ..RUN
     };
-    let (image, sink, status, ..) = served(rt, alloc, left, &stop)?;
-    let answered = answered_ok(sink.bytes());
+    let (image, status, answered) = answered_by(rt, alloc, left, &stop)?;
     Ok((status, shows(rt, alloc, &image, stopped, answered)?))
 }
 
-// So many stops, behind these numbers of calls: from the first on, each the same step behind the one before. Of each there is the image
+// So many stops on an image, behind these numbers of calls: from the first on, each the same step behind the one before. Of each there is the image
 // of all that was flushed, that of all that was written, and two in which sectors of the last write are new or old.
-fn stops<R: Threads + Wait + Sync + Abort>(
+fn stops_on<R: Threads + Wait + Sync + Abort>(
     rt: &R,
     alloc: Global,
+    left: &MemDisk,
     stopped: &Stopped,
     (first, step, count): (usize, usize, usize),
 ) -> Result<(), Fail> {
-    let earlier = Run {
-        script: stopped.earlier,
-        ..RUN
-    };
-    let (left, ..) = served(rt, alloc, &fresh(alloc, &Geometry::DEFAULT)?, &earlier)?;
     for k in 0..count {
         let passes = first.saturating_add(step.saturating_mul(k));
         let status = if passes < stopped.calls { 3 } else { 0 };
         for number in [0, 1, 7, 12_345] {
-            let tried = tried(rt, alloc, &left, stopped, (passes, number))?;
+            let tried = tried(rt, alloc, left, stopped, (passes, number))?;
             assert_eq!(rt;
                 (passes, number, tried),
                 (passes, number, (status, (true, true)))
@@ -176,6 +182,21 @@ fn stops<R: Threads + Wait + Sync + Abort>(
         }
     }
     Ok(())
+}
+
+fn stops<R: Threads + Wait + Sync + Abort>(
+    rt: &R,
+    alloc: Global,
+    stopped: &Stopped,
+    row: (usize, usize, usize),
+) -> Result<(), Fail> {
+    let earlier = Run {
+        script: stopped.earlier,
+        ..RUN
+    };
+    let empty = fresh(alloc, &Geometry::DEFAULT)?;
+    let (left, ..) = answered_by(rt, alloc, &empty, &earlier)?;
+    stops_on(rt, alloc, &left, stopped, row)
 }
 
 #[test]

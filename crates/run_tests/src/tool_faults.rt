@@ -1,10 +1,11 @@
 //! The commands that look at and change images, of whose calls those behind so many fail: what is put, and what the commands
 //! behind that find on what is left.
-use crate::runs::{Ran, outside_of, run_in};
+use crate::rows::RUN;
+use crate::runs::{Calls, Outcome, Run, outcome_of, served};
 use crate::tools::{
     COUNTS, EMPTY, Image, LEAF, LINK, MAPPING, STOPPED, UNCLEAN, WINDOW, device_of,
 };
-use disk_model::{BentDisk, MemDisk};
+use disk_model::MemDisk;
 use std::alloc::{AllocError, Global};
 use std::process::Abort;
 use std::sync::Wait;
@@ -135,17 +136,6 @@ static GROWTH: Tool = Tool {
     ],
 };
 
-// These words on a device.
-fn run_on<R: Threads + Wait + Sync>(
-    rt: &R,
-    alloc: Global,
-    device: MemDisk,
-    words: &[&str],
-) -> Result<Ran, AllocError> {
-    let outside = outside_of(alloc, words, b"", None, 1000)?;
-    Ok(run_in(rt, outside, BentDisk::over(device, Vec::new(alloc))))
-}
-
 // The first of these commands that puts another text or has another status, by its number.
 fn first_other<R: Threads + Wait + Sync>(
     rt: &R,
@@ -155,34 +145,29 @@ fn first_other<R: Threads + Wait + Sync>(
 ) -> Result<Option<usize>, AllocError> {
     let mut image = image;
     for (k, &(words, texts)) in behind.iter().enumerate() {
-        let (ended, sink) = run_on(rt, alloc, image, words)?;
-        if ended.status != 0 || !texts.iter().any(|&one| sink.bytes() == one) {
+        let asked = Run {
+            words,
+            image: 1,
+            ..RUN
+        };
+        let (left, sink, status, ..) = served(rt, alloc, &image, &asked)?;
+        if status != 0 || !texts.iter().any(|&one| sink.bytes() == one) {
             return Ok(Some(k));
         }
-        image = ended.device.inner().pick_image(alloc, 1)?;
+        image = left;
     }
     Ok(None)
 }
 
-/// A stop: the status, whether the text is as wanted, how many calls were made, and which command behind it differs.
-type Stop = (u8, bool, usize, Option<usize>);
-
-// The command on an image, of whose calls those behind so many fail; and then others on the image of this number.
+// A command on the image of a tool: how it ended, and which command behind it differs.
 fn stop<R: Threads + Wait + Sync>(
     rt: &R,
     alloc: Global,
     tool: &Tool,
-    (passes, number): (usize, u64),
-    text: &[u8],
-) -> Result<Stop, AllocError> {
-    let mut device = device_of(alloc, tool.image)?.pick_image(alloc, 1)?;
-    device.set_fuse(passes as u64);
-    let (ended, sink) = run_on(rt, alloc, device, tool.words)?;
-    let left = ended.device.inner();
-    let calls = left.calls().len();
-    let image = left.pick_image(alloc, number)?;
-    let other = first_other(rt, alloc, image, tool.behind)?;
-    Ok((ended.status, sink.bytes() == text, calls, other))
+    asked: &Run,
+) -> Result<(Outcome, Option<usize>), AllocError> {
+    let (left, outcome) = outcome_of(rt, alloc, &device_of(alloc, tool.image)?, asked)?;
+    Ok((outcome, first_other(rt, alloc, left, tool.behind)?))
 }
 
 // A stop behind so many calls, or behind the last one, and each of the images.
@@ -193,21 +178,25 @@ fn stops_behind<R: Threads + Wait + Sync + Abort>(
     passes: usize,
 ) -> Result<(), Fail> {
     let fails = passes.saturating_add(tool.spare) < tool.calls;
-    let text = if fails {
-        b"device fault\n".as_slice()
+    let (text, status, calls) = if fails {
+        (b"device fault\n".as_slice(), 3, passes.saturating_add(1))
     } else {
-        tool.text
-    };
-    let (status, calls) = if fails {
-        (3, passes.saturating_add(1))
-    } else {
-        (0, tool.calls)
+        (tool.text, 0, tool.calls)
     };
     for &number in tool.numbers {
-        let stop = stop(rt, alloc, tool, (passes, number), text)?;
+        let asked = Run {
+            words: tool.words,
+            fuse: Some(passes as u64),
+            image: number,
+            text,
+            status,
+            calls: Calls::Count(calls),
+            ..RUN
+        };
+        let stop = stop(rt, alloc, tool, &asked)?;
         assert_eq!(rt;
             (passes, number, stop),
-            (passes, number, (status, true, calls, None))
+            (passes, number, ((status, None, true, [None; 2]), None))
         );
     }
     Ok(())
