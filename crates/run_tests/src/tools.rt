@@ -1,5 +1,6 @@
 //! The commands that make, look at and change images: where their sink or device fails, and what calls they make. What they
 //! print is tried by `cases/`.
+use crate::rows::RUN;
 use crate::runs::{Calls, Run, row_is_right};
 use blk_base::{Block, Geometry, Pbn};
 use disk_model::{CallKind, FaultAt, MemDisk};
@@ -90,15 +91,8 @@ const ANOTHER_VERSION: Image = Image {
 // A command with all the room for its output, of which no call fails.
 const DONE: Run = Run {
     words: &["audit"],
-    script: b"",
-    faults: &[],
-    bends: &[],
-    source: None,
-    room: 1000,
     text: b"audit clean, used 0 of 64\n",
-    status: 0,
-    calls: Calls::Any,
-    receipts: [None; 2],
+    ..RUN
 };
 
 const AUDIT_2: Run = Run {
