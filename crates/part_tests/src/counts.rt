@@ -18,8 +18,7 @@ fn second_slab(alloc: Global) -> Result<SlabCounts, AllocError>
     SlabCounts::new(alloc, &TWO_ZONES, 1, &opened)
 }
 
-// A block as high as can be, a free one, one with a tree page, one on either side of the slab, one that is shared, and the
-// free one once it became a tree page.
+// A block as high as can be, a free one, one with a tree page, one on either side of the slab, and one that is shared.
 #[test]
 fn what_cannot_be_shared(rt: HostRuntime) -> Result<(), Fail> {
     let mut counts = second_slab(rt.alloc())?;
@@ -31,10 +30,6 @@ fn what_cannot_be_shared(rt: HostRuntime) -> Result<(), Fail> {
         block_of(counts.claim_share(Pbn(105))),
         block_of(counts.claim_share(Pbn(111))),
     ];
-    let claim = counts.claim_free().ok_or("first")?;
-    let at = counts.spend_page(claim);
-    let counted = counts.apply(Half::Increment, Pbn(112));
-    let page = block_of(counts.claim_share(at));
     let wanted = [
         Err(Refusal::Full),
         Err(Refusal::NotLive),
@@ -43,8 +38,22 @@ fn what_cannot_be_shared(rt: HostRuntime) -> Result<(), Fail> {
         Err(Refusal::NotData),
         Ok(111),
     ];
-    assert_eq!(rt; (before, at), (wanted, Pbn(112)));
-    assert_eq!(rt; (counted, page), (Ok(()), Err(Refusal::NotData)));
+    assert_eq!(rt; before, wanted);
+    Ok(())
+}
+
+// A block that becomes a tree page isn't shared.
+#[test]
+fn a_page_is_not_shared(rt: HostRuntime) -> Result<(), Fail> {
+    let mut counts = second_slab(rt.alloc())?;
+    let claim = counts.claim_free().ok_or("first")?;
+    let at = counts.spend_page(claim);
+    let counted = counts.apply(Half::Increment, Pbn(112));
+    let refused = block_of(counts.claim_share(at));
+    assert_eq!(rt;
+        (at.0, counted, refused),
+        (112, Ok(()), Err(Refusal::NotData))
+    );
     Ok(())
 }
 
