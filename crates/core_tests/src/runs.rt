@@ -14,9 +14,9 @@ use std::test::Fail;
 use vdo_model::RunReport;
 
 // How many blocks of an image are counted otherwise than they are mapped, and how many are used.
-fn audited(alloc: Global, image: &mut MemDisk) -> Result<(u32, u32), Unplayed> {
+fn audited(alloc: Global, image: &mut MemDisk) -> Result<(usize, u32), Unplayed> {
     match audit(alloc, image) {
-        Ok(report) => Ok((report.differs.len() as u32, report.used)),
+        Ok(report) => Ok((report.differs.len(), report.used)),
         Err(_) => Err(Unplayed::Refused),
     }
 }
@@ -32,7 +32,7 @@ pub(crate) fn look_at<R: Wait>(
     counts: &mut Counts,
 ) -> Result<u32, Unplayed> {
     let (differ, used) = audited(alloc, image)?;
-    add(counts, WRONG, differ);
+    add(counts, WRONG, differ.min(1000) as u32);
     let after = driven(rt, alloc, &plan.setup, &plan.reads, 0, image)?;
     judge_reads(before, &after, counts);
     Ok(used)
@@ -67,7 +67,7 @@ fn run<R: Wait>(
 }
 
 // The kind and the block of a call.
-fn named(call: &Call) -> (CallKind, Pbn) {
+fn kind_and_block(call: &Call) -> (CallKind, Pbn) {
     match call {
         Call::Read { at, .. } => (CallKind::Read, *at),
         Call::Write { at, .. } => (CallKind::Write, *at),
@@ -77,10 +77,10 @@ fn named(call: &Call) -> (CallKind, Pbn) {
 
 // The fault of the call of a place. Every second one has its effect.
 fn fault_of(calls: &[Call], place: usize) -> Option<FaultAt> {
-    let (kind, at) = named(calls.get(place)?);
+    let (kind, at) = kind_and_block(calls.get(place)?);
     let mut nth = 0_u32;
     for call in calls.iter().take(place) {
-        if named(call) == (kind, at) {
+        if kind_and_block(call) == (kind, at) {
             nth = nth.wrapping_add(1);
         }
     }

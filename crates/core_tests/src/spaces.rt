@@ -4,7 +4,7 @@ use crate::asks::Script;
 use crate::judging::{Counts, judge};
 use crate::plans::{FILLED, Plan, WIDE};
 use crate::sessions::{Image, Unplayed, device_of, driven};
-use blk_base::{Layout, Pbn};
+use blk_base::{Geometry, Layout, Pbn};
 use disk_model::{Call, MemDisk};
 use journal_codec::block_prefix;
 use std::alloc::Global;
@@ -131,21 +131,27 @@ fn a_full_zone_beside_another(rt: HostRuntime) -> Result<(), Fail> {
 /// How many blocks of a journal of 8 blocks are written, how many of them have more than two entries, and how many calls are made.
 type Written = (u32, u32, usize);
 
-// What a run writes of its journal.
-fn written_by<R: Wait>(rt: &R, alloc: Global, number: u64) -> Result<Written, Unplayed> {
-    let plan = &WIDE_ONE;
-    let mut device = device_of(alloc, &plan.image, None, u64::MAX)?;
-    let _report = driven(rt, alloc, &plan.setup, &plan.script, number, &mut device)?;
+// How many blocks of the journal are written, and how many of them have several entries.
+fn journal_blocks(calls: &[Call]) -> (u32, u32) {
     let (mut written, mut several) = (0_u32, 0_u32);
-    for call in device.calls() {
+    for call in calls {
         if let Call::Write { at, bytes, .. } = call
             && at.0 <= 8
-            && let Some(prefix) = block_prefix(bytes, plan.image.geometry().nonce)
+            && let Some(prefix) = block_prefix(bytes, Geometry::DEFAULT.nonce)
         {
             written = written.wrapping_add(1);
             several = several.wrapping_add(u32::from(prefix.entries.len() > 2));
         }
     }
+    (written, several)
+}
+
+// What a run writes of its journal.
+fn written_by<R: Wait>(rt: &R, alloc: Global, number: u64) -> Result<Written, Unplayed> {
+    let plan = &WIDE_ONE;
+    let mut device = device_of(alloc, &plan.image, None, u64::MAX)?;
+    let _report = driven(rt, alloc, &plan.setup, &plan.script, number, &mut device)?;
+    let (written, several) = journal_blocks(device.calls());
     Ok((written, several, device.calls().len()))
 }
 
