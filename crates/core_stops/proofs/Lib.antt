@@ -4,5 +4,8 @@ pub mod SoundStops
 pub mod LogLaws
 pub mod SequenceLaws
 pub mod EarlyLaws
+pub mod EndLaws
+pub mod EndOfTrace
 pub mod LogRows
 pub mod SequenceRows
+pub mod EndRows
