@@ -1,14 +1,15 @@
 -- Images that recovery takes, and what it keeps of them: for each clause a case that it accepts, and one that it refuses.
-use Rattle.std.proofs.Common.{ℕ, ◌≡◌, ◌+◌, ◌<◌, ◌^◌, true, false, List, [], ◌∷◌, get_or, length, Some, Ok, Err, ap, subst, refl, sym, arith}
+use Rattle.std.proofs.Common.{ℕ, ◌≡◌, ◌+◌, ◌<◌, ◌≤◌, ◌^◌, true, false, List, [], ◌∷◌, get_or, length, Some, Ok, Err, ap, subst, refl, sym, arith}
 use Rattle.std.proofs.lemmas.List.{append-nil}
 use Rattle.blk_base.specs.Forms.{pbn}
-use Rattle.blk_base.specs.Regions.{Place, IsPlace, block_of}
+use Rattle.blk_base.specs.Limits.{IsGeometry}
+use Rattle.blk_base.specs.Regions.{Place, JournalSlot, Root, IsPlace, block_of}
 use Rattle.blk_base.specs.Sectors.{sector, zero_block}
 use Rattle.blk_base.specs.declared.geometry.Geometry.{Geometry}
 use Rattle.blk_base.specs.declared.geometry.Super.{Super}
 use Rattle.blk_base.specs.declared.journal_entry.Entry.{Entry}
 use Rattle.blk_base.specs.declared.layout.DataPlace.{DataPlace}
-use Rattle.blk_base.specs.declared.place.Mapping.TheVariants.{At}
+use Rattle.blk_base.specs.declared.place.Mapping.TheVariants.{Unmapped, At}
 use Rattle.blk_base.specs.declared.place.PageId.{PageId}
 use Rattle.blk_base.specs.declared.place.Pbn.{Pbn}
 use Rattle.disk_model.specs.declared.call.Call.{Call}
@@ -17,10 +18,12 @@ use Rattle.disk_model.specs.Log.{Blocks, block_at}
 use Rattle.image_layout.specs.Opened.{super_of_image}
 use Rattle.image_layout.specs.Values.{journal_of}
 use Rattle.image_model.proofs.CountLaws.{one_stored}
+use Rattle.image_model.proofs.EmptyLaws.{all_counted, blank_slot, no_sector, not_shared, pages_good, root_says, sizes_of_image, stored_counter, the_image, window_is}
 use Rattle.image_model.proofs.Example.{small}
-use Rattle.image_model.specs.Counts.{Stores}
-use Rattle.image_model.specs.Empty.{IsMade, made_block}
-use Rattle.image_model.specs.Maps.{Image, IsTreePage, head_of, mapping_of, page_at}
+use Rattle.slab_codec.specs.declared.forms.SlabEntry.{SlabEntry}
+use Rattle.image_model.specs.Counts.{HasMappings, IsKept, Stores, block_of_data, counter_of}
+use Rattle.image_model.specs.Empty.{IsMade, empty_root, made_block}
+use Rattle.image_model.specs.Maps.{Image, IsTreePage, head_of, mapping_in, mapping_of, page_at}
 use Rattle.image_model.specs.Sound.{IsDataPlace}
 use Rattle.journal_codec.specs.Grammar.{IsSector}
 use Rattle.page_codec.specs.Grammar.{HasHead}
@@ -48,6 +51,39 @@ module _ (g : Geometry) (blocks : Blocks) (accepted : super_of_image blocks ≡ 
     nothing_called : AreStopsStill blocks opened_has.is blocks [] []
     nothing_called = begun_still blocks blocks [] opened_has [] (some_puts tt)
 
+-- One whose counters have some number below the limit each, whatever it is: they needn't be right. A block without a mapping
+-- is stored once.
+module _ (g : Geometry) (blocks : Blocks) (accepted : super_of_image blocks ≡ Ok (opened_super g))
+    (slots : (slot : ℕ) → slot < g.journal → block_at blocks (block_of g (JournalSlot slot)) ≡ zero_block)
+    (roots : (tree : ℕ) → tree < 60 → block_at blocks (block_of g (Root tree)) ≡ empty_root g tree)
+    (updates : (slab : ℕ) (entry : SlabEntry) → slab < g.slabs → IsKept g blocks slab entry → ⊥)
+    (fits : (place : DataPlace) → IsDataPlace g place → counter_of (the_image g blocks) place ≤ 254) where
+  sizes : IsGeometry g
+  sizes = sizes_of_image blocks (opened_super g) accepted
+
+  none_said : (tree slot : ℕ) → tree < 60 → slot < 812 → mapping_in (block_at blocks (block_of g (Root tree))) slot ≡ Unmapped
+  none_said tree slot inside below = root_says g blocks roots tree slot inside below
+
+  any_counters : IsRecoverable blocks
+  any_counters = record {
+    head = opened_super g;
+    last = 0;
+    window = [];
+    opens = record { accepted = accepted; sequences = λ unclean. omega arith; is_window = window_is g blocks sizes slots };
+    pages = pages_good g blocks sizes none_said (blank_slot g blocks roots);
+    stored = λ place inside. (counter_of (the_image g blocks) place, stored_counter g blocks updates place inside (fits place inside));
+    unshared = not_shared g blocks sizes none_said;
+    timely = λ slot number sequence head entries inside below is. absurd (no_sector g blocks sizes slots slot number sequence head entries inside below is);
+  }
+
+  stored_once : (place : DataPlace) → IsDataPlace g place → counter_of (the_image g blocks) place ≡ 1
+      → Stores (recoverable_image blocks any_counters) place (Ok 1) × HasMappings (recoverable_image blocks any_counters) (block_of_data g place) 0
+  unfolding any_counters
+  stored_once place inside one = (
+    subst (λ (n : ℕ). Stores (the_image g blocks) place (Ok n)) one (stored_counter g blocks updates place inside (fits place inside)),
+    all_counted g blocks sizes none_said (block_of_data g place),
+  )
+
 -- No image: of which each clause is broken. opens: there is no superblock
 no_image : IsRecoverable [] → ⊥
 no_image able = let accepted = able.opens.accepted in absurd (cc accepted)
@@ -74,7 +110,7 @@ module _ (blocks : Blocks) (able : IsRecoverable blocks) where
   too_late head entries inside sector_is = let early = able.timely 3 0 (able.last + 2) head entries inside (omega arith) sector_is in omega (arith, early)
 
   -- It says the same as itself,
-  says_itself : StillSays (recoverable_image blocks able) blocks
+  pub says_itself : StillSays (recoverable_image blocks able) blocks
   says_itself = record {
     is = able;
     same = same_as_itself (recoverable_image blocks able);
@@ -88,7 +124,7 @@ module _ (blocks : Blocks) (able : IsRecoverable blocks) where
   closed_itself closed = record { still = says_itself; closed = closed }
 
 -- Blocks without a superblock say nothing of it, nor do those of other sizes.
-nothing_says : (image : Image) → StillSays image [] → ⊥
+pub nothing_says : (image : Image) → StillSays image [] → ⊥
 nothing_says image still = let accepted = still.is.opens.accepted in absurd (cc accepted)
 
 another_says : (blocks : Blocks) (head : Super) (image : Image) → super_of_image blocks ≡ Ok head → image.geometry.logical + 1 ≡ head.geometry.logical → StillSays image blocks → ⊥
