@@ -25,8 +25,8 @@ use std::alloc::Global;
 ///
 /// Of an honest device on which nothing is pending, and whose image is sound: whatever it answers, and at whatever moment it
 /// is stopped, what is left is sound and says the same, and each block but the superblock's, the pages' and the counters'
-/// has the bytes that it had. So a second recovery gives the same. Of an image that isn't sound but has no fault, and nothing
-/// in its recovery journal from a later time, the same holds, but that what is left can be recovered, and isn't sound.
+/// has the bytes that it had. So a second recovery gives the same. An image that isn't sound, but has
+/// none of these faults and nothing in its recovery journal from a later time, is left so too: as one that can be recovered.
 pub fn recover<D: Disk>(alloc: Global, device: &mut D) -> Result<Recovered, ImageFault>
     ensures { IsRecovery D.trust (D.seen device.old) (D.seen device.new) result }
 {
