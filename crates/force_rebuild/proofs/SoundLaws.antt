@@ -39,7 +39,8 @@ use Rattle.slab_codec.specs.declared.forms.SlabEntry.{SlabEntry}
 use Rattle.force_rebuild.proofs.CounterLaws.{commit_says, counter_says}
 use Rattle.force_rebuild.proofs.OtherLaws.{same_data, same_journal}
 use Rattle.force_rebuild.specs.Kept.{AreOthersKept, IsKept, IsRebuilt, MapTheSame}
-use Rattle.force_rebuild.specs.Rebuildable.{AreCountable, IsJournalOfItsTime, IsRebuildable}
+use Rattle.recovery_laws.specs.Recoverable.{IsJournalOfItsTime}
+use Rattle.force_rebuild.specs.Rebuildable.{AreCountable, IsRebuildable}
 use Rattle.force_rebuild.specs.Written.{AreMappings, AreRewritten, AreUnderway, commit_behind, counted_block, counters_of_slab}
 
 module _ (blocks blocks' : Blocks) (is : IsRebuildable blocks) where

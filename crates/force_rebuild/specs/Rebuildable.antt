@@ -1,11 +1,8 @@
 -- Images whose counts can be set from their block map, whatever their counters and their slabs' journals hold.
-use Rattle.std.specs.Prelude.{ℕ, ◌≡◌, ◌+◌, ◌<◌, ◌≤◌, ◌^◌, List, Ok, get_or}
+use Rattle.std.specs.Prelude.{ℕ, ◌≡◌, ◌+◌, ◌<◌, ◌≤◌, ◌^◌, List, Ok}
 use Rattle.blk_base.specs.Counters.{limit_of}
-use Rattle.blk_base.specs.Sectors.{sector, zero_block}
-use Rattle.blk_base.specs.declared.geometry.Geometry.{Geometry}
 use Rattle.blk_base.specs.declared.geometry.Super.{Super}
 use Rattle.blk_base.specs.declared.journal_entry.CommittedEntry.{CommittedEntry}
-use Rattle.blk_base.specs.declared.journal_entry.Entry.{Entry}
 use Rattle.blk_base.specs.declared.layout.DataPlace.{DataPlace}
 use Rattle.disk_model.specs.Log.{Blocks}
 use Rattle.image_layout.specs.Opened.{super_of_image}
@@ -14,7 +11,7 @@ use Rattle.image_model.specs.Counts.{HasMappings, block_of_data}
 use Rattle.image_model.specs.Maps.{Image, ArePagesGood}
 use Rattle.image_model.specs.Sound.{AreUnshared, IsDataPlace, image_of}
 use Rattle.image_model.specs.Windows.{IsWindow}
-use Rattle.journal_codec.specs.Grammar.{IsSector}
+use Rattle.recovery_laws.specs.Recoverable.{IsJournalOfItsTime}
 
 -- a data block is mapped so often, and a counter can say it
 abbrev pub IsCountable : Image → DataPlace → Type 0
@@ -23,11 +20,6 @@ IsCountable image place = (count : ℕ) × HasMappings image (block_of_data imag
 -- each data block is
 abbrev pub AreCountable : Image → Type 0
 AreCountable image = (place : DataPlace) → IsDataPlace image.geometry place → IsCountable image place
-
--- no sector of the recovery journal is from a later time
-abbrev pub IsJournalOfItsTime : Geometry → Blocks → ℕ → Type 0
-IsJournalOfItsTime g blocks last = (slot number sequence head : ℕ) (entries : List Entry) → slot < g.journal → number < 8
-    → IsSector g.nonce number (sector number (get_or (journal_of g blocks) slot zero_block)) sequence head entries → sequence ≤ last + 1
 
 -- The image has a superblock and a window, behind which the next session's first sequence can be written, whether the last
 -- session was closed or not; each page can be read, and none has the data of an address; a counter can say each number of

@@ -5,6 +5,7 @@ use Rattle.audit.specs.Reports.{HasNoFault}
 use Rattle.blk_base.specs.declared.geometry.Geometry.{Geometry}
 use Rattle.blk_base.specs.declared.geometry.Super.{Super as Superblock}
 use Rattle.blk_base.specs.declared.journal_entry.CommittedEntry.{CommittedEntry}
+use Rattle.blk_base.specs.declared.layout.DataPlace.{DataPlace}
 use Rattle.blk_base.specs.declared.opened.Opened.{Opened}
 use Rattle.disk_model.specs.declared.call.Call.{Call}
 use Rattle.disk_model.specs.declared.call.Call.TheVariants.{Flush}
@@ -15,16 +16,18 @@ use Rattle.disk_model.specs.Seen.{Seen}
 use Rattle.disk_model.specs.Trust.{Trust}
 use Rattle.disk_model.proofs.SeenLaws.{stays_yet}
 use Rattle.image_layout.specs.Opened.{super_of_image}
+use Rattle.image_model.specs.Counts.{Stores}
 use Rattle.image_model.specs.Looked.{HasOneImageButIndex}
 use Rattle.image_model.specs.Maps.{Image, value_of}
-use Rattle.image_model.specs.Sound.{IsSound, Opens, image_of}
+use Rattle.image_model.specs.Sound.{IsDataPlace, IsSound, Opens, image_of}
 use Rattle.image_model.specs.declared.fault.ImageFault.{ImageFault}
 use Rattle.rebuild.specs.Acts.{Acts, IsPageCall, IsPageStart, page_writing}
 use Rattle.rebuild.specs.Openings.{IsOpening, OpensRight}
-use Rattle.rebuild.specs.Recoveries.{IsAnswer, IsRecovery, IsTold, IsUnclean, LeavesClosed}
+use Rattle.rebuild.specs.Recoveries.{IsAnswer, IsRecovery, IsTold, IsUnclean, LeavesClosed, LeavesTheSame}
 use Rattle.rebuild.specs.declared.forms.Recovered.{Recovered}
 use Rattle.rebuild.specs.declared.forms.Recovered.TheVariants.{Clean, Entries}
 use Rattle.recovery_laws.specs.Kept.{image_in}
+use Rattle.recovery_laws.specs.Recoverable.{IsRecoverable, recoverable_image}
 
 -- an image has one superblock
 pub one_head : (blocks : Blocks) (head other : Superblock) → super_of_image blocks ≡ Ok head → super_of_image blocks ≡ Ok other → head ≡ other
@@ -84,6 +87,36 @@ stops_keep trust before now result is blocks sound told =
       since.0,
       since.1,
       λ newer older image parts stop. let kept = since.2.kept newer older image parts stop in (kept.sound, kept.same.values),
+    )
+
+-- Of an image that needn't be sound.
+
+abbrev pub StoresStill : Seen → DataPlace → ℕ → Type 0
+StoresStill now place stored = (image : Blocks) × HasOneImageButIndex now.opening now.log image
+    × ((left : IsRecoverable image) × Stores (recoverable_image image left) place (Ok stored))
+
+pub count_stays : (trust : Trust) (before now : Seen) (result : Result Recovered ImageFault) → IsRecovery trust before now result
+    → OnOk result ((blocks : Blocks) (able : IsRecoverable blocks) (place : DataPlace) (stored : ℕ) → IsTold trust before blocks → able.head.clean ≡ false
+    → IsDataPlace able.head.geometry place → Stores (recoverable_image blocks able) place (Ok stored) → StoresStill now place stored)
+count_stays trust before now (Ok Clean) is = λ blocks able place stored told unclean inside stores. absurd (not_clean trust before now is blocks told able.head able.opens.accepted unclean)
+count_stays trust before now (Ok (Entries count)) is = λ blocks able place stored told unclean inside stores.
+    let left : LeavesTheSame blocks now (Entries count) = is.left blocks told in
+    let one = left able in
+    (one.0, one.1, (one.2.still.is, (one.2.still.same.counts place stored inside).1 stores))
+count_stays trust before now (Err why) is = tt
+
+abbrev pub LeavesValues : (blocks : Blocks) → IsRecoverable blocks → Blocks → List Call → List Call → Type 0
+LeavesValues blocks able opening first calls = (newer older : List Call) (image : Blocks) → calls ≡ newer ++ older → IsImage opening (older ++ first) image
+    → (left : IsRecoverable image) × ((address : ℕ) → value_of (recoverable_image image left) address ≡ value_of (recoverable_image blocks able) address)
+
+pub stops_still : (trust : Trust) (before now : Seen) (result : Result Recovered ImageFault) → IsRecovery trust before now result
+    → (blocks : Blocks) (able : IsRecoverable blocks) → IsTold trust before blocks
+    → (calls : List Call) × (now.log ≡ calls ++ before.log) × LeavesValues blocks able before.opening before.log calls
+stops_still trust before now result is blocks able told =
+    let since = is.stands blocks told able in (
+      since.0,
+      since.1,
+      λ newer older image parts stop. let still = since.2.still newer older image parts stop in (still.is, still.same.values),
     )
 
 -- Pages.

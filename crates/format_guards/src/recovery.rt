@@ -4,18 +4,21 @@ ghost use Rattle.audit.specs.Reports.{HasNoFault};
 ghost use Rattle.blk_base.specs.Regions.{needed_blocks};
 ghost use Rattle.blk_base.specs.declared.geometry.Super.{Super as Superblock};
 ghost use Rattle.blk_base.specs.declared.journal_entry.CommittedEntry.{CommittedEntry};
+ghost use Rattle.blk_base.specs.declared.layout.DataPlace.{DataPlace};
 ghost use Rattle.disk_model.specs.declared.call.Call.{Call};
 ghost use Rattle.disk_model.specs.declared.call.Call.TheVariants.{Flush};
 ghost use Rattle.disk_model.specs.Images.{IsImage};
 ghost use Rattle.disk_model.specs.Log.{Blocks};
 ghost use Rattle.image_layout.specs.Opened.{super_of_image};
+ghost use Rattle.image_model.specs.Counts.{Stores};
 ghost use Rattle.image_model.specs.Looked.{HasOneImageButIndex};
 ghost use Rattle.image_model.specs.Maps.{Image, value_of};
-ghost use Rattle.image_model.specs.Sound.{IsSound, Opens, image_of};
+ghost use Rattle.image_model.specs.Sound.{IsDataPlace, IsSound, Opens, image_of};
 ghost use Rattle.rebuild.specs.Acts.{IsPageStart};
 ghost use Rattle.rebuild.specs.Done.{HasPages};
 ghost use Rattle.rebuild.specs.Recoveries.{IsTold, IsUnclean};
 ghost use Rattle.recovery_laws.specs.Kept.{image_in};
+ghost use Rattle.recovery_laws.specs.Recoverable.{IsRecoverable, recoverable_image};
 
 use blk_base::{Layout, Opened};
 use disk_model::{Disk, Failed};
@@ -84,6 +87,40 @@ fn a_stop_of_recovery_leaves_each_value<D: Disk>(
         → (left : IsSound image)
         × ((address : ℕ) → value_of (image_in image left) address
         ≡ value_of (image_in blocks sound) address)) }
+{
+    recover(alloc, device)
+}
+
+// What a block stores is stored behind the recovery too, where it isn't the number of its mappings either.
+fn a_wrong_count_is_left_as_it_is<D: Disk>(
+    alloc: Global,
+    device: &mut D,
+) -> Result<Recovered, ImageFault>
+    ensures { OnOk result ((blocks : Blocks) (is : IsRecoverable blocks) (place : DataPlace) (stored : ℕ)
+        → IsTold D.trust (D.seen device.old) blocks → is.head.clean ≡ false
+        → IsDataPlace is.head.geometry place
+        → Stores (recoverable_image blocks is) place (Ok stored)
+        → (image : Blocks)
+        × HasOneImageButIndex (D.seen device.new).opening (D.seen device.new).log image
+        × ((left : IsRecoverable image) × Stores (recoverable_image image left) place (Ok stored))) }
+{
+    recover(alloc, device)
+}
+
+// The same of an image that isn't sound: a stop leaves one that can be recovered, in which each address has its value.
+fn a_stop_with_a_wrong_count_leaves_each_value<D: Disk>(
+    alloc: Global,
+    device: &mut D,
+) -> Result<Recovered, ImageFault>
+    ensures { (blocks : Blocks) (is : IsRecoverable blocks)
+        → IsTold D.trust (D.seen device.old) blocks
+        → (calls : List Call)
+        × ((D.seen device.new).log ≡ calls ++ (D.seen device.old).log)
+        × ((newer older : List Call) (image : Blocks) → calls ≡ newer ++ older
+        → IsImage (D.seen device.old).opening (older ++ (D.seen device.old).log) image
+        → (left : IsRecoverable image)
+        × ((address : ℕ) → value_of (recoverable_image image left) address
+        ≡ value_of (recoverable_image blocks is) address)) }
 {
     recover(alloc, device)
 }

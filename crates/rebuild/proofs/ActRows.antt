@@ -25,7 +25,7 @@ use Rattle.image_model.proofs.MapExample.{with_root}
 use Rattle.image_model.proofs.LookedLaws.{looked_first}
 use Rattle.recovery_laws.proofs.OpenedExample.{opened_is_to_recover, opened_super}
 use Rattle.recovery_laws.specs.Calls.{IsPut}
-use Rattle.recovery_laws.specs.Kept.{image_in}
+use Rattle.recovery_laws.specs.Recoverable.{as_recoverable, recoverable_image}
 use Rattle.recovery_laws.specs.Written.{IsFullPage}
 use Rattle.rebuild.proofs.ActLaws.{acts_yet, none_made}
 use Rattle.rebuild.proofs.Rows.{called_after, flushed, last_is_not, seen}
@@ -47,7 +47,7 @@ module _ (g : Geometry) (blocks : Blocks) (accepted : super_of_image blocks ≡ 
     (made : (place : Place) → IsPlace g place → IsMade place → block_at blocks (block_of g place) ≡ made_block g place)
     (whole : (b : ℕ) → b < length blocks → length (block_at blocks b) ≡ 4096) where
   pub opened_starts : IsStart (trust_of true true) (record seen { opening = blocks }) blocks
-  opened_starts = record { told = refl; fair = refl; to = opened_is_to_recover g blocks accepted made named whole }
+  opened_starts = record { told = refl; fair = refl; to = as_recoverable blocks [] blocks (opened_is_to_recover g blocks accepted made named whole) }
 
 module _ (first : Seen) (blocks : Blocks) where
   -- told, fair
@@ -60,8 +60,8 @@ module _ (first : Seen) (blocks : Blocks) where
   -- to: nothing is pending, and the last session wasn't closed
   closed_start : (head : Superblock) → super_of_image blocks ≡ Ok head → head.clean ≡ true → IsStart (trust_of true true) first blocks → ⊥
   closed_start head accepted clean start =
-      let accepted_too = start.to.sound.opens.accepted in
-      let same_head : start.to.sound.head ≡ head = cc (accepted, accepted_too) in
+      let accepted_too = start.to.is.opens.accepted in
+      let same_head : start.to.is.head ≡ head = cc (accepted, accepted_too) in
       let here = ap (λ (h : Superblock). h.clean) same_head in
       let unclean = start.to.unclean in
       absurd (cc (here, clean, unclean))
@@ -142,7 +142,7 @@ never image calls = ⊥
 -- From a start on.
 module _ (first : Seen) (blocks : Blocks) (start : IsStart (trust_of true true) first blocks) (fault : Failed) where
   abbrev started : Image
-  started = image_in blocks start.to.sound
+  started = recoverable_image blocks start.to.is
 
   abbrev with_flush : Seen
   with_flush = record first { log = Flush true ∷ first.log }

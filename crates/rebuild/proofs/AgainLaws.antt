@@ -1,5 +1,5 @@
 -- A second recovery.
-use Rattle.std.proofs.Common.{◌≡◌, Bool, Result, Ok, Err, refl, ap, inl, inr}
+use Rattle.std.proofs.Common.{◌≡◌, Result, Ok, Err, refl, ap, inl, inr}
 use Rattle.blk_base.specs.declared.geometry.Super.{Super as Superblock}
 use Rattle.disk_model.specs.Log.{Blocks}
 use Rattle.disk_model.specs.Seen.{Seen}

@@ -12,6 +12,7 @@ pub mod RecoverLaws
 pub mod CheckLaws
 pub mod OpenLaws
 pub mod AgainLaws
+pub mod DifferLaws
 pub mod Rows
 pub mod DoneRows
 pub mod OpeningRows

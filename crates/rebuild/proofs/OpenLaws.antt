@@ -1,5 +1,5 @@
 -- What opening an image promises, by how it ended.
-use Rattle.std.proofs.Common.{ℕ, ◌≡◌, ◌≤◌, Bool, IsTrue, true, false, List, All, Result, Ok, Err, IsErrAnd, length, refl, sym, ◌∙◌, ap, subst, inl, inr}
+use Rattle.std.proofs.Common.{ℕ, ◌≡◌, ◌≤◌, IsTrue, true, false, List, All, Result, Ok, Err, IsErrAnd, length, refl, sym, ◌∙◌, ap, subst, inl, inr}
 use Rattle.audit.proofs.AuditLaws.{both_follow}
 use Rattle.audit.specs.Audits.{AuditWithFails, BothShow, IsOpenedTo}
 use Rattle.block_map_tree.specs.OpenedTree.{IsOpened as AreTrees, all_trees}

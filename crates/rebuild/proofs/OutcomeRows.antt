@@ -35,8 +35,10 @@ use Rattle.image_model.proofs.FaultExample.{nothing as blank}
 use Rattle.journal_window.specs.States.{WindowState}
 use Rattle.journal_window.specs.Windows.{IsWindowOf}
 use Rattle.recovery_laws.proofs.KeptRows.{kept_by_itself, kept_by_nothing}
-use Rattle.recovery_laws.specs.Calls.{ArePuts, IsPut, recovery_calls}
+use Rattle.recovery_laws.proofs.RecoverableRows.{nothing_says, says_itself}
+use Rattle.recovery_laws.specs.Calls.{ArePuts, IsPut, recovery_calls, some_puts}
 use Rattle.recovery_laws.specs.Kept.{AreKept, image_in, AreStopsKept}
+use Rattle.recovery_laws.specs.Recoverable.{IsRecoverable, StillSays, recoverable_image}
 use Rattle.replay_counts.specs.Recovered.{Holds}
 use Rattle.replay_counts.proofs.ReadRows.{no_entries}
 use Rattle.replay_map.specs.Reads.{Shows}
@@ -45,7 +47,7 @@ use Rattle.audit.proofs.ReadExample.{head_of, window_is_read, window_of_none, wi
 use Rattle.rebuild.proofs.Rows.{call_failed, called_after, flushed, last_is_failed, last_is_not, none_flushed, seen}
 use Rattle.rebuild.proofs.ShownLaws.{both_logged, both_read, unclean_last}
 use Rattle.rebuild.specs.Acts.{IsStart}
-use Rattle.rebuild.specs.Outcomes.{Ends, HasEntries, IsAllMade, IsKeptSince, RecoversUnclean, UncleanFails, WritesAll, WritesNothing}
+use Rattle.rebuild.specs.Outcomes.{Ends, HasEntries, IsAllMade, IsBegunSince, IsKeptSince, IsStillSince, RecoversUnclean, UncleanFails, WritesAll, WritesNothing}
 
 -- The length of a window: that of a journal of zeros is 0, and that of a journal without slots isn't 1.
 pub none_of_zeros : (honest clean : Bool) → BothShow (trust_of false honest) (head_of clean) no_entries seen seen HasNoFault → HasEntries (trust_of false honest) (head_of clean) seen seen 0
@@ -210,12 +212,41 @@ module _ (blocks : Blocks) (sound : IsSound blocks) (one : HasOneImage blocks []
     },
   )
 
-  -- Ends: after a refusal that is all; after an answer all was made
-  refused_end : (fault : ImageFault) → Ends {T = ℕ} {E = ImageFault} blocks sound (opened blocks) (opened blocks) (Err fault)
-  refused_end fault = kept_yet
+-- The same where it can be recovered, sound or not.
+pub still_yet : (blocks : Blocks) (able : IsRecoverable blocks) → HasOneImage blocks [] blocks → IsStillSince blocks able (opened blocks) (opened blocks)
+still_yet blocks able one = (
+  [],
+  refl,
+  record {
+    still = λ newer older now same is.
+        let none = no_older newer older same in
+        let here : IsImage blocks [] now = subst (λ (calls : List Call). IsImage blocks (calls ++ []) now) none is in
+        subst (StillSays (recoverable_image blocks able)) (sym (one_image-unique blocks [] blocks now one here)) (says_itself blocks able);
+    index = λ i below. tt;
+  },
+)
 
-  answered_early : (n : ℕ) → Ends {T = ℕ} {E = ImageFault} blocks sound (opened blocks) (opened blocks) (Ok n) → ⊥
-  answered_early n (puts, are, log) = let size = ap (λ (l : List Call). length l) log in omega (arith, size)
+pub none_still : (blocks : Blocks) (able : IsRecoverable blocks) → IsStillSince blocks able seen seen → ⊥
+none_still blocks able since =
+    nothing_says (recoverable_image blocks able)
+    (since.2.still [] since.0 [] refl (record { size = refl; whole = λ b below. absurd (omega (arith, below)); sectors = λ b below. absurd (omega (arith, below)) }))
+
+still_lost : (blocks : Blocks) (able : IsRecoverable blocks) → IsStillSince blocks able flushed seen → ⊥
+still_lost blocks able since = let size = ap (λ (l : List Call). length l) since.1 in omega (arith, size, length-append since.0 (Flush true ∷ []))
+
+-- Begun: nothing was called; and the log goes on
+begun_yet : (image : Image) (now : Seen) → IsBegunSince image 7 now now
+begun_yet image now = ([], refl, some_puts tt)
+
+begun_lost : (image : Image) → IsBegunSince image 7 flushed seen → ⊥
+begun_lost image since = let size = ap (λ (l : List Call). length l) since.1 in omega (arith, size, length-append since.0 (Flush true ∷ []))
+
+-- Ends: after a refusal that is all; after an answer all was made
+refused_end : (image : Image) (now : Seen) (fault : ImageFault) → Ends {T = ℕ} {E = ImageFault} image 7 now now (Err fault)
+refused_end image now fault = begun_yet image now
+
+answered_early : (image : Image) (n : ℕ) → Ends {T = ℕ} {E = ImageFault} image 7 seen seen (Ok n) → ⊥
+answered_early image n (puts, are, log) = let size = ap (λ (l : List Call). length l) log in omega (arith, size)
 
 none_kept : (blocks : Blocks) (sound : IsSound blocks) → IsKeptSince blocks sound seen seen → ⊥
 none_kept blocks sound since =
@@ -238,12 +269,11 @@ head_lost blocks sound bytes fault ok is stops = elim (stops.heads.0 refl) [
 log_lost : (blocks : Blocks) (sound : IsSound blocks) → IsKeptSince blocks sound flushed seen → ⊥
 log_lost blocks sound since = let size = ap (λ (l : List Call). length l) since.1 in omega (arith, size, length-append since.0 (Flush true ∷ []))
 
-all_end : (blocks : Blocks) (sound : IsSound blocks) → ArePuts (image_in blocks sound) []
-    → Ends {T = ℕ} {E = ImageFault} blocks sound seen (record seen { log = recovery_calls (image_in blocks sound) sound.last [] }) (Ok 0)
-all_end blocks sound are = ([], are, refl)
+all_end : (image : Image) → ArePuts image [] → Ends {T = ℕ} {E = ImageFault} image 7 seen (record seen { log = recovery_calls image 7 [] }) (Ok 0)
+all_end image are = ([], are, refl)
 
-lost_end : (blocks : Blocks) (sound : IsSound blocks) (fault : ImageFault) → Ends {T = ℕ} {E = ImageFault} blocks sound flushed seen (Err fault) → ⊥
-lost_end blocks sound fault = log_lost blocks sound
+lost_end : (image : Image) (fault : ImageFault) → Ends {T = ℕ} {E = ImageFault} image 7 flushed seen (Err fault) → ⊥
+lost_end image fault = begun_lost image
 
 -- Writing all. An image of the default sizes that needs no other write: its superblock is written, with flushes around it.
 abbrev Blank : Image → Type 0
@@ -258,7 +288,7 @@ all_is_written = record {
   ends = λ first blocks start calls made needs same.
       let none = no_older calls first.log made.logged in
       let sizes = needs.1 in
-      ([], needs.0, calls_of start.to.sound.head.geometry start.to.sound.last first.log sizes same none);
+      ([], needs.0, calls_of start.to.is.head.geometry start.to.is.last first.log sizes same none);
 }
   where
     calls_of : (g : Geometry) (last : ℕ) (log : List Call) → g ≡ small → last ≡ 7 → log ≡ []
@@ -269,11 +299,11 @@ abbrev any : Image → Type 0
 any image = Unit {0}
 
 -- ends: from a start on nothing was written
-none_is_written : (first : Seen) (blocks : Blocks) (start : IsStart (trust_of true true) first blocks) → WritesAll (trust_of true true) first first any start.to.sound.last (Ok tt) → ⊥
+none_is_written : (first : Seen) (blocks : Blocks) (start : IsStart (trust_of true true) first blocks) → WritesAll (trust_of true true) first first any start.to.is.last (Ok tt) → ⊥
 none_is_written first blocks start writes =
-    let all = writes.ends first blocks start [] (none_made (IsPut (image_in blocks start.to.sound)) first) tt refl in
+    let all = writes.ends first blocks start [] (none_made (IsPut (recoverable_image blocks start.to.is)) first) tt refl in
     let size = ap (λ (l : List Call). length l) all.2 in
-    omega (arith, size, length-append (recovery_calls (image_in blocks start.to.sound) start.to.sound.last all.0) first.log)
+    omega (arith, size, length-append (recovery_calls (recoverable_image blocks start.to.is) start.to.is.last all.0) first.log)
 
 -- stays, later, grows, failed
 other_size : (honest : Bool) (last : ℕ) → WritesAll (trust_of false honest) seen (record seen { size = 3 }) any last (Ok tt) → ⊥
@@ -348,8 +378,8 @@ unclean_of_one : (trust : Trust) (now : Seen) → RecoversUnclean trust without_
 unclean_of_one trust now is = not_one trust now is.entries
 
 -- ends
-unclean_left : (first : Seen) (blocks : Blocks) (start : IsStart (trust_of true true) first blocks) (n : ℕ) → RecoversUnclean (trust_of true true) start.to.sound.head first first (Ok n) → ⊥
+unclean_left : (first : Seen) (blocks : Blocks) (start : IsStart (trust_of true true) first blocks) (n : ℕ) → RecoversUnclean (trust_of true true) start.to.is.head first first (Ok n) → ⊥
 unclean_left first blocks start n is =
-    let all = is.ends first blocks start (untouched_yet true first) start.to.sound.opens.accepted in
+    let all = is.ends first blocks start (untouched_yet true first) start.to.is.opens.accepted in
     let size = ap (λ (l : List Call). length l) all.2 in
-    omega (arith, size, length-append (recovery_calls (image_in blocks start.to.sound) start.to.sound.last all.0) first.log)
+    omega (arith, size, length-append (recovery_calls (recoverable_image blocks start.to.is) start.to.is.last all.0) first.log)

@@ -26,14 +26,13 @@ use Rattle.image_model.proofs.LookedLaws.{looked_in_place}
 use Rattle.image_model.specs.Looked.{looked_in}
 use Rattle.image_model.specs.Maps.{Image, page_at}
 use Rattle.recovery_blocks.specs.Patches.{IsPatched}
-use Rattle.recovery_laws.proofs.CallLaws.{puts_part}
 use Rattle.recovery_laws.proofs.ContentLaws.{Puts}
 use Rattle.recovery_laws.proofs.PageIdLaws.{one_page}
-use Rattle.recovery_laws.proofs.PutLaws.{IsPartBlock, full_is_part, old_is_part, puts_full}
-use Rattle.recovery_laws.proofs.SoundLaws.{known}
+use Rattle.recovery_laws.proofs.PutLaws.{IsPartBlock, full_is_part, old_is_part, puts_full, puts_part}
+use Rattle.recovery_laws.proofs.RecoverableLaws.{known}
 use Rattle.recovery_laws.proofs.StopLaws.{page_inside, page_looked_at}
 use Rattle.recovery_laws.specs.Calls.{IsPut}
-use Rattle.recovery_laws.specs.Kept.{image_in}
+use Rattle.recovery_laws.specs.Recoverable.{recoverable_image}
 use Rattle.recovery_laws.specs.Written.{IsFullPage, IsPartPage}
 use Rattle.replay_map.specs.Changes.{AreNewest}
 use Rattle.replay_map.specs.declared.changes.SlotId.{SlotId}
@@ -117,24 +116,23 @@ are_puts image (call ∷ calls) each = (is_put image call each.0, are_puts image
 
 module _ (trust : Trust) where
   -- They may be written behind calls of one.
-  pages_start : (first before : Seen) (blocks : Blocks) (start : IsStart trust first blocks) (calls : List Call) → AreMade (IsPut (image_in blocks start.to.sound)) first before calls
-      → IsPageStart trust.honest before (image_in blocks start.to.sound)
+  pages_start : (first before : Seen) (blocks : Blocks) (start : IsStart trust first blocks) (calls : List Call) → AreMade (IsPut (recoverable_image blocks start.to.is)) first before calls
+      → IsPageStart trust.honest before (recoverable_image blocks start.to.is)
   pages_start first before blocks start calls made =
-      let image = image_in blocks start.to.sound in
-      let sound = start.to.sound in
-      let sizes = sizes_of_image blocks sound.head sound.opens.accepted in
+      let image = recoverable_image blocks start.to.is in
+      let able = start.to.is in
+      let sizes = sizes_of_image blocks able.head able.opens.accepted in
       record {
         fair = start.fair;
         sizes = sizes;
-        window = λ k d below. (known blocks blocks sound k d below).of_image;
-        one = one_page image sound.pages sound.last (known blocks blocks sound) sizes start.to.named;
+        window = λ k d below. (known blocks blocks able k d below).of_image;
+        one = one_page image able.pages able.last (known blocks blocks able) sizes start.to.named;
         parts = λ page at there.
-            let IsPart = IsPartBlock blocks sound start.to.named in
-            let whole : (b : ℕ) → b < length blocks → length (block_at blocks b) ≡ 4096 = λ b below. start.to.one.whole b (let size = start.to.one.size in omega (arith, size, below)) in
-            let was = settled_of_one (IsPart at.0) (looked_in blocks) first.opening first.log blocks at.0 start.to.one (page_inside blocks sound start.to.named page at there)
-            (looked_in_place blocks sound.head sound.opens.accepted at.0 (page_looked_at blocks sound start.to.named page at there)) (old_is_part blocks sound start.to.named at.0) in
+            let IsPart = IsPartBlock blocks able start.to.named in
+            let was = settled_of_one (IsPart at.0) (looked_in blocks) first.opening first.log blocks at.0 start.to.one (page_inside blocks able start.to.named page at there)
+            (looked_in_place blocks able.head able.opens.accepted at.0 (page_looked_at blocks able start.to.named page at there)) (old_is_part blocks able start.to.named at.0) in
             let all = settled_over IsPart first.opening first.log calls at.0 was
-            (puts_part blocks sound start.to.named start.to.unclean whole calls (puts_full blocks sound start.to.named calls made.each)) in
+            (puts_part blocks able start.to.named calls (puts_full blocks able start.to.named calls made.each)) in
             let logged = subst (λ (log : List Call). AllByRecursion (IsPart at.0) (settled first.opening log at.0)) (sym made.logged) all in
             all_weaker (IsPart at.0) (IsPartPage image page at) (settled before.opening before.log at.0) (λ content is. is.page page at there refl)
             (subst (λ (opening : Blocks). AllByRecursion (IsPart at.0) (settled opening before.log at.0)) (sym made.stays.opening) logged);
@@ -144,7 +142,7 @@ module _ (trust : Trust) where
     pages_recover : (result : Result (Unit {0}) Failed) → Writes trust.tells (page_writing trust.honest) before now N D result
         → ((image : Image) (more calls : List Call) → D image more → D image (more ++ calls)) → Writes trust.tells (recovery trust) before now N D result
     pages_recover (Ok _) writes stay = λ told first from calls made has.
-        let image = image_in from.0 from.1.to.sound in
+        let image = recoverable_image from.0 from.1.to.is in
         let went = writes told before (image, pages_start first before from.0 from.1 calls made) [] (none_made (IsPageCall image) before) has in
         let more = went.0 ++ [] in (
           more,
@@ -156,7 +154,7 @@ module _ (trust : Trust) where
           stay image more calls went.2,
         )
     pages_recover (Err _) writes stay = λ told first from calls made has.
-        let image = image_in from.0 from.1.to.sound in
+        let image = recoverable_image from.0 from.1.to.is in
         let stopped = writes told before (image, pages_start first before from.0 from.1 calls made) [] (none_made (IsPageCall image) before) has in
         let log : stopped.calls ++ before.log ≡ (stopped.calls ++ calls) ++ first.log =
         ap (λ (log : List Call). stopped.calls ++ log) made.logged ∙ sym (append_assoc stopped.calls calls first.log) in

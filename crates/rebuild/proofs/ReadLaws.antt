@@ -1,5 +1,5 @@
 -- What the reads of an image show of the one image of an honest device, of which the index isn't read.
-use Rattle.std.proofs.Common.{ℕ, ◌≡◌, ◌+◌, ◌-◌, ◌<◌, ◌≤◌, Bool, IsTrue, List, [], ◌∷◌, length, reverse, sym, ◌∙◌, ap, subst, inl, inr, arith, Ok}
+use Rattle.std.proofs.Common.{ℕ, ◌≡◌, ◌+◌, ◌-◌, ◌<◌, ◌≤◌, IsTrue, List, [], ◌∷◌, length, reverse, sym, ◌∙◌, ap, subst, inl, inr, arith, Ok}
 use Rattle.std.proofs.lemmas.Bool.Decides.{eqb_tells}
 use Rattle.std.proofs.lemmas.List.{length-reverse, reverse-reverse}
 use Rattle.std.proofs.lemmas.Nat.{mul-add-lt}

@@ -1,6 +1,6 @@
 -- What is promised of a recovery: for each clause that `Rows` hasn't, a small case that it accepts, and one that breaks it
 -- and is refused.
-use Rattle.std.proofs.Common.{ℕ, zero, suc, ◌≡◌, ◌<◌, ◌^◌, Bool, true, false, List, [], ◌∷◌, ◌++◌, length, length-append, replicate, reverse, Ok, Err, refl, sym, ◌∙◌, ap, subst, inl, inr, arith}
+use Rattle.std.proofs.Common.{ℕ, zero, suc, ◌≡◌, ◌<◌, ◌^◌, Bool, true, false, List, [], ◌∷◌, ◌++◌, length, length-append, replicate, reverse, Ok, Err, refl, sym, ◌∙◌, ap, ap₂, subst, inl, inr, arith}
 use Rattle.replay_counts.proofs.ReadRows.{no_entries}
 use Rattle.audit.specs.Audits.{BothShow}
 use Rattle.audit.specs.Reports.{HasNoFault}
@@ -26,24 +26,27 @@ use Rattle.image_model.specs.Empty.{IsMade, made_block}
 use Rattle.image_model.specs.Maps.{Image}
 use Rattle.image_model.specs.Sound.{IsSound, Opens}
 use Rattle.image_model.specs.declared.fault.ImageFault.TheVariants.{Window, Counts, Device, Unclean, Memory}
-use Rattle.image_model.specs.Looked.{looked_in}
+use Rattle.image_model.specs.Looked.{HasOneImageButIndex, looked_in}
 use Rattle.image_model.proofs.LookedLaws.{looked_first}
 use Rattle.image_model.proofs.ReadExample.{next_failed, failed}
 use Rattle.image_model.proofs.WholeExample.{zero_super}
 use Rattle.image_opening.specs.Heads.{IsHeadRead}
-use Rattle.recovery_laws.proofs.OpenedExample.{opened_super, whole_run}
-use Rattle.recovery_laws.specs.Calls.{recovery_calls}
+use Rattle.recovery_laws.proofs.OpenedExample.{nothing_to_put, opened_super, whole_run}
+use Rattle.recovery_laws.proofs.ShowLaws.{closed_still}
+use Rattle.recovery_laws.proofs.UntouchedLaws.{same_super}
+use Rattle.recovery_laws.specs.Calls.{ArePuts, recovery_calls}
 use Rattle.recovery_laws.specs.Kept.{IsRecovered, image_in}
+use Rattle.recovery_laws.specs.Recoverable.{HasRecoverable, IsRecoverable, recoverable_image}
 use Rattle.recovery_laws.proofs.AlikeLaws.{alike_super}
-use Rattle.rebuild.proofs.KeptLaws.{image_alike, opened_alike}
-use Rattle.rebuild.proofs.OutcomeRows.{kept_yet, never_unclean, none_of_zeros, opened}
+use Rattle.rebuild.proofs.KeptLaws.{image_alike, image_as, opened_alike, opened_as}
+use Rattle.rebuild.proofs.OutcomeRows.{kept_yet, never_unclean, none_of_zeros, opened, still_yet}
 use Rattle.audit.proofs.ReadExample.{head_is_read, head_of, says_head}
 use Rattle.image_layout.proofs.SpellingLaws.{super_size}
 use Rattle.blk_base.proofs.SectorLaws.{zero_size}
 use Rattle.blk_base.specs.Forms.{pbn}
 use Rattle.rebuild.proofs.ShownLaws.{both_logged}
 use Rattle.rebuild.proofs.Rows.{flushed, none_flushed, seen}
-use Rattle.rebuild.specs.Recoveries.{Answers, AreStopsSound, IsAnswer, IsRecovery, IsRefusal, IsResult, IsTold, IsUnclean, LeavesClosed, RecoverFails}
+use Rattle.rebuild.specs.Recoveries.{Answers, AreStopsRecoverable, AreStopsSound, IsAnswer, IsRecovery, IsRefusal, IsResult, IsTold, IsUnclean, LeavesClosed, LeavesTheSame, RecoverFails}
 use Rattle.rebuild.specs.declared.forms.Recovered.TheVariants.{Clean, Entries}
 
 -- Answers, of any device. Clean: block 0 was read, it says that the session was closed, and nothing was written.
@@ -188,6 +191,35 @@ module _ (blocks : Blocks) (one : HasOneImage blocks [] blocks) where
       let here = ap (λ (h : Superblock). h.clean) head in
       absurd (cc (clean, here, unclean))
 
+-- The same where it can be recovered, sound or not; of what can't, nothing is said.
+unable : IsRecoverable [] → ⊥
+unable able = let accepted = able.opens.accepted in absurd (cc accepted)
+
+nothing_recoverable : AreStopsRecoverable [] flushed seen
+nothing_recoverable able = absurd (unable able)
+
+module _ (blocks : Blocks) (one : HasOneImage blocks [] blocks) where
+  recoverable_yet : AreStopsRecoverable blocks (opened blocks) (opened blocks)
+  recoverable_yet able = still_yet blocks able one
+
+  log_dropped : IsRecoverable blocks → AreStopsRecoverable blocks flushed seen → ⊥
+  log_dropped able stops =
+      let since = stops able in let size = ap (λ (l : List Call). length l) since.1 in omega (arith, size, length-append since.0 (Flush true ∷ []))
+
+  clean_leaves_it : LeavesTheSame blocks (opened blocks) Clean
+  clean_leaves_it = tt
+
+  still_not_closed : (able : IsRecoverable blocks) (count : ℕ) → able.head.clean ≡ false → LeavesTheSame blocks (opened blocks) (Entries count) → ⊥
+  still_not_closed able count unclean leaves =
+      let left = leaves able in
+      let alike = one_in-unique (looked_in left.0) blocks [] left.0 blocks left.1 (one_image-is_image blocks [] blocks one) in
+      let accepted = same_super left.0 blocks left.2.still.is alike in
+      let own = able.opens.accepted in
+      let head : left.2.still.is.head ≡ able.head = cc (accepted, own) in
+      let clean = ap (λ (h : Superblock). h.clean) left.2.closed in
+      let here = ap (λ (h : Superblock). h.clean) head in
+      absurd (cc (clean, here, unclean))
+
 -- An image that was opened, and whose recovery was run.
 module _ (g : Geometry) (blocks : Blocks) (accepted : super_of_image blocks ≡ Ok (opened_super g)) (named : g.nonce < 2 ^ 64)
     (made : (place : Place) → IsPlace g place → IsMade place → block_at blocks (block_of g place) ≡ made_block g place)
@@ -206,6 +238,23 @@ module _ (g : Geometry) (blocks : Blocks) (accepted : super_of_image blocks ≡ 
       let last : 0 ≡ sound.last = (opened_alike blocks sound (opened_super g) 0 [] opens).1 in
       (run.0, run.1, subst (λ (i : Image). IsRecovered i sound.last run.0) image (subst (λ (n : ℕ). IsRecovered (the_image g blocks) n run.0) last run.2))
 
+  run_leaves_it : (count : ℕ) → LeavesTheSame blocks (record (opened blocks) { log = recovery_calls (the_image g blocks) 0 [] ++ [] }) (Entries count)
+  run_leaves_it count able =
+      let image : the_image g blocks ≡ recoverable_image blocks able = image_as blocks able (opened_super g) 0 [] opens in
+      let one = opened_as blocks able (opened_super g) 0 [] opens in
+      let head : opened_super g ≡ able.head = one.0 in
+      let last : 0 ≡ able.last = one.1 in
+      let to : HasRecoverable blocks [] blocks = record {
+        one = one_in-all (looked_in blocks) blocks [] blocks (one_image-opening blocks whole);
+        is = able;
+        unclean = ap (λ (h : Superblock). h.clean) (sym head);
+        named = subst (λ (h : Superblock). h.geometry.nonce < 2 ^ 64) head named;
+      } in
+      let left = closed_still blocks blocks [] to [] (subst (λ (i : Image). ArePuts i []) image (nothing_to_put g blocks accepted made)) in
+      let calls : recovery_calls (recoverable_image blocks able) able.last [] ≡ recovery_calls (the_image g blocks) 0 [] =
+      ap₂ (λ (i : Image) (n : ℕ). recovery_calls i n []) (sym image) (sym last) in
+      (left.0, subst (λ (log : List Call). HasOneImageButIndex blocks (log ++ []) left.0) calls left.1, left.2)
+
 -- The whole, of a device that doesn't tell: an answer, and a refusal.
 clean_recovery : (honest : Bool) → IsRecovery (trust_of false honest) seen seen (Ok Clean)
 clean_recovery honest = record {
@@ -218,6 +267,8 @@ clean_recovery honest = record {
   says = λ blocks is. let told = is.told in absurd (cc told);
   stops = λ blocks is. let told = is.told in absurd (cc told);
   closed = λ blocks is. let told = is.told in absurd (cc told);
+  stands = λ blocks is. let told = is.told in absurd (cc told);
+  left = λ blocks is. let told = is.told in absurd (cc told);
 }
 
 refused_recovery : (honest : Bool) → IsRecovery (trust_of false honest) seen failed (Err Device)
@@ -231,6 +282,8 @@ refused_recovery honest = record {
   says = λ blocks is. let told = is.told in absurd (cc told);
   stops = λ blocks is. let told = is.told in absurd (cc told);
   closed = tt;
+  stands = λ blocks is. let told = is.told in absurd (cc told);
+  left = tt;
 }
 
 -- stays, later
@@ -270,7 +323,13 @@ module _ (blocks : Blocks) (sound : IsSound blocks) (one : HasOneImage blocks []
   left_unclean : (count : ℕ) → sound.head.clean ≡ false → IsRecovery (trust_of true true) (opened blocks) (opened blocks) (Ok (Entries count)) → ⊥
   left_unclean count unclean is = still_unclean blocks one sound count unclean (is.closed blocks told_here)
 
--- stops: zeros were written over the superblock of a sound image, whatever is answered
+-- stands, left: the same of one that can be recovered, sound or not
+module _ (blocks : Blocks) (able : IsRecoverable blocks) (one : HasOneImage blocks [] blocks) where
+  left_not_closed : (count : ℕ) → able.head.clean ≡ false → IsRecovery (trust_of true true) (opened blocks) (opened blocks) (Ok (Entries count)) → ⊥
+  left_not_closed count unclean is =
+      still_not_closed blocks one able count unclean (is.left blocks (record { told = refl; fair = refl; one = one_in-all (looked_in blocks) blocks [] blocks one }))
+
+-- stops, stands: zeros were written over the superblock, whatever is answered
 zeros_whole : (block : List ℕ) (more : Blocks) → ((b : ℕ) → b < length (block ∷ more) → length (block_at (block ∷ more) b) ≡ 4096)
     → (b : ℕ) → b < length (block ∷ more) → length (block_at (zero_block ∷ more) b) ≡ 4096
 zeros_whole block more whole zero below = zero_size
@@ -293,5 +352,15 @@ written_over block more sound one is =
     let stands = subst (λ (log : List Call). IsImage (block ∷ more) log (zero_block ∷ more)) since.1 (zeros_stand block more one.whole) in
     let kept = since.2.kept [] since.0 (zero_block ∷ more) refl stands in
     let accepted = kept.sound.opens.accepted in
+    let none = zero_super (length (zero_block ∷ more)) in
+    absurd (cc (accepted, none))
+
+wiped : (block : List ℕ) (more : Blocks) → IsRecoverable (block ∷ more) → HasOneImage (block ∷ more) [] (block ∷ more)
+    → IsRecovery (trust_of true true) (opened (block ∷ more)) (record (opened (block ∷ more)) { log = Write (pbn 0) zero_block true ∷ [] }) (Err Device) → ⊥
+wiped block more able one is =
+    let since = is.stands (block ∷ more) (record { told = refl; fair = refl; one = one_in-all (looked_in (block ∷ more)) (block ∷ more) [] (block ∷ more) one }) able in
+    let there = subst (λ (log : List Call). IsImage (block ∷ more) log (zero_block ∷ more)) since.1 (zeros_stand block more one.whole) in
+    let still = since.2.still [] since.0 (zero_block ∷ more) refl there in
+    let accepted = still.is.opens.accepted in
     let none = zero_super (length (zero_block ∷ more)) in
     absurd (cc (accepted, none))

@@ -1,5 +1,5 @@
 -- How the recovery of an image ends whose superblock was read.
-use Rattle.std.proofs.Common.{ℕ, ◌≡◌, ◌≤◌, Bool, true, List, [], ◌∷◌, ◌++◌, Result, Ok, Err, IsErr, IsErrAnd, reverse, refl, sym, subst, inl, inr, arith}
+use Rattle.std.proofs.Common.{ℕ, ◌≡◌, ◌≤◌, true, List, [], ◌∷◌, ◌++◌, Result, Ok, Err, IsErr, IsErrAnd, reverse, refl, sym, subst, inl, inr, arith}
 use Rattle.audit.proofs.AuditLaws.{both_follow}
 use Rattle.audit.specs.Reports.{HasNoFault}
 use Rattle.blk_base.specs.Regions.{needed_blocks}
@@ -20,7 +20,7 @@ use Rattle.image_format.specs.Runs.{Makes}
 use Rattle.image_layout.specs.Opened.{super_of_image}
 use Rattle.image_layout.specs.Superblock.{super_block}
 use Rattle.image_model.specs.Maps.{Image}
-use Rattle.image_model.specs.Sound.{IsSound, Opens}
+use Rattle.image_model.specs.Sound.{Opens}
 use Rattle.image_model.specs.declared.fault.ImageFault.{ImageFault}
 use Rattle.image_model.specs.declared.fault.ImageFault.TheVariants.{Device}
 use Rattle.image_model.specs.Looked.{HasOneImageButIndex}
@@ -28,25 +28,25 @@ use Rattle.journal_window.proofs.ReadWindowLaws.{window_shown}
 use Rattle.journal_window.specs.Reads.{IsWindowRead}
 use Rattle.journal_window.specs.States.{WindowState}
 use Rattle.recovery_laws.specs.Calls.{ArePuts, IsPut}
-use Rattle.recovery_laws.specs.Kept.{image_in, recovered_super}
+use Rattle.recovery_laws.specs.Kept.{recovered_super}
+use Rattle.recovery_laws.specs.Recoverable.{recoverable_image}
 use Rattle.replay_counts.specs.Recovered.{HasCounts}
 use Rattle.replay_map.specs.Changes.{AreNewest}
 use Rattle.replay_map.specs.Replayed.{HasMap}
 use Rattle.replay_map.specs.declared.changes.SlotId.{SlotId}
 use Rattle.rebuild.proofs.ActLaws.{grows_on, made_grows, made_stays, none_made, read_made, untouched_grows}
 use Rattle.rebuild.proofs.FailLaws.{failed_after, failed_on, makes_failed, on_err}
-use Rattle.rebuild.proofs.KeptLaws.{closes_to, image_alike, made_kept, opened_alike, stopped_kept}
+use Rattle.rebuild.proofs.KeptLaws.{closes_to, image_as, made_begun, opened_as, stopped_begun}
 use Rattle.rebuild.proofs.ReadLaws.{both_shown, still}
 use Rattle.rebuild.specs.Acts.{Acts, AreMade, IsStart, recovery}
 use Rattle.rebuild.specs.Done.{AreBothDone, HasContents}
-use Rattle.rebuild.specs.Outcomes.{Ends, IsKeptSince, RecoversUnclean, UncleanFails, WritesAll}
+use Rattle.rebuild.specs.Outcomes.{Ends, IsBegunSince, RecoversUnclean, UncleanFails, WritesAll}
 use Rattle.audit.specs.Reads.{AreContents}
 use Rattle.audit.specs.declared.forms.Contents.{Contents}
 
-ends_failed : {T E : Type 0} (blocks : Blocks) (sound : IsSound blocks) (first now : Seen) (result : Result T E) → IsErr result → IsKeptSince blocks sound first now
-    → Ends blocks sound first now result
-ends_failed blocks sound first now (Ok _) is kept = absurd (cc is)
-ends_failed blocks sound first now (Err _) is kept = kept
+ends_failed : {T E : Type 0} (image : Image) (last : ℕ) (first now : Seen) (result : Result T E) → IsErr result → IsBegunSince image last first now → Ends image last first now result
+ends_failed image last first now (Ok _) is begun = absurd (cc is)
+ends_failed image last first now (Err _) is begun = begun
 
 -- Writing.
 
@@ -58,8 +58,8 @@ blocks_failed trust before now N last fault result is acts = record {
   grows = acts.grows;
   failed = on_err trust.tells before now result acts.failed;
   ends = λ first blocks start calls made has same.
-      ends_failed blocks start.to.sound first now result is
-      (stopped_kept trust first blocks start now (acts.writes start.told first (blocks, start) calls made has));
+      ends_failed (recoverable_image blocks start.to.is) start.to.is.last first now result is
+      (stopped_begun trust first blocks start now (acts.writes start.told first (blocks, start) calls made has));
 }
 
 module _ (trust : Trust) (before middle now : Seen) (N : Image → Type 0) (last : ℕ) where
@@ -75,7 +75,7 @@ module _ (trust : Trust) (before middle now : Seen) (N : Image → Type 0) (last
         grows = grows_on trust.tells before middle now acts.grows (made_grows trust.tells middle now (closing g) result makes);
         failed = failed_on trust.tells before middle now result acts.later acts.grows (makes_failed trust.tells middle now (closing g) result makes);
         ends = λ first blocks start calls made has same.
-            let image = image_in blocks start.to.sound in
+            let image = recoverable_image blocks start.to.is in
             let went = acts.writes start.told first (blocks, start) calls made has in
             let are : ArePuts image (went.0 ++ calls) = record { each = went.1.each; pages = went.2.0; counters = went.2.1 } in
             closes_to trust first blocks start middle now (went.0 ++ calls) went.1 are result
@@ -95,9 +95,9 @@ read_refused trust head before now why fails untouched = record {
   fails = fails;
   nothing = inr untouched;
   ends = λ first blocks start before_it accepted.
-      let image = image_in blocks start.to.sound in
+      let image = recoverable_image blocks start.to.is in
       let made = read_made trust.tells (recovery trust) image first first now [] start.told (none_made (IsPut image) first) (untouched_on trust.tells first before now before_it untouched) in
-      made_kept trust first blocks start now (made.0 ++ []) made.1;
+      made_begun trust first blocks start now (made.0 ++ []) made.1;
 }
 
 pub passed_as : (trust : Trust) (head : Superblock) (before now : Seen) (why : ImageFault) (result : Result ℕ ImageFault) → IsErrAnd result (λ e. e ≡ why)
@@ -121,7 +121,7 @@ module _ (trust : Trust) (head : Superblock) (before second third now : Seen) (w
 
   module _ (first : Seen) (blocks : Blocks) (start : IsStart trust first blocks) (before_it : IsUntouched trust.tells first before) (accepted : super_of_image blocks ≡ Ok head) where
     abbrev image : Image
-    image = image_in blocks start.to.sound
+    image = recoverable_image blocks start.to.is
 
     one_here : HasOneImageButIndex before.opening before.log blocks
     one_here = still trust blocks start.told start.fair first before before_it start.to.one
@@ -137,16 +137,16 @@ module _ (trust : Trust) (head : Superblock) (before second third now : Seen) (w
         let room_there : needed_blocks head.geometry ≤ second.size = let size = window_read.stays.size in omega (arith, size, room) in
         let both = both_shown trust blocks start.told start.fair head window second third
         (λ i. HasMap i contents.map × HasCounts i contents.counts.counts.items contents.counts.sectors.items) accepted one_there room_there is.shown in
-        subst Needs (image_alike blocks start.to.sound head window.last window.entries opens)
+        subst Needs (image_as blocks start.to.is head window.last window.entries opens)
         (record { sizes = refl; newest = newest; links = both.0.links; counts = both.1 })
 
-    last_is : start.to.sound.last ≡ window.last
-    last_is = sym (opened_alike blocks start.to.sound head window.last window.entries opens).1
+    last_is : start.to.is.last ≡ window.last
+    last_is = sym (opened_as blocks start.to.is head window.last window.entries opens).1
 
     made : (reads : List Call) × AreMade (IsPut image) first third (reads ++ [])
     made = read_made trust.tells (recovery trust) image first first third [] start.told (none_made (IsPut image) first) (untouched_on trust.tells first before third before_it all_read)
 
-    ends_so : (result : Result (Unit {0}) Failed) → WritesAll trust third now Needs window.last result → Ends blocks start.to.sound first now result
+    ends_so : (result : Result (Unit {0}) Failed) → WritesAll trust third now Needs window.last result → Ends image start.to.is.last first now result
     ends_so result writes = writes.ends first blocks start (made.0 ++ []) made.1 needs last_is
 
   pub write_failed : (fault : Failed) → WritesAll trust third now Needs window.last (Err fault) → RecoversUnclean trust head before now (Err Device)

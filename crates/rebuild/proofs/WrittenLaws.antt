@@ -35,7 +35,6 @@ use Rattle.image_format.specs.Calls.{put}
 use Rattle.image_model.proofs.EmptyLaws.{sizes_of_image}
 use Rattle.image_model.specs.Counts.{Stores}
 use Rattle.image_model.specs.Maps.{Image, head_of, or_else, put_by, put_last, says}
-use Rattle.image_model.specs.Sound.{IsSound}
 use Rattle.image_model.specs.Windows.{IsOfImage, LeadsToData}
 use Rattle.image_model.proofs.LookedLaws.{looked_in_place, looked_place}
 use Rattle.image_model.specs.Looked.{is_looked_at, looked_in}
@@ -47,7 +46,7 @@ use Rattle.plain_laws.proofs.OptionLaws.{option_cases}
 use Rattle.recovery_blocks.specs.Counters.{AreCountsPut}
 use Rattle.recovery_blocks.specs.Patches.{IsPatched}
 use Rattle.recovery_laws.specs.Calls.{IsCountersPut, IsPut}
-use Rattle.recovery_laws.specs.Kept.{image_in}
+use Rattle.recovery_laws.specs.Recoverable.{IsRecoverable, recoverable_image}
 use Rattle.recovery_laws.specs.Written.{IsFullPage, IsOldSector, IsPartPage}
 use Rattle.recovery_laws.proofs.BlockLaws.{part_of_mix}
 use Rattle.recovery_laws.proofs.ContentLaws.{Puts, contents_are}
@@ -188,24 +187,24 @@ puts_weaker P Q (Flush ok ∷ calls) all each = (tt, puts_weaker P Q calls all e
 
 module _ (trust : Trust) (first : Seen) (blocks : Blocks) (start : IsStart trust first blocks) where
   abbrev image : Image
-  image = image_in blocks start.to.sound
+  image = recoverable_image blocks start.to.is
 
-  abbrev sound : IsSound blocks
-  sound = start.to.sound
+  abbrev able : IsRecoverable blocks
+  able = start.to.is
 
   abbrev g : Geometry
-  g = sound.head.geometry
+  g = able.head.geometry
 
   sizes : IsGeometry g
-  sizes = sizes_of_image blocks sound.head sound.opens.accepted
+  sizes = sizes_of_image blocks able.head able.opens.accepted
 
   settled_kinds : (P : ℕ → List ℕ → Type 0) (calls : List Call) (b : ℕ) → P b (block_at blocks b) → AllByRecursion (Puts P) calls → AllByRecursion (P b) (settled blocks calls b)
   settled_kinds P calls b was puts = settled_are_contents (P b) blocks calls b (contents_are P blocks calls b was puts)
 
   module _ (before middle : Seen) (calls : List Call) (made : AreMade (IsPut image) first before calls) (at : Pbn) (given : List ℕ)
       (below : at.0 < length blocks) (read : WereRead trust at.0 before middle (given ∷ [])) where
-    full_puts : AllByRecursion (Puts (IsFullBlock blocks sound start.to.named)) calls
-    full_puts = puts_full blocks sound start.to.named calls made.each
+    full_puts : AllByRecursion (Puts (IsFullBlock blocks able start.to.named)) calls
+    full_puts = puts_full blocks able start.to.named calls made.each
 
     given_mix : IsTrue (is_looked_at g at.0) → IsMixOf (settled blocks calls at.0) given
     given_mix looked =
@@ -214,7 +213,7 @@ module _ (trust : Trust) (first : Seen) (blocks : Blocks) (start : IsStart trust
         let logged = subst (λ (log : List Call). IsMixOf (settled before.opening log at.0) given) made.logged was in
         let opened = subst (λ (opening : Blocks). IsMixOf (settled opening (calls ++ first.log) at.0) given) made.stays.opening logged in
         one_in-settled (looked_in blocks) first.opening first.log calls blocks at.0 given start.to.one (let size = start.to.one.size in omega (arith, size, below))
-        (looked_in_place blocks sound.head sound.opens.accepted at.0 looked) opened
+        (looked_in_place blocks able.head able.opens.accepted at.0 looked) opened
 
     -- a block of counters
     abbrev PastKept : ℕ → List ℕ → Type 0
@@ -228,7 +227,7 @@ module _ (trust : Trust) (first : Seen) (blocks : Blocks) (start : IsStart trust
         → HasCounts image counts sectors → length bytes ≡ 4096 → AreCountsPut g slab i counts sectors given bytes → IsPut image (put at.0 bytes)
     counters_put slab i counts sectors bytes there stands has size is =
         let kept = settled_kinds PastKept calls at.0 (past_before at.0)
-        (puts_weaker (IsFullBlock blocks sound start.to.named) PastKept calls (λ b content full. full.past) full_puts) in (
+        (puts_weaker (IsFullBlock blocks able start.to.named) PastKept calls (λ b content full. full.past) full_puts) in (
           size,
           inr (counts_of_put image slab i at counts sectors given bytes there stands has
               (λ n row behind.

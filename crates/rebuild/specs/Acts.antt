@@ -16,7 +16,7 @@ use Rattle.image_format.specs.Runs.{as_failed}
 use Rattle.image_model.specs.Maps.{Image, page_at}
 use Rattle.image_model.specs.Windows.{IsOfImage}
 use Rattle.recovery_laws.specs.Calls.{IsPagePut, IsPut}
-use Rattle.recovery_laws.specs.Kept.{IsToRecover, image_in}
+use Rattle.recovery_laws.specs.Recoverable.{HasRecoverable, recoverable_image}
 use Rattle.recovery_laws.specs.Written.{IsPartPage}
 
 -- the log of a device that tells has these calls more, and what was in it before
@@ -72,11 +72,11 @@ pub record Acts (tells : Bool) (w : Writing) (before now : Seen) (Needs : Image 
 
 -- Recovery.
 
--- a device that tells and is honest, and that has an image to recover at this moment
+-- a device that tells and is honest, and that has an image to recover at this moment, sound or not
 pub record IsStart (trust : Trust) (first : Seen) (blocks : Blocks) : Type 0 where
   pub told : IsTrue trust.tells
   pub fair : IsTrue trust.honest
-  pub to : IsToRecover first.opening first.log blocks
+  pub to : HasRecoverable first.opening first.log blocks
 
 abbrev pub IsFlush : Call → Type 0
 IsFlush call = call ≡ Flush true
@@ -85,7 +85,7 @@ IsFlush call = call ≡ Flush true
 abbrev pub recovery : Trust → Writing
 recovery trust = record {
   From = λ first. (blocks : Blocks) × IsStart trust first blocks;
-  image = λ first from. image_in from.0 from.1.to.sound;
+  image = λ first from. recoverable_image from.0 from.1.to.is;
   Kind = IsPut;
   reads = λ image at bytes ok. tt;
   Behind = IsFlush;

@@ -17,8 +17,9 @@ use Rattle.image_model.specs.declared.fault.ImageFault.{ImageFault}
 use Rattle.image_model.specs.declared.fault.ImageFault.TheVariants.{Device}
 use Rattle.journal_window.specs.Reads.{IsWindowRead, Fails}
 use Rattle.journal_window.specs.States.{WindowState}
-use Rattle.recovery_laws.specs.Calls.{ArePuts, IsPut, recovery_calls}
-use Rattle.recovery_laws.specs.Kept.{AreStopsKept, image_in}
+use Rattle.recovery_laws.specs.Calls.{ArePuts, IsBegun, IsPut, recovery_calls}
+use Rattle.recovery_laws.specs.Kept.{AreStopsKept}
+use Rattle.recovery_laws.specs.Recoverable.{AreStopsStill, IsRecoverable, recoverable_image}
 use Rattle.rebuild.specs.Acts.{AreMade, Grows, IsStart}
 
 -- Of any device.
@@ -58,9 +59,17 @@ IsAllMade image last first now = (puts : List Call) × ArePuts image puts × (no
 abbrev pub IsKeptSince : (blocks : Blocks) → IsSound blocks → Seen → Seen → Type 0
 IsKeptSince blocks sound first now = SinceThen (AreStopsKept blocks sound first.opening first.log) first.log now.log
 
-abbrev pub Ends : {T E : Type 0} → (blocks : Blocks) → IsSound blocks → Seen → Seen → Result T E → Type 0
-Ends blocks sound first now (Ok _) = IsAllMade (image_in blocks sound) sound.last first now
-Ends blocks sound first now (Err _) = IsKeptSince blocks sound first now
+-- the same of an image that needn't be sound: it can be recovered
+abbrev pub IsStillSince : (blocks : Blocks) → IsRecoverable blocks → Seen → Seen → Type 0
+IsStillSince blocks is first now = SinceThen (AreStopsStill blocks is first.opening first.log) first.log now.log
+
+-- a part of the calls of recovery was made since
+abbrev pub IsBegunSince : Image → ℕ → Seen → Seen → Type 0
+IsBegunSince image last first now = SinceThen (IsBegun image last) first.log now.log
+
+abbrev pub Ends : {T E : Type 0} → Image → ℕ → Seen → Seen → Result T E → Type 0
+Ends image last first now (Ok _) = IsAllMade image last first now
+Ends image last first now (Err _) = IsBegunSince image last first now
 
 -- The whole.
 
@@ -71,8 +80,8 @@ pub record WritesAll (trust : Trust) (before now : Seen) (Needs : Image → Type
   pub later : Later before now
   pub grows : Grows trust.tells before now
   pub failed : OnErr result (LastFailed trust.tells before now)
-  pub ends : (first : Seen) (blocks : Blocks) (start : IsStart trust first blocks) (calls : List Call) → AreMade (IsPut (image_in blocks start.to.sound)) first before calls
-      → Needs (image_in blocks start.to.sound) → start.to.sound.last ≡ last → Ends blocks start.to.sound first now result
+  pub ends : (first : Seen) (blocks : Blocks) (start : IsStart trust first blocks) (calls : List Call) → AreMade (IsPut (recoverable_image blocks start.to.is)) first before calls
+      → Needs (recoverable_image blocks start.to.is) → start.to.is.last ≡ last → Ends (recoverable_image blocks start.to.is) start.to.is.last first now result
 
 -- what recovering an image answers whose superblock was read and says that its last session wasn't closed
 pub record RecoversUnclean (trust : Trust) (head : Superblock) (before now : Seen) (result : Result ℕ ImageFault) : Type 0 where
@@ -83,4 +92,4 @@ pub record RecoversUnclean (trust : Trust) (head : Superblock) (before now : See
   pub fails : IfErr result (UncleanFails trust head before now)
   pub nothing : IfErr result (WritesNothing trust.tells before now)
   pub ends : (first : Seen) (blocks : Blocks) (start : IsStart trust first blocks) → IsUntouched trust.tells first before → super_of_image blocks ≡ Ok head
-      → Ends blocks start.to.sound first now result
+      → Ends (recoverable_image blocks start.to.is) start.to.is.last first now result

@@ -16,8 +16,9 @@ use Rattle.image_model.specs.declared.fault.ImageFault.{ImageFault}
 use Rattle.image_model.specs.declared.fault.ImageFault.TheVariants.{Super, Window, Page, Counter, SharedPage, Counts, Device, Unclean, Memory}
 use Rattle.image_opening.specs.Heads.{HeadFails, IsHeadRead}
 use Rattle.recovery_laws.specs.Kept.{IsRecovered, image_in}
+use Rattle.recovery_laws.specs.Recoverable.{IsClosedStill, IsRecoverable, recoverable_image}
 use Rattle.rebuild.specs.Acts.{Grows}
-use Rattle.rebuild.specs.Outcomes.{HasEntries, IsKeptSince, UncleanFails, WritesNothing}
+use Rattle.rebuild.specs.Outcomes.{HasEntries, IsKeptSince, IsStillSince, UncleanFails, WritesNothing}
 use Rattle.rebuild.specs.declared.forms.Recovered.{Recovered}
 use Rattle.rebuild.specs.declared.forms.Recovered.TheVariants.{Clean, Entries}
 
@@ -76,6 +77,18 @@ LeavesClosed blocks now Clean = Unit {0}
 LeavesClosed blocks now (Entries count) =
     (sound : IsSound blocks) → (image : Blocks) × HasOneImageButIndex now.opening now.log image × IsRecovered (image_in blocks sound) sound.last image
 
+-- Each way it ends: where the image can be recovered, sound or not, whatever a stop leaves at each moment since can be too,
+-- and says the same.
+abbrev pub AreStopsRecoverable : Blocks → Seen → Seen → Type 0
+AreStopsRecoverable blocks before now = (is : IsRecoverable blocks) → IsStillSince blocks is before now
+
+-- After recovery nothing is pending but in the index, and the image is closed, and says the same: so a wrong count is as wrong
+-- as it was.
+abbrev pub LeavesTheSame : Blocks → Seen → Recovered → Type 0
+LeavesTheSame blocks now Clean = Unit {0}
+LeavesTheSame blocks now (Entries count) =
+    (is : IsRecoverable blocks) → (image : Blocks) × HasOneImageButIndex now.opening now.log image × IsClosedStill (recoverable_image blocks is) is.last image
+
 -- the one image, the index aside, of a device that tells and is honest
 pub record IsTold (trust : Trust) (seen : Seen) (blocks : Blocks) : Type 0 where
   pub told : IsTrue trust.tells
@@ -95,3 +108,5 @@ pub record IsRecovery (trust : Trust) (before now : Seen) (result : Result Recov
   pub says : (blocks : Blocks) → IsTold trust before blocks → IsResult blocks before now result
   pub stops : (blocks : Blocks) → IsTold trust before blocks → AreStopsSound blocks before now
   pub closed : IfOk result (λ recovered. (blocks : Blocks) → IsTold trust before blocks → LeavesClosed blocks now recovered)
+  pub stands : (blocks : Blocks) → IsTold trust before blocks → AreStopsRecoverable blocks before now
+  pub left : IfOk result (λ recovered. (blocks : Blocks) → IsTold trust before blocks → LeavesTheSame blocks now recovered)

@@ -1,5 +1,5 @@
-//! An image whose last session wasn't closed is made one that was, and a sound one says the same then; one that was closed is
-//! opened for a session.
+//! An image whose last session wasn't closed is made one that was, and says the same then; one that was closed is opened for a
+//! session.
 //!
 //! What a part of the code does is said from any start on (`specs/Acts`): after calls of one kind more of it were made, and
 //! this was written; or one of them failed. For the pages they are reads and writes of pages, from any image on whose
@@ -18,7 +18,8 @@
 //! of which a block has random bytes: each is opened, recovered or refused as an audit says, and no refusal writes.
 //!
 //! Not there: which calls a device that isn't honest sees behind the reads; of `Device`, that the failed call is a
-//! write or a read that recovery needs. Of an image that isn't sound, nothing is said of what recovery leaves.
+//! write or a read that recovery needs. Of an image with blocks of its recovery journal from a
+//! later time, nothing is said of what recovery leaves.
 //!
 //! No rows yet: what was read of a block (`ReadsOne`); an accepted case of an image with a wrong count
 //! (`HasWrongCount`), of pages and slabs that were read (`IsOpenedWith`), and of a refusal by the image for a fault
@@ -36,6 +37,6 @@ mod unclean;
 
 pub use clean_image::open_clean;
 pub use forms::Recovered;
-pub use laws::recovered_once_for_all;
+pub use laws::{a_wrong_count_stays, recovered_once_for_all};
 pub use pages::put_pages;
 pub use recovery::recover;

@@ -8,10 +8,10 @@ use image_opening::read_head;
 use std::alloc::Global;
 
 // Of a clean image the superblock alone is looked at: what else is wrong is found when it is opened.
-/// Closes the image on a device whose last session wasn't closed. In a sound image on which nothing is pending each address
-/// keeps its mapping and its value, and each data block its stored count; of another image that isn't refused, nothing is
-/// said but its answer. `Clean` comes exactly where the superblock says that the session was closed, and then nothing is
-/// written; else `Entries` has the length of the window.
+/// Closes the image on a device whose last session wasn't closed. Each address keeps its mapping and its value, and each data
+/// block its stored count, also where that isn't the number of its mappings; of an image with blocks of its recovery journal
+/// from a later time, nothing is said but its answer. `Clean` comes exactly where the superblock says that the session was
+/// closed, and then nothing is written; else `Entries` has the length of the window.
 ///
 /// | Step | What is done | Then |
 /// |---|---|---|
@@ -25,7 +25,8 @@ use std::alloc::Global;
 ///
 /// Of an honest device on which nothing is pending, and whose image is sound: whatever it answers, and at whatever moment it
 /// is stopped, what is left is sound and says the same, and each block but the superblock's, the pages' and the counters'
-/// has the bytes that it had. So a second recovery gives the same.
+/// has the bytes that it had. So a second recovery gives the same. An image that isn't sound, but has
+/// none of these faults and nothing in its recovery journal from a later time, is left so too: as one that can be recovered.
 pub fn recover<D: Disk>(alloc: Global, device: &mut D) -> Result<Recovered, ImageFault>
     ensures { IsRecovery D.trust (D.seen device.old) (D.seen device.new) result }
 {

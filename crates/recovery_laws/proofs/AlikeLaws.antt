@@ -1,12 +1,10 @@
 -- Images that differ in the index alone are sound alike and say the same; so are those that differ in the superblock too, where
 -- that says the same sizes.
-use Rattle.std.proofs.Common.{ℕ, ◌≡◌, ◌+◌, ◌/◌, ◌%◌, ◌*◌, ◌<◌, ◌≤◌, ◌^◌, Bool, false, IsTrue, List, length, get_or, All, Some, Ok, refl, sym, ◌∙◌, ap, ap₂, subst, inl, inr, arith}
+use Rattle.std.proofs.Common.{ℕ, ◌≡◌, ◌+◌, ◌%◌, ◌*◌, ◌<◌, ◌≤◌, ◌^◌, Bool, false, IsTrue, List, length, get_or, All, Some, Ok, refl, sym, ◌∙◌, ap, subst, inl, inr, arith}
 use Rattle.blk_base.specs.Counters.{counters_per_sector, sector_of_offset}
-use Rattle.blk_base.specs.Regions.{Root, DataBlock, ReferenceBlock, block_of, needed_blocks, references_of}
+use Rattle.blk_base.specs.Regions.{needed_blocks, references_of}
 use Rattle.blk_base.specs.Sectors.{sector, zero_block}
-use Rattle.blk_base.proofs.RegionLaws.{data_block_high, inside}
 use Rattle.blk_base.specs.declared.geometry.Geometry.{Geometry}
-use Rattle.blk_base.specs.declared.geometry.Super.{Super}
 use Rattle.blk_base.specs.declared.journal_entry.Entry.{Entry}
 use Rattle.blk_base.specs.declared.layout.DataPlace.{DataPlace}
 use Rattle.blk_base.specs.declared.place.PageId.{PageId}
@@ -16,10 +14,9 @@ use Rattle.byte_fields.specs.Fields.{number_at}
 use Rattle.disk_model.specs.Log.{Blocks, block_at}
 use Rattle.disk_model.specs.OneImages.{AreAlikeIn}
 use Rattle.image_layout.specs.Opened.{super_of_image}
-use Rattle.image_layout.specs.Superblock.{super_of}
 use Rattle.image_layout.specs.Values.{journal_of}
 use Rattle.image_model.proofs.CountLaws.{one_stored}
-use Rattle.image_model.proofs.LookedLaws.{looked_first, looked_high, looked_in_place, looked_place}
+use Rattle.image_model.proofs.LookedLaws.{looked_in_place}
 use Rattle.image_model.specs.Counts.{IsUpdate, Stores, block_of_data, commit_of, reference_sector_at}
 use Rattle.image_model.specs.Looked.{is_looked_at, looked_in}
 use Rattle.image_model.specs.Maps.{Image, ArePagesGood, IsReadable, head_of, mapping_in, mapping_of, page_at, put_last, says, value_with}
@@ -29,13 +26,14 @@ use Rattle.journal_codec.specs.Grammar.{IsSector}
 use Rattle.page_codec.specs.Grammar.{HasHead, IsSlot}
 use Rattle.plain_laws.proofs.OptionLaws.{option_cases}
 use Rattle.recovery_laws.specs.Kept.{AreKept, SayTheSame, image_in}
+use Rattle.recovery_laws.specs.Recoverable.{sound_recoverable}
 use Rattle.recovery_laws.specs.Written.{AreOthersKept, AreRestKept}
 use Rattle.recovery_laws.proofs.CountsKept.{sector_inside, sectors_inside, stores_same}
-use Rattle.recovery_laws.proofs.OldLaws.{page_stands, says_own, says_put}
+use Rattle.recovery_laws.proofs.OldLaws.{says_own, says_put}
 use Rattle.recovery_laws.proofs.SameMapLaws.{same_map, same_mapping, same_mappings, same_page, still_unshared}
 use Rattle.recovery_laws.proofs.SoundLaws.{known, room}
 use Rattle.recovery_laws.proofs.StillLaws.{kept_again, kept_before, same_data, same_journal}
-use Rattle.recovery_laws.proofs.SuperLaws.{first_of_image}
+use Rattle.recovery_laws.proofs.UntouchedLaws.{page_same as same_page_at, same_super, sector_same as same_sector_at}
 use Rattle.recovery_laws.proofs.WindowFacts.{IsKnown}
 
 -- Blocks that are those of a sound image where it is looked, but for the superblock.
@@ -62,12 +60,7 @@ module _ (base now : Blocks) (sound : IsSound base) (size : length now ≡ lengt
   -- the pages
 
   page_same : (page : PageId) (at : Pbn) → page_at old page ≡ Some at → block_at now at.0 ≡ block_at base at.0
-  page_same page at there = let wide = enough in elim (page_stands old sound.pages sound.last all_known page at there) [
-    | inl root ↦ let below = inside g (Root page.tree) root.1 in let is = root.2 in same at.0 (omega (arith, is)) (omega (arith, below, is, wide)) (subst (λ (b : ℕ). IsTrue (is_looked_at g b)) is (looked_place g (Root page.tree) root.1 tt))
-    | inr stands ↦
-        let below = inside g (DataBlock stands.slab stands.offset) stands.inside in let is = stands.stands in let high = data_block_high g at.0 stands in
-        same at.0 (omega (arith, high)) (omega (arith, below, is, wide)) (looked_high g at.0 high)
-  ]
+  page_same = same_page_at base now (sound_recoverable base sound) size same
 
   says_the_same : (page : PageId) (at : Pbn) (slot : ℕ) → page_at old page ≡ Some at → slot < PAGE_SLOTS → says new page at slot ≡ says old page at slot
   says_the_same page at slot there small = elim (option_cases (put_last sound.window page slot)) [
@@ -91,10 +84,7 @@ module _ (base now : Blocks) (sound : IsSound base) (size : length now ≡ lengt
   -- the counters
 
   sector_same : (slab n : ℕ) → slab < g.slabs → n < 8 * references_of g → reference_sector_at g now slab n ≡ reference_sector_at g base slab n
-  sector_same slab n is below =
-      let wide = enough in let within = inside g (ReferenceBlock slab (n / 8)) (is, omega (arith, below)) in
-      ap (sector (n % 8)) (same (block_of g (ReferenceBlock slab (n / 8))) (omega arith) (omega (arith, within, wide))
-      (looked_place g (ReferenceBlock slab (n / 8)) (is, omega (arith, below)) tt))
+  sector_same = same_sector_at base now (sound_recoverable base sound) size same
 
   fewer : (place : DataPlace) (point : ℕ) → IsDataPlace g place → IsUpdate new place point → IsUpdate old place point
   fewer place point within (inl kept) = inl (kept_before old now sound.pages sound.last all_known enough size others place.slab _ within.0 kept)
@@ -196,11 +186,7 @@ module _ (base now : Blocks) (sound : IsSound base) (size : length now ≡ lengt
 -- Images that are alike in all but the index have the same superblock, are sound alike, and say the same.
 
 pub alike_super : (base now : Blocks) (sound : IsSound base) → AreAlikeIn (looked_in base) base now → super_of_image now ≡ Ok sound.head
-alike_super base now sound alike =
-    let enough = room base base sound in
-    let size = alike.size in
-    let first = alike.same 0 (omega (arith, enough)) (looked_first base) in
-    first_of_image now (omega (arith, enough, size)) ∙ ap₂ super_of first size ∙ sym (first_of_image base (omega (arith, enough))) ∙ sound.opens.accepted
+alike_super base now sound = same_super base now (sound_recoverable base sound)
 
 pub alike_is_kept : (base now : Blocks) (sound : IsSound base) → AreAlikeIn (looked_in base) base now → AreKept (image_in base sound) now
 alike_is_kept base now sound alike =

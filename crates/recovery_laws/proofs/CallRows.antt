@@ -1,4 +1,5 @@
 -- The calls of recovery: for each clause a case that it accepts, and one that it refuses.
+use Rattle.std.specs.List.{AllByRecursion}
 use Rattle.std.proofs.Common.{ℕ, ◌≡◌, ◌/◌, ◌%◌, ◌≤◌, ◌++◌, true, false, List, [], ◌∷◌, length, replicate, Some, refl, ◌∙◌, ap, subst, inl, inr, arith}
 use Rattle.blk_base.specs.Regions.{IndexBlock, ReferenceBlock, block_of}
 use Rattle.blk_base.specs.Sectors.{sector, zero_block}
@@ -9,7 +10,9 @@ use Rattle.blk_base.specs.declared.place.PageId.{PageId}
 use Rattle.blk_base.specs.declared.place.Pbn.{Pbn}
 use Rattle.blk_base.specs.Forms.{page, pbn}
 use Rattle.byte_fields.specs.Fields.{number_at}
+use Rattle.disk_model.specs.declared.call.Call.{Call}
 use Rattle.disk_model.specs.declared.call.Call.TheVariants.{Read, Write, Flush}
+use Rattle.image_format.proofs.StopLaws.{all_behind}
 use Rattle.disk_model.specs.Log.{Blocks, block_at, IsWritten}
 use Rattle.image_layout.specs.Superblock.{super_block}
 use Rattle.image_model.proofs.CountExample.{kept_is, updated}
@@ -17,7 +20,7 @@ use Rattle.image_model.proofs.Example.{small}
 use Rattle.image_model.proofs.MapExample.{image as mapped, remap}
 use Rattle.image_model.specs.Maps.{Image, page_at}
 use Rattle.image_model.specs.Sound.{IsSound}
-use Rattle.recovery_laws.specs.Calls.{ArePuts, IsCountersPut, IsPut, recovery_calls}
+use Rattle.recovery_laws.specs.Calls.{ArePuts, IsBegun, IsCountersPut, IsPut, call_failed, first_calls, put_failed, some_puts, recovery_calls}
 use Rattle.recovery_laws.specs.Kept.{image_in}
 use Rattle.recovery_laws.specs.Written.{IsFullPage, IsFullSector, IsOldSector}
 use Rattle.recovery_laws.proofs.KeptRows.{counted_as}
@@ -126,3 +129,41 @@ written_here = inl refl
 written_there : IsWritten (Read (pbn 8) [] true ∷ Write (pbn 9) [] true ∷ []) 8 → ⊥
 written_there (inl same) = omega (arith, same)
 written_there (inr none) = none
+
+-- The calls so far: none, a flush that failed, all calls, and all but the last one, which failed.
+none_yet : (image : Image) → IsBegun image 7 []
+none_yet image = some_puts tt
+
+flush_failed : (image : Image) → IsBegun image 7 (Flush false ∷ [])
+flush_failed image = put_failed [] (Flush true) refl tt (inr refl)
+
+all_made : (image : Image) → ArePuts image [] → IsBegun image 7 (recovery_calls image 7 [])
+all_made image are = first_calls [] [] are refl
+
+last_failed : (image : Image) → ArePuts image [] → IsBegun image 7 (Flush false ∷ Write (pbn 0) (super_block (record { geometry = image.geometry; clean = true; start = 9 })) true ∷ Flush true ∷ [])
+last_failed image are = call_failed [] [] (Write (pbn 0) (super_block (record { geometry = image.geometry; clean = true; start = 9 })) true ∷ Flush true ∷ []) (Flush true) refl are refl
+
+-- Behind a flush that failed there is no other call.
+abbrev IsFailedFlush : Call → Type 0
+IsFailedFlush call = call ≡ Flush false
+
+abbrev HasNone : List Call → Type 0
+HasNone calls = AllByRecursion (λ call. IsFailedFlush call → ⊥) calls
+
+puts_have_none : (image : Image) (calls : List Call) → AllByRecursion (IsPut image) calls → HasNone calls
+puts_have_none image [] each = tt
+puts_have_none image (Read _ _ _ ∷ calls) each = ((λ same. absurd (cc same)), puts_have_none image calls each.1)
+puts_have_none image (Write _ _ _ ∷ calls) each = ((λ same. absurd (cc same)), puts_have_none image calls each.1)
+puts_have_none image (Flush _ ∷ calls) each = absurd each.0
+
+calls_have_none : (image : Image) (newer puts older : List Call) → ArePuts image puts → recovery_calls image 7 puts ≡ newer ++ older → HasNone older
+calls_have_none image newer puts older are whole =
+    all_behind (λ call. IsFailedFlush call → ⊥) newer older
+    (subst HasNone whole ((λ same. absurd (cc same)), ((λ same. absurd (cc same)), ((λ same. absurd (cc same)), puts_have_none image puts are.each))))
+
+went_on : (image : Image) → IsBegun image 7 (Read (pbn 9) [] true ∷ Flush false ∷ []) → ⊥
+went_on image (some_puts each) = each.1.0
+went_on image (put_failed done call same each kind) = let older : done ≡ Flush false ∷ [] = cc same in (subst (AllByRecursion (IsPut image)) older each).0
+went_on image (first_calls puts newer are whole) = (calls_have_none image newer puts (Read (pbn 9) [] true ∷ Flush false ∷ []) are whole).1.0 refl
+went_on image (call_failed puts newer done call same are whole) =
+    let older : done ≡ Flush false ∷ [] = cc same in (subst HasNone older (calls_have_none image newer puts (call ∷ done) are whole).1).0 refl

@@ -10,6 +10,7 @@ use Rattle.image_layout.proofs.AgainLaws.{written_again}
 use Rattle.image_model.proofs.EmptyLaws.{sizes_of_image}
 use Rattle.image_model.specs.Sound.{IsSound}
 use Rattle.recovery_laws.specs.Calls.{ArePuts, IsPut, recovery_calls}
+use Rattle.recovery_laws.specs.Recoverable.{sound_recoverable}
 use Rattle.recovery_laws.specs.Kept.{IsHeadKept, IsToRecover, PutsOnly, image_in, recovered_super}
 use Rattle.recovery_laws.proofs.SoundLaws.{room}
 use Rattle.recovery_laws.proofs.StopLaws.{no_counters_first, no_page_first}
@@ -24,8 +25,8 @@ module _ (opening blocks : Blocks) (first : List Call) (to : IsToRecover opening
   put_keeps : (call : Call) → IsPut (image_in blocks sound) call → PutsOnly 0 IsKeptHead call
   put_keeps (Read _ _ _) is = tt
   put_keeps (Write at bytes true) is = λ same. elim is.1 [
-    | inl page ↦ absurd (no_page_first blocks sound to.named (page.0, at, page.1, same))
-    | inr counters ↦ absurd (no_counters_first blocks sound to.named (counters.slab, counters.i, counters.inside, counters.stands ∙ same))
+    | inl page ↦ absurd (no_page_first blocks (sound_recoverable blocks sound) to.named (page.0, at, page.1, same))
+    | inr counters ↦ absurd (no_counters_first blocks (sound_recoverable blocks sound) to.named (counters.slab, counters.i, counters.inside, counters.stands ∙ same))
   ]
   put_keeps (Write at bytes false) is = absurd is
   put_keeps (Flush _) is = absurd is

@@ -139,7 +139,7 @@ one_behind blocks head image accepted starts is =
 index_missed : AreIndexMissed small (Write (pbn 85) [] true ∷ Flush true ∷ [])
 index_missed i below = (λ same. omega (arith, same, below), (tt, tt))
 
-index_written : AreIndexMissed small (Write (pbn 84) [] false ∷ []) → ⊥
+pub index_written : AreIndexMissed small (Write (pbn 84) [] false ∷ []) → ⊥
 index_written missed = (missed 15 (omega arith)).0 refl
 
 stops_with_the_index_written : (blocks : Blocks) (sound : IsSound blocks) → sound.head.geometry ≡ small → AreStopsKept blocks sound [] [] (Write (pbn 84) [] false ∷ []) → ⊥

@@ -13,12 +13,12 @@ use Rattle.blk_base.specs.declared.sizes.TheConstants.{PAGE_SLOTS, TREES}
 use Rattle.blk_base.specs.Pages.{above, slot_of, leaf_of, slot_of_address}
 use Rattle.disk_model.specs.Log.{block_at}
 use Rattle.image_model.proofs.MapLaws.{page_in_range, slot_says_its_mapping}
-use Rattle.image_model.specs.Maps.{Image, ArePagesGood, IsReadable, head_of, linked_at, mapping_in, mapping_of, page_at, put_last, says, target_of}
+use Rattle.image_model.specs.Maps.{Image, ArePagesGood, IsGoodPage, IsReadable, head_of, linked_at, mapping_in, mapping_of, page_at, put_last, says, target_of}
 use Rattle.image_model.specs.Sound.{AreUnshared}
 use Rattle.image_model.specs.Windows.{LeadsToData}
 use Rattle.page_codec.specs.Grammar.{HoldsMapping, IsSlot}
 use Rattle.plain_laws.proofs.OptionLaws.{option_cases}
-use Rattle.recovery_laws.specs.Written.{IsPageBlock}
+use Rattle.recovery_laws.specs.Written.{IsPageBlock, IsPartPage}
 use Rattle.recovery_laws.proofs.SameMapLaws.{at_links}
 use Rattle.recovery_laws.proofs.WindowFacts.{IsKnown, last_leads}
 
@@ -42,6 +42,10 @@ own_slot image page at slot (inr (mapping, is)) none =
     let same : mapping ≡ says image page at slot =
     sym (slot_says_its_mapping (head_of image page at) (block_at image.blocks at.0) slot mapping is) ∙ sym (says_own image page at slot none) in
     subst (IsSlot (head_of image page at) (block_at image.blocks at.0) slot) same is
+
+-- so a page that can be read says there what it says with the window
+pub part_of_good : (image : Image) (page : PageId) (at : Pbn) → IsGoodPage image page at → IsPartPage image page at (block_at image.blocks at.0)
+part_of_good image page at good = record { headed = good.headed; slots = λ slot below none. own_slot image page at slot (good.slots slot below) none }
 
 holds_leads : (g : Geometry) (level : ℕ) (mapping : Mapping) → HoldsMapping g level mapping → LeadsToData g mapping
 holds_leads g level Unmapped holds = tt

@@ -17,30 +17,30 @@ use Rattle.disk_model.proofs.ImageLaws.{settled-misses}
 use Rattle.image_model.proofs.EmptyLaws.{sizes_of_image}
 use Rattle.image_model.specs.Counts.{IsUpdate, Stores, commit_at, commit_of, reference_sector_at}
 use Rattle.image_model.specs.Maps.{Image, page_at, put_last}
-use Rattle.image_model.specs.Sound.{IsSound}
 use Rattle.plain_laws.proofs.OptionLaws.{option_cases}
 use Rattle.replay_counts.specs.Recovered.{IsInSector}
+use Rattle.recovery_laws.specs.Recoverable.{IsRecoverable}
 use Rattle.recovery_laws.specs.Calls.{ArePuts, IsCountersPut, IsPagePut, IsPut}
 use Rattle.recovery_laws.specs.Written.{IsCountersBlock, IsFullPage, IsFullSector, IsOldSector, IsPageBlock, IsPartPage}
 use Rattle.recovery_laws.proofs.ContentLaws.{AllTaken, Puts, missed, settled_are, written_or_not}
 use Rattle.recovery_laws.proofs.CountsKept.{counter_is_stored, sectors_inside}
-use Rattle.recovery_laws.proofs.OldLaws.{no_page_there, own_slot}
+use Rattle.recovery_laws.proofs.OldLaws.{no_page_there, own_slot, part_of_good}
 use Rattle.recovery_laws.proofs.PageIdLaws.{one_page}
-use Rattle.recovery_laws.proofs.SoundLaws.{here, known}
+use Rattle.recovery_laws.proofs.RecoverableLaws.{here, known}
 use Rattle.recovery_laws.proofs.WindowFacts.{IsKnown}
 
 pub full_is_part : (image : Image) (page : PageId) (at : Pbn) (bytes : List ℕ) → IsFullPage image page at bytes → IsPartPage image page at bytes
 full_is_part image page at bytes full = record { headed = full.headed; slots = λ slot below none. full.slots slot below }
 
-module _ (blocks : Blocks) (sound : IsSound blocks) (named : sound.head.geometry.nonce < 2 ^ 64) where
+module _ (blocks : Blocks) (able : IsRecoverable blocks) (named : able.head.geometry.nonce < 2 ^ 64) where
   abbrev image : Image
-  image = here blocks blocks sound
+  image = here blocks blocks able
 
   abbrev g : Geometry
-  g = sound.head.geometry
+  g = able.head.geometry
 
-  abbrev all_known : All (IsKnown g sound.last) sound.window
-  all_known = known blocks blocks sound
+  abbrev all_known : All (IsKnown g able.last) able.window
+  all_known = known blocks blocks able
 
   -- What may stand in a block.
 
@@ -74,10 +74,7 @@ module _ (blocks : Blocks) (sound : IsSound blocks) (named : sound.head.geometry
 
   pub old_is_part : (b : ℕ) → IsPartBlock b (block_at blocks b)
   old_is_part b = record {
-    page = λ page at there same.
-        let good = sound.pages page at there in
-        subst (λ (k : ℕ). IsPartPage image page at (block_at blocks k)) same
-        (record { headed = good.headed; slots = λ slot below none. own_slot image page at slot (good.slots slot below) none });
+    page = λ page at there same. subst (λ (k : ℕ). IsPartPage image page at (block_at blocks k)) same (part_of_good image page at (able.pages page at there));
     counters = λ slab n is below same. inl (old_sector slab n b same);
     other = λ no_page no_counters. refl;
   }
@@ -85,7 +82,7 @@ module _ (blocks : Blocks) (sound : IsSound blocks) (named : sound.head.geometry
   -- what is written
   counters_page : (page : PageId) (at : Pbn) (slab i : ℕ) → page_at image page ≡ Some at → IsPlace g (ReferenceBlock slab i) → block_of g (ReferenceBlock slab i) ≡ at.0 → ⊥
   counters_page page at slab i there is same =
-      no_page_there image sound.pages sound.last all_known (ReferenceBlock slab i) is tt (page, at, there, sym same)
+      no_page_there image able.pages able.last all_known (ReferenceBlock slab i) is tt (page, at, there, sym same)
 
   counters_place : (slab n : ℕ) → slab < g.slabs → n < 8 * references_of g → IsPlace g (ReferenceBlock slab (n / 8))
   counters_place slab n is below = (is, omega (arith, below))
@@ -95,7 +92,7 @@ module _ (blocks : Blocks) (sound : IsSound blocks) (named : sound.head.geometry
     page = λ other other_at other_there same.
         let one_at : other_at ≡ at = ap (λ (k : ℕ). record { 0 = k }) same in
         let one : page ≡ other =
-        one_page image sound.pages sound.last all_known (sizes_of_image blocks sound.head sound.opens.accepted) named page other at there (other_there ∙ ap Some one_at) in
+        one_page image able.pages able.last all_known (sizes_of_image blocks able.head able.opens.accepted) named page other at there (other_there ∙ ap Some one_at) in
         subst (λ (a : Pbn). IsFullPage image other a bytes) (sym one_at) (subst (λ (p : PageId). IsFullPage image p at bytes) one full);
     counters = λ slab n is inside_slab same. absurd (counters_page page at slab (n / 8) there (counters_place slab n is (sectors_inside g n inside_slab)) same);
     past = λ slab n is past below same. absurd (counters_page page at slab (n / 8) there (counters_place slab n is below) same);
@@ -126,6 +123,12 @@ module _ (blocks : Blocks) (sound : IsSound blocks) (named : sound.head.geometry
   puts_full (Read _ _ _ ∷ calls) each = (tt, puts_full calls each.1)
   puts_full (Flush _ ∷ calls) each = absurd each.0
 
+  pub puts_part : (calls : List Call) → AllByRecursion (Puts IsFullBlock) calls → AllByRecursion (Puts IsPartBlock) calls
+  puts_part [] full = tt
+  puts_part (Read at bytes ok ∷ calls) full = (tt, puts_part calls full.1)
+  puts_part (Flush ok ∷ calls) full = (tt, puts_part calls full.1)
+  puts_part (Write at bytes ok ∷ calls) full = (full_block_is_part at.0 bytes full.0, puts_part calls full.1)
+
   pub puts_taken : (calls : List Call) → AllByRecursion (IsPut image) calls → AllByRecursion AllTaken calls
   puts_taken [] each = tt
   puts_taken (Write at bytes true ∷ calls) each = (refl, puts_taken calls each.1)
@@ -138,11 +141,11 @@ module _ (blocks : Blocks) (sound : IsSound blocks) (named : sound.head.geometry
     module _ (b : ℕ) (none : IsWritten puts b → ⊥) where
       full_already : (page : PageId) (at : Pbn) → page_at image page ≡ Some at → at.0 ≡ b → IsFullPage image page at (block_at blocks b)
       full_already page at there same =
-          let good = sound.pages page at there in
+          let good = able.pages page at there in
           subst (λ (k : ℕ). IsFullPage image page at (block_at blocks k)) same
           (record {
             headed = good.headed;
-            slots = λ slot below. elim (option_cases (put_last sound.window page slot)) [
+            slots = λ slot below. elim (option_cases (put_last able.window page slot)) [
               | inl left ↦ own_slot image page at slot (good.slots slot below) left
               | inr (mapping, put) ↦ absurd (none (subst (IsWritten puts) same (are.pages page at slot mapping there below put)))
             ];
@@ -155,7 +158,7 @@ module _ (blocks : Blocks) (sound : IsSound blocks) (named : sound.head.geometry
           record {
             commit = record { reached = inl refl; most = λ point above in_sector. absurd (none_in point above in_sector) };
             counters = λ place inside_place slab_is sector_is.
-                let was = sound.stored place inside_place in
+                let was = able.stored place inside_place in
                 let bytes_are : reference_sector_at g blocks place.slab (sector_of_offset g place.offset) ≡ reference_sector_at g blocks slab n =
                 ap₂ (λ (s m : ℕ). reference_sector_at g blocks s m) slab_is sector_is in
                 let none_here : (point : ℕ) → commit_of image place < point → IsUpdate image place point → ⊥ =

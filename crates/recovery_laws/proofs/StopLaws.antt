@@ -21,47 +21,47 @@ use Rattle.image_model.proofs.LookedLaws.{looked_high, looked_low, looked_place}
 use Rattle.image_model.specs.Counts.{reference_sector_at}
 use Rattle.image_model.specs.Looked.{is_looked_at}
 use Rattle.image_model.specs.Maps.{Image, head_of, page_at, says}
-use Rattle.image_model.specs.Sound.{IsSound}
 use Rattle.page_codec.proofs.SpellingLaws.{length-head}
 use Rattle.page_codec.specs.Grammar.{HasHead, HoldsMapping, IsSlot, slot_bytes}
 use Rattle.page_codec.specs.PageBytes.{head_bytes}
+use Rattle.recovery_laws.specs.Recoverable.{IsRecoverable}
 use Rattle.recovery_laws.specs.Written.{AreFull, AreUnderway, IsCountersBlock, IsFullPage, IsFullSector, IsOldSector, IsPageBlock, IsPartPage}
 use Rattle.recovery_laws.proofs.BlockLaws.{part_of_mix}
 use Rattle.recovery_laws.proofs.CountsKept.{sectors_inside}
 use Rattle.recovery_laws.proofs.OldLaws.{page_stands}
 use Rattle.recovery_laws.proofs.PutLaws.{IsFullBlock, IsPartBlock, full_is_part}
-use Rattle.recovery_laws.proofs.SoundLaws.{here, known, room}
+use Rattle.recovery_laws.proofs.RecoverableLaws.{here, known, room}
 use Rattle.recovery_laws.proofs.WindowFacts.{IsKnown}
 
-module _ (blocks : Blocks) (sound : IsSound blocks) (named : sound.head.geometry.nonce < 2 ^ 64) where
+module _ (blocks : Blocks) (able : IsRecoverable blocks) (named : able.head.geometry.nonce < 2 ^ 64) where
   abbrev image : Image
-  image = here blocks blocks sound
+  image = here blocks blocks able
 
   abbrev g : Geometry
-  g = sound.head.geometry
+  g = able.head.geometry
 
-  all_known : All (IsKnown g sound.last) sound.window
-  all_known = known blocks blocks sound
+  all_known : All (IsKnown g able.last) able.window
+  all_known = known blocks blocks able
 
   enough : needed_blocks g ≤ length blocks
-  enough = room blocks blocks sound
+  enough = room blocks blocks able
 
   -- a block whose contents are of a kind, mixed by sectors, is of it
 
   pub page_inside : (page : PageId) (at : Pbn) → page_at image page ≡ Some at → at.0 < length blocks
-  page_inside page at there = let wide = enough in elim (page_stands image sound.pages sound.last all_known page at there) [
+  page_inside page at there = let wide = enough in elim (page_stands image able.pages able.last all_known page at there) [
     | inl root ↦ let below = inside g (Root page.tree) root.1 in let is = root.2 in omega (arith, below, is, wide)
     | inr stands ↦ let below = inside g (DataBlock stands.slab stands.offset) stands.inside in let is = stands.stands in omega (arith, below, is, wide)
   ]
 
   page_behind : (page : PageId) (at : Pbn) → page_at image page ≡ Some at → 1 ≤ at.0
-  page_behind page at there = elim (page_stands image sound.pages sound.last all_known page at there) [
+  page_behind page at there = elim (page_stands image able.pages able.last all_known page at there) [
     | inl root ↦ let is = root.2 in omega (arith, is)
     | inr stands ↦ let high = data_block_high g at.0 stands in omega (arith, high)
   ]
 
   pub page_looked_at : (page : PageId) (at : Pbn) → page_at image page ≡ Some at → IsTrue (is_looked_at g at.0)
-  page_looked_at page at there = elim (page_stands image sound.pages sound.last all_known page at there) [
+  page_looked_at page at there = elim (page_stands image able.pages able.last all_known page at there) [
     | inl root ↦ subst (λ (b : ℕ). IsTrue (is_looked_at g b)) root.2 (looked_place g (Root page.tree) root.1 tt)
     | inr stands ↦ looked_high g at.0 (data_block_high g at.0 stands)
   ]
@@ -132,42 +132,42 @@ module _ (blocks : Blocks) (sound : IsSound blocks) (named : sound.head.geometry
 
     -- Before the superblock is written.
 
-    pub part_image : ((b : ℕ) → AllByRecursion (IsPartBlock blocks sound named b) (contents blocks calls b)) → AreUnderway image now
+    pub part_image : ((b : ℕ) → AllByRecursion (IsPartBlock blocks able named b) (contents blocks calls b)) → AreUnderway image now
     part_image all = record {
       size = is.size;
       head =
           sector_of_mix (λ (s : List ℕ). s ≡ sector 0 (block_at blocks 0)) (contents blocks calls 0) (block_at now 0) 0 (omega arith)
           (is.sectors 0 (let wide = enough in omega (arith, wide)) (looked_low g 0 (omega arith)))
-          (all_weaker (IsPartBlock blocks sound named 0) (λ content. sector 0 content ≡ sector 0 (block_at blocks 0)) (contents blocks calls 0)
+          (all_weaker (IsPartBlock blocks able named 0) (λ content. sector 0 content ≡ sector 0 (block_at blocks 0)) (contents blocks calls 0)
           (λ content part. ap (sector 0) (part.other no_page_first no_counters_first)) (all 0));
       pages = λ page at there. page_part page at there
-          (all_weaker (IsPartBlock blocks sound named at.0) (IsPartPage image page at) (contents blocks calls at.0) (λ content part. part.page page at there refl) (all at.0));
+          (all_weaker (IsPartBlock blocks able named at.0) (IsPartPage image page at) (contents blocks calls at.0) (λ content part. part.page page at there refl) (all at.0));
       counters = λ slab n is_slab below. sector_mixed (λ bytes. IsOldSector image slab n bytes ⊎ IsFullSector image slab n bytes) slab n is_slab below
-          (all_weaker (IsPartBlock blocks sound named (block_of g (ReferenceBlock slab (n / 8))))
+          (all_weaker (IsPartBlock blocks able named (block_of g (ReferenceBlock slab (n / 8))))
           (λ content. IsOldSector image slab n (sector (n % 8) content) ⊎ IsFullSector image slab n (sector (n % 8) content)) (contents blocks calls (block_of g (ReferenceBlock slab (n / 8))))
           (λ content part. part.counters slab n is_slab below refl) (all (block_of g (ReferenceBlock slab (n / 8)))));
       others = λ b behind below looked no_page no_counters.
           block_of_mix (contents blocks calls b) (block_at blocks b) (block_at now b) (old_whole b below) (is.whole b below) (is.sectors b below looked)
-          (all_weaker (IsPartBlock blocks sound named b) (λ content. content ≡ block_at blocks b) (contents blocks calls b)
+          (all_weaker (IsPartBlock blocks able named b) (λ content. content ≡ block_at blocks b) (contents blocks calls b)
           (λ content part. part.other no_page no_counters) (all b));
     }
 
     -- Once all else is on the device.
 
-    pub full_image : ((b : ℕ) → 1 ≤ b → AllByRecursion (IsFullBlock blocks sound named b) (contents blocks calls b)) → AreFull image now
+    pub full_image : ((b : ℕ) → 1 ≤ b → AllByRecursion (IsFullBlock blocks able named b) (contents blocks calls b)) → AreFull image now
     full_image all = record {
       size = is.size;
       pages = λ page at there. page_full page at there
-          (all_weaker (IsFullBlock blocks sound named at.0) (IsFullPage image page at) (contents blocks calls at.0) (λ content full. full.page page at there refl) (all at.0 (page_behind page at there)));
+          (all_weaker (IsFullBlock blocks able named at.0) (IsFullPage image page at) (contents blocks calls at.0) (λ content full. full.page page at there refl) (all at.0 (page_behind page at there)));
       counters = λ slab n is_slab inside_slab. sector_mixed (IsFullSector image slab n) slab n is_slab (sectors_inside g n inside_slab)
-          (all_weaker (IsFullBlock blocks sound named (block_of g (ReferenceBlock slab (n / 8)))) (λ content. IsFullSector image slab n (sector (n % 8) content))
+          (all_weaker (IsFullBlock blocks able named (block_of g (ReferenceBlock slab (n / 8)))) (λ content. IsFullSector image slab n (sector (n % 8) content))
           (contents blocks calls (block_of g (ReferenceBlock slab (n / 8)))) (λ content full. full.counters slab n is_slab inside_slab refl) (all (block_of g (ReferenceBlock slab (n / 8))) (omega arith)));
       past = λ slab n is_slab behind below. sector_mixed (IsOldSector image slab n) slab n is_slab below
-          (all_weaker (IsFullBlock blocks sound named (block_of g (ReferenceBlock slab (n / 8)))) (λ content. IsOldSector image slab n (sector (n % 8) content))
+          (all_weaker (IsFullBlock blocks able named (block_of g (ReferenceBlock slab (n / 8)))) (λ content. IsOldSector image slab n (sector (n % 8) content))
           (contents blocks calls (block_of g (ReferenceBlock slab (n / 8)))) (λ content full. full.past slab n is_slab behind below refl) (all (block_of g (ReferenceBlock slab (n / 8))) (omega arith)));
       others = λ b behind below looked no_page no_counters.
           block_of_mix (contents blocks calls b) (block_at blocks b) (block_at now b) (old_whole b below) (is.whole b below) (is.sectors b below looked)
-          (all_weaker (IsFullBlock blocks sound named b) (λ content. content ≡ block_at blocks b) (contents blocks calls b)
+          (all_weaker (IsFullBlock blocks able named b) (λ content. content ≡ block_at blocks b) (contents blocks calls b)
           (λ content full. full.other no_page no_counters) (all b behind));
     }
 

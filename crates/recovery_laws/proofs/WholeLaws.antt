@@ -1,22 +1,23 @@
 -- The laws of recovery as they are promised.
-use Rattle.std.proofs.Common.{ℕ, ◌≡◌, ◌⊎◌, ◌<◌, IsTrue, true, List, [], ◌∷◌, ◌++◌, length, refl, sym, ◌∙◌, ap, subst, inl, inr, arith, append_assoc}
+use Rattle.std.proofs.Common.{◌≡◌, ◌⊎◌, IsTrue, false, true, List, [], ◌∷◌, ◌++◌, length, refl, sym, ◌∙◌, subst, inl, inr, arith}
 use Rattle.std.specs.List.{AllByRecursion}
-use Rattle.blk_base.specs.Regions.{IndexBlock, block_of}
 use Rattle.blk_base.specs.declared.geometry.Geometry.{Geometry}
 use Rattle.disk_model.specs.declared.call.Call.{Call}
 use Rattle.disk_model.specs.declared.call.Call.TheVariants.{Flush}
-use Rattle.disk_model.specs.Images.{IsImage}
-use Rattle.disk_model.specs.Log.{Blocks, Misses, block_at}
+use Rattle.disk_model.specs.Log.{Blocks}
 use Rattle.image_format.specs.Runs.{as_failed}
-use Rattle.image_format.proofs.StopLaws.{all_behind, misses_failed}
+use Rattle.image_format.proofs.StopLaws.{all_behind}
 use Rattle.image_model.specs.Looked.{HasOneImageButIndex, is_looked_at}
 use Rattle.image_model.specs.Maps.{Image}
-use Rattle.image_model.specs.Sound.{IsDataPlace}
-use Rattle.recovery_laws.specs.Calls.{ArePuts, IsPut, recovery_calls}
-use Rattle.recovery_laws.specs.Kept.{AreIndexMissed, AreKept, AreStopsKept, IsHeadKept, IsRecovered, IsToRecover, PutsOnly, SayTheSame, image_in}
+use Rattle.image_model.specs.Sound.{IsDataPlace, IsSound}
+use Rattle.recovery_laws.specs.Calls.{ArePuts, IsBegun, IsPut, call_failed, first_calls, put_failed, some_puts, recovery_calls}
+use Rattle.recovery_laws.specs.Kept.{AreKept, AreStopsKept, IsHeadKept, IsRecovered, IsToRecover, PutsOnly, SayTheSame, image_in}
+use Rattle.recovery_laws.specs.Recoverable.{HasRecoverable, as_recoverable, sound_recoverable}
 use Rattle.recovery_laws.specs.Written.{AreRestKept, IsCountersBlock}
-use Rattle.recovery_laws.proofs.CallLaws.{at_last_one, cut_kept, each_kept, failure_kept, moment_kept, part_kept, put_misses, puts_miss}
+use Rattle.recovery_laws.proofs.CallLaws.{Shows}
 use Rattle.recovery_laws.proofs.HeadLaws.{all_keep, cut_keeps, failed_keeps, puts_keep}
+use Rattle.recovery_laws.proofs.ShowLaws.{begun_shows, recovered as recovered_so}
+use Rattle.recovery_laws.proofs.SoundLaws.{full_is_recovered, underway_is_kept}
 
 pub same_again : (old middle new : Image) → SayTheSame old middle → SayTheSame middle new → SayTheSame old new
 same_again old middle new first second = record {
@@ -47,89 +48,63 @@ kept_by_both old middle new first size second = record {
       ];
 }
 
--- While not all writes are made.
-module _ (opening blocks : Blocks) (first calls : List Call) (to : IsToRecover opening first blocks) (each : AllByRecursion (IsPut (image_in blocks to.sound)) calls) where
-  whole_blocks : (b : ℕ) → b < length blocks → length (block_at blocks b) ≡ 4096
-  whole_blocks b below = to.one.whole b (let size = to.one.size in omega (arith, size, below))
+-- Of a sound image: that it is sound and says the same.
 
-  pub parts : AreStopsKept blocks to.sound opening first calls
-  parts = record {
-    kept = λ newer older now same is.
-        each_kept blocks to.sound to.named to.unclean whole_blocks opening first calls newer older now to.one
-        (part_kept blocks to.sound to.named to.unclean whole_blocks calls each) same is;
-    heads = puts_keep opening blocks first to calls each;
-    index = λ i below. puts_miss blocks to.sound i below calls each;
-  }
+abbrev pub sound_shows : (blocks : Blocks) (sound : IsSound blocks) → sound.head.clean ≡ false → Shows blocks (sound_recoverable blocks sound)
+sound_shows blocks sound unclean = record {
+  Kept = AreKept (image_in blocks sound);
+  Closed = IsRecovered (image_in blocks sound) sound.last;
+  part = λ now underway. underway_is_kept blocks now sound unclean underway;
+  full = λ now full accepted. full_is_recovered blocks now sound full accepted;
+  kept = λ now recovered_is. recovered_is.kept;
+}
 
-  cut_misses : (i : ℕ) → i < to.sound.head.geometry.index → (call : Call) → IsPut (image_in blocks to.sound) call ⊎ (call ≡ Flush true)
-      → Misses (as_failed call) (block_of to.sound.head.geometry (IndexBlock i))
-  cut_misses i below call (inl is) = misses_failed call (block_of to.sound.head.geometry (IndexBlock i)) (put_misses blocks to.sound i below call is)
-  cut_misses i below call (inr is) = subst (λ (other : Call). Misses (as_failed other) (block_of to.sound.head.geometry (IndexBlock i))) (sym is) tt
-
-  pub cut : (call : Call) → IsPut (image_in blocks to.sound) call ⊎ (call ≡ Flush true) → AreStopsKept blocks to.sound opening first (as_failed call ∷ calls)
-  cut call kind = record {
-    kept = λ newer older now same is.
-        each_kept blocks to.sound to.named to.unclean whole_blocks opening first (as_failed call ∷ calls) newer older now to.one
-        (cut_kept blocks to.sound to.named to.unclean whole_blocks calls call each kind) same is;
-    heads = (cut_keeps opening blocks first to call kind, puts_keep opening blocks first to calls each);
-    index = λ i below. (cut_misses i below call kind, puts_miss blocks to.sound i below calls each);
-  }
-
-module _ (opening blocks : Blocks) (first puts : List Call) (to : IsToRecover opening first blocks) (are : ArePuts (image_in blocks to.sound) puts) where
+module _ (opening blocks : Blocks) (first : List Call) (to : IsToRecover opening first blocks) where
   abbrev image : Image
   image = image_in blocks to.sound
 
-  abbrev all_calls : List Call
-  all_calls = recovery_calls image to.sound.last puts
+  abbrev HeadsKept : List Call → Type 0
+  HeadsKept calls = AllByRecursion (PutsOnly 0 (IsHeadKept blocks to.sound)) calls
 
-  whole : (b : ℕ) → b < length blocks → length (block_at blocks b) ≡ 4096
-  whole b below = to.one.whole b (let size = to.one.size in omega (arith, size, below))
+  abbrev has : HasRecoverable opening first blocks
+  has = as_recoverable opening first blocks to
 
-  -- none of the calls writes the index
-  misses : (i : ℕ) → i < image.geometry.index → AllByRecursion (λ call. Misses call (block_of image.geometry (IndexBlock i))) all_calls
-  misses i below = (tt, (λ same. omega (arith, same), (tt, puts_miss blocks to.sound i below puts are.each)))
+  heads_behind : (puts newer calls : List Call) → ArePuts image puts → recovery_calls image to.sound.last puts ≡ newer ++ calls → HeadsKept calls
+  heads_behind puts newer calls are whole = all_behind (PutsOnly 0 (IsHeadKept blocks to.sound)) newer calls (subst HeadsKept whole (all_keep opening blocks first to puts are))
 
-  behind : (front calls : List Call) → all_calls ≡ front ++ calls → AreIndexMissed image.geometry calls
-  behind front calls parts i below =
-      let P : Call → Type 0 = λ call. Misses call (block_of image.geometry (IndexBlock i)) in
-      all_behind P front calls (subst (AllByRecursion P) parts (misses i below))
+  heads : (calls : List Call) → IsBegun image to.sound.last calls → HeadsKept calls
+  heads calls (some_puts each) = puts_keep opening blocks first to calls each
+  heads calls (put_failed done call same each kind) =
+      subst HeadsKept (sym same) (cut_keeps opening blocks first to call kind, puts_keep opening blocks first to done each)
+  heads calls (first_calls puts newer are whole) = heads_behind puts newer calls are whole
+  heads calls (call_failed puts newer done call same are whole) =
+      let all = heads_behind puts newer (call ∷ done) are whole in
+      subst HeadsKept (sym same) (failed_keeps opening blocks first to call all.0, all.1)
 
-  heads_behind : (front calls : List Call) → all_calls ≡ front ++ calls → AllByRecursion (PutsOnly 0 (IsHeadKept blocks to.sound)) calls
-  heads_behind front calls parts =
-      let P : Call → Type 0 = PutsOnly 0 (IsHeadKept blocks to.sound) in
-      all_behind P front calls (subst (AllByRecursion P) parts (all_keep opening blocks first to puts are))
+  -- wherever it ended
+  pub begun_kept : (calls : List Call) → IsBegun image to.sound.last calls → AreStopsKept blocks to.sound opening first calls
+  begun_kept calls begun =
+      let stops_are = begun_shows opening blocks first calls has (sound_shows blocks to.sound to.unclean) begun in
+      record { kept = stops_are.kept; heads = heads calls begun; index = stops_are.index }
 
-  moment : (front calls : List Call) → all_calls ≡ front ++ calls → (newer older : List Call) (now : Blocks) → calls ≡ newer ++ older → IsImage opening (older ++ first) now → AreKept image now
-  moment front calls parts newer older now same is =
-      moment_kept blocks to.sound to.named to.unclean whole puts are opening first to.one (front ++ newer) older now
-      (parts ∙ ap (λ (list : List Call). front ++ list) same ∙ sym (append_assoc front newer older)) is
+-- as they are promised
 
-  -- of the calls that were made so far, and of all
-  pub stops_behind : (front calls : List Call) → all_calls ≡ front ++ calls → AreStopsKept blocks to.sound opening first calls
-  stops_behind front calls parts = record { kept = moment front calls parts; heads = heads_behind front calls parts; index = behind front calls parts }
+pub parts : (opening blocks : Blocks) (first calls : List Call) (to : IsToRecover opening first blocks) → AllByRecursion (IsPut (image_in blocks to.sound)) calls
+    → AreStopsKept blocks to.sound opening first calls
+parts opening blocks first calls to each = begun_kept opening blocks first to calls (some_puts each)
 
-  pub stops : AreStopsKept blocks to.sound opening first all_calls
-  stops = stops_behind [] all_calls refl
+pub cut : (opening blocks : Blocks) (first calls : List Call) (call : Call) (to : IsToRecover opening first blocks) → AllByRecursion (IsPut (image_in blocks to.sound)) calls
+    → IsPut (image_in blocks to.sound) call ⊎ (call ≡ Flush true) → AreStopsKept blocks to.sound opening first (as_failed call ∷ calls)
+cut opening blocks first calls call to each kind = begun_kept opening blocks first to (as_failed call ∷ calls) (put_failed calls call refl each kind)
 
-  failure : (front done : List Call) (call : Call) → all_calls ≡ front ++ (call ∷ done) → (newer older : List Call) (now : Blocks) → as_failed call ∷ done ≡ newer ++ older
-      → IsImage opening (older ++ first) now → AreKept image now
-  failure front done call parts [] older now same is =
-      failure_kept blocks to.sound to.named to.unclean whole puts are opening first to.one front done call now parts
-      (subst (λ (calls : List Call). IsImage opening (calls ++ first) now) (sym same) is)
-  failure front done call parts (other ∷ newer) older now same is =
-      moment (front ++ (call ∷ [])) done (parts ∙ sym (append_assoc front (call ∷ []) done)) newer older now (cc same) is
+pub stops : (opening blocks : Blocks) (first puts : List Call) (to : IsToRecover opening first blocks) → ArePuts (image_in blocks to.sound) puts
+    → AreStopsKept blocks to.sound opening first (recovery_calls (image_in blocks to.sound) to.sound.last puts)
+stops opening blocks first puts to are = begun_kept opening blocks first to (recovery_calls (image_in blocks to.sound) to.sound.last puts) (first_calls puts [] are refl)
 
-  pub failures : (front done : List Call) (call : Call) → all_calls ≡ front ++ (call ∷ done) → AreStopsKept blocks to.sound opening first (as_failed call ∷ done)
-  failures front done call parts = record {
-    kept = failure front done call parts;
-    heads =
-        let all = heads_behind front (call ∷ done) parts in
-        (failed_keeps opening blocks first to call all.0, all.1);
-    index = λ i below.
-        let b = block_of image.geometry (IndexBlock i) in
-        let all = behind front (call ∷ done) parts i below in
-        (misses_failed call b all.0, all.1);
-  }
+pub failures : (opening blocks : Blocks) (first puts newer done : List Call) (call : Call) (to : IsToRecover opening first blocks) → ArePuts (image_in blocks to.sound) puts
+    → recovery_calls (image_in blocks to.sound) to.sound.last puts ≡ newer ++ (call ∷ done) → AreStopsKept blocks to.sound opening first (as_failed call ∷ done)
+failures opening blocks first puts newer done call to are whole = begun_kept opening blocks first to (as_failed call ∷ done) (call_failed puts newer done call refl are whole)
 
-  pub recovered : (now : Blocks) × HasOneImageButIndex opening (all_calls ++ first) now × IsRecovered image to.sound.last now
-  recovered = at_last_one blocks to.sound to.named to.unclean whole puts are opening first to.one
+pub recovered : (opening blocks : Blocks) (first puts : List Call) (to : IsToRecover opening first blocks) → ArePuts (image_in blocks to.sound) puts
+    → (now : Blocks) × HasOneImageButIndex opening (recovery_calls (image_in blocks to.sound) to.sound.last puts ++ first) now × IsRecovered (image_in blocks to.sound) to.sound.last now
+recovered opening blocks first puts to are = recovered_so opening blocks first puts (as_recoverable opening first blocks to) (sound_shows blocks to.sound to.unclean) are

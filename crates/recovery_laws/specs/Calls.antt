@@ -1,5 +1,5 @@
 -- The calls that recover an image, the newest first.
-use Rattle.std.specs.Prelude.{ℕ, ◌≡◌, ◌⊎◌, ◌/◌, ◌%◌, ◌<◌, ◌≤◌, true, false, List, ◌∷◌, length, Some}
+use Rattle.std.specs.Prelude.{ℕ, ◌≡◌, ◌⊎◌, ◌/◌, ◌%◌, ◌<◌, ◌≤◌, true, false, List, ◌∷◌, ◌++◌, length, Some}
 use Rattle.std.specs.List.{AllByRecursion}
 use Rattle.blk_base.specs.Counters.{sectors_per_slab}
 use Rattle.blk_base.specs.Regions.{ReferenceBlock, IsPlace, block_of}
@@ -12,6 +12,7 @@ use Rattle.disk_model.specs.declared.call.Call.{Call}
 use Rattle.disk_model.specs.declared.call.Call.TheVariants.{Read, Write, Flush}
 use Rattle.disk_model.specs.Log.{IsWritten}
 use Rattle.image_format.specs.Calls.{put}
+use Rattle.image_format.specs.Runs.{as_failed}
 use Rattle.image_layout.specs.Superblock.{super_block}
 use Rattle.image_model.specs.Counts.{commit_at}
 use Rattle.image_model.specs.Maps.{Image, page_at, put_last}
@@ -55,3 +56,12 @@ pub record ArePuts (image : Image) (calls : List Call) : Type 0 where
 abbrev pub recovery_calls : Image → ℕ → List Call → List Call
 recovery_calls image last puts =
     Flush true ∷ put 0 (super_block (recovered_super image.geometry last)) ∷ Flush true ∷ puts
+
+-- The calls of a recovery so far, wherever it ended: reads and writes; and one more of them, or a flush, that failed; or all of
+-- them, and some of those behind; and one more of these that failed.
+pub data IsBegun (image : Image) (last : ℕ) (calls : List Call) : Type 0 where
+  some_puts : AllByRecursion (IsPut image) calls → IsBegun image last calls
+  put_failed : (done : List Call) (call : Call) → calls ≡ as_failed call ∷ done → AllByRecursion (IsPut image) done → IsPut image call ⊎ (call ≡ Flush true) → IsBegun image last calls
+  first_calls : (puts newer : List Call) → ArePuts image puts → recovery_calls image last puts ≡ newer ++ calls → IsBegun image last calls
+  call_failed : (puts newer done : List Call) (call : Call) → calls ≡ as_failed call ∷ done → ArePuts image puts → recovery_calls image last puts ≡ newer ++ (call ∷ done)
+      → IsBegun image last calls

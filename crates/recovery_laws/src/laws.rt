@@ -9,8 +9,9 @@ ghost use Rattle.image_layout.specs.Opened.{super_of_image};
 ghost use Rattle.image_model.specs.Looked.{HasOneImageButIndex, looked_in};
 ghost use Rattle.image_model.specs.Maps.{Image};
 ghost use Rattle.image_model.specs.Sound.{IsSound};
-ghost use Rattle.recovery_laws.specs.Calls.{ArePuts, IsPut, recovery_calls};
+ghost use Rattle.recovery_laws.specs.Calls.{ArePuts, IsBegun, IsPut, recovery_calls};
 ghost use Rattle.recovery_laws.specs.Kept.{AreKept, AreStopsKept, IsRecovered, IsToRecover, SayTheSame, image_in, recovered_super};
+ghost use Rattle.recovery_laws.specs.Recoverable.{AreStopsStill, HasRecoverable, IsClosedStill, IsRecoverable, StillSays, recoverable_image};
 ghost use Rattle.recovery_laws.specs.Written.{AreFull, AreUnderway};
 
 /// While a sound image is recovered it is sound and says the same, with its other blocks as they were, and afterwards it is
@@ -75,4 +76,33 @@ pub fn recovery_keeps_what_an_image_says()
         × HasOneImageButIndex opening
         (recovery_calls (image_in blocks to.sound) to.sound.last puts ++ first) now
         × IsRecovered (image_in blocks to.sound) to.sound.last now }
+{}
+
+/// Whether an image is sound or not: while it is recovered, and afterwards, and at whatever moment it is stopped, it can be
+/// recovered and says the same, so that a stored count that wasn't the number of mappings is what it was. It does nothing.
+pub fn recovery_keeps_a_wrong_count()
+    // Over images alone: while it is, afterwards, and where only the index differs.
+    ensures underway { (blocks now : Blocks) (is : IsRecoverable blocks) →
+        AreUnderway (recoverable_image blocks is) now
+        → StillSays (recoverable_image blocks is) now }
+    ensures full { (blocks now : Blocks) (is : IsRecoverable blocks) →
+        AreFull (recoverable_image blocks is) now
+        → super_of_image now ≡ Ok (recovered_super is.head.geometry is.last) →
+        IsClosedStill (recoverable_image blocks is) is.last now }
+    ensures alike { (blocks now : Blocks) (is : IsRecoverable blocks) →
+        AreAlikeIn (looked_in blocks) blocks now
+        → StillSays (recoverable_image blocks is) now }
+
+    // Over logs: wherever it ended, and where all calls were made.
+    ensures begun { (opening blocks : Blocks) (first calls : List Call)
+        (to : HasRecoverable opening first blocks)
+        → IsBegun (recoverable_image blocks to.is) to.is.last calls →
+        AreStopsStill blocks to.is opening first calls }
+    ensures recovered { (opening blocks : Blocks) (first puts : List Call)
+        (to : HasRecoverable opening first blocks)
+        → ArePuts (recoverable_image blocks to.is) puts →
+        (now : Blocks)
+        × HasOneImageButIndex opening
+        (recovery_calls (recoverable_image blocks to.is) to.is.last puts ++ first) now
+        × IsClosedStill (recoverable_image blocks to.is) to.is.last now }
 {}

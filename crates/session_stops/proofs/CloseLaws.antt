@@ -22,6 +22,7 @@ use Rattle.image_model.proofs.EmptyLaws.{sizes_of_image}
 use Rattle.image_model.specs.Maps.{Image, page_at}
 use Rattle.image_model.specs.Sound.{IsSound}
 use Rattle.recovery_laws.specs.Kept.{AreKept, IsRecovered, image_in, recovered_super}
+use Rattle.recovery_laws.specs.Recoverable.{sound_recoverable}
 use Rattle.recovery_laws.specs.Written.{AreFull, IsFullPage, IsFullSector, IsOldSector}
 use Rattle.recovery_laws.proofs.SoundLaws.{full_is_recovered, known, room, underway_is_kept}
 use Rattle.recovery_laws.proofs.StopLaws.{full_is_underway, no_page_first}
@@ -118,7 +119,7 @@ module _ (opening : Blocks) (log : List Call) (base : Blocks) (to : IsToServe ba
     page_behind : (page : PageId) (at : Pbn) → page_at image page ≡ Some at → 1 ≤ at.0
     page_behind page at there = elim (cases_lt 0 at.0) [
       | inl behind ↦ omega (arith, behind)
-      | inr first ↦ absurd (no_page_first old sound named (page, at, there, omega (arith, first)))
+      | inr first ↦ absurd (no_page_first old (sound_recoverable old sound) named (page, at, there, omega (arith, first)))
     ]
 
     full_now : AreFull image now
@@ -162,7 +163,7 @@ module _ (opening : Blocks) (log : List Call) (base : Blocks) (to : IsToServe ba
     -- it isn't yet
 
     kept_yet : sector 0 (block_at now 0) ≡ sector 0 (super_block head) → AreKept image now
-    kept_yet same = underway_is_kept old now sound unclean (full_is_underway old sound named now full_now (same ∙ sym (ap (sector 0) old_first)))
+    kept_yet same = underway_is_kept old now sound unclean (full_is_underway old (sound_recoverable old sound) named now full_now (same ∙ sym (ap (sector 0) old_first)))
 
     says_yet : sector 0 (block_at now 0) ≡ sector 0 (super_block head) → super_of_image now ≡ Ok sound.head
     says_yet same =

@@ -27,6 +27,7 @@ use Rattle.journal_stops.proofs.OpenedLaws.{page_with_none}
 use Rattle.journal_stops.proofs.ReopenLaws.{closed_at_rest}
 use Rattle.journal_stops.proofs.StepLaws as journal
 use Rattle.recovery_laws.proofs.SoundLaws.{known, room}
+use Rattle.recovery_laws.specs.Recoverable.{sound_recoverable}
 use Rattle.recovery_laws.proofs.StopLaws.{page_looked_at}
 use Rattle.count_laws.specs.Counters.{CountsStand}
 use Rattle.count_laws.specs.Points.{ArePointed}
@@ -84,7 +85,7 @@ module _ (base : Blocks) (to : IsToServe base) where
       pages_on_it opened to.sound.pages to.sound.last (known base base to.sound) [] tt (length opening) (omega (arith, enough, size)) page at (page_with_none opened page ∙ there) in
       let none : opened.window ≡ window_from start start [] = (to.sound.closed to.clean).window ∙ sym (window_of_all start [] refl) in
       let empty : [] ≡ window_from start start [] = sym (window_of_all start [] refl) in
-      let stand = subst (PagesStand opening log opened []) none (pages.begins (is_looked_at g) opening log opened sized to.sound.pages (λ page at there. (on_it page at there, page_looked_at base to.sound to.named page at there))) in
+      let stand = subst (PagesStand opening log opened []) none (pages.begins (is_looked_at g) opening log opened sized to.sound.pages (λ page at there. (on_it page at there, page_looked_at base (sound_recoverable base to.sound) to.named page at there))) in
       let still = pages.pages_missed opening log opened [] (window_from start start []) stand writing (λ page at linked same. let high = page_behind base to [] tt page at linked in omega (arith, same, high)) in
       let counted = counts_in_front base to opening log [] (window_from start start []) (record { 0 = 0 }) (super_block (head_in base to)) true (omega arith)
       (subst (CountsStand opening log opened []) empty (counts_opened opening log one)) in
