@@ -13,6 +13,7 @@ pub mod PutLaws
 pub mod StopLaws
 pub mod CallLaws
 pub mod HeadLaws
+pub mod InsideLaws
 pub mod WholeLaws
 pub mod OpenedExample
 pub mod KeptRows

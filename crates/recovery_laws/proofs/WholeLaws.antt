@@ -1,7 +1,7 @@
 -- The laws of recovery as they are promised.
 use Rattle.std.proofs.Common.{ℕ, ◌≡◌, ◌⊎◌, ◌<◌, IsTrue, true, List, [], ◌∷◌, ◌++◌, length, refl, sym, ◌∙◌, ap, subst, inl, inr, arith, append_assoc}
 use Rattle.std.specs.List.{AllByRecursion}
-use Rattle.blk_base.specs.Regions.{IndexBlock, block_of}
+use Rattle.blk_base.specs.Regions.{IndexBlock, block_of, needed_blocks}
 use Rattle.blk_base.specs.declared.geometry.Geometry.{Geometry}
 use Rattle.disk_model.specs.declared.call.Call.{Call}
 use Rattle.disk_model.specs.declared.call.Call.TheVariants.{Flush}
@@ -13,10 +13,11 @@ use Rattle.image_model.specs.Looked.{HasOneImageButIndex, is_looked_at}
 use Rattle.image_model.specs.Maps.{Image}
 use Rattle.image_model.specs.Sound.{IsDataPlace}
 use Rattle.recovery_laws.specs.Calls.{ArePuts, IsPut, recovery_calls}
-use Rattle.recovery_laws.specs.Kept.{AreIndexMissed, AreKept, AreStopsKept, IsHeadKept, IsRecovered, IsToRecover, PutsOnly, SayTheSame, image_in}
+use Rattle.recovery_laws.specs.Kept.{AreIndexMissed, AreInside, AreKept, AreStopsKept, IsHeadKept, IsRecovered, IsToRecover, PutsOnly, SayTheSame, WritesBelow, image_in}
 use Rattle.recovery_laws.specs.Written.{AreRestKept, IsCountersBlock}
 use Rattle.recovery_laws.proofs.CallLaws.{at_last_one, cut_kept, each_kept, failure_kept, moment_kept, part_kept, put_misses, puts_miss}
 use Rattle.recovery_laws.proofs.HeadLaws.{all_keep, cut_keeps, failed_keeps, puts_keep}
+use Rattle.recovery_laws.proofs.InsideLaws.{all_below, cut_below, failed_below, puts_below}
 
 pub same_again : (old middle new : Image) → SayTheSame old middle → SayTheSame middle new → SayTheSame old new
 same_again old middle new first second = record {
@@ -59,6 +60,7 @@ module _ (opening blocks : Blocks) (first calls : List Call) (to : IsToRecover o
         (part_kept blocks to.sound to.named to.unclean whole_blocks calls each) same is;
     heads = puts_keep opening blocks first to calls each;
     index = λ i below. puts_miss blocks to.sound i below calls each;
+    inside = puts_below blocks to.sound to.named calls each;
   }
 
   cut_misses : (i : ℕ) → i < to.sound.head.geometry.index → (call : Call) → IsPut (image_in blocks to.sound) call ⊎ (call ≡ Flush true)
@@ -73,6 +75,7 @@ module _ (opening blocks : Blocks) (first calls : List Call) (to : IsToRecover o
         (cut_kept blocks to.sound to.named to.unclean whole_blocks calls call each kind) same is;
     heads = (cut_keeps opening blocks first to call kind, puts_keep opening blocks first to calls each);
     index = λ i below. (cut_misses i below call kind, puts_miss blocks to.sound i below calls each);
+    inside = (cut_below blocks to.sound to.named call kind, puts_below blocks to.sound to.named calls each);
   }
 
 module _ (opening blocks : Blocks) (first puts : List Call) (to : IsToRecover opening first blocks) (are : ArePuts (image_in blocks to.sound) puts) where
@@ -99,6 +102,11 @@ module _ (opening blocks : Blocks) (first puts : List Call) (to : IsToRecover op
       let P : Call → Type 0 = PutsOnly 0 (IsHeadKept blocks to.sound) in
       all_behind P front calls (subst (AllByRecursion P) parts (all_keep opening blocks first to puts are))
 
+  inside_behind : (front calls : List Call) → all_calls ≡ front ++ calls → AreInside image.geometry calls
+  inside_behind front calls parts =
+      let P : Call → Type 0 = WritesBelow (needed_blocks image.geometry) in
+      all_behind P front calls (subst (AllByRecursion P) parts (all_below blocks to.sound to.named puts are))
+
   moment : (front calls : List Call) → all_calls ≡ front ++ calls → (newer older : List Call) (now : Blocks) → calls ≡ newer ++ older → IsImage opening (older ++ first) now → AreKept image now
   moment front calls parts newer older now same is =
       moment_kept blocks to.sound to.named to.unclean whole puts are opening first to.one (front ++ newer) older now
@@ -106,7 +114,12 @@ module _ (opening blocks : Blocks) (first puts : List Call) (to : IsToRecover op
 
   -- of the calls that were made so far, and of all
   pub stops_behind : (front calls : List Call) → all_calls ≡ front ++ calls → AreStopsKept blocks to.sound opening first calls
-  stops_behind front calls parts = record { kept = moment front calls parts; heads = heads_behind front calls parts; index = behind front calls parts }
+  stops_behind front calls parts = record {
+    kept = moment front calls parts;
+    heads = heads_behind front calls parts;
+    index = behind front calls parts;
+    inside = inside_behind front calls parts;
+  }
 
   pub stops : AreStopsKept blocks to.sound opening first all_calls
   stops = stops_behind [] all_calls refl
@@ -129,6 +142,9 @@ module _ (opening blocks : Blocks) (first puts : List Call) (to : IsToRecover op
         let b = block_of image.geometry (IndexBlock i) in
         let all = behind front (call ∷ done) parts i below in
         (misses_failed call b all.0, all.1);
+    inside =
+        let all = inside_behind front (call ∷ done) parts in
+        (failed_below (needed_blocks image.geometry) call all.0, all.1);
   }
 
   pub recovered : (now : Blocks) × HasOneImageButIndex opening (all_calls ++ first) now × IsRecovered image to.sound.last now
