@@ -50,7 +50,7 @@ module _ (s : Setting) (left : ℕ) (before after : Outside) (image : Blocks) (t
   kept_leaves keeps later prefix parts stop is =
       let kept = keeps image told can.sound in
       let calls_are : kept.0 ≡ later ++ prefix = same_front kept.0 (later ++ prefix) before.device.log (sym kept.1 ∙ parts ∙ sym (append_assoc later prefix before.device.log)) in
-      let shown = kept.2 later prefix calls_are stop is in
+      let shown = kept.2.0 later prefix calls_are stop is in
       to_next stop
       (may_begin before.device.opening (prefix ++ before.device.log) stop can.sound.head.geometry (next_start image can.sound) left shown.0 is shown.1
       (let late = can.late in omega (arith, late)) can.named)
