@@ -6,6 +6,7 @@ pub mod SequenceLaws
 pub mod EarlyLaws
 pub mod EndLaws
 pub mod EndOfTrace
+pub mod InsideLaws
 pub mod LogRows
 pub mod SequenceRows
 pub mod EndRows

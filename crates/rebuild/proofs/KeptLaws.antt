@@ -3,7 +3,7 @@ use Rattle.std.proofs.Common.{ℕ, ◌≡◌, Bool, IsTrue, true, List, [], ◌�
 use Rattle.std.specs.List.{AllByRecursion}
 use Rattle.blk_base.specs.declared.geometry.Super.{Super as Superblock}
 use Rattle.blk_base.specs.declared.journal_entry.CommittedEntry.{CommittedEntry}
-use Rattle.blk_base.specs.Regions.{IndexBlock, block_of}
+use Rattle.blk_base.specs.Regions.{IndexBlock, block_of, needed_blocks}
 use Rattle.disk_model.specs.declared.call.Call.{Call}
 use Rattle.disk_model.specs.declared.call.Call.TheVariants.{Read, Write, Flush}
 use Rattle.disk_model.specs.declared.call.Failed.{Failed}
@@ -28,6 +28,7 @@ use Rattle.recovery_laws.proofs.WholeLaws.{begun_kept}
 use Rattle.recovery_laws.specs.Calls.{ArePuts, IsPut, call_failed, first_calls, put_failed, some_puts, recovery_calls}
 use Rattle.recovery_laws.specs.Kept.{IsHeadKept, IsToRecover, PutsOnly, image_in, recovered_super}
 use Rattle.recovery_laws.specs.Recoverable.{IsRecoverable, recoverable_image, sound_recoverable}
+use Rattle.recovery_laws.proofs.InsideLaws.{reads_below}
 use Rattle.rebuild.specs.Acts.{AreMade, HasStopped, IsFlush, IsStart}
 use Rattle.rebuild.specs.Outcomes.{Ends, IsAllMade, IsBegunSince, IsKeptSince, IsStillSince}
 
@@ -64,6 +65,7 @@ untouched_kept tells before now blocks sound told one untouched =
             alike_is_kept blocks image sound (one_in-unique (looked_in blocks) before.opening (older ++ before.log) blocks image still is);
         heads = reads_put_nothing 0 (IsHeadKept blocks sound) since.0 since.2;
         index = λ i below. reads_miss (block_of sound.head.geometry (IndexBlock i)) since.0 since.2;
+        inside = reads_below (needed_blocks sound.head.geometry) since.0 since.2;
       },
     )
 

@@ -209,6 +209,7 @@ module _ (blocks : Blocks) (sound : IsSound blocks) (one : HasOneImage blocks []
           subst (AreKept (image_in blocks sound)) (sym (one_image-unique blocks [] blocks now one here)) (kept_by_itself blocks sound);
       heads = tt;
       index = λ i below. tt;
+      inside = tt;
     },
   )
 

@@ -1,5 +1,6 @@
 -- What is kept: for each clause a case that it accepts, and one that it refuses.
-use Rattle.std.proofs.Common.{ℕ, zero, suc, ◌≡◌, ◌+◌, ◌<◌, ◌≤◌, ◌++◌, true, false, List, [], ◌∷◌, length, replicate, Result, Ok, refl, sym, ◌∙◌, ap, subst, inl, inr, arith}
+use Rattle.std.proofs.Common.{ℕ, zero, suc, ◌≡◌, ◌+◌, ◌<◌, ◌≤◌, ◌++◌, Bool, true, false, List, [], ◌∷◌, length, replicate, Result, Ok, refl, sym, ◌∙◌, ap, subst, inl, inr, arith}
+use Rattle.blk_base.specs.Regions.{needed_blocks}
 use Rattle.blk_base.specs.Sectors.{sector, zero_block}
 use Rattle.blk_base.specs.declared.geometry.Geometry.{Geometry}
 use Rattle.blk_base.specs.declared.geometry.Super.{Super}
@@ -8,7 +9,7 @@ use Rattle.blk_base.specs.Forms.{pbn}
 use Rattle.blk_base.proofs.Example.{place}
 use Rattle.byte_fields.specs.Fields.{number_at}
 use Rattle.disk_model.specs.Log.{Blocks, block_at}
-use Rattle.disk_model.specs.declared.call.Call.TheVariants.{Write, Flush}
+use Rattle.disk_model.specs.declared.call.Call.TheVariants.{Read, Write, Flush}
 use Rattle.image_layout.specs.Opened.{super_of_image}
 use Rattle.image_layout.specs.Superblock.{super_of}
 use Rattle.image_layout.specs.declared.fault.SuperFault.{SuperFault}
@@ -21,7 +22,7 @@ use Rattle.image_model.specs.Maps.{Image}
 use Rattle.image_model.specs.Sound.{IsSound}
 use Rattle.slab_codec.specs.Grammar.{IsSlabSector}
 use Rattle.slab_codec.specs.declared.forms.SlabEntry.{SlabEntry}
-use Rattle.recovery_laws.specs.Kept.{AreKept, IsRecovered, SayTheSame, image_in, recovered_super, AreIndexMissed, AreStopsKept, IsHeadKept, PutsOnly}
+use Rattle.recovery_laws.specs.Kept.{AreKept, IsRecovered, SayTheSame, image_in, recovered_super, AreIndexMissed, AreInside, AreStopsKept, IsHeadKept, PutsOnly}
 use Rattle.recovery_laws.specs.Written.{AreOthersKept, AreRestKept}
 use Rattle.recovery_laws.proofs.CountsKept.{stores_counter}
 
@@ -152,6 +153,16 @@ puts_short at = refl
 
 puts_long : PutsOnly 5 (λ bytes. length bytes ≡ 1) (Write (pbn 5) (7 ∷ 7 ∷ []) false) → ⊥
 puts_long puts = let size = puts refl in omega (arith, size)
+
+-- The end of an image: its last block is 153. Calls that write no block behind it, and a write of the first one there, whether it fails or not.
+writes_inside : AreInside small (Flush true ∷ Write (pbn 153) [] true ∷ Read (pbn 4000) [] true ∷ [])
+writes_inside = (tt, (omega arith, (tt, tt)))
+
+writes_behind : (ok : Bool) → AreInside small (Write (pbn 154) [] ok ∷ []) → ⊥
+writes_behind ok are = let below = are.0 in omega (arith, below)
+
+stops_with_a_block_behind : (blocks : Blocks) (sound : IsSound blocks) (bytes : List ℕ) (ok : Bool) → AreStopsKept blocks sound [] [] (Write (pbn (needed_blocks sound.head.geometry)) bytes ok ∷ []) → ⊥
+stops_with_a_block_behind blocks sound bytes ok stops = let below = stops.inside.0 in omega (arith, below)
 
 -- Block 0 of an image that wasn't closed: it has the old superblock, or the one that recovery writes.
 module _ (blocks : Blocks) (sound : IsSound blocks) where

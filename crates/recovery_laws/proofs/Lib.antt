@@ -17,6 +17,7 @@ pub mod StopLaws
 pub mod CallLaws
 pub mod ShowLaws
 pub mod HeadLaws
+pub mod InsideLaws
 pub mod WholeLaws
 pub mod OpenedExample
 pub mod KeptRows

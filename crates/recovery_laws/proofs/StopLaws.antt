@@ -48,11 +48,14 @@ module _ (blocks : Blocks) (able : IsRecoverable blocks) (named : able.head.geom
 
   -- a block whose contents are of a kind, mixed by sectors, is of it
 
-  pub page_inside : (page : PageId) (at : Pbn) → page_at image page ≡ Some at → at.0 < length blocks
-  page_inside page at there = let wide = enough in elim (page_stands image able.pages able.last all_known page at there) [
-    | inl root ↦ let below = inside g (Root page.tree) root.1 in let is = root.2 in omega (arith, below, is, wide)
-    | inr stands ↦ let below = inside g (DataBlock stands.slab stands.offset) stands.inside in let is = stands.stands in omega (arith, below, is, wide)
+  pub page_below : (page : PageId) (at : Pbn) → page_at image page ≡ Some at → at.0 < needed_blocks g
+  page_below page at there = elim (page_stands image able.pages able.last all_known page at there) [
+    | inl root ↦ let below = inside g (Root page.tree) root.1 in let is = root.2 in omega (arith, below, is)
+    | inr stands ↦ let below = inside g (DataBlock stands.slab stands.offset) stands.inside in let is = stands.stands in omega (arith, below, is)
   ]
+
+  pub page_inside : (page : PageId) (at : Pbn) → page_at image page ≡ Some at → at.0 < length blocks
+  page_inside page at there = let wide = enough in let below = page_below page at there in omega (arith, below, wide)
 
   page_behind : (page : PageId) (at : Pbn) → page_at image page ≡ Some at → 1 ≤ at.0
   page_behind page at there = elim (page_stands image able.pages able.last all_known page at there) [

@@ -1,6 +1,7 @@
 -- The laws of recovery as they are promised.
 use Rattle.std.proofs.Common.{◌≡◌, ◌⊎◌, IsTrue, false, true, List, [], ◌∷◌, ◌++◌, length, refl, sym, ◌∙◌, subst, inl, inr, arith}
 use Rattle.std.specs.List.{AllByRecursion}
+use Rattle.blk_base.specs.Regions.{needed_blocks}
 use Rattle.blk_base.specs.declared.geometry.Geometry.{Geometry}
 use Rattle.disk_model.specs.declared.call.Call.{Call}
 use Rattle.disk_model.specs.declared.call.Call.TheVariants.{Flush}
@@ -11,11 +12,12 @@ use Rattle.image_model.specs.Looked.{HasOneImageButIndex, is_looked_at}
 use Rattle.image_model.specs.Maps.{Image}
 use Rattle.image_model.specs.Sound.{IsDataPlace, IsSound}
 use Rattle.recovery_laws.specs.Calls.{ArePuts, IsBegun, IsPut, call_failed, first_calls, put_failed, some_puts, recovery_calls}
-use Rattle.recovery_laws.specs.Kept.{AreKept, AreStopsKept, IsHeadKept, IsRecovered, IsToRecover, PutsOnly, SayTheSame, image_in}
+use Rattle.recovery_laws.specs.Kept.{AreInside, AreKept, AreStopsKept, IsHeadKept, IsRecovered, IsToRecover, PutsOnly, SayTheSame, WritesBelow, image_in}
 use Rattle.recovery_laws.specs.Recoverable.{HasRecoverable, as_recoverable, sound_recoverable}
 use Rattle.recovery_laws.specs.Written.{AreRestKept, IsCountersBlock}
 use Rattle.recovery_laws.proofs.CallLaws.{Shows}
 use Rattle.recovery_laws.proofs.HeadLaws.{all_keep, cut_keeps, failed_keeps, puts_keep}
+use Rattle.recovery_laws.proofs.InsideLaws.{all_below, cut_below, failed_below, puts_below}
 use Rattle.recovery_laws.proofs.ShowLaws.{begun_shows, recovered as recovered_so}
 use Rattle.recovery_laws.proofs.SoundLaws.{full_is_recovered, underway_is_kept}
 
@@ -81,11 +83,25 @@ module _ (opening blocks : Blocks) (first : List Call) (to : IsToRecover opening
       let all = heads_behind puts newer (call ∷ done) are whole in
       subst HeadsKept (sym same) (failed_keeps opening blocks first to call all.0, all.1)
 
+  abbrev Inside : List Call → Type 0
+  Inside calls = AreInside image.geometry calls
+
+  inside_behind : (puts newer calls : List Call) → ArePuts image puts → recovery_calls image to.sound.last puts ≡ newer ++ calls → Inside calls
+  inside_behind puts newer calls are whole = all_behind (WritesBelow (needed_blocks image.geometry)) newer calls (subst Inside whole (all_below blocks to.sound to.named puts are))
+
+  insides : (calls : List Call) → IsBegun image to.sound.last calls → Inside calls
+  insides calls (some_puts each) = puts_below blocks to.sound to.named calls each
+  insides calls (put_failed done call same each kind) = subst Inside (sym same) (cut_below blocks to.sound to.named call kind, puts_below blocks to.sound to.named done each)
+  insides calls (first_calls puts newer are whole) = inside_behind puts newer calls are whole
+  insides calls (call_failed puts newer done call same are whole) =
+      let all = inside_behind puts newer (call ∷ done) are whole in
+      subst Inside (sym same) (failed_below (needed_blocks image.geometry) call all.0, all.1)
+
   -- wherever it ended
   pub begun_kept : (calls : List Call) → IsBegun image to.sound.last calls → AreStopsKept blocks to.sound opening first calls
   begun_kept calls begun =
       let stops_are = begun_shows opening blocks first calls has (sound_shows blocks to.sound to.unclean) begun in
-      record { kept = stops_are.kept; heads = heads calls begun; index = stops_are.index }
+      record { kept = stops_are.kept; heads = heads calls begun; index = stops_are.index; inside = insides calls begun }
 
 -- as they are promised
 

@@ -1,7 +1,7 @@
 -- What recovery keeps of an image.
 use Rattle.std.specs.Prelude.{ℕ, ◌≡◌, ◌⊎◌, ◌+◌, ◌^◌, ◌<◌, ◌↔◌, ◌++◌, true, false, List, length, Ok}
 use Rattle.std.specs.List.{AllByRecursion}
-use Rattle.blk_base.specs.Regions.{IndexBlock, block_of}
+use Rattle.blk_base.specs.Regions.{IndexBlock, block_of, needed_blocks}
 use Rattle.blk_base.specs.declared.geometry.Geometry.{Geometry}
 use Rattle.blk_base.specs.declared.geometry.Super.{Super}
 use Rattle.blk_base.specs.declared.layout.DataPlace.{DataPlace}
@@ -40,6 +40,16 @@ image_in blocks sound = image_of sound.head blocks sound.window
 abbrev pub AreIndexMissed : Geometry → List Call → Type 0
 AreIndexMissed g calls = (i : ℕ) → i < g.index → AllByRecursion (λ call. Misses call (block_of g (IndexBlock i))) calls
 
+-- this call, whether it fails or not, writes no block from this one on
+abbrev pub WritesBelow : ℕ → Call → Type 0
+WritesBelow end (Read _ _ _) = Unit {0}
+WritesBelow end (Write at _ _) = at.0 < end
+WritesBelow end (Flush _) = Unit {0}
+
+-- these calls write no block behind an image of these sizes
+abbrev pub AreInside : Geometry → List Call → Type 0
+AreInside g calls = AllByRecursion (WritesBelow (needed_blocks g)) calls
+
 -- The superblock that recovery writes: closed, and the next session begins two behind the last sequence, so that a block
 -- of the next one that was torn stays below every later session.
 abbrev pub recovered_super : Geometry → ℕ → Super
@@ -59,11 +69,12 @@ IsHeadKept blocks sound content =
     ⊎ ((sound.head.clean ≡ false) × (super_of content (length blocks) ≡ Ok (recovered_super sound.head.geometry sound.last)))
 
 -- Whatever a stop leaves at each moment since the log was the first one, once all these calls were made and before: the
--- same image. Of block 0 no other superblock is written, and of the index nothing.
+-- same image. Of block 0 no other superblock is written, of the index nothing, and nothing behind the image.
 pub record AreStopsKept (blocks : Blocks) (sound : IsSound blocks) (opening : Blocks) (first calls : List Call) : Type 0 where
   pub kept : (newer older : List Call) (now : Blocks) → calls ≡ newer ++ older → IsImage opening (older ++ first) now → AreKept (image_in blocks sound) now
   pub heads : AllByRecursion (PutsOnly 0 (IsHeadKept blocks sound)) calls
   pub index : AreIndexMissed sound.head.geometry calls
+  pub inside : AreInside sound.head.geometry calls
 
 -- the image was recovered: it says the same, its other blocks are what they were, it is closed, and the next session begins there
 pub record IsRecovered (old : Image) (last : ℕ) (blocks : Blocks) : Type 0 where

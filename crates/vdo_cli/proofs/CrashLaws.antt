@@ -76,7 +76,7 @@ module _ (first copy : Memory) (blocks : Blocks) (sound : IsSound blocks) (told 
       left_unserved report not =
           let kept = unready_kept of_memory flushed (seen_of copy) not.recovered not.why not.unready blocks told_then sound in
           let calls_are : kept.0 ≡ newer ++ front = same_front kept.0 (newer ++ front) flushed.log (sym kept.1 ∙ parts ∙ sym (append_assoc newer front flushed.log)) in
-          let shown = (kept.2 newer front calls_are picked is).1 in (shown.sound, shown.sizes)
+          let shown = (kept.2.0 newer front calls_are picked is).1 in (shown.sound, shown.sizes)
 
       left_of_run : (schedule : ℕ) (report : RunReport) → IsServedOrNot of_memory schedule report flushed (seen_of copy) → IsOne picked
       left_of_run schedule report (inl served) = left_served schedule report served

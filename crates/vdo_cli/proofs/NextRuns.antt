@@ -117,7 +117,7 @@ module _ (trust : Trust) (left : ℕ) (before : Seen) (begin : MayBegin trust (2
     kept_goes keeps later prefix parts stop is =
         let kept = keeps begin.image told first.0.sound in
         let calls_are : kept.0 ≡ later ++ prefix = same_front kept.0 (later ++ prefix) flushed.log (sym kept.1 ∙ parts ∙ sym (append_assoc later prefix flushed.log)) in
-        let shown = kept.2 later prefix calls_are stop is in
+        let shown = kept.2.0 later prefix calls_are stop is in
         shown_goes flushed.opening (prefix ++ flushed.log) (next_start begin.image first.0.sound) stop shown.0 is shown.1 (let late = first.0.late in omega (arith, late))
 
     module _ (outcome : Outcome) (enough : 2 ^ 20 ≤ 2 ^ 18 + left) where

@@ -177,7 +177,7 @@ not_begun-not_unsound : (before after : Outside) (status : ℕ) (report : RunRep
     → EndsChange (setting (trust_of true true) true true) script before after (outcome status report (Some (fault.Image why))) → IsImage before.device.opening after.device.log other → (IsSound other → ⊥) → ⊥
 not_begun-not_unsound before after status report why blocks other told sound ends is_image never =
     let kept = ends.early blocks told sound in
-    let shown = kept.2 [] kept.0 refl other (subst (λ (log : List Call). IsImage before.device.opening log other) kept.1 is_image) in
+    let shown = kept.2.0 [] kept.0 refl other (subst (λ (log : List Call). IsImage before.device.opening log other) kept.1 is_image) in
     never shown.1.sound
 
 -- A device that doesn't tell says nothing of stops, and neither does one whose image isn't sound.

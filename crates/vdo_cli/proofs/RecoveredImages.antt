@@ -11,7 +11,8 @@ use Rattle.disk_model.specs.declared.call.Call.{Call}
 use Rattle.image_model.specs.Maps.{value_of}
 use Rattle.image_model.specs.Sound.{IsSound}
 use Rattle.image_model.specs.declared.fault.ImageFault.{ImageFault}
-use Rattle.recovery_laws.specs.Kept.{image_in}
+use Rattle.recovery_laws.proofs.InsideLaws.{reads_below}
+use Rattle.recovery_laws.specs.Kept.{AreInside, image_in}
 use Rattle.rebuild.proofs.KeptLaws.{opened_alike}
 use Rattle.rebuild.proofs.ReadLaws.{still}
 use Rattle.rebuild.specs.Outcomes.{IsKeptSince}
@@ -19,6 +20,7 @@ use Rattle.rebuild.specs.Recoveries.{IsRecovery, IsTold}
 use Rattle.rebuild.specs.declared.forms.Recovered.{Recovered}
 use Rattle.rebuild.specs.declared.forms.Recovered.TheVariants.{Clean, Entries}
 use Rattle.core_stops.proofs.EarlyLaws.{early_shows}
+use Rattle.core_stops.proofs.InsideLaws.{inside_both}
 use Rattle.core_stops.proofs.SequenceLaws.{recovered_next, served}
 use Rattle.core_stops.specs.Logs.{StopsShow}
 use Rattle.core_stops.specs.Sequences.{ShowsValues, next_start}
@@ -76,13 +78,20 @@ module _ (trust : Trust) (before middle : Seen) (image : Blocks) (sound : IsSoun
   abbrev Shows : List Call → Type 0
   Shows = StopsShow (ShowsValues sound.head.geometry most) before.opening before.log logical (value_of (image_in image sound))
 
-  recovered_shows : (reads : List Call) → OnlyReads reads → Shows (reads ++ kept.0)
-  recovered_shows reads only = early_shows before.opening image before.log sound most logical few kept.0 reads only (served before.opening image before.log sound is.one kept.0 kept.2)
+  -- and no block behind it is written
+  abbrev Keeps : List Call → Type 0
+  Keeps calls = Shows calls × AreInside sound.head.geometry calls
 
-  pub shows_yet : SinceThen Shows before.log middle.log
+  recovered_shows : (reads : List Call) → OnlyReads reads → Keeps (reads ++ kept.0)
+  recovered_shows reads only = (
+    early_shows before.opening image before.log sound most logical few kept.0 reads only (served before.opening image before.log sound is.one kept.0 kept.2),
+    inside_both sound.head.geometry reads kept.0 (reads_below (needed_blocks sound.head.geometry) reads only) kept.2.inside,
+  )
+
+  pub shows_yet : SinceThen Keeps before.log middle.log
   shows_yet = (kept.0, kept.1, recovered_shows [] tt)
 
-  pub shows_on : (now : Seen) → IsUntouched trust.tells middle now → SinceThen Shows before.log now.log
+  pub shows_on : (now : Seen) → IsUntouched trust.tells middle now → SinceThen Keeps before.log now.log
   shows_on now untouched =
       let reads = untouched.reads is.told in (
         reads.0 ++ kept.0,
@@ -94,7 +103,7 @@ module _ (trust : Trust) (before middle : Seen) (image : Blocks) (sound : IsSoun
 
 module _ (trust : Trust) (before now : Seen) (image : Blocks) (told : IsTold trust before image) (sound : IsSound image) where
   pub ready_shows : (found : Recovered) (start : Opened) → IsReady trust before now found start → (most logical : ℕ) → next_start image sound ≤ most
-      → SinceThen (StopsShow (ShowsValues sound.head.geometry most) before.opening before.log logical (value_of (image_in image sound))) before.log now.log
+      → SinceThen (λ calls. StopsShow (ShowsValues sound.head.geometry most) before.opening before.log logical (value_of (image_in image sound)) calls × AreInside sound.head.geometry calls) before.log now.log
   ready_shows found start is most logical few =
       shows_on trust before is.middle image sound told (is.recovery.stops image told sound) most logical few now is.opening.untouched
 

@@ -16,6 +16,7 @@ use Rattle.disk_model.specs.Causes.{Rose}
 use Rattle.disk_model.specs.declared.call.Call.{Call}
 use Rattle.disk_model.specs.Log.{Blocks}
 use Rattle.disk_model.specs.Seen.{Seen, Stays}
+use Rattle.disk_model.specs.Since.{SinceThen}
 use Rattle.disk_model.specs.Trust.{Trust}
 use Rattle.disk_model.proofs.SeenLaws.{stays_on}
 use Rattle.image_model.proofs.CountLaws.{is_first_or_behind, none_in_nothing}
@@ -44,9 +45,10 @@ use Rattle.page_codec.specs.declared.fault.PageFault.{PageFault}
 use Rattle.rebuild.specs.Openings.{OpensRight}
 use Rattle.rebuild.specs.Recoveries.{IsTold}
 use Rattle.rebuild.specs.declared.forms.Recovered.{Recovered}
-use Rattle.recovery_laws.specs.Kept.{image_in}
+use Rattle.recovery_laws.specs.Kept.{AreInside, image_in}
 use Rattle.core_stops.proofs.SoundStops.{sound_stops}
 use Rattle.core_stops.proofs.EarlyLaws.{run_is_right}
+use Rattle.core_stops.proofs.InsideLaws.{events_inside, inside_both}
 use Rattle.core_stops.proofs.LogLaws.{marks_within}
 use Rattle.core_stops.proofs.SequenceLaws.{next_clean}
 use Rattle.core_stops.specs.Logs.{StopsRight, report_from}
@@ -289,6 +291,10 @@ module _ (trust : Trust) (start : Opened) (script : Script) (first last : List Z
       legal_leads s (core_with first []) (core_with last trace) session (subst (λ (sizes : Sizes). Leads sizes (core_with first []) (core_with last trace)) (sym over.sizes_is) leads)
       (legal_first s (core_with first []) (begins s over) session)
 
+  -- none of its calls writes a block behind the image
+  pub session_inside : AreInside start.head.geometry (calls trace)
+  session_inside = events_inside (run_sizes start.head) (let some = can.geometry.journal.0 in omega (arith, some)) (core_with first []) (core_with last trace) leads tt
+
   abbrev over : Session
   over = bare (run_sizes start.head) script start
 
@@ -433,6 +439,16 @@ module _ (trust : Trust) (start : Opened) (script : Script) (first last : List Z
       own_geometry : start.head.geometry ≡ sound.head.geometry
       own_geometry = ap (λ (h : Super). h.geometry) (sym (head_of_sound left.left left.is_sound start opens)) ∙ left.geometry
 
+      -- nothing behind it was written
+      pub inside_then : SinceThen (AreInside start.head.geometry) entry.log after.log
+      inside_then =
+          let made = calls trace in
+          let before_it = ready_shows trust entry before image told sound found start ready (next_start image sound) sound.head.geometry.logical (omega arith) in (
+            made ++ before_it.0,
+            called.log told.told ∙ ap (λ (l : List Call). made ++ l) before_it.1 ∙ sym (append_assoc made before_it.0 entry.log),
+            inside_both start.head.geometry made before_it.0 session_inside (subst (λ (g : Geometry). AreInside g before_it.0) (sym own_geometry) before_it.2.1),
+          )
+
       own_start : start.head.start ≡ next_start image sound
       own_start = ap (λ (h : Super). h.start) (sym (head_of_sound left.left left.is_sound start opens))
           ∙ sym (next_clean left.is_sound.head left.is_sound.last left.clean) ∙ left.next
@@ -463,7 +479,7 @@ module _ (trust : Trust) (start : Opened) (script : Script) (first last : List Z
           subst (λ (l : List Call). RightAfterStops (ShowsValues sound.head.geometry most) entry.opening l sound.head.geometry.logical (value_of (image_in image sound)) report (calls trace)) before_it.1
           (session_stops late) in
           let right = run_is_right entry.opening image entry.log before_it.0 (calls trace) sound sound.head.geometry.logical most 0 report
-          (marks_within report.requests (moments trace) report.marks happened.flushes) before_it.2 session in
+          (marks_within report.requests (moments trace) report.marks happened.flushes) before_it.2.0 session in
           subst (λ (l : List Call). StopsRight (ShowsValues sound.head.geometry most) entry.opening entry.log l sound.head.geometry.logical (value_of (image_in image sound)) (report_from (successes before.log) report))
           (sym now)
           (subst (λ (l : List Call). StopsRight (ShowsValues sound.head.geometry most) entry.opening entry.log (calls trace ++ (before_it.0 ++ entry.log)) sound.head.geometry.logical (value_of (image_in image sound)) (report_from (successes l) report))
@@ -492,6 +508,8 @@ module _ (trust : Trust) (start : Opened) (script : Script) (first last : List Z
       quiet = λ image told sound. quiet_then image told sound;
       happens = happens;
       early = ready_kept trust entry before found start ready;
+      inside = λ told. (calls trace, called.log told, session_inside);
+      inside_since = λ image told sound. inside_then image told sound;
       stops = λ image told sound late. stops_then image told sound late;
     }
 

@@ -1,8 +1,8 @@
--- Rows that pin what a session says of a sound image that it opened (`early`, `reads_right`, `undamaged`, `quiet` and `stops` of
+-- Rows that pin what a session says of a sound image that it opened (`early`, `inside`, `reads_right`, `undamaged`, `quiet` and `stops` of
 -- `ServesRequests`): a run that is accepted, and for each one that isn't since it breaks this clause.
-use Rattle.std.proofs.Common.{ℕ, ◌≡◌, ◌+◌, ◌-◌, ◌<◌, ◌≤◌, ◌^◌, ◌++◌, true, false, List, [], ◌∷◌, length, replicate, Some, None, Err, refl, sym, ◌∙◌, ap, subst, append_assoc, arith, inl, inr}
+use Rattle.std.proofs.Common.{ℕ, ◌≡◌, ◌+◌, ◌-◌, ◌<◌, ◌≤◌, ◌^◌, ◌++◌, Bool, true, false, List, [], ◌∷◌, length, replicate, Some, None, Err, refl, sym, ◌∙◌, ap, subst, append_assoc, arith, inl, inr}
 use Rattle.blk_base.specs.declared.opened.Opened.{Opened}
-use Rattle.blk_base.specs.Regions.{IsDataBlock}
+use Rattle.blk_base.specs.Regions.{IsDataBlock, needed_blocks}
 use Rattle.blk_base.specs.declared.place.Pbn.{Pbn}
 use Rattle.core_model.specs.Reports.{IsMappedIn}
 use Rattle.blk_base.specs.declared.place.PageId.{PageId}
@@ -13,6 +13,7 @@ use Rattle.blk_base.specs.Forms.{lba as address}
 use Rattle.core_model.specs.PageLinks.{opened_page}
 use Rattle.core_model.specs.Trace.{calls}
 use Rattle.disk_model.specs.declared.call.Call.{Call}
+use Rattle.disk_model.specs.declared.call.Call.TheVariants.{Write}
 use Rattle.disk_model.specs.Images.{IsImage}
 use Rattle.disk_model.specs.Log.{Blocks}
 use Rattle.disk_model.specs.Seen.{Seen}
@@ -25,7 +26,8 @@ use Rattle.image_model.specs.Sound.{IsSound}
 use Rattle.page_codec.specs.declared.fault.PageFault.TheVariants.{Header}
 use Rattle.rebuild.specs.Recoveries.{IsTold}
 use Rattle.rebuild.specs.declared.forms.Recovered.{Recovered}
-use Rattle.recovery_laws.specs.Kept.{image_in}
+use Rattle.recovery_laws.specs.Kept.{AreInside, image_in}
+use Rattle.core_stops.proofs.LogLaws.{same_front}
 use Rattle.core_stops.proofs.SequenceLaws.{next_clean}
 use Rattle.core_stops.specs.Sequences.{ShowsValues, next_start}
 use Rattle.vdo_model.proofs.HistoryLaws.{length_at_within}
@@ -121,7 +123,7 @@ module _ (before : Seen) (image : Blocks) (told : IsTold (trust_of true true) be
       → (values : ℕ → List ℕ) × ShowsValues sound.head.geometry (next_start image sound) other values × ((a : ℕ) → a < sound.head.geometry.logical → values a ≡ value_of (image_in image sound) a)
   early_shows other report ends is_image =
       let kept = ends.session.serves.early image told sound in
-      kept.2 [] kept.0 refl other (subst (λ (log : List Call). IsImage before.opening log other) kept.1 is_image)
+      kept.2.0 [] kept.0 refl other (subst (λ (log : List Call). IsImage before.opening log other) kept.1 is_image)
 
   early-not_destroyed : (other : Blocks) (why : SuperFault) (report : RunReport) (ends : Early report) → IsImage before.opening ends.session.serves.opened.log other → super_of_image other ≡ Err why → ⊥
   early-not_destroyed other why report ends is_image says =
@@ -143,6 +145,24 @@ module _ (before : Seen) (image : Blocks) (told : IsTold (trust_of true true) be
       let next = shown.1.next in
       let more = later shown.1.sound in
       omega (arith, next, more)
+
+  -- inside: a call of the session wrote the first block behind the image; inside_since: one since the recovery did
+  abbrev behind : Opened → List ℕ → Bool → Call
+  behind start bytes ok = Write (record { 0 = needed_blocks start.head.geometry }) bytes ok
+
+  written_inside : (start : Opened) (bytes : List ℕ) (ok : Bool) (calls : List Call) → calls ≡ behind start bytes ok ∷ [] → AreInside start.head.geometry calls → ⊥
+  written_inside start bytes ok calls is inside = let below = (subst (AreInside start.head.geometry) is inside).0 in omega (arith, below)
+
+  inside-not_behind : (bytes : List ℕ) (ok : Bool) (report : RunReport) (ends : Early report) → after.device.log ≡ behind ends.session.start bytes ok ∷ ends.session.serves.opened.log → ⊥
+  inside-not_behind bytes ok report ends is =
+      let since = ends.session.serves.inside refl in
+      written_inside ends.session.start bytes ok since.0
+      (same_front since.0 (behind ends.session.start bytes ok ∷ []) ends.session.serves.opened.log (sym since.1 ∙ is)) since.2
+
+  inside_since-not_behind : (bytes : List ℕ) (ok : Bool) (report : RunReport) (ends : Early report) → after.device.log ≡ behind ends.session.start bytes ok ∷ before.log → ⊥
+  inside_since-not_behind bytes ok report ends is =
+      let since = ends.session.serves.inside_since image told sound in
+      written_inside ends.session.start bytes ok since.0 (same_front since.0 (behind ends.session.start bytes ok ∷ []) before.log (sym since.1 ∙ is)) since.2
 
   -- reads_right: a read of the address gave that block, and not another one
   reads_right-not_another_block : Served before left after 0 (read_report 10) → ⊥

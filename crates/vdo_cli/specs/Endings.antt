@@ -11,7 +11,7 @@ use Rattle.image_model.specs.declared.fault.ImageFault.{ImageFault}
 use Rattle.core_model.specs.Reports.{IsMappedIn}
 use Rattle.core_model.specs.Trace.{Trace, calls, moments}
 use Rattle.rebuild.specs.declared.forms.Recovered.{Recovered}
-use Rattle.recovery_laws.specs.Kept.{image_in}
+use Rattle.recovery_laws.specs.Kept.{AreInside, image_in}
 use Rattle.core_stops.specs.Logs.{StopsRight, StopsShow, report_from}
 use Rattle.core_stops.specs.Sequences.{ShowsValues, next_start}
 use Rattle.stream_text.specs.WholeScript.{whole_script}
@@ -28,11 +28,11 @@ use Rattle.vdo_cli.specs.Sessions.{IsDriven, IsReported, task}
 use Rattle.vdo_cli.specs.Stops.{Happens}
 
 -- Whatever a stop leaves of a sound image at each moment since is a sound one of the same sizes, each address has the value
--- that it had, and the next session's first sequence is no later.
+-- that it had, and the next session's first sequence is no later. No block behind the image was written.
 abbrev pub KeepsImage : Trust → Seen → Seen → Type 0
 KeepsImage trust before now = OfSound trust before (λ image sound.
-    SinceThen (StopsShow (ShowsValues sound.head.geometry (next_start image sound)) before.opening before.log sound.head.geometry.logical
-    (value_of (image_in image sound))) before.log now.log)
+    SinceThen (λ calls. StopsShow (ShowsValues sound.head.geometry (next_start image sound)) before.opening before.log sound.head.geometry.logical
+    (value_of (image_in image sound)) calls × AreInside sound.head.geometry calls) before.log now.log)
 
 -- what a session did, from the recovery on, of which this was found, and which started with this
 pub record ServesRequests (trust : Trust) (schedule : ℕ) (found : Recovered) (start : Opened) (report : RunReport) (before after : Seen) : Type 0 where
@@ -56,6 +56,9 @@ pub record ServesRequests (trust : Trust) (schedule : ℕ) (found : Recovered) (
   pub happens : IsTrue trust.tells → Happens (moments trace) report before opened after
   -- a stop before the session leaves an image that says the same
   pub early : KeepsImage trust before opened
+  -- the session wrote no block behind the image, whatever its device is; and neither did the recovery of a sound one
+  pub inside : IsTrue trust.tells → SinceThen (AreInside start.head.geometry) opened.log after.log
+  pub inside_since : OfSound trust before (λ image sound. SinceThen (AreInside start.head.geometry) before.log after.log)
   -- A stop at any moment of it all, from the recovery on, leaves a sound image of the same sizes, on which the next session's
   -- first sequence is at most 2^18 later; and each address has a value that its history and the flushes that were answered
   -- allow. The marks of the report are counted from the first call of the device's log.
