@@ -10,5 +10,6 @@ pub mod LookedLaws
 pub mod Taken
 pub mod FuseLaws
 pub mod PickLaws
+pub mod RecentLaws
 pub mod PickImageLaws
 pub mod StreamExample

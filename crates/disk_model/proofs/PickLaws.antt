@@ -1,9 +1,9 @@
 -- How an image is put together that a number picks.
-use Rattle.std.proofs.Common.{ℕ, zero, suc, ◌≡◌, ◌≢◌, ◌+◌, ◌-◌, ◌*◌, ◌==◌, ◌<◌, ◌≤◌, ◌++◌, if◌then◌else◌, List, [], ◌∷◌, length, reverse, take, drop, refl, sym, ◌∙◌, ap, subst, inl, inr, arith, length-drop, length-append}
+use Rattle.std.proofs.Common.{ℕ, zero, suc, ◌≡◌, ◌≢◌, ◌+◌, ◌-◌, ◌*◌, ◌==◌, ◌<◌, ◌≤◌, ◌++◌, if◌then◌else◌, List, length, reverse, take, drop, refl, sym, ◌∙◌, ap, subst, inl, inr, arith, slice_set, length-drop, length-append}
 use Rattle.std.proofs.Math.Nat.{mod-one}
 use Rattle.std.proofs.lemmas.Bool.{cases_lt}
 use Rattle.std.proofs.lemmas.Bool.Decides.{eqb_tells}
-use Rattle.std.proofs.lemmas.List.{get_or_append_left, get_or_push, drop-append-le, drop-drop, drop-take, drop_at, length-reverse, length-take-le, reverse-append, take-append-drop, take-append-le, take-take, take_at}
+use Rattle.std.proofs.lemmas.List.{get_or-set_other, get_or-set_same, length-set, drop-append-le, drop-drop, drop-take, drop_at, length-reverse, length-take-le, reverse-append, take-append-drop, take-append-le, take-take, take_at}
 use Rattle.blk_base.specs.Sectors.{sector, zero_block}
 use Rattle.disk_model.specs.Numbers.{next_state, number_in, state_after}
 use Rattle.disk_model.specs.declared.call.Call.{Call}
@@ -98,39 +98,59 @@ choice_alone number state = elim (eqb_tells number 0) [
 
 -- The first blocks of a picked image.
 
-last_block : (blocks : Blocks) (x : List ℕ) (b : ℕ) → length blocks ≡ b → block_at (blocks ++ x ∷ []) b ≡ x
-last_block blocks x b size = get_or_push blocks x zero_block b size
+same_block : (blocks : Blocks) (x : List ℕ) (b k : ℕ) → k ≢ b → block_at (slice_set blocks b x) k ≡ block_at blocks k
+same_block blocks x b k apart = get_or-set_other blocks b k x zero_block apart
 
-same_block : (blocks : Blocks) (x : List ℕ) (b : ℕ) → b < length blocks → block_at (blocks ++ x ∷ []) b ≡ block_at blocks b
-same_block blocks x b below = get_or_append_left blocks (x ∷ []) zero_block b below
-
-pub picked_more : (opening : Blocks) (log : List Call) (number b : ℕ) (image : Blocks) (before x : List ℕ) (state state' : ℕ)
-    → IsPickedUpTo opening log number b image state → before ≡ block_at opening b → length x ≡ 4096
-    → ((i : ℕ) → i < 8 → sector i x ≡ sector i (content_of before log b (choice number (pending log b) (state_after state (suc i)))))
-    → state' ≡ (if pending log b == 0 then state else state_after state 8)
-    → IsPickedUpTo opening log number (suc b) (image ++ x ∷ []) state'
-picked_more opening log number b image before x state state' up is whole sectors next = record {
-  size = let grown = length-append image (x ∷ []) in let size = up.size in omega (arith, grown, size);
-  state_is = elim (eqb_tells (pending log b) 0) [
-    | inl none ↦ next ∙ rw (none.0) up.state_is
-    | inr some ↦
-        let more : numbers_before log b + 8 ≡ 8 + numbers_before log b = omega arith in
-        next ∙ rw (some.0) (ap (λ (s : ℕ). state_after s 8) up.state_is ∙ later_state number (numbers_before log b) 8 ∙ ap (state_after number) more)
-  ];
-  whole = λ k within. elim (eqb_tells k b) [
-    | inl here ↦ ap length (ap (block_at (image ++ x ∷ [])) here.1 ∙ last_block image x b up.size) ∙ whole
-    | inr other ↦ let apart = other.1 in let size = up.size in
-        ap length (same_block image x k (omega (arith, within, apart, size))) ∙ up.whole k (omega (arith, within, apart))
-  ];
-  sectors = λ k i within below. elim (eqb_tells k b) [
-    | inl here ↦ subst (λ (n : ℕ). sector i (block_at (image ++ x ∷ []) n) ≡ sector i (content_of (block_at opening n) log n (choice number (pending log n) (state_after number (suc (numbers_before log n + i))))))
-        (sym here.1)
-        (let place : numbers_before log b + suc i ≡ suc (numbers_before log b + i) = omega arith in
-        ap (sector i) (last_block image x b up.size) ∙ sectors i below
-        ∙ ap (λ (bytes : List ℕ). sector i (content_of bytes log b (choice number (pending log b) (state_after state (suc i))))) is
-        ∙ ap (λ (s : ℕ). sector i (content_of (block_at opening b) log b (choice number (pending log b) s)))
-        (ap (λ (s : ℕ). state_after s (suc i)) up.state_is ∙ later_state number (numbers_before log b) (suc i) ∙ ap (state_after number) place))
-    | inr other ↦ let apart = other.1 in let size = up.size in
-        ap (sector i) (same_block image x k (omega (arith, within, apart, size))) ∙ up.sectors k i (omega (arith, within, apart)) below
-  ];
+pub none_picked : (before : Blocks) (log : List Call) (number : ℕ) → IsPickedUpTo before log number 0 before number
+none_picked before log number = record {
+  size = refl;
+  state_is = refl;
+  whole = λ b within. absurd (omega (arith, within));
+  sectors = λ b i within below. absurd (omega (arith, within));
+  rest = λ b more inside. refl;
 }
+
+module _ (before : Blocks) (log : List Call) (number b : ℕ) (image : Blocks) (old x : List ℕ) (state state' : ℕ)
+    (up : IsPickedUpTo before log number b image state) (inside : b < length before) (is : old ≡ block_at image b) (whole : length x ≡ 4096)
+    (sectors : (i : ℕ) → i < 8 → sector i x ≡ sector i (content_of old log b (choice number (pending log b) (state_after state (suc i)))))
+    (next : state' ≡ (if pending log b == 0 then state else state_after state 8)) where
+  stands : old ≡ block_at before b
+  stands = let few : b ≤ b = omega arith in is ∙ up.rest b few inside
+
+  here : block_at (slice_set image b x) b ≡ x
+  here = let size = up.size in get_or-set_same image b x zero_block (omega (arith, inside, size))
+
+  state_here : (i : ℕ) → state_after state (suc i) ≡ state_after number (suc (numbers_before log b + i))
+  state_here i =
+      let place : numbers_before log b + suc i ≡ suc (numbers_before log b + i) = omega arith in
+      ap (λ (s : ℕ). state_after s (suc i)) up.state_is ∙ later_state number (numbers_before log b) (suc i) ∙ ap (state_after number) place
+
+  sector_here : (i : ℕ) → i < 8
+      → sector i (block_at (slice_set image b x) b) ≡ sector i (content_of (block_at before b) log b (choice number (pending log b) (state_after number (suc (numbers_before log b + i)))))
+  sector_here i below =
+      ap (sector i) here ∙ sectors i below
+      ∙ ap (λ (bytes : List ℕ). sector i (content_of bytes log b (choice number (pending log b) (state_after state (suc i))))) stands
+      ∙ ap (λ (s : ℕ). sector i (content_of (block_at before b) log b (choice number (pending log b) s))) (state_here i)
+
+  pub picked_more : IsPickedUpTo before log number (suc b) (slice_set image b x) state'
+  picked_more = record {
+    size = length-set image b x ∙ up.size;
+    state_is = elim (eqb_tells (pending log b) 0) [
+      | inl none ↦ next ∙ rw (none.0) up.state_is
+      | inr some ↦
+          let more : numbers_before log b + 8 ≡ 8 + numbers_before log b = omega arith in
+          next ∙ rw (some.0) (ap (λ (s : ℕ). state_after s 8) up.state_is ∙ later_state number (numbers_before log b) 8 ∙ ap (state_after number) more)
+    ];
+    whole = λ k within. elim (eqb_tells k b) [
+      | inl same ↦ ap length (ap (block_at (slice_set image b x)) same.1 ∙ here) ∙ whole
+      | inr other ↦ let apart = other.1 in
+          ap length (same_block image x b k apart) ∙ up.whole k (omega (arith, within, apart))
+    ];
+    sectors = λ k i within below. elim (eqb_tells k b) [
+      | inl same ↦ subst (λ (n : ℕ). sector i (block_at (slice_set image b x) n) ≡ sector i (content_of (block_at before n) log n (choice number (pending log n) (state_after number (suc (numbers_before log n + i))))))
+          (sym same.1) (sector_here i below)
+      | inr other ↦ let apart = other.1 in
+          ap (sector i) (same_block image x b k apart) ∙ up.sectors k i (omega (arith, within, apart)) below
+    ];
+    rest = λ k more inside. same_block image x b k (λ same. absurd (omega (arith, more, same))) ∙ up.rest k (omega (arith, more)) inside;
+  }

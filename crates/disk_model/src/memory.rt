@@ -50,7 +50,8 @@ impl Model for MemDisk {
     ghost invariant = { λ d. HoldsSettled d.opening.items (reverse d.calls.items) d.blocks.items };
 }
 
-fn copy_all(alloc: Global, blocks: &[Block]) -> Result<Vec<Block>, AllocError>
+// The same blocks once more.
+pub(crate) fn copy_all(alloc: Global, blocks: &[Block]) -> Result<Vec<Block>, AllocError>
     ensures { IfOk result (λ v. v.items ≡ blocks.now) }
 {
     let mut copies = Vec::with_capacity(alloc, blocks.len())?;
@@ -145,15 +146,14 @@ impl MemDisk {
         self.fuse = Fuse::Passes(passes);
     }
 
-    // Block by block: the log is gone through once for each, and once more for each sector of a block with writes that
-    // aren't flushed. So a stop is tried on small devices.
     /// A device with the image that a number picks of those that a stop may leave now. Of the calls that failed by the fuse
     /// the first alone counts.
     ///
     /// A sector's durable content is what the last successful write before the last successful flush gave it. 0 picks the
     /// durable ones, 1 for each sector the last write since that flush, failed or not. Any other number begins a row of
     /// numbers, one for each sector of the blocks that were written since: each picks one of the durable content and
-    /// the writes. It goes through the log once for each block, and once for each sector of those blocks.
+    /// the writes. It goes through the log twice, and nine times through the calls behind that flush for each block that
+    /// they write.
     pub fn pick_image(&self, alloc: Global, number: u64) -> Result<MemDisk, AllocError>
         ensures { IfOk result (λ d. (image : Blocks) × (d ≡ fresh image)
             × IsPicked self.now.opening (counted_log self.now.fuse self.now.log) number image) }

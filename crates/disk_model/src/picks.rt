@@ -1,12 +1,13 @@
-ghost use Rattle.std.specs.Prelude.{◌≡◌, ◌≢◌, ◌≤◌, ◌<◌, ◌+◌, ◌-◌, ◌∷◌, ◌^◌, ◌%◌, ◌==◌, if◌then◌else◌, ℕ, suc, List, IfOk, length, reverse};
+ghost use Rattle.std.specs.Prelude.{◌≡◌, ◌≢◌, ◌≤◌, ◌<◌, ◌+◌, ◌-◌, ◌∷◌, ◌^◌, ◌%◌, ◌==◌, if◌then◌else◌, ℕ, suc, true, List, IfOk, length, reverse, take, drop};
 ghost use Rattle.blk_base.specs.Sectors.{sector};
 ghost use Rattle.disk_model.specs.Numbers.{state_after};
 ghost use Rattle.disk_model.specs.declared.call.Call.{Call};
 ghost use Rattle.disk_model.specs.Images.{IsImage};
-ghost use Rattle.disk_model.specs.Log.{Blocks};
+ghost use Rattle.disk_model.specs.Log.{Blocks, IsWritten};
 ghost use Rattle.disk_model.specs.Picks.{IsPicked, choice, content_of, counted_log, pending};
-ghost use Rattle.disk_model.specs.PickParts.{Reached, copied};
+ghost use Rattle.disk_model.specs.PickParts.{AreMarked, AreWritten, IsPickedUpTo, Reached, copied, lasting, recent};
 
+use crate::memory::copy_all;
 use crate::{Call, Fuse, next_state, number_in};
 use blk_base::Block;
 use std::alloc::{AllocError, Global};
@@ -108,6 +109,87 @@ fn remainder(x: u64, writes: u64) -> u64
     if x <= writes { x } else { x % (writes + 1) }
 }
 
+// How many calls there are up to the last successful flush.
+fn count_lasting(calls: &[Call]) -> usize
+    ensures lasting { reverse (take result calls.now) ≡ lasting (reverse calls.now) }
+    ensures recent { reverse (drop result calls.now) ≡ recent (reverse calls.now) }
+    ensures inside { result ≤ length calls.now }
+{
+    let mut made = 0;
+    let mut count = 0;
+    for call in calls {
+        made += 1;
+        count = count_with(call, made, count);
+    }
+    count
+}
+
+// How many of so many calls there are up to the last successful flush. `count` is the number without the last call.
+fn count_with(call: &Call, made: usize, count: usize) -> usize
+    ensures { (older : List Call) → made ≡ length (call.now ∷ older)
+        → count ≡ length (lasting older) → result ≡ length (lasting (call.now ∷ older)) }
+{
+    match call {
+        Call::Flush { ok: true } => made,
+        _ => count,
+    }
+}
+
+// The blocks as the successful writes left them.
+fn write_blocks(alloc: Global, calls: &[Call], opening: &[Block]) -> Result<Vec<Block>, AllocError>
+    ensures { IfOk result (λ blocks. AreWritten opening.now (reverse calls.now) blocks.items) }
+{
+    let mut blocks = copy_all(alloc, opening)?;
+    for call in calls {
+        write(call, &mut blocks);
+    }
+    Ok(blocks)
+}
+
+// Makes one call more.
+fn write(call: &Call, blocks: &mut Vec<Block>)
+    ensures { (opening : Blocks) (log : List Call) → AreWritten opening log blocks.old.items
+        → AreWritten opening (call.now ∷ log) blocks.new.items }
+{
+    if let Call::Write {
+        at,
+        bytes,
+        ok: true,
+    } = call
+        && (at.0 as usize) < blocks.len()
+    {
+        blocks[at.0 as usize].copy_from(bytes);
+    }
+}
+
+// Marks for so many blocks: those that one of these calls writes.
+fn mark_written(alloc: Global, calls: &[Call], count: usize) -> Result<Vec<bool>, AllocError>
+    ensures size { IfOk result (λ marks. length marks.items ≡ count) }
+    ensures marked { IfOk result (λ marks. AreMarked (reverse calls.now) marks.items) }
+{
+    let mut marks = Vec::with_capacity(alloc, count)?;
+    for made in 0..count {
+        marks.push_reserved(false);
+    }
+    for call in calls {
+        mark(call, &mut marks);
+    }
+    Ok(marks)
+}
+
+// Marks the block that one call more writes.
+fn mark(call: &Call, marks: &mut Vec<bool>)
+    ensures size { length marks.new.items ≡ length marks.old.items }
+    ensures marked { (log : List Call) → AreMarked log marks.old.items
+        → AreMarked (call.now ∷ log) marks.new.items }
+{
+    if let Call::Write { at, .. } = call
+        && (at.0 as usize) < marks.len()
+    {
+        marks[at.0 as usize] = true;
+    }
+}
+
 // One block of a picked image. `before` is what it had before the calls, and `state` that of the row of numbers.
 fn pick_block(calls: &[Call], before: &Block, at: u32, number: u64, state: &mut u64) -> Block
     ensures size { length result ≡ 4096 }
@@ -129,7 +211,55 @@ fn pick_block(calls: &[Call], before: &Block, at: u32, number: u64, state: &mut 
     block
 }
 
-// The blocks of the image that a number picks.
+// It does nothing: a block has 4,096 bytes.
+fn is_whole(block: &Block)
+    ensures { length block.now ≡ 4096 }
+{
+    let _bytes = &block.bytes;
+}
+
+// Makes a block of a picked image of what it had before the calls, where one of them may have written it.
+fn pick_written(
+    calls: &[Call],
+    is_marked: bool,
+    block: &mut Block,
+    at: u32,
+    number: u64,
+    state: &mut u64,
+)
+    requires { IsWritten (reverse calls.now) at → is_marked ≡ true }
+    ensures size { length block.new ≡ 4096 }
+    ensures sectors { (i : ℕ) → i < 8 → sector i block.new
+        ≡ sector i
+        (content_of block.old (reverse calls.now) at
+        (choice number (pending (reverse calls.now) at) (state_after state.old (suc i)))) }
+    ensures state { state.new
+        ≡ (if pending (reverse calls.now) at == 0 then state.old else state_after state.old 8) }
+{
+    if is_marked {
+        let picked = pick_block(calls, block, at, number, state);
+        block.copy_from(&picked);
+    } else {
+        is_whole(block);
+    }
+}
+
+// Makes the blocks of a picked image of what they had before the calls.
+fn pick_each(calls: &[Call], marks: &[bool], number: u64, image: &mut Vec<Block>)
+    requires few { length image.old.items < 2 ^ 32 }
+    requires size { length marks.now ≡ length image.old.items }
+    requires marked { AreMarked (reverse calls.now) marks.now }
+    ensures { (state : ℕ) × IsPickedUpTo image.old.items (reverse calls.now) number
+        (length image.old.items) image.new.items state }
+{
+    let mut state = number;
+    for b in 0..image.len() {
+        pick_written(calls, marks[b], &mut image[b], b as u32, number, &mut state);
+    }
+}
+
+// The blocks of the image that a number picks. The calls are gone through twice, and those behind the last successful flush
+// nine times more for each block that they write: once for how many writes there are, and once for each sector.
 pub(crate) fn pick_blocks(
     alloc: Global,
     calls: &[Call],
@@ -139,11 +269,11 @@ pub(crate) fn pick_blocks(
     requires { length opening.now < 2 ^ 32 }
     ensures { IfOk result (λ image. IsPicked opening.now (reverse calls.now) number image.items) }
 {
-    let mut image = Vec::new(alloc);
-    let mut state = number;
-    for b in 0..opening.len() {
-        image.push(pick_block(calls, &opening[b], b as u32, number, &mut state))?;
-    }
+    let count = count_lasting(calls);
+    let recent = &calls[count..];
+    let marks = mark_written(alloc, recent, opening.len())?;
+    let mut image = write_blocks(alloc, &calls[..count], opening)?;
+    pick_each(recent, &marks, number, &mut image);
     Ok(image)
 }
 

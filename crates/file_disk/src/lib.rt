@@ -11,8 +11,10 @@
 #![tactic(auto)]
 
 mod disk;
+mod limits;
 mod open_files;
 mod places;
 
 pub use disk::FileDisk;
+pub use limits::largest_file;
 pub use open_files::{Access, open_disk};

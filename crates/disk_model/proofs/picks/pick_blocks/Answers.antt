@@ -1,17 +1,19 @@
-use Rattle.std.proofs.Common.{ℕ, suc, ◌≡◌, ◌+◌, ◌<◌, ◌∷◌, ◌++◌, [], length, reverse, subst, arith}
-use Rattle.std.proofs.lemmas.List.{get_or_read}
-use Rattle.blk_base.specs.Sectors.{zero_block}
-use Rattle.disk_model.specs.PickParts.{IsPickedUpTo}
-use Rattle.disk_model.proofs.PickLaws.{picked_more}
+use Rattle.std.proofs.Common.{◌-◌, ◌∙◌, List, length, length-drop, reverse, drop, ap, subst, arith}
+use Rattle.std.proofs.lemmas.List.{take_all}
+use Rattle.disk_model.specs.declared.call.Call.{Call}
+use Rattle.disk_model.specs.PickParts.{AreWritten, IsPickedUpTo}
+use Rattle.disk_model.proofs.RecentLaws.{picked_of_recent}
 use Rattle.disk_model.proofs.picks.pick_blocks.Goals as goal
 
-pub loop-b-preserved : goal.loop-b-preserved
-loop-b-preserved c =
-    let log = reverse c.args.calls.now in
-    let here : c.loop-b.b < length c.args.opening.now = c.loop-b-test.true in
-    let next : suc c.loop-b.b ≡ c.loop-b.b + 1 = omega arith in
-    let is = get_or_read c.args.opening.now c.loop-b.b c.index-opening-b.result here c.index-opening-b.is zero_block in
-    rw (c.in_ok-push.ensures.items)
-    (subst (λ (n : ℕ). IsPickedUpTo c.args.opening.now log c.args.number n (c.loop-b.image.items ++ c.pick_block.result ∷ []) c.pick_block.new.state) next
-    (picked_more c.args.opening.now log c.args.number c.loop-b.b c.loop-b.image.items c.index-opening-b.result c.pick_block.result c.loop-b.state c.pick_block.new.state
-    c.loop-b.invariant is c.pick_block.ensures.size c.pick_block.ensures.sectors c.pick_block.ensures.state))
+pub returns : goal.returns
+returns c =
+    let calls = c.args.calls.now in
+    let count = c.count_lasting-count.result in
+    let before = c.in_ok-image.image.items in
+    let image = c.pick_each.new.image.items in
+    let picked = c.pick_each.ensures in
+    let left = length-drop count calls in
+    let rest = ap reverse (take_all (length calls - count) (drop count calls) (omega (arith, left))) in
+    picked_of_recent c.args.opening.now before (reverse calls) c.args.number image picked.0
+    (subst (λ (older : List Call). AreWritten c.args.opening.now older before) c.count_lasting-count.ensures.lasting c.in_ok-image.ensures)
+    (subst (λ (newer : List Call). IsPickedUpTo before newer c.args.number (length before) image picked.0) (rest ∙ c.count_lasting-count.ensures.recent) picked.1)
