@@ -131,7 +131,7 @@ pub fn show_pick(
     ensures few { IfOk result (λ shown. length shown.audit.differs.items < 2 ^ 32) }
     ensures fault { IfErr result (PickFails disk.now number) }
 {
-    let Ok(picked) = disk.pick_image(alloc, number) else {
+    let Ok(picked) = disk.pick_ram(alloc, number) else {
         return Err(ImageFault::Memory);
     };
     let mut picked = picked;

@@ -8,12 +8,13 @@ ghost use Rattle.disk_model.specs.Images.{IsMixOf};
 ghost use Rattle.disk_model.specs.Log.{Blocks, block_at, settled};
 ghost use Rattle.disk_model.specs.Memory.{fresh, after_failed_write, seen_of, Succeeds, Fails};
 ghost use Rattle.disk_model.specs.Picks.{IsPicked, counted_log};
+ghost use Rattle.disk_model.specs.Ram.{begun};
 ghost use Rattle.disk_model.specs.Seen.{Stays};
 ghost use Rattle.disk_model.specs.LogSteps.{FailedInLog};
 
 use crate::faults::take_course;
 use crate::picks::{counted, pick_blocks};
-use crate::{Call, CallKind, Disk, Failed, FaultAt, Fuse};
+use crate::{Call, CallKind, Disk, Failed, FaultAt, Fuse, RamDisk};
 use blk_base::{Block, Pbn};
 use std::alloc::{AllocError, Global};
 use std::marker::Model;
@@ -158,9 +159,28 @@ impl MemDisk {
         ensures { IfOk result (λ d. (image : Blocks) × (d ≡ fresh image)
             × IsPicked self.now.opening (counted_log self.now.fuse self.now.log) number image) }
     {
-        let calls = counted(&self.calls, self.fuse);
-        let blocks = pick_blocks(alloc, calls, &self.opening, number)?;
-        MemDisk::from_blocks(alloc, blocks)
+        MemDisk::from_blocks(alloc, self.picked(alloc, number)?)
+    }
+
+    /// As [`MemDisk::pick_image`], on a device that keeps no log of its calls: it takes less memory, and no call fails.
+    pub fn pick_ram(&self, alloc: Global, number: u64) -> Result<RamDisk, AllocError>
+        ensures { IfOk result (λ d. (image : Blocks) × (d ≡ begun image)
+            × IsPicked self.now.opening (counted_log self.now.fuse self.now.log) number image) }
+    {
+        RamDisk::from_blocks(self.picked(alloc, number)?)
+    }
+
+    // The blocks of the image that a number picks.
+    fn picked(&self, alloc: Global, number: u64) -> Result<Vec<Block>, AllocError>
+        ensures { IfOk result (λ image. IsPicked self.now.opening
+            (counted_log self.now.fuse self.now.log) number image.items) }
+    {
+        pick_blocks(
+            alloc,
+            counted(&self.calls, self.fuse),
+            &self.opening,
+            number,
+        )
     }
 
     /// The calls that found memory for their place in the log, the oldest first.

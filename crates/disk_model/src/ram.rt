@@ -52,6 +52,21 @@ impl RamDisk {
             history: History::new(),
         })
     }
+
+    // A device with more blocks than a u32 counts can't be made: that is answered as want of memory.
+    /// A device with these blocks. More than a `u32` can count are refused as too many for any memory.
+    pub fn from_blocks(blocks: Vec<Block>) -> Result<RamDisk, AllocError>
+        ensures { IfOk result (λ d. d ≡ begun blocks.items) }
+    {
+        if blocks.len() > u32::MAX as usize {
+            return Err(AllocError);
+        }
+        Ok(RamDisk {
+            opening: Snapshot::of(&blocks),
+            blocks,
+            history: History::new(),
+        })
+    }
 }
 
 impl Disk for RamDisk {
