@@ -79,6 +79,7 @@ pub fn tally(
 }
 
 // The same, a byte for each.
+// Long to prove: each clause is shown on each way out.
 pub(crate) fn count_mappings(
     alloc: Global,
     layout: &Layout,

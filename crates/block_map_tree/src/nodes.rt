@@ -148,6 +148,7 @@ impl TreeNodes {
         }
     }
 
+    // Long to prove: each clause is shown on each way out.
     /// Hands out the page that was changed first to be written: the one with the least point of a link since it was last
     /// handed out. `None` exactly where no page that isn't being written has such a point at or below `point`.
     pub fn take_expired(&mut self, point: Point, into: &mut MapPage) -> Option<PageId>

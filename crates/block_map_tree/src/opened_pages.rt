@@ -24,6 +24,7 @@ pub(crate) fn count_pages(forest: &Forest, opened: &[OpenedPage]) -> usize
 }
 
 // How many rows of pages, the roots among them.
+// Long to prove: the numbers are shown to fit for each index.
 fn count_rows(forest: &Forest, opened: &[OpenedPage]) -> u32
     requires forest { IsForest forest.now }
     requires inner { All (λ o.

@@ -10,6 +10,7 @@ use image_model::ImageFault;
 use page_codec::PageFault;
 
 // Puts the line of a superblock that is refused.
+// Long to prove: each arm is shown to put its own text.
 fn put_super_fault<K: Sink>(fault: SuperFault, out: &mut K) -> Result<(), Failed>
     ensures { Puts K.tells
         (image_fault_line (SuperFaulty fault))

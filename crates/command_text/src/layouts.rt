@@ -5,6 +5,7 @@ use crate::pieces::{Piece, put_lines};
 use disk_model::{Failed, Sink};
 use image_layout::LayoutFault;
 
+// Long to prove: each arm is shown to put its own text.
 /// Puts why an image of some sizes can't be had: `layout: needs 154 blocks, has 153`, `layout: logical too large`,
 /// `layout: size height` or `layout: too large to crash`. It fails where the sink fails; then a first part of the line was
 /// put.

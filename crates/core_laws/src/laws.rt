@@ -57,6 +57,7 @@ pub fn every_event_keeps_a_core_legal()
         Legal s first → Legal s core }
 {}
 
+// Long to prove: the laws that it cites are checked with it.
 /// In a legal core a rule applies to the item in front of each inbox, and to a stream that may begin its next request; and
 /// what a rule posts goes to a zone: so nothing is ever stray.
 pub fn a_legal_core_goes_on()
@@ -185,6 +186,7 @@ pub fn a_legal_core_reads_right()
         (report_of s core.trace).histories }
 {}
 
+// Long to prove: the laws that it cites are checked with it.
 /// A request that a legal core answered as damaged found damage. Where the session is fair there is none: the image was opened
 /// without a fault, so each leaf that is read decodes.
 pub fn a_fair_session_finds_no_damage()

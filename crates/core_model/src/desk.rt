@@ -159,6 +159,7 @@ fn left_after(left: u8, requests: &Requests, begun: &StreamCounts) -> u8
 }
 
 impl Desk {
+    // Long to prove: each way out while what was taken is alive has searches of its own.
     /// The desk at the start of a session: it has the requests, and began none of them. It takes all its room.
     pub fn new(alloc: Global, requests: Requests) -> Result<Desk, AllocError>
         requires streams { length requests ≤ most_streams }
@@ -252,6 +253,7 @@ impl Desk {
         self.notices
     }
 
+    // Long to prove: what it promises is put together of the views of its parts.
     /// A request of the script is begun, as it is under way: it has the bytes that it asks to write.
     pub fn begin(&mut self, begun: Begun) -> BoxedVio
         requires room { HasRoomToBegin self.old }
@@ -286,6 +288,7 @@ impl Desk {
         self.streams_left = left_after(self.streams_left, &self.requests, &self.begun);
     }
 
+    // Long to prove: what it promises is put together of the views of its parts.
     /// A request is answered with what it has, and its box is spare again.
     pub fn answer(&mut self, mut vio: BoxedVio)
         requires answered { IsSome vio.answer }

@@ -61,6 +61,7 @@ impl Model for JournalZone {
 }
 
 // The log of a session: it has no entry.
+// Long to prove: what it promises is put together of the views of its parts.
 fn first_log(alloc: Global, sizes: &Sizes) -> Result<Journal, AllocError>
     requires geometry { IsGeometry sizes.now.geometry }
     requires start { (1 ≤ sizes.now.start) × (sizes.now.start < 2 ^ 54) }

@@ -80,6 +80,7 @@ impl Model for LogicalZone {
 }
 
 impl LogicalZone {
+    // Long to prove: each way out while what was taken is alive has searches of its own.
     /// A logical zone at the start of a session, by its number among the logical ones: it drew nothing and has set nothing,
     /// and has these trees. All its room is taken here.
     pub fn new(alloc: Global, zone: u8, tree: MapTree) -> Result<LogicalZone, AllocError>

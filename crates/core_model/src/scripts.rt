@@ -6,6 +6,7 @@ use blk_base::Request;
 use data_vio::{MOST_DEPTH, MOST_REQUESTS, MOST_STREAMS};
 use vdo_model::Requests;
 
+// Long to prove: the numbers are shown to fit for each index.
 /// How many requests there are.
 pub(crate) fn count_requests(requests: &Requests) -> usize
     requires streams { length requests.now ≤ most_streams }

@@ -102,6 +102,7 @@ pub(crate) fn total_space(zones: &[Zone]) -> u32
     0
 }
 
+// Long to prove: whichever zone is taken out, the others are let go.
 /// What a report has of the desk.
 pub(crate) fn desk_report(mut zones: Vec<Zone>) -> DeskReport
     ensures { (desk : DeskData) → HasDesk desk zones.items →

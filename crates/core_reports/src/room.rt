@@ -35,6 +35,7 @@ impl Model for ReportRoom {
 }
 
 // Room to note the answers of all streams.
+// Long to prove: a push may find no memory in each turn.
 fn room_for_notes(alloc: Global, requests: &Requests) -> Result<Vec<StreamNotes>, AllocError>
     ensures { IfOk result (λ notes. IsRoomFor (map length notes.items) requests.now) }
 {

@@ -17,6 +17,7 @@ use std::alloc::Global;
 const PART: usize = 2048;
 
 // In the order of points, since only so it is said where a count leaves its range; that it is the sum is a law.
+// Long to prove: each way out while what was taken is alive has searches of its own.
 /// The count of each data block, slab after slab: its counter, and then its updates above the commit point of its
 /// counter's sector, each once, in the order of their points. It goes through the updates once.
 pub fn counts_of(alloc: Global, layout: &Layout, found: &Found) -> Result<Vec<u16>, CountFault>

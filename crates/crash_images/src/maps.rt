@@ -21,6 +21,7 @@ pub struct ImageMap {
     pub changes: Changes,
 }
 
+// Long to prove: each clause is shown on each way out.
 /// The map of the image on a device. It reads block 0, the recovery journal and each linked page, and writes nothing. Neither
 /// need the last session be closed, nor a count be right: none is read.
 ///

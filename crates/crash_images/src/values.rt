@@ -17,6 +17,7 @@ use page_codec::PageHead;
 use replay_map::read_page;
 use std::alloc::Global;
 
+// Long to prove: each clause is shown on each way out.
 /// The bytes at each of these addresses, as [`value_at`] reads them, in their order. It goes over the linked pages once.
 /// Nothing is written.
 ///
@@ -128,6 +129,7 @@ fn read_mapping<D: Disk>(
 }
 
 // What the leaf of an address, which stands at this block, maps it to.
+// Long to prove: each clause is shown on each way out.
 fn read_slot<D: Disk>(
     device: &mut D,
     found: &ImageMap,

@@ -51,6 +51,7 @@ fn mapping_in(sizes: &Sizes, at: Lba, leaf: Pbn, bytes: &Block) -> Result<Mappin
 }
 
 // Whether all bytes behind the head of a page are zeros.
+// Long to prove: a run of bytes is tied to its slots.
 fn has_zero_slots(bytes: &[u8]) -> bool
     requires { length bytes.now ≡ 4096 }
     ensures { IsTrue result ↔ (drop 36 bytes.now ≡ replicate 4060 0) }

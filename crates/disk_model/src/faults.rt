@@ -32,6 +32,7 @@ impl FaultAt {
     ghost use Rattle.disk_model.specs.Plans.{counts, strikes, counted_down};
 
     // Whether it counts a call of this kind at this block.
+    // Long to prove: each arm is shown to count its own calls.
     fn counts(&self, kind: CallKind, at: Pbn) -> bool
         ensures { result ≡ counts self.now kind at.0 }
     {

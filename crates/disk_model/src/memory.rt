@@ -86,6 +86,7 @@ fn push(calls: &mut Vec<Call>, call: Call) -> bool
 }
 
 impl MemDisk {
+    // Long to prove: each way out while what was taken is alive has searches of its own.
     /// A device of so many blocks of zeros. All room is asked for before any block is written.
     pub fn zeroed(alloc: Global, blocks: u32) -> Result<MemDisk, AllocError>
         ensures { IfOk result (λ d. d ≡ fresh (replicate blocks zero_block)) }
@@ -215,6 +216,7 @@ impl Disk for MemDisk {
         self.opening.len() as u32
     }
 
+    // Long to prove: each clause is shown on each way out.
     fn read(&mut self, at: Pbn, into: &mut Block) -> Result<(), Failed>
         requires { at.0 < length self.old.opening }
         ensures stays { Stays (seen_of self.old) (seen_of self.new) }
@@ -261,6 +263,7 @@ impl Disk for MemDisk {
         Ok(())
     }
 
+    // Long to prove: each clause is shown on each way out.
     fn write(&mut self, at: Pbn, from: &Block) -> Result<(), Failed>
         requires { at.0 < length self.old.opening }
         ensures stays { Stays (seen_of self.old) (seen_of self.new) }

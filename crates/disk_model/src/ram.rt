@@ -37,6 +37,7 @@ impl Model for RamDisk {
 }
 
 impl RamDisk {
+    // Long to prove: each way out while what was taken is alive has searches of its own.
     /// A device of so many blocks of zeros. All room is asked for before any block is written.
     pub fn zeroed(alloc: Global, blocks: u32) -> Result<RamDisk, AllocError>
         ensures { IfOk result (λ d. d ≡ begun (replicate blocks zero_block)) }

@@ -99,6 +99,7 @@ fn limit_fault(layout: &Layout, n: u32, mapped: u64) -> ImageFault
 }
 
 // The numbers as counters.
+// Long to prove: a push may find no memory in each turn.
 fn narrowed(alloc: Global, mapped: &[u64]) -> Result<Vec<u8>, AllocError>
     requires { All (λ count. count ≤ 254) mapped.now }
     ensures { IfOk result (λ counters. counters.items ≡ mapped.now) }

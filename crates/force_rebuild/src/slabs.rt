@@ -39,6 +39,7 @@ pub(crate) fn put_slabs<D: Disk>(
 }
 
 // The point behind all that a window can say whose last sequence this is.
+// Long to prove: the greatest point of 54 bits is computed.
 fn commit_point(last: u64) -> Point
     requires { last < 2 ^ 54 }
     ensures { result.0 ≡ commit_behind last }

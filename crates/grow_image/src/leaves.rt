@@ -53,6 +53,7 @@ fn push_slots(
 }
 
 // Adds the one to which a slot leads.
+// Long to prove: a push may find no memory in each turn.
 fn push_slot(
     leaves: &mut Vec<Link>,
     page: &OpenedPage,

@@ -112,6 +112,7 @@ fn first_mapped(
 }
 
 // The address of a slot, if it is one of these and mapped.
+// Long to prove: each clause is shown on each way out.
 fn mapped_at(
     block: &Block,
     head: &PageHead,

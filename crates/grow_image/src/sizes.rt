@@ -6,6 +6,7 @@ use blk_base::{Geometry, Layout};
 use image_layout::{Field, plan};
 
 // The layout of the image with so many addresses and slabs, on a device that has `blocks` blocks.
+// Long to prove: each refusal is told apart from all before it.
 pub(crate) fn plan_growth(
     sizes: &Geometry,
     logical: u32,

@@ -3,6 +3,7 @@ use image_layout::SuperFault;
 use page_codec::PageFault;
 use thiserror::Error;
 
+// Long to prove: each fault is shown to have its own text.
 /// What is wrong with the blocks of a device that are no image, or why they weren't looked at. Which fault an image has,
 /// where it has several, is said in `specs/Faults`, and so is its text (`image_fault_text`).
 #[derive(Clone, Copy, Debug, PartialEq, Eq, Error)]

@@ -72,6 +72,7 @@ fn status_with<D: Disk>(
 }
 
 // How many data blocks are used, and how many there are. Nothing is compared.
+// Long to prove: each clause is shown on each way out.
 fn read_space<D: Disk>(
     alloc: Global,
     head: &Super,

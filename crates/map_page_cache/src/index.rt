@@ -38,6 +38,7 @@ impl Model for PageIndex {
 }
 
 impl PageIndex {
+    // Long to prove: each way out while what was taken is alive has searches of its own.
     /// An index with room for this many pages, of which it has none.
     pub(crate) fn new(alloc: Global, room: u32) -> Result<PageIndex, AllocError>
         ensures { IfOk result (λ index. index ≡ no_entries room) }

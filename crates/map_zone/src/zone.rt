@@ -245,6 +245,7 @@ impl MapZone {
         !self.is_cached(page)
     }
 
+    // Long to prove: each clause is shown on each way out.
     /// Takes a leaf into memory, of which this was read, and which is linked and isn't there. Where no frame is empty, it gives
     /// up the page that has been clean for the longest time.
     ///
@@ -298,6 +299,7 @@ impl MapZone {
     }
 
     // Hands out a leaf to be written.
+    // Long to prove: each clause is shown on each way out.
     fn take_leaf(&mut self, point: Point, into: &mut Block) -> Option<(PageId, Pbn)>
         requires { IsLeafFirst self.old }
         ensures some { IfSome result

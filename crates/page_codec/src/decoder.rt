@@ -100,6 +100,7 @@ fn read_run(bytes: &[u8], want: &PageHead, run: u16, into: &mut Mappings) -> Res
 }
 
 // Whether the slots of a run are all zeros.
+// Long to prove: a run of bytes is tied to its slots.
 fn has_zeros(bytes: &[u8], run: u16) -> bool
     requires size { length bytes.now ≡ 4096 }
     requires run { run < 29 }

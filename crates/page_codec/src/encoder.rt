@@ -43,6 +43,7 @@ pub fn encode_unmapped(head: &PageHead, into: &mut Block)
     put_head(front, head);
 }
 
+// Long to prove: eight fields are put behind one another.
 /// Writes the first bytes of a page.
 #[tactic(auto, unfolding(crate::specs::PageBytes::head_bytes))]
 pub(crate) fn put_head(page: &mut [u8], head: &PageHead)

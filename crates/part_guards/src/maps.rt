@@ -48,6 +48,7 @@ fn an_installed_page_is_found(cache: &mut Cache, page: PageId, from: &MapPage) -
 }
 
 // A page that is handed out is being written from then on.
+// Long to prove: the laws that it cites are checked with it.
 fn a_page_handed_out_is_being_written(
     zone: &mut MapZone,
     point: Point,

@@ -108,6 +108,7 @@ pub(crate) fn claim(sizes: &Sizes, zone: &mut PhysicalZone, vio: BoxedVio, posts
 }
 
 // A block went to a ticket of a write: that takes it, or drops it where it has one.
+// Long to prove: each clause is shown on each way out.
 fn keep_or_drop(counts: &mut ZoneCounts, vio: BoxedVio, claim: Claim) -> BoxedVio
     requires { (y : Pbn) → vio.claim ≡ Some y → IsClaimedIn counts.old claim }
     ensures kept { vio.claim ≡ None → (counts.new ≡ counts.old) × (result ≡ claiming claim vio) }

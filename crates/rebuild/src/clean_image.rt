@@ -52,6 +52,7 @@ fn check_closed(head: &Super) -> Result<(), ImageFault>
 }
 
 // The same from the superblock and the window on.
+// Long to prove: each clause is shown on each way out.
 fn open_with<D: Disk>(
     alloc: Global,
     head: &Super,

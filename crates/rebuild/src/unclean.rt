@@ -67,6 +67,7 @@ fn write_contents<D: Disk>(
 }
 
 // Writes the pages and the counters.
+// Long to prove: what the calls did is joined over each moment between them.
 fn write_blocks<D: Disk>(
     device: &mut D,
     layout: &Layout,

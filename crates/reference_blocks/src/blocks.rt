@@ -39,6 +39,7 @@ impl Model for ReferenceBlocks {
 }
 
 impl ReferenceBlocks {
+    // Long to prove: each way out while what was taken is alive has searches of its own.
     /// The reference blocks of a slab below the number of slabs, as an image of these sizes is opened: none is dirty.
     /// `opened` has a commit point for each sector of each slab. Takes the room for two points of each sector of the slab,
     /// and for the dirty points of its blocks.
@@ -78,6 +79,7 @@ impl ReferenceBlocks {
         self.dirty.change(sector / 8, point);
     }
 
+    // Long to prove: each clause is shown on each way out.
     /// Hands out the block that was dirtied first of those that aren't being written, with the slab's counters as they are
     /// now; `None` exactly where no such block is dirty.
     pub fn take_first(&mut self, counters: &[u8], into: &mut Block) -> Option<u32>

@@ -113,6 +113,7 @@ pub(crate) fn is_unmapped(mappings: &Mappings, run: u16) -> bool
 }
 
 // Adds the link of a slot, if it has one.
+// Long to prove: a push may find no memory in each turn.
 fn push_link(
     links: &mut Vec<Link>,
     page: PageId,

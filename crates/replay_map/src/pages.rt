@@ -62,6 +62,7 @@ fn read_slots(
 }
 
 // Puts the changes of a page over its mappings.
+// Long to prove: the range of a map is tied to the slots of the page.
 fn put_over(page: PageId, changes: &Changes, into: &mut Mappings)
     ensures { ArePut changes.now page into.old into.new }
 {

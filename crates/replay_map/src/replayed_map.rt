@@ -79,6 +79,7 @@ pub fn replay_with<D: Disk>(
     }
 }
 
+// Long to prove: what it promises is put together of the views of its parts.
 /// The same where the changes of the window were found before, so that they are found once.
 pub fn replay_changes<D: Disk>(
     alloc: Global,

@@ -55,6 +55,7 @@ pub(crate) fn walk_trees<D: Disk>(
 // Reads a page at its block, and then those below it.
 // The links that it found lead to those. Each page comes before those below it, so the first page that can't be read is
 // found first. Each page is read into `page`, which may have any content.
+// Long to prove: each clause is shown on each way out.
 fn walk<D: Disk>(
     alloc: Global,
     layout: &Layout,

@@ -37,6 +37,7 @@ impl Schedule {
         Schedule { state: number }
     }
 
+    // Long to prove: each clause is shown on each way out.
     /// One turn of a core that isn't done: one event of those for which there is work. Where there is none, nothing changes.
     /// The list is room for the numbers of those events, whatever is in it.
     pub(crate) fn turn<D: Disk>(&mut self, core: &mut Core, ready: &mut EventList, device: &mut D)
@@ -123,6 +124,7 @@ fn list_ready(core: &Core, ready: &mut EventList)
 
 // The event that a turn takes by this number, if there is work for any. The list is of no use to the next turn but for
 // its room.
+// Long to prove: the numbers are shown to fit for each index.
 fn choose(core: &Core, number: u32, ready: &mut EventList) -> Option<Event>
     ensures { MatchOption result
         (AreReady core.now.sizes core.now.zones (event_count (length core.now.zones)) []) (λ event.

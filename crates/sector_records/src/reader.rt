@@ -15,6 +15,7 @@ pub fn bytes_of_sector(block: &Block, i: u16) -> Option<&[u8]>
     block.bytes.get(start..start + 512)
 }
 
+// Long to prove: the width and the records are of any format.
 /// The records that a sector's bytes spell, if it has this many and each is of a kind that is spelled.
 pub fn read_records<F: Format, const N: usize>(sector: &[u8], count: u16) -> Records<F::Record, N>
     requires size { length sector.now ≡ 512 }

@@ -55,6 +55,7 @@ pub fn put_sector<F: Format>(sector: &mut [u8], head: &F, number: u16, records: 
 }
 
 // Writes the records of a sector, and zeros behind them.
+// Long to prove: the width and the records are of any format.
 fn put_records<F: Format>(sector: &mut [u8], records: &[F::Record])
     requires size { length sector.old ≡ 512 }
     requires few { length records.now ≤ F.PER_SECTOR }

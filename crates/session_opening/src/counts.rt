@@ -6,6 +6,7 @@ use replay_map::Link;
 use std::alloc::{AllocError, Global};
 
 // The same counts, each of which fits a byte.
+// Long to prove: a push may find no memory in each turn.
 pub(crate) fn counters_of(alloc: Global, counts: &[u16]) -> Result<Vec<u8>, AllocError>
     requires { All (λ count. count < 2 ^ 8) counts.now }
     ensures { IfOk result (λ counters. counters.items ≡ counts.now) }

@@ -70,6 +70,7 @@ fn push_page(pages: &mut Vec<OpenedPage>, places: &Places, link: Link) -> Result
 }
 
 // Maps the slots of a page that is no leaf, and has no mapping yet. One search finds the linked pages below it.
+// Long to prove: the range of a map is tied to the pages below.
 fn lead(mappings: &mut Mappings, places: &Places, page: PageId)
     requires inner { 0 < page.level }
     requires none { mappings.old ≡ replicate PAGE_SLOTS Unmapped }

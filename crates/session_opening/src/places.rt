@@ -31,6 +31,7 @@ pub(crate) fn places_of(alloc: Global, links: &[Link]) -> Result<Places, AllocEr
 }
 
 // Adds one more.
+// Long to prove: each way out while what was taken is alive has searches of its own.
 fn add(places: &mut Places, link: Link) -> Result<(), AllocError>
     ensures { OnOk result
         ((older : List Page) → ArePlaces older places.old → ArePlaces (link ∷ older) places.new) }

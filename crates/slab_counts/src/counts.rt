@@ -43,6 +43,7 @@ impl Model for SlabCounts {
 }
 
 impl SlabCounts {
+    // Long to prove: each way out while what was taken is alive has searches of its own.
     /// The counters of a slab below the number of slabs, as an image of these sizes is opened, with no claim. `opened` has
     /// the counter of each data block, at most the limit of the image. Takes the room for three bytes for each data block.
     /// It goes through all tree pages of the image: for all slabs of one see `without_pages`.
@@ -67,6 +68,7 @@ impl SlabCounts {
         Ok(counts)
     }
 
+    // Long to prove: each way out while what was taken is alive has searches of its own.
     /// The same, of the counters of all data blocks, where no tree page was found as yet: `note_page` takes them.
     pub fn without_pages(
         alloc: Global,
@@ -276,6 +278,7 @@ impl SlabCounts {
     }
 
     // One more claim on a block of this slab, if it fits.
+    // Long to prove: each clause is shown on each way out.
     fn claim_one_more(&mut self, at: Pbn) -> Result<Claim, Refusal>
         requires { IsOfSlab self.old at }
         ensures room { OnOk result (HasRoom self.old at) }
@@ -294,6 +297,7 @@ impl SlabCounts {
     }
 
     // Takes an increment of a block of this slab, if it fits.
+    // Long to prove: each clause is shown on each way out.
     fn map_once_more(&mut self, at: Pbn) -> bool
         requires { IsOfSlab self.old at }
         ensures taken { IsTrue result → Takes Increment self.old self.new at }

@@ -17,6 +17,7 @@ pub(crate) fn opening_counters(
     counters[first..first + count as usize].to_vec(alloc)
 }
 
+// Long to prove: the values are of any type.
 /// A list of so many equal values.
 pub(crate) fn repeated<T: Copy>(alloc: Global, value: T, count: u32) -> Result<Vec<T>, AllocError>
     ensures { IfOk result (λ list. list.items ≡ replicate count value) }

@@ -122,6 +122,7 @@ fn push_sector(
 }
 
 // Adds those of these entries.
+// Long to prove: a push may find no memory in each turn.
 fn push_entries(
     layout: &Layout,
     slab: u32,

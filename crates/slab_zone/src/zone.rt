@@ -42,6 +42,7 @@ impl Model for SlabZone {
 }
 
 impl SlabZone {
+    // Long to prove: each way out while what was taken is alive has searches of its own.
     /// The zone with this number, of so many, as an image is opened: no ticket is out, nothing is to be written, and there is
     /// room for 32 tickets for each request that a stream may have under way (`depth`, 1 to 16). `opened` has the counter of
     /// each data block, at most the limit of the image, and a commit point for each sector of counters. Takes the room for
@@ -225,6 +226,7 @@ impl SlabZone {
     }
 
     // Points rise in the block's slab alone, which is less than that they rise in the zone.
+    // Long to prove: each clause is shown on each way out.
     /// Takes an update of a block of this zone, whose slab has room for it; its point is above those of the slab's updates
     /// before. It is refused, with the counter, exactly where a decrement finds 0, or an increment finds the limit or no
     /// claim. If the block becomes free, it goes to the oldest ticket without one. The update is to be written.

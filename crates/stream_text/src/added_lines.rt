@@ -12,6 +12,7 @@ use crate::streams::Streams;
 const MOST_REQUESTS: u64 = 65536;
 
 // How many requests a line asks for.
+// Long to prove: a range of addresses is counted.
 fn requests_asked(asked: &Asked) -> u64
     ensures count { result ≡ length (requests_of asked.now) }
     ensures few { result ≤ 4294967296 }

@@ -4,6 +4,7 @@ ghost use Rattle.disk_model.specs.Streams.{Puts};
 
 use disk_model::{Failed, Sink};
 
+// Long to prove: a sink may fail between any two pieces.
 /// Puts pieces, one behind the other.
 pub(crate) fn put_all<K: Sink>(pieces: &[&[u8]], out: &mut K) -> Result<(), Failed>
     ensures { Puts K.tells

@@ -96,6 +96,7 @@ impl ReadingBytes {
     }
 
     // Whether so many bytes more make neither the line nor the script too long.
+    // Long to prove: the numbers are shown to fit for each index.
     fn has_room(&self, count: usize) -> bool
         requires { IsReading self.now }
         ensures { OnTrue result

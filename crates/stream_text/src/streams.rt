@@ -24,6 +24,7 @@ impl Model for Streams {
 }
 
 impl Streams {
+    // Long to prove: each way out while what was taken is alive has searches of its own.
     /// No stream has a request. It fails where memory runs out.
     pub(crate) fn new(alloc: Global) -> Result<Streams, AllocError>
         ensures { IfOk result (λ streams. streams ≡ no_requests) }

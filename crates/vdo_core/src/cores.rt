@@ -75,6 +75,7 @@ impl Model for Core {
 }
 
 impl Core {
+    // Long to prove: each way out while what was taken is alive has searches of its own.
     /// The core at the start of a session over an image that was opened. It has the requests, no one of which is begun, and
     /// takes all the room that the session will need. It fails where no memory is found for it.
     pub fn begin(

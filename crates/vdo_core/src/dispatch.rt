@@ -12,6 +12,7 @@ use data_vio::{Item, Sizes};
 use disk_model::Disk;
 use step_parts::Posts;
 
+// Long to prove: what each kind of zone does is said again of any zone.
 /// What a zone that isn't the device's does with the item in front of its inbox, by what it keeps.
 pub(crate) fn act_alone(sizes: &Sizes, keeps: &mut ZoneData, item: Item, posts: &mut Posts)
     requires other { CallsDevice keeps.old → ⊥ }
@@ -32,6 +33,7 @@ pub(crate) fn act_alone(sizes: &Sizes, keeps: &mut ZoneData, item: Item, posts: 
     }
 }
 
+// Long to prove: what the kind of zone does is said again of any zone.
 /// What the device's zone does with the item in front of its inbox.
 pub(crate) fn act_at_device<D: Disk>(
     sizes: &Sizes,

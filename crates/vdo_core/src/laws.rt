@@ -12,6 +12,7 @@ ghost use Rattle.vdo_core.specs.Plays.{HasNoWork, HaveStepsLeft};
 ghost use Rattle.vdo_core.specs.declared.events.Event.{Event};
 ghost use Rattle.vdo_model.specs.DeskLog.{AllAnswered};
 
+// Long to prove: the laws that it cites are checked with it.
 /// Each zone of a legal core can step: it keeps within its room, a rule applies to what is in front of its inbox, and what a
 /// rule posts has a lane.
 pub fn a_legal_core_can_step()

@@ -19,6 +19,7 @@ pub(crate) fn has_posted(zone: &Zone, to: u32) -> bool
 }
 
 // The whole outbox of one zone becomes the tail of the inbox of another.
+// Long to prove: two zones are borrowed of one list, in both orders.
 fn carry(zones: &mut Vec<Zone>, from: u32, to: u32)
     requires apart { from ≢ to }
     requires source { from < length zones.old.items }

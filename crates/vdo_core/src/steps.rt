@@ -123,6 +123,7 @@ pub fn step_zone<D: Disk>(
 }
 
 // Whether a zone is the device's.
+// Long to prove: each kind of zone is told apart.
 fn is_device(zone: &Zone) -> bool
     ensures { IsTrue result ↔ CallsDevice zone.now.keeps }
 {

@@ -30,6 +30,7 @@ fn argument<'a>(alloc: Global, name: OptionName) -> Arg<'a>
 }
 
 // The command of these options, which a word `--help` doesn't stop.
+// Long to prove: each call of the builder gives a new command.
 fn command<'a>(alloc: Global, names: &[OptionName]) -> Result<Command<'a>, AllocError>
     ensures { IfOk result (λ command. app_of command ≡ app names.now) }
 {

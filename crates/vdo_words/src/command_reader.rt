@@ -61,6 +61,7 @@ const WORKLOAD: [OptionName; 9] = [
     OptionName::Streams,
 ];
 
+// Long to prove: eight options are read by name.
 fn format(alloc: Global, words: &[String]) -> Option<FormatOptions>
     ensures { result ≡ format_of (given (map string_bytes words.now)) }
 {
@@ -125,6 +126,7 @@ fn drive(words: &[String], line: &Line<'_>) -> Drive
     }
 }
 
+// Long to prove: eight options are read by name.
 fn run(alloc: Global, words: &[String]) -> Option<RunOptions>
     ensures { result ≡ run_of (given (map string_bytes words.now)) }
 {

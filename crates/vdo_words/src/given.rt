@@ -19,6 +19,7 @@ impl<'a> Model for Given<'a> {
 }
 
 // What one word gives: its value stands behind an equals sign.
+// Long to prove: the bytes of a text are cut as its characters are.
 fn cut_word(word: &str) -> Given<'_>
     ensures { result ≡ cut word.now }
 {

@@ -27,6 +27,7 @@ pub(crate) enum OptionName {
 }
 
 impl OptionName {
+    // Long to prove: twenty spellings are compared.
     /// The word that names it.
     pub(crate) fn spelling(self) -> &'static str
         ensures { result.now ≡ spelling self }

@@ -74,6 +74,7 @@ fn note_pages(layout: &Layout, zone: u32, zones: u32, slabs: &mut Vec<SlabCounts
 }
 
 // A tree page stands at this block, which is noted where it is one of the zone.
+// Long to prove: one slab of a list changes, and the others stay.
 fn note_page(layout: &Layout, zone: u32, zones: u32, slabs: &mut Vec<SlabCounts>, at: Pbn)
     requires { AreSlabs layout.now.geometry zone zones slabs.old.items }
     ensures slabs { AreSlabs layout.now.geometry zone zones slabs.new.items }

@@ -45,6 +45,7 @@ impl Model for ZoneCounts {
 }
 
 impl ZoneCounts {
+    // Long to prove: each way out while what was taken is alive has searches of its own.
     /// The zone with this number, of so many, as an image is opened; no ticket is out, and there is room for 32 of them for
     /// each request that a stream may have under way (`depth`, 1 to 16). `opened` has the counter of each data block, at most
     /// the limit of the image. Takes the room for all slabs of the zone.
@@ -244,6 +245,7 @@ impl ZoneCounts {
         slab.spend_page(claim)
     }
 
+    // Long to prove: each clause is shown on each way out.
     /// Takes an update of a block of this zone: an increment, or a decrement. It is refused, with the counter, exactly where a
     /// decrement finds 0, or an increment finds the limit or no claim. If the block becomes free, it goes to the oldest ticket
     /// without one.

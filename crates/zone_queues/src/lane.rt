@@ -6,6 +6,7 @@ use std::collections::VecDeque;
 use std::marker::Model;
 use std::mem::swap;
 
+// Long to prove: how one is let go, item by item.
 /// A list, first in, first out. Its room is taken when it is made, so that no item is ever refused.
 #[derive(Drop)]
 pub struct Lane<V> {
