@@ -46,11 +46,13 @@ use Rattle.rebuild.specs.Openings.{OpensRight}
 use Rattle.rebuild.specs.Recoveries.{IsTold}
 use Rattle.rebuild.specs.declared.forms.Recovered.{Recovered}
 use Rattle.recovery_laws.specs.Kept.{AreInside, image_in}
+use Rattle.core_stops.proofs.EndOfTrace.{session_ends}
 use Rattle.core_stops.proofs.SoundStops.{sound_stops}
 use Rattle.core_stops.proofs.EarlyLaws.{run_is_right}
 use Rattle.core_stops.proofs.InsideLaws.{events_inside, inside_both}
 use Rattle.core_stops.proofs.LogLaws.{marks_within}
 use Rattle.core_stops.proofs.SequenceLaws.{next_clean}
+use Rattle.core_stops.specs.Ends.{EndsRight}
 use Rattle.core_stops.specs.Logs.{StopsRight, report_from}
 use Rattle.core_stops.specs.Sequences.{ShowsValues, next_start}
 use Rattle.session_stops.specs.Beginnings.{IsToServe}
@@ -385,6 +387,13 @@ module _ (trust : Trust) (start : Opened) (script : Script) (first last : List Z
         sound_stops real trace (to_serve clean late) real_session real_legal.right real_fair
         (ap (λ (h : Super). h.geometry) own_head) (ap (λ (h : Super). h.start) own_head)
 
+    -- and its end is right
+    pub end_of_image : sound.head.clean ≡ true → sound.head.start + 2 ^ 19 ≤ 2 ^ 54
+        → EndsRight (ShowsValues start.head.geometry (start.head.start + 2 ^ 18)) before.opening (calls trace ++ before.log) start.head.geometry.logical (opening_values real) report
+    end_of_image clean late =
+        session_ends real trace (to_serve clean late) real_session real_legal.right real_fair
+        (ap (λ (h : Super). h.geometry) own_head) (ap (λ (h : Super). h.start) own_head)
+
   -- What was done before it.
   module _ (entry : Seen) (found : Recovered) (ready : IsReady trust entry before found start) (named : start.head.geometry.nonce < 2 ^ 64) where
     stays_till : Stays entry before
@@ -485,6 +494,18 @@ module _ (trust : Trust) (start : Opened) (script : Script) (first last : List Z
           (subst (λ (l : List Call). StopsRight (ShowsValues sound.head.geometry most) entry.opening entry.log (calls trace ++ (before_it.0 ++ entry.log)) sound.head.geometry.logical (value_of (image_in image sound)) (report_from (successes l) report))
           (sym before_it.1) right)
 
+      abbrev Ended : Geometry → ℕ → Blocks → (ℕ → List ℕ) → List Call → Type 0
+      Ended g from opening values log = EndsRight (ShowsValues g (from + 2 ^ 18)) opening log g.logical values report
+
+      pub ends_then : HasSequencesLeft image sound → Ended sound.head.geometry (next_start image sound) entry.opening (value_of (image_in image sound)) after.log
+      ends_then late =
+          subst (λ (g : Geometry). Ended g (next_start image sound) entry.opening (value_of (image_in image sound)) after.log) own_geometry
+          (subst (λ (from : ℕ). Ended start.head.geometry from entry.opening (value_of (image_in image sound)) after.log) own_start
+          (subst (λ (opening : Blocks). Ended start.head.geometry start.head.start opening (value_of (image_in image sound)) after.log) stays_till.opening
+          (subst (λ (values : ℕ → List ℕ). Ended start.head.geometry start.head.start before.opening values after.log) values_are
+          (subst (λ (log : List Call). Ended start.head.geometry start.head.start before.opening (opening_values (real left.left left.is_sound left.is_told opens named)) log) (sym (called.log told.told))
+          (end_of_image left.left left.is_sound left.is_told opens named left.clean (let from = first_starts in omega (arith, late, from)))))))
+
     pub plays : (schedule state : ℕ) (events : List Event) → Stays before after
         → Drives trust (run_sizes start.head) events (driving schedule first before) (driving state last after) trace
         → ServesRequests trust schedule found start report entry after
@@ -511,6 +532,7 @@ module _ (trust : Trust) (start : Opened) (script : Script) (first last : List Z
       inside = λ told. (calls trace, called.log told, session_inside);
       inside_since = λ image told sound. inside_then image told sound;
       stops = λ image told sound late. stops_then image told sound late;
+      ends = λ image told sound late. ends_then image told sound late;
     }
 
 -- what a core did that began with what was opened, was driven to its end, and told its report

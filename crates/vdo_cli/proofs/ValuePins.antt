@@ -1,5 +1,5 @@
--- Rows that pin what a session says of a sound image that it opened (`early`, `inside`, `reads_right`, `undamaged`, `quiet` and `stops` of
--- `ServesRequests`): a run that is accepted, and for each one that isn't since it breaks this clause.
+-- Rows that pin what a session says of a sound image that it opened (`early`, `inside`, `reads_right`, `undamaged`, `quiet`, `stops`
+-- and `ends` of `ServesRequests`): a run that is accepted, and for each one that isn't since it breaks this clause.
 use Rattle.std.proofs.Common.{ℕ, ◌≡◌, ◌+◌, ◌-◌, ◌<◌, ◌≤◌, ◌^◌, ◌++◌, Bool, true, false, List, [], ◌∷◌, length, replicate, Some, None, Err, refl, sym, ◌∙◌, ap, subst, append_assoc, arith, inl, inr}
 use Rattle.blk_base.specs.declared.opened.Opened.{Opened}
 use Rattle.blk_base.specs.Regions.{IsDataBlock, needed_blocks}
@@ -13,7 +13,7 @@ use Rattle.blk_base.specs.Forms.{lba as address}
 use Rattle.core_model.specs.PageLinks.{opened_page}
 use Rattle.core_model.specs.Trace.{calls}
 use Rattle.disk_model.specs.declared.call.Call.{Call}
-use Rattle.disk_model.specs.declared.call.Call.TheVariants.{Write}
+use Rattle.disk_model.specs.declared.call.Call.TheVariants.{Flush, Write}
 use Rattle.disk_model.specs.Images.{IsImage}
 use Rattle.disk_model.specs.Log.{Blocks}
 use Rattle.disk_model.specs.Seen.{Seen}
@@ -28,6 +28,7 @@ use Rattle.rebuild.specs.Recoveries.{IsTold}
 use Rattle.rebuild.specs.declared.forms.Recovered.{Recovered}
 use Rattle.recovery_laws.specs.Kept.{AreInside, image_in}
 use Rattle.core_stops.proofs.LogLaws.{same_front}
+use Rattle.core_stops.proofs.EndLaws.{exact}
 use Rattle.core_stops.proofs.SequenceLaws.{next_clean}
 use Rattle.core_stops.specs.Sequences.{ShowsValues, next_start}
 use Rattle.vdo_model.proofs.HistoryLaws.{length_at_within}
@@ -95,6 +96,20 @@ write_report calls = record {
   requests = writes_one;
   desk = Answer (of_a 1) reply.Ok ∷ Begin (of_a 1) ∷ Answer (of_a 0) reply.Ok ∷ Begin (of_a 0) ∷ [];
   marks = record { request = of_a 1; calls = calls } ∷ [];
+  receipts = [];
+  places = placed (of_a 0) 0 0 ∷ [];
+  histories = entry 1 (of_a 0) Settled ∷ [];
+  damage = None;
+  used = 2;
+  total = 64;
+}
+
+-- a report of the write alone, with no flush behind it
+abbrev kept_report : RunReport
+kept_report = record {
+  requests = (request.Write (address 1) (block 1) false ∷ []) ∷ replicate 15 [];
+  desk = Answer (of_a 0) reply.Ok ∷ Begin (of_a 0) ∷ [];
+  marks = [];
   receipts = [];
   places = placed (of_a 0) 0 0 ∷ [];
   histories = entry 1 (of_a 0) Settled ∷ [];
@@ -223,6 +238,17 @@ module _ (before : Seen) (image : Blocks) (told : IsTold (trust_of true true) be
       of_part opening [] shown is value flushed = let bytes = blocks_tell 11 1 (rw (← is) at value) in omega (arith, bytes)
       of_part opening (e ∷ []) shown is value flushed = let none : [] ≡ shown = cc in omega (arith, ap length none, flushed)
       of_part opening (e ∷ e' ∷ newer) shown is value flushed = absurd cc
+
+  -- ends: A write was answered, and no flush came behind it, so each stop may lose it. Behind a flush right after the end the
+  -- address has no older block.
+  ends-not_an_older_block : (other : Blocks) → Served before left after 0 kept_report → HasSequencesLeft image sound → IsImage before.opening (Flush true ∷ after.device.log) other
+      → ((own : IsSound other) → value_of (image_in other own) 1 ≡ block 11) → 1 < sound.head.geometry.logical → ⊥
+  ends-not_an_older_block other ends late is_image older below =
+      let end = ends.session.serves.ends image told sound late other is_image in
+      let value : end.0 1 ≡ block 11 = end.1.values_are 1 ∙ older end.1.sound in
+      let last = exact kept_report.requests (entry 1 (of_a 0) Settled ∷ []) (value_of (image_in image sound) 1) (end.0 1) (end.2 1 below) refl in
+      let bytes = blocks_tell 11 1 (sym value ∙ last) in
+      omega (arith, bytes)
 
 -- Sequences are left: of a closed image that begins at 9 they are, and of one that begins with the last of them they aren't.
 sequences-left : (image : Blocks) (sound : IsSound image) → sound.head.clean ≡ true → sound.head.start ≡ 9 → HasSequencesLeft image sound

@@ -12,6 +12,7 @@ use Rattle.core_model.specs.Reports.{IsMappedIn}
 use Rattle.core_model.specs.Trace.{Trace, calls, moments}
 use Rattle.rebuild.specs.declared.forms.Recovered.{Recovered}
 use Rattle.recovery_laws.specs.Kept.{AreInside, image_in}
+use Rattle.core_stops.specs.Ends.{EndsRight}
 use Rattle.core_stops.specs.Logs.{StopsRight, StopsShow, report_from}
 use Rattle.core_stops.specs.Sequences.{ShowsValues, next_start}
 use Rattle.stream_text.specs.WholeScript.{whole_script}
@@ -65,6 +66,11 @@ pub record ServesRequests (trust : Trust) (schedule : ℕ) (found : Recovered) (
   pub stops : OfSound trust before (λ image sound. HasSequencesLeft image sound
       → StopsRight (ShowsValues sound.head.geometry (next_start image sound + 2 ^ 18)) before.opening before.log after.log
       sound.head.geometry.logical (value_of (image_in image sound)) (report_from (successes opened.log) report))
+  -- The end is more than a stop: behind one flush right after it each address has the value of its last settled entry, or of an
+  -- unsettled one behind that, whether or not a flush of the session covers it.
+  pub ends : OfSound trust before (λ image sound. HasSequencesLeft image sound
+      → EndsRight (ShowsValues sound.head.geometry (next_start image sound + 2 ^ 18)) before.opening after.log sound.head.geometry.logical
+      (value_of (image_in image sound)) report)
 
 -- so of a script, which was read to its end
 pub record RunsSession (s : InputSetting) (schedule : ℕ) (found : Recovered) (report : RunReport) (before after : Inputs) : Type 0 where
