@@ -10,9 +10,14 @@
 //! the system's word.
 #![tactic(auto)]
 
+mod byte_file;
 mod disk;
+mod history;
+mod laws;
 mod open_files;
 mod places;
 
+pub use byte_file::ByteFile;
 pub use disk::FileDisk;
+pub use laws::files_as_devices;
 pub use open_files::{Access, open_disk};
