@@ -97,8 +97,8 @@ impl ByteFile for Slow {
         FileExt::read_at(self, into, offset)
     }
 
-    fn write_all_at(&mut self, bytes: &[u8], offset: u64) -> io::Result<()> {
-        FileExt::write_all_at(self, bytes, offset)
+    fn write_all_at(&mut self, bytes: &Block, offset: u64) -> io::Result<()> {
+        FileExt::write_all_at(self, &bytes.bytes, offset)
     }
 
     fn sync_all(&mut self) -> io::Result<()> {

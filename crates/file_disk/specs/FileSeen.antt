@@ -18,9 +18,6 @@ pub record Gives (file : FileSeen) (offset : ℕ) (into : List ℕ) (count : ℕ
   pub bytes : take count into ≡ front count (drop offset file.bytes)
   pub end : count ≡ 0 → 0 < length into → length file.bytes ≤ offset
 
--- a write of whole sectors: the first one, and how many
-pub record IsOfSectors (offset : ℕ) (bytes : List ℕ) : Type 0 where
-  pub first : ℕ
-  pub count : ℕ
-  pub begins : offset ≡ 512 * first
-  pub long : length bytes ≡ 512 * count
+-- an offset at which a sector begins
+abbrev pub BeginsSector : ℕ → Type 0
+BeginsSector offset = (s : ℕ) × (offset ≡ 512 * s)

@@ -5,3 +5,4 @@ pub mod FileReads
 pub mod FileBlocks
 pub mod Histories
 pub mod BlockLaws
+pub mod FileHistories

@@ -1,8 +1,9 @@
 ghost use Rattle.std.specs.Prelude.{◌≡◌, ◌≤◌, ◌∷◌, IfOk, IsTrue, is_ok, length};
 ghost use Rattle.disk_model.specs.Trust.{Trust};
 ghost use Rattle.file_disk.specs.FileLog.{HoldsCalls, Sync, WriteAt};
-ghost use Rattle.file_disk.specs.FileSeen.{FileSeen, Gives, IsOfSectors};
+ghost use Rattle.file_disk.specs.FileSeen.{BeginsSector, FileSeen, Gives};
 
+use blk_base::Block;
 use std::fs::File;
 use std::io;
 use std::os::unix::fs::FileExt;
@@ -29,10 +30,10 @@ pub trait ByteFile {
         ensures given { IsTrue trust.tells → IsTrue trust.honest →
             IfOk result (Gives (seen self.old) offset into.new) };
 
-    /// Writes whole sectors at an offset; the file grows where it ends before. It fails as the system does; then each of
-    /// these sectors may be the one before or the one written.
-    fn write_all_at(&mut self, bytes: &[u8], offset: u64) -> io::Result<()>
-        requires { IsOfSectors offset bytes.now }
+    /// Writes 4,096 bytes at an offset where a sector begins; the file grows where it ends before. It fails as the system
+    /// does; then each of these sectors may be the one before or the one written.
+    fn write_all_at(&mut self, bytes: &Block, offset: u64) -> io::Result<()>
+        requires { BeginsSector offset }
         ensures opening { (seen self.new).opening ≡ (seen self.old).opening }
         ensures log { IsTrue trust.tells →
             (seen self.new).log ≡ WriteAt offset bytes.now (is_ok result) ∷ (seen self.old).log };
@@ -58,8 +59,8 @@ impl ByteFile for File {
         FileExt::read_at(self, into, offset)
     }
 
-    fn write_all_at(&mut self, bytes: &[u8], offset: u64) -> io::Result<()> {
-        FileExt::write_all_at(self, bytes, offset)
+    fn write_all_at(&mut self, bytes: &Block, offset: u64) -> io::Result<()> {
+        FileExt::write_all_at(self, &bytes.bytes, offset)
     }
 
     fn sync_all(&mut self) -> io::Result<()> {

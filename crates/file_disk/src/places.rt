@@ -60,7 +60,7 @@ fn read_bytes<F: ByteFile>(file: &mut F, offset: u64, into: &mut [u8]) -> io::Re
     Err(io::Error::from(ErrorKind::Interrupted))
 }
 
-/// Reads a block of a file of so many blocks.
+/// Reads a block of a file.
 pub(crate) fn read_block<F: ByteFile>(file: &mut F, at: Pbn, into: &mut Block) -> io::Result<()>
     ensures whole { length into.new ≡ 4096 }
     ensures opening { (F.seen file.new).opening ≡ (F.seen file.old).opening }
@@ -73,12 +73,13 @@ pub(crate) fn read_block<F: ByteFile>(file: &mut F, at: Pbn, into: &mut Block) -
     read_bytes(file, u64::from(at.0) * BLOCK_BYTES, &mut into.bytes)
 }
 
-/// Writes a block of a file of so many blocks.
+/// Writes a block of a file.
 pub(crate) fn write_block<F: ByteFile>(file: &mut F, at: Pbn, from: &Block) -> io::Result<()>
     ensures whole { length from.now ≡ 4096 }
     ensures opening { (F.seen file.new).opening ≡ (F.seen file.old).opening }
     ensures log { IsTrue F.trust.tells → (F.seen file.new).log
         ≡ WriteAt (4096 * at.0) from.now (is_ok result) ∷ (F.seen file.old).log }
 {
-    file.write_all_at(&from.bytes, u64::from(at.0) * BLOCK_BYTES)
+    let _whole = &from.bytes;
+    file.write_all_at(from, u64::from(at.0) * BLOCK_BYTES)
 }
