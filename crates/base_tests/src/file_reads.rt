@@ -5,11 +5,7 @@ use disk_model::Disk;
 use file_disk::{ByteFile, FileDisk};
 
 /// Whether a block reads as wanted.
-pub(crate) fn reads<F: ByteFile + Drop>(
-    disk: &mut FileDisk<F>,
-    at: u32,
-    wanted: &Block,
-) -> bool
+pub(crate) fn reads<F: ByteFile + Drop>(disk: &mut FileDisk<F>, at: u32, wanted: &Block) -> bool
     requires { at < disk.old.blocks }
     ensures { disk.new.blocks ≡ disk.old.blocks }
 {
