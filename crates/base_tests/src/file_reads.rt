@@ -2,16 +2,10 @@ ghost use Rattle.std.specs.Prelude.{◌≡◌, ◌<◌};
 
 use blk_base::{Block, Pbn};
 use disk_model::Disk;
-use file_disk::FileDisk;
-use std::fs::OpenFile;
-use std::os::unix::fs::FileExt;
+use file_disk::{ByteFile, FileDisk};
 
 /// Whether a block reads as wanted.
-pub(crate) fn reads<F: FileExt + OpenFile + Drop>(
-    disk: &mut FileDisk<F>,
-    at: u32,
-    wanted: &Block,
-) -> bool
+pub(crate) fn reads<F: ByteFile + Drop>(disk: &mut FileDisk<F>, at: u32, wanted: &Block) -> bool
     requires { at < disk.old.blocks }
     ensures { disk.new.blocks ≡ disk.old.blocks }
 {

@@ -1,9 +1,8 @@
 use crate::file_reads::reads;
 use blk_base::{Block, Pbn};
 use disk_model::Disk;
-use file_disk::FileDisk;
+use file_disk::{ByteFile, FileDisk};
 use std::cell::{Cell, RefCell};
-use std::fs::{Metadata, OpenFile};
 use std::io;
 use std::io::ErrorKind;
 use std::os::unix::fs::FileExt;
@@ -85,23 +84,27 @@ impl FileExt for Slow {
     }
 }
 
-impl OpenFile for Slow {
-    fn metadata(&self) -> io::Result<Metadata> {
-        Err(other_error())
+// It tells nothing.
+impl ByteFile for Slow {
+    ghost use Rattle.std.specs.Prelude.{[], false};
+    ghost use Rattle.disk_model.specs.Trust.{trust_of};
+
+    ghost trust = { trust_of false false };
+
+    ghost seen = { λ file. record { opening = []; log = []; bytes = [] } };
+
+    fn read_at(&mut self, into: &mut [u8], offset: u64) -> io::Result<usize> {
+        FileExt::read_at(self, into, offset)
     }
 
-    fn set_len(&self, _size: u64) -> io::Result<()> {
-        Err(other_error())
+    fn write_all_at(&mut self, bytes: &Block, offset: u64) -> io::Result<()> {
+        FileExt::write_all_at(self, &bytes.bytes, offset)
     }
 
-    fn sync_all(&self) -> io::Result<()> {
+    fn sync_all(&mut self) -> io::Result<()> {
         self.call()?;
         self.syncs.set(self.syncs.get().wrapping_add(1));
         Ok(())
-    }
-
-    fn sync_data(&self) -> io::Result<()> {
-        Err(other_error())
     }
 }
 

@@ -1,36 +1,55 @@
-ghost use Rattle.std.specs.Prelude.{◌≡◌};
-ghost use Rattle.disk_model.specs.Causes.{HasCause};
+ghost use Rattle.std.specs.Prelude.{◌≡◌, [], IsTrue, List, ℕ};
+ghost use Rattle.disk_model.specs.Images.{IsImage};
+ghost use Rattle.file_disk.specs.FileBytes.{blocks_of};
+ghost use Rattle.file_disk.specs.FileLog.{IsFileImage};
+ghost use Rattle.file_disk.specs.FileSeen.{IsJustOpened};
 
+use crate::byte_file::ByteFile;
+use crate::history::History;
 use crate::places::{read_block, write_block};
 use blk_base::{Block, Pbn};
 use disk_model::{Disk, Failed};
-use std::fs::OpenFile;
-use std::io;
-use std::os::unix::fs::FileExt;
+use std::marker::Model;
 
 /// A file as a device of blocks of 4,096 bytes. Block n is the bytes from 4,096 n on; what lies behind the end of the file
 /// reads as zeros. The file grows as blocks are written, and never past the last block.
 ///
 /// A write is in the file once the call returns, and lasts once a flush returns: that is the system's own sync of the file
-/// to its device. It tells nothing of its bytes: what a file holds, and loses, no contract can say. Each call that fails
-/// raises a count.
+/// to its device. It tells what its file tells, by a log that clauses alone see. Each call that fails raises a count.
 #[derive(Drop)]
-pub struct FileDisk<F> {
+pub struct FileDisk<F: ByteFile> {
     file: F,
     blocks: u32,
     faults: u64,
+    history: History,
 }
 
-impl<F: Drop> FileDisk<F> {
-    /// An open file as a device of so many blocks. No call failed yet.
+impl<F: ByteFile> Model for FileDisk<F> {
+    ghost use Rattle.file_disk.specs.FileBlocks.{FileBlocks, IsTied};
+
+    ghost Value = { FileBlocks F };
+
+    ghost view = { λ d. record {
+      file = d.file;
+      blocks = d.blocks;
+      log = d.history;
+      faults = d.faults;
+    } };
+
+    ghost invariant = { λ d. IsTied F.trust (F.seen d.file) d.history };
+}
+
+impl<F: ByteFile + Drop> FileDisk<F> {
+    /// An open file as a device of so many blocks. No call failed yet, and its log begins now.
     pub fn new(file: F, blocks: u32) -> FileDisk<F>
-        ensures blocks { result.blocks ≡ blocks }
-        ensures faults { result.faults ≡ 0 }
+        requires { IsTrue F.trust.tells → IsJustOpened (F.seen file) }
+        ensures { result ≡ record { file = file; blocks = blocks; log = []; faults = 0 } }
     {
         FileDisk {
             file,
             blocks,
             faults: 0,
+            history: History::new(),
         }
     }
 
@@ -48,49 +67,71 @@ impl<F: Drop> FileDisk<F> {
         self.file
     }
 
-    // A call that failed is counted.
-    fn counted(&mut self, ended: io::Result<()>) -> Result<(), Failed>
-        ensures blocks { self.new.blocks ≡ self.old.blocks }
-        ensures cause { HasCause self.old.faults self.new.faults result }
+    /// What a stop may leave of its file is an image of the device. It does nothing.
+    pub fn stops(&self)
+        ensures { IsTrue F.trust.tells → (image : List ℕ)
+            → IsFileImage (F.seen self.now.file).opening (F.seen self.now.file).log image
+            → IsImage (blocks_of self.now.blocks (F.seen self.now.file).opening) self.now.log
+            (blocks_of self.now.blocks image) }
     {
-        match ended {
-            Ok(()) => Ok(()),
-            Err(_) => {
-                self.faults = self.faults.saturating_add(1);
-                Err(Failed)
-            }
-        }
+        let _ = &self.file;
     }
 }
 
-impl<F: FileExt + OpenFile + Drop> Disk for FileDisk<F> {
-    ghost use Rattle.std.specs.Prelude.{[], false};
-    ghost use Rattle.disk_model.specs.Trust.{trust_of};
+impl<F: ByteFile + Drop> Disk for FileDisk<F> {
+    ghost use Rattle.file_disk.specs.FileBlocks.{disk_seen};
+    ghost use Rattle.file_disk.specs.BlockLaws.{length-blocks};
 
-    ghost trust = { trust_of false false };
+    ghost trust = { F.trust };
 
-    ghost seen = { λ d.
-        record { opening = []; size = d.blocks; log = []; faults = d.faults; unkept = 0 } };
+    ghost seen = { disk_seen F.seen };
 
-    ghost told = { λ device tells. absurd (cc tells) };
+    ghost told = { λ device tells. length-blocks device.blocks (F.seen device.file).opening };
 
     fn blocks(&self) -> u32 {
         self.blocks
     }
 
     fn read(&mut self, at: Pbn, into: &mut Block) -> Result<(), Failed> {
-        let ended = read_block(&self.file, self.blocks, at, into);
-        self.counted(ended)
+        match read_block(&mut self.file, at, into) {
+            Ok(()) => {
+                self.history.add_read(at, into, true);
+                Ok(())
+            }
+            Err(_) => {
+                self.history.add_read(at, into, false);
+                self.faults = self.faults.saturating_add(1);
+                Err(Failed)
+            }
+        }
     }
 
     fn write(&mut self, at: Pbn, from: &Block) -> Result<(), Failed> {
-        let ended = write_block(&self.file, self.blocks, at, from);
-        self.counted(ended)
+        match write_block(&mut self.file, at, from) {
+            Ok(()) => {
+                self.history.add_write(at, from, true);
+                Ok(())
+            }
+            Err(_) => {
+                self.history.add_write(at, from, false);
+                self.faults = self.faults.saturating_add(1);
+                Err(Failed)
+            }
+        }
     }
 
     // The data and the length of the file: one that grew must keep its last blocks.
     fn flush(&mut self) -> Result<(), Failed> {
-        let ended = self.file.sync_all();
-        self.counted(ended)
+        match self.file.sync_all() {
+            Ok(()) => {
+                self.history.add_flush(true);
+                Ok(())
+            }
+            Err(_) => {
+                self.history.add_flush(false);
+                self.faults = self.faults.saturating_add(1);
+                Err(Failed)
+            }
+        }
     }
 }

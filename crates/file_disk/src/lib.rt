@@ -1,20 +1,28 @@
-//! A file as a device of blocks. It is an edge to the system: it tells nothing of its bytes.
+//! A file as a device of blocks. It tells what its file tells: a file in memory its bytes and its log, the system's file
+//! nothing.
 //!
-//! Only tested: that a block is read and written at its place, that what lies behind the end of the file reads as
-//! zeros, that a file is made where there is none and grows no further than it is written, and that pieces and
-//! interrupted calls are carried on; on a real file, and on one that gives a few bytes at a time and fails. So is how
-//! `open_disk` opens it: alone to change it, shared and for reading to look at it, and never at the number of a
-//! standard stream.
+//! Only tested: that a file is made where there is none and grows no further than it is written, and that a read or a write
+//! of the system's file that was interrupted is carried on; on a real file, and on one that gives a few bytes at a time and
+//! fails. So is how `open_disk` opens it: alone to change it, shared and for reading to look at it, and never at the number
+//! of a standard stream.
 //!
-//! Not there: any clause on what the file holds. That a flush lasts, and that the name of a file that was made does, is
-//! the system's word.
+//! Not there: any clause on what the system's calls on a file do, and that the name of a file that was made lasts. That is
+//! the system's word. A file that tells is taken to lose, at a stop, whole sectors alone (`IsFileImage`).
 #![tactic(auto)]
 
+mod byte_file;
 mod disk;
+mod file_history;
+mod history;
+mod laws;
 mod limits;
+mod memory;
 mod open_files;
 mod places;
 
+pub use byte_file::ByteFile;
 pub use disk::FileDisk;
-pub use limits::largest_file;
+pub use laws::files_as_devices;
+pub use limits::{file_limit, largest_file};
+pub use memory::MemFile;
 pub use open_files::{Access, open_disk};

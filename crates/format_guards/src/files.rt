@@ -2,12 +2,10 @@
 ghost use Rattle.std.specs.Prelude.{◌≡◌, true};
 
 use disk_model::Disk;
-use file_disk::FileDisk;
-use std::fs::OpenFile;
-use std::os::unix::fs::FileExt;
+use file_disk::{ByteFile, FileDisk};
 
 // A call that failed is counted, but where the count stands at its last value.
-fn a_failed_call_is_counted<F: FileExt + OpenFile + Drop>(disk: &mut FileDisk<F>) -> bool
+fn a_failed_call_is_counted<F: ByteFile + Drop>(disk: &mut FileDisk<F>) -> bool
     ensures { result ≡ true }
 {
     let before = disk.faults();

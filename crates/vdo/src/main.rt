@@ -5,7 +5,7 @@
 //! one after the other on a file, and runs on it that are killed (`tools/image_files.sh`); the instructions of a run
 //! (docs/PERFORMANCE.md).
 //!
-//! Not there: what the operating system's streams and files do, which device and command `main` takes from the words of
+//! Not there: what the operating system's calls do on streams and files, which device and command `main` takes from the words of
 //! the program, what it prints before it calls `run`, that memory is found, how long a call takes, and that `drive`
 //! returns. A source, a sink or a device may tell nothing of its bytes, as standard input and output do: then the
 //! clauses on bytes say nothing, and those on causes stay.
@@ -16,27 +16,30 @@ mod arguments;
 use arguments::{ArgumentsFault, CommandLine, Device, command_line};
 use disk_model::{Disk, OpenGate, RamDisk};
 use file_disk::open_disk;
+use standard_streams::{InputSource, OutputSink, StandardInput};
 use std::alloc::{AllocError, Global};
+use std::io;
+use std::io::Printer;
 use std::process::ExitCode;
 use std::sync::Wait;
 use std::thread::Threads;
-use vdo_cli::{Ended, StdSink, StdSource, Words, run};
+use vdo_cli::{Ended, Words, run};
 
 /// The standard streams.
 #[derive(Drop)]
 struct Streams<'r> {
-    source: StdSource,
-    sink: StdSink<'r>,
+    source: InputSource<StandardInput>,
+    sink: OutputSink<Printer<'r, HostRuntime>>,
 }
 
 impl<'r> Streams<'r> {
     fn open(rt: &'r HostRuntime) -> Result<Streams<'r>, ArgumentsFault> {
         // The one thing that can fail is the memory in which output is collected.
-        let Ok(sink) = StdSink::new(rt) else {
+        let Ok(sink) = OutputSink::new(rt.alloc(), io::writer(rt)) else {
             return Err(ArgumentsFault::Memory);
         };
         Ok(Streams {
-            source: StdSource::new(rt.clone()?),
+            source: InputSource::new(StandardInput::new(rt.clone()?)),
             sink,
         })
     }

@@ -13,7 +13,6 @@
 //! script's answers are put behind `recovered 30 entries`.
 #![tactic(auto)]
 
-mod adapters;
 mod crash;
 mod crash_end;
 mod crash_laws;
@@ -27,7 +26,6 @@ mod seeded;
 mod session;
 mod words;
 
-pub use adapters::{StdSink, StdSource};
 pub use crash_laws::{a_crash_shows_a_sound_image, a_crash_without_faults_is_complete};
 pub use endings::put_fault;
 pub use fault::Fault;

@@ -1,0 +1,5 @@
+pub mod FrontLaws
+pub mod FileLaws
+pub mod ReadLaws
+pub mod MemoryLaws
+pub mod FileRows
