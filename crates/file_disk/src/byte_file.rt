@@ -4,9 +4,7 @@ ghost use Rattle.file_disk.specs.FileLog.{HoldsCalls, Sync, WriteAt};
 ghost use Rattle.file_disk.specs.FileSeen.{BeginsSector, FileSeen, Gives};
 
 use blk_base::Block;
-use std::fs::File;
 use std::io;
-use std::os::unix::fs::FileExt;
 
 /// A file by the system's calls on it. One that tells says which bytes it had when its log began, which writes and syncs
 /// were made since, and which bytes it has. One that tells and is honest has, sector by sector, what the last successful
@@ -44,26 +42,4 @@ pub trait ByteFile {
         ensures opening { (seen self.new).opening ≡ (seen self.old).opening }
         ensures log { IsTrue trust.tells →
             (seen self.new).log ≡ Sync (is_ok result) ∷ (seen self.old).log };
-}
-
-/// The system's file. It tells nothing.
-impl ByteFile for File {
-    ghost use Rattle.std.specs.Prelude.{[], false};
-    ghost use Rattle.disk_model.specs.Trust.{trust_of};
-
-    ghost trust = { trust_of false false };
-
-    ghost seen = { λ file. record { opening = []; log = []; bytes = [] } };
-
-    fn read_at(&mut self, into: &mut [u8], offset: u64) -> io::Result<usize> {
-        FileExt::read_at(self, into, offset)
-    }
-
-    fn write_all_at(&mut self, bytes: &Block, offset: u64) -> io::Result<()> {
-        FileExt::write_all_at(self, &bytes.bytes, offset)
-    }
-
-    fn sync_all(&mut self) -> io::Result<()> {
-        File::sync_all(self)
-    }
 }

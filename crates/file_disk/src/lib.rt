@@ -19,6 +19,7 @@ mod limits;
 mod memory;
 mod open_files;
 mod places;
+mod system_file;
 
 pub use byte_file::ByteFile;
 pub use disk::FileDisk;
@@ -26,3 +27,4 @@ pub use laws::files_as_devices;
 pub use limits::{file_limit, largest_file};
 pub use memory::MemFile;
 pub use open_files::{Access, open_disk};
+pub use system_file::SystemFile;

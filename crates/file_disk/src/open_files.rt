@@ -1,6 +1,8 @@
 ghost use Rattle.std.specs.Prelude.{◌≡◌, IfOk};
 
 use crate::disk::FileDisk;
+use crate::limits::largest_file;
+use crate::system_file::SystemFile;
 use std::fs::{File, OpenOptions, TryLockError};
 use std::os::unix::fs::FileTypeExt;
 use std::path::Path;
@@ -21,7 +23,8 @@ const NO_LOCKS: i32 = 37;
 
 /// Opens a file as a device of so many blocks, 0 to 4,294,967,295, and locks it until the device is dropped: alone to
 /// change it, and together with others to look at it. Where there is no file at the path, an empty one is made, and its
-/// folder is synced, so that a power cut doesn't take it away again.
+/// folder is synced, so that a power cut doesn't take it away again. A write that would make it larger than the system allows
+/// fails.
 ///
 /// It fails as the system does, and with `WouldBlock` where another program holds the file. On a file system that knows no
 /// locks the file is opened without one. No descriptor below 3 is kept: what is meant for a standard stream that was closed
@@ -31,7 +34,7 @@ pub fn open_disk<R: Files<File = File> + Alloc>(
     path: &str,
     blocks: u32,
     access: Access,
-) -> io::Result<FileDisk<File>>
+) -> io::Result<FileDisk<SystemFile>>
     ensures blocks { IfOk result (λ disk. disk.blocks ≡ blocks) }
     ensures faults { IfOk result (λ disk. disk.faults ≡ 0) }
 {
@@ -42,7 +45,16 @@ pub fn open_disk<R: Files<File = File> + Alloc>(
     // A copy of a descriptor is at least 3.
     let file = opened.try_clone()?;
     lock(&file, access)?;
-    Ok(FileDisk::new(file, blocks))
+    let most = most_bytes(rt, path, access);
+    Ok(FileDisk::new(SystemFile::new(file, most), blocks))
+}
+
+// How many bytes the system lets a file have that is to be written, where it sets a limit. It limits files alone.
+fn most_bytes<R: Files<File = File> + Alloc>(rt: &R, path: &str, access: Access) -> Option<u64> {
+    match (access, fs::metadata(rt, path)) {
+        (Access::Change, Ok(found)) if found.file_type().is_file() => largest_file(rt),
+        _ => None,
+    }
 }
 
 // A file that is there is opened for reading alone. To open a pipe so would wait for a writer.
