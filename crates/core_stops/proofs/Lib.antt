@@ -4,5 +4,6 @@ pub mod SoundStops
 pub mod LogLaws
 pub mod SequenceLaws
 pub mod EarlyLaws
+pub mod InsideLaws
 pub mod LogRows
 pub mod SequenceRows

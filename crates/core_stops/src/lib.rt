@@ -6,16 +6,20 @@
 //! as the window. So each image has no fault, each of its stored counts is the number of mappings, and the next session
 //! finds its first sequence.
 //!
+//! Of any device, and of any image that was opened: nothing behind the image is written.
+//!
 //! And what one run leaves to the next: the laws by which its parts, the recovery, the opening and the session, fit together.
 //!
 //! Not there: that an image is closed, as a session isn't yet; that a core's session is right after stops over such images.
 #![tactic(auto)]
 
+mod inside;
 mod laws;
 mod logs;
 mod runs;
 mod sequences;
 
+pub use inside::nothing_behind_the_image_is_written;
 pub use laws::each_stop_of_a_session_leaves_a_sound_image;
 pub use logs::stops_over_the_whole_log;
 pub use runs::{a_run_is_right_over_its_whole_log, nothing_shows_before_the_session};
