@@ -5,8 +5,10 @@
     python3 tools/seconds.py --over 6 CRATE ..    those over six seconds, and whether a comment at the function says why
 
 A crate is checked from nothing, over the libraries below it, which `rt lib` builds first where they aren't yet. Seconds are those of a
-processor between the ends of two functions, as the check tells them (`--progress`): the first one has the start in it. What is listed by
-`--over` has a comment line with the words "to prove" above the function, or `no comment` stands behind it; the status is 1 then.
+processor between the ends of two functions, as the check tells them (`--progress`); the first one, which has the start in it, isn't
+listed. What is listed by `--over` has a comment line with the words "to prove" above the function, or above the type of which it is
+derived, or `no comment` stands behind it; the status is 1 then. How a value of another crate is let go is proved too, and has no place
+for one.
 """
 
 from __future__ import annotations
@@ -16,13 +18,13 @@ import os
 import re
 import subprocess
 import sys
-import tempfile
 from dataclasses import dataclass
 from pathlib import Path
 
 from crates import TOP, listed
 
 ENDED = re.compile(r"checked (?P<name>.+), \d+ of \d+")
+DERIVED = re.compile(r"(?P<type>\w+?)(Debug|Display|PartialEq|Ord|PartialOrd|Clone|Default)")
 TICKS = os.sysconf("SC_CLK_TCK")
 
 
@@ -55,7 +57,7 @@ def below(name: str, libraries: dict[str, tuple[str, ...]]) -> list[str]:
     return found
 
 
-def check_words(name: str, libraries: dict[str, tuple[str, ...]], work: str) -> list[str]:
+def check_words(name: str, libraries: dict[str, tuple[str, ...]]) -> list[str]:
     """The call that checks a crate from nothing, in its folder."""
     at = kit()
     root = "src/lib.rt" if (TOP / "crates" / name / "src/lib.rt").exists() else "src/main.rt"
@@ -67,43 +69,53 @@ def check_words(name: str, libraries: dict[str, tuple[str, ...]], work: str) -> 
     for library in below(name, libraries):
         words += ["-L", f"dependency={TOP}/crates/{library}/out/rlib"]
     words += ["--antt-project", f"{at}/rattle/logic/antt-project.json", "--logic-built", f"{at}/logic_built"]
-    return [*words, "--links", f"{name}=", "--jobs", "1", "--incremental", work, "--progress"]
+    return [*words, "--jobs", "1", "--progress"]
 
 
 def proved(name: str, libraries: dict[str, tuple[str, ...]]) -> list[Proved]:
-    """Each function of the crate with its seconds, the dearest first."""
+    """Each function of the crate with its seconds, in the order in which the check ends with them."""
     folder = TOP / "crates" / name
     for library in below(name, libraries):
         subprocess.run(["rt", "lib"], cwd=TOP / "crates" / library, check=True, stdout=subprocess.DEVNULL)
     found: list[Proved] = []
-    with tempfile.TemporaryDirectory() as work:
-        words = check_words(name, libraries, f"{work}/kept")
-        with subprocess.Popen(words, cwd=folder, stdout=subprocess.PIPE, stderr=subprocess.STDOUT, text=True) as check:
-            assert check.stdout is not None
-            before = 0.0
-            for line in check.stdout:
-                if ended := ENDED.match(line):
-                    now = processor_seconds(check.pid)
-                    found.append(Proved(ended["name"], now - before))
-                    before = now
-        if check.returncode != 0:
-            sys.exit(f"{name} isn't proved")
-    return sorted(found, key=lambda it: -it.seconds)
+    words = check_words(name, libraries)
+    with subprocess.Popen(words, cwd=folder, stdout=subprocess.PIPE, stderr=subprocess.STDOUT, text=True) as check:
+        assert check.stdout is not None
+        before = 0.0
+        for line in check.stdout:
+            if ended := ENDED.match(line):
+                now = processor_seconds(check.pid)
+                found.append(Proved(ended["name"], now - before))
+                before = now
+    if check.returncode != 0:
+        sys.exit(f"{name} isn't proved")
+    return found
 
 
-def has_comment(crate: str, name: str) -> bool:
-    """Whether a comment above the function says why it is slow to prove."""
-    function = re.compile(rf"\bfn {re.escape(name.split('::')[-1])}\b")
+def defines(name: str) -> re.Pattern[str]:
+    """The line that defines a function, or the type of which it is derived."""
+    *places, last = name.split("::")
+    derived = DERIVED.fullmatch(last) or DERIVED.fullmatch(places[-1] if places else "")
+    if derived and derived["type"]:
+        return re.compile(rf"\b(struct|enum|Display for) {re.escape(derived['type'])}\b")
+    if places and (let_go := re.search(r"(\w+)\+Destruct$", places[-1])):
+        return re.compile(rf"\b(struct|enum) {let_go[1]}\b")
+    return re.compile(rf"\bfn {re.escape(last)}\b")
+
+
+def says_why(crate: str, name: str) -> bool | None:
+    """Whether a comment above the function says why it is slow to prove; none where nothing in the crate defines it."""
+    definition = defines(name)
+    found = None
     for path in sorted((TOP / "crates" / crate / "src").rglob("*.rt")):
         lines = path.read_text(encoding="utf-8").split("\n")
         for number, line in enumerate(lines):
-            if function.search(line):
+            if definition.search(line):
                 above = number
                 while above > 0 and lines[above - 1].lstrip().startswith(("//", "#[")):
                     above -= 1
-                if any("to prove" in it for it in lines[above:number]):
-                    return True
-    return False
+                found = found or any("to prove" in it for it in lines[above:number])
+    return found
 
 
 def main() -> int:
@@ -116,9 +128,10 @@ def main() -> int:
     for crate in words.crates:
         functions = proved(crate, libraries)
         print(f"{crate}: {len(functions)} functions, {sum(it.seconds for it in functions):.0f} s")
-        shown = functions[:10] if words.over is None else [it for it in functions if it.seconds > words.over]
+        dearest = sorted(functions[1:], key=lambda it: -it.seconds)
+        shown = dearest[:10] if words.over is None else [it for it in dearest if it.seconds > words.over]
         for it in shown:
-            lacks = words.over is not None and not has_comment(crate, it.name)
+            lacks = words.over is not None and says_why(crate, it.name) is False
             lacking += lacks
             print(f"  {it.seconds:5.1f} {it.name}{'  no comment' if lacks else ''}")
     return 1 if lacking else 0

@@ -1,6 +1,7 @@
 //! What each command prints: from the results of a command, as plain values, to lines that are put to a sink.
 //!
-//! Only tested: a table of texts.
+//! Only tested: the texts, as the program prints them (`cases/`), and those with numbers that no image of the cases has, and
+//! of `sectors` (`run_tests`).
 //!
 //! Not there: a command that prints `sectors` by these texts.
 #![tactic(auto)]

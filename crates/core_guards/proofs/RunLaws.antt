@@ -1,5 +1,5 @@
 -- What a run's promise says of one command.
-use Rattle.std.proofs.Common.{ℕ, ◌≡◌, ◌≢◌, ◌⊎◌, ◌++◌, true, false, IsTrue, List, [], None, Some, Ok, Err, Result, codes, inl, inr, refl, sym, ◌∙◌, ap, subst}
+use Rattle.std.proofs.Common.{ℕ, ◌≡◌, ◌≢◌, ◌⊎◌, ◌++◌, true, false, IsTrue, List, [], ◌∷◌, None, Some, Ok, Err, Result, codes, inl, inr, refl, sym, ◌∙◌, ap, subst}
 use Rattle.std.specs.Prelude.{Option}
 use Rattle.audit.specs.Reports.{HasNoFault}
 use Rattle.audit.specs.declared.forms.Report.{Report}
@@ -12,6 +12,8 @@ use Rattle.core_model.specs.Trace.{Trace}
 use Rattle.crash_images.specs.Cuts.{stop_of}
 use Rattle.crash_images.specs.Shows.{IsPickShown}
 use Rattle.crash_images.specs.declared.shown.Shown.{Shown}
+use Rattle.disk_model.specs.declared.call.Call.{Call}
+use Rattle.disk_model.specs.declared.call.Call.TheVariants.{Flush}
 use Rattle.disk_model.specs.Causes.{Rose}
 use Rattle.disk_model.specs.Log.{Blocks}
 use Rattle.disk_model.specs.Memory.{Memory}
@@ -28,17 +30,22 @@ use Rattle.vdo_cli.specs.Commands.{served_in}
 use Rattle.vdo_cli.specs.Complete.{IsComplete}
 use Rattle.vdo_cli.specs.Crashes.{EndsCrash, EndsCrashBy, TellsAudit, shown_text}
 use Rattle.vdo_cli.specs.Endings.{PlayFails}
+use Rattle.vdo_cli.specs.Flushes.{IsFlushed, Settles}
 use Rattle.vdo_cli.specs.Inspections.{EndsAudit, TellsReport, told_as}
 use Rattle.vdo_cli.specs.Openings.{IsUnready, recovered_of}
 use Rattle.vdo_cli.specs.Outsides.{Outcome, Outside, Setting, Tells, inputs_of, input_setting_of}
 use Rattle.vdo_cli.specs.Recoveries.{EndsRecovery}
 use Rattle.vdo_cli.specs.Results.{TellsResult}
-use Rattle.vdo_cli.specs.Runs.{EndsAs, EndsSo, NotBegun, PlayedOut, RunsScript, RunsScriptBy}
+use Rattle.vdo_cli.specs.Runs.{EndsAs, EndsChange, EndsFlushed, EndsSo, NotBegun, PlayedOut, RunsScript, RunsScriptBy}
 use Rattle.vdo_cli.specs.Sessions.{IsDriven, task}
 use Rattle.vdo_cli.specs.Texts.{session_text}
-use Rattle.vdo_cli.specs.Workloads.{EndsWorkload, EndsWorkloadBy, WorkloadServed, requests_for}
+use Rattle.vdo_cli.specs.Workloads.{EndsWorkloadBy, WorkloadServed, requests_for}
 use Rattle.vdo_cli.specs.declared.fault.Fault.{Fault}
 use Rattle.vdo_cli.specs.declared.fault.Fault.TheVariants as fault
+use Rattle.vdo_cli.specs.declared.words.Change.{Change}
+use Rattle.vdo_cli.specs.declared.words.Change.TheVariants as change
+use Rattle.vdo_cli.proofs.FlushLaws.{told_behind}
+use Rattle.vdo_cli.proofs.OnwardLaws.{change_goes_on}
 use Rattle.vdo_words.specs.Commands.{command_of}
 use Rattle.vdo_words.specs.declared.commands.Command.{Command}
 use Rattle.vdo_model.specs.Scripts.{Script}
@@ -50,20 +57,47 @@ pub ends_as : (s : Setting) (words : List (List ℕ)) (asked : Option Command) (
     → command_of words ≡ asked → EndsAs s (served_in asked) before after outcome
 ends_as s words asked before after outcome ends is = subst (λ (a : Option Command). EndsAs s (served_in a) before after outcome) is ends
 
+-- A change of an image.
+
+-- behind the flush, where that isn't said to have failed
+behind : (s : Setting) (asked : Change) (before after : Outside) (outcome : Outcome) → EndsFlushed s asked before after outcome → (outcome.fault ≡ Some fault.Device → ⊥)
+    → (flushed : Seen) × IsFlushed s.device.tells before.device flushed × EndsChange s asked (record before { device = flushed }) after outcome
+behind s asked before after outcome (inl does) never = does
+behind s asked before after outcome (inr fails) never = absurd (never fails.fault_is)
+
+no_fault : (f : Option Fault) → f ≡ None → f ≡ Some fault.Device → ⊥
+no_fault f none is = let both : None ≡ Some fault.Device = sym none ∙ is in cc
+
+-- the flush is the first call
+pub flushed_first : (s : Setting) (asked : Change) (before after : Outside) (outcome : Outcome) → EndsFlushed s asked before after outcome → outcome.fault ≡ None
+    → IsTrue s.device.tells → (calls : List Call) × (after.device.log ≡ calls ++ (Flush true ∷ before.device.log))
+flushed_first s asked before after outcome ends none tells =
+    let does = behind s asked before after outcome ends (no_fault outcome.fault none) in
+    let on = (change_goes_on s asked (record before { device = does.0 }) after outcome does.2).calls tells in
+    (on.0, on.1 ∙ ap (λ (log : List Call). on.0 ++ log) (does.1.logged tells))
+
 -- A script.
-pub sink_rose : (s : Setting) (schedule : ℕ) (before after : Outside) (outcome : Outcome) → RunsScript s schedule before after outcome
+script_sink_rose : (s : Setting) (schedule : ℕ) (before after : Outside) (outcome : Outcome) → RunsScript s schedule before after outcome
     → outcome.fault ≡ Some fault.Sink → Rose before.sink.faults after.sink.faults
-sink_rose s schedule before after outcome ends is =
+script_sink_rose s schedule before after outcome ends is =
     let played : PlayedOut s schedule before after outcome = subst (λ (f : Option Fault). RunsScriptBy f s schedule before after outcome) is ends in
     (subst (λ (f : Option Fault). Closes s.sink_tells (session_text (recovered_of played.found) outcome.report) outcome.report outcome.status f before.sink after.sink) is played.closes).2
 
-pub played_out : (s : Setting) (schedule : ℕ) (before after : Outside) (outcome : Outcome) → RunsScript s schedule before after outcome
+pub sink_rose : (s : Setting) (schedule : ℕ) (before after : Outside) (outcome : Outcome) → EndsFlushed s (change.Script schedule) before after outcome
+    → outcome.fault ≡ Some fault.Sink → Rose before.sink.faults after.sink.faults
+sink_rose s schedule before after outcome ends is =
+    let does = behind s (change.Script schedule) before after outcome ends (λ other. let both : Some fault.Sink ≡ Some fault.Device = sym is ∙ other in cc) in
+    script_sink_rose s schedule (record before { device = does.0 }) after outcome does.2 is
+
+played_out : (s : Setting) (schedule : ℕ) (before after : Outside) (outcome : Outcome) → RunsScript s schedule before after outcome
     → outcome.fault ≡ None → PlayedOut s schedule before after outcome
 played_out s schedule before after outcome ends is = subst (λ (f : Option Fault). RunsScriptBy f s schedule before after outcome) is ends
 
-pub driven_by : (s : Setting) (schedule : ℕ) (before after : Outside) (outcome : Outcome) → PlayedOut s schedule before after outcome
+pub driven_by : (s : Setting) (schedule : ℕ) (before after : Outside) (outcome : Outcome) → EndsFlushed s (change.Script schedule) before after outcome → outcome.fault ≡ None
     → (start : Opened) × (opened : Seen) × (trace : Trace) × IsDriven s.device schedule (task start outcome.report.requests) trace opened after.device
-driven_by s schedule before after outcome played =
+driven_by s schedule before after outcome ends none =
+    let does = behind s (change.Script schedule) before after outcome ends (no_fault outcome.fault none) in
+    let played = played_out s schedule (record before { device = does.0 }) after outcome does.2 none in
     (played.session.start, played.session.serves.opened, played.session.serves.trace, played.session.serves.driven)
 
 pub none_or_memory : (asked : Script) (outcome : Outcome) → IsComplete asked outcome → (outcome.fault ≡ None) ⊎ (outcome.fault ≡ Some fault.Memory)
@@ -101,10 +135,10 @@ same_image (image.Counter at point) is = absurd cc
 same_image (image.SharedPage at) is = absurd cc
 same_image (image.Counts at stored mapped) is = absurd cc
 
-pub refused_so : (s : Setting) (schedule : ℕ) (before after : Outside) (outcome : Outcome) (blocks : Blocks) → IsTold s.device before.device blocks → IsUnclean blocks
+script_refused : (s : Setting) (schedule : ℕ) (before after : Outside) (outcome : Outcome) (blocks : Blocks) → IsTold s.device before.device blocks → IsUnclean blocks
     → ((head : Super) (last : ℕ) (window : List CommittedEntry) → Opens blocks head last window → HasNoFault (image_of head blocks window) → ⊥)
     → RunsScript s schedule before after outcome → (outcome.fault ≢ None) × (outcome.fault ≢ Some (fault.Image image.Unclean))
-refused_so s schedule before after outcome blocks told unclean faulty ends = (not_served, not_unclean)
+script_refused s schedule before after outcome blocks told unclean faulty ends = (not_served, not_unclean)
   where
     not_served : outcome.fault ≢ None
     not_served is =
@@ -122,11 +156,23 @@ refused_so s schedule before after outcome blocks told unclean faulty ends = (no
         let begun : NotBegun s before after outcome (fault.Image image.Unclean) = subst (λ (f : Option Fault). RunsScriptBy f s schedule before after outcome) is ends in
         by_cause begun.recovered begun.cause
 
+pub refused_so : (s : Setting) (schedule : ℕ) (before after : Outside) (outcome : Outcome) (blocks : Blocks) → Settles s.device before.device blocks → IsUnclean blocks
+    → ((head : Super) (last : ℕ) (window : List CommittedEntry) → Opens blocks head last window → HasNoFault (image_of head blocks window) → ⊥)
+    → EndsFlushed s (change.Script schedule) before after outcome → (outcome.fault ≢ None) × (outcome.fault ≢ Some (fault.Image image.Unclean))
+refused_so s schedule before after outcome blocks settles unclean faulty (inl (flushed, is, ends)) =
+    script_refused s schedule (record before { device = flushed }) after outcome blocks (told_behind s.device before.device flushed blocks is settles) unclean faulty ends
+refused_so s schedule before after outcome blocks settles unclean faulty (inr fails) = (
+  λ none. no_fault outcome.fault none fails.fault_is,
+  λ other. let both : Some fault.Device ≡ Some (fault.Image image.Unclean) = sym fails.fault_is ∙ other in cc,
+)
+
 -- A workload.
-pub drawn_of : (s : Setting) (options : WorkloadOptions) (before after : Outside) (outcome : Outcome) → EndsWorkload s options before after outcome
+pub drawn_of : (s : Setting) (options : WorkloadOptions) (before after : Outside) (outcome : Outcome) → EndsFlushed s (change.Workload options) before after outcome
     → outcome.fault ≡ None → (logical : ℕ) × (outcome.report.requests ≡ requests_for options logical)
 drawn_of s options before after outcome ends is =
-    let served : WorkloadServed s options before after outcome = subst (λ (f : Option Fault). EndsWorkloadBy f s options before after outcome) is ends.ends in
+    let does = behind s (change.Workload options) before after outcome ends (no_fault outcome.fault is) in
+    let first : Outside = record before { device = does.0 } in
+    let served : WorkloadServed s options first after outcome = subst (λ (f : Option Fault). EndsWorkloadBy f s options first after outcome) is does.2.ends in
     (served.session.start.head.geometry.logical, served.session.requests_are)
 
 -- A recovery.
@@ -141,9 +187,9 @@ is_clean blocks clean (Entries count) (head, last, window, opens, unclean, count
     let both : false ≡ true = sym unclean ∙ ap (λ (h : Super). h.clean) heads ∙ clean.2 in
     absurd cc
 
-pub told_clean : (s : Setting) (before after : Outside) (outcome : Outcome) (blocks : Blocks) → IsTold s.device before.device blocks → IsCleanImage blocks
+recovery_clean : (s : Setting) (before after : Outside) (outcome : Outcome) (blocks : Blocks) → IsTold s.device before.device blocks → IsCleanImage blocks
     → IsTrue s.sink_tells → EndsRecovery s before after outcome → outcome.fault ≡ None → after.sink.held ≡ before.sink.held ++ codes "clean\n"
-told_clean s before after outcome blocks told clean tells ends is = by_result ends.result ends.works ends.ends
+recovery_clean s before after outcome blocks told clean tells ends is = by_result ends.result ends.works ends.ends
   where
     by_result : (result : Result Recovered ImageFault) → IsRecovery s.device before.device after.device result
         → TellsResult s.sink_tells (λ (found : Recovered). Tells s.sink_tells (recovery_text found)) told_as result before.sink after.sink outcome
@@ -152,6 +198,12 @@ told_clean s before after outcome blocks told clean tells ends is = by_result en
         let put = subst (λ (f : Option Fault). Tells s.sink_tells (recovery_text found) outcome.status f before.sink after.sink) is tells_it.told in
         put.1 tells ∙ ap (λ (text : List ℕ). before.sink.held ++ text) (is_clean blocks clean found (works.says blocks told))
     by_result (Err why) works tells_it = absurd (none_is outcome.fault (told_as why) is tells_it.fault_is)
+
+pub told_clean : (s : Setting) (before after : Outside) (outcome : Outcome) (blocks : Blocks) → Settles s.device before.device blocks → IsCleanImage blocks
+    → IsTrue s.sink_tells → EndsFlushed s change.Recover before after outcome → outcome.fault ≡ None → after.sink.held ≡ before.sink.held ++ codes "clean\n"
+told_clean s before after outcome blocks settles clean tells ends is =
+    let does = behind s change.Recover before after outcome ends (no_fault outcome.fault is) in
+    recovery_clean s (record before { device = does.0 }) after outcome blocks (told_behind s.device before.device does.0 blocks does.1 settles) clean tells does.2 is
 
 -- An audit.
 pub none_differs : (s : Setting) (before after : Outside) (outcome : Outcome) → IsTrue s.sink_tells → EndsAudit s before after outcome → outcome.fault ≡ None

@@ -1,6 +1,6 @@
 //! What the program's one call tells of an image, and what it leaves of the device.
 
-ghost use Rattle.std.specs.Prelude.{ℕ, ◌≡◌, ◌≢◌, ◌⊎◌, ◌++◌, [], IsTrue, List, None, Ok, Some, codes};
+ghost use Rattle.std.specs.Prelude.{ℕ, ◌≡◌, ◌≢◌, ◌⊎◌, ◌++◌, [], ◌∷◌, true, IsTrue, List, None, Ok, Some, codes};
 ghost use Rattle.audit.specs.Reports.{HasNoFault};
 ghost use Rattle.audit.specs.declared.forms.Report.{Report};
 ghost use Rattle.blk_base.specs.declared.geometry.Super.{Super};
@@ -11,6 +11,8 @@ ghost use Rattle.core_model.specs.Trace.{Trace};
 ghost use Rattle.crash_images.specs.Cuts.{stop_of};
 ghost use Rattle.crash_images.specs.Shows.{IsPickShown};
 ghost use Rattle.crash_images.specs.declared.shown.Shown.{Shown as Shows};
+ghost use Rattle.disk_model.specs.declared.call.Call.{Call};
+ghost use Rattle.disk_model.specs.declared.call.Call.TheVariants.{Flush};
 ghost use Rattle.disk_model.specs.Causes.{Rose};
 ghost use Rattle.disk_model.specs.Log.{Blocks};
 ghost use Rattle.disk_model.specs.Memory.{Memory};
@@ -19,14 +21,18 @@ ghost use Rattle.disk_model.specs.Since.{OnlyReads, SinceThen};
 ghost use Rattle.image_model.specs.Sound.{IsSound, Opens, image_of};
 ghost use Rattle.image_model.specs.declared.fault.ImageFault.TheVariants.{Unclean};
 ghost use Rattle.rebuild.specs.Openings.{IsCleanImage};
-ghost use Rattle.rebuild.specs.Recoveries.{IsTold, IsUnclean};
+ghost use Rattle.rebuild.specs.Recoveries.{IsUnclean};
 ghost use Rattle.stream_text.specs.WholeScript.{whole_script};
 ghost use Rattle.stream_text.specs.Workloads.{workload_of};
+ghost use Rattle.vdo_cli.specs.Commands.{served_of};
 ghost use Rattle.vdo_cli.specs.Complete.{NoneRose};
 ghost use Rattle.vdo_cli.specs.Crashes.{shown_text};
+ghost use Rattle.vdo_cli.specs.Flushes.{Settles};
 ghost use Rattle.vdo_cli.specs.Outsides.{outside};
 ghost use Rattle.vdo_cli.specs.Sessions.{IsDriven, task};
 ghost use Rattle.vdo_cli.specs.declared.fault.Fault.TheVariants as fault;
+ghost use Rattle.vdo_cli.specs.declared.words.Change.{Change};
+ghost use Rattle.vdo_cli.specs.declared.words.Served.TheVariants as served;
 ghost use Rattle.vdo_model.specs.Scripts.{Script};
 ghost use Rattle.vdo_words.specs.Commands.{command_of, default_core};
 ghost use Rattle.vdo_words.specs.declared.commands.Command.TheVariants.{Audit, Crash, Recover, Run, Workload};
@@ -65,7 +71,7 @@ fn a_sound_image_is_served<
     G: ZoneGate + Sync,
 >(rt: &R, words: &Words, device: D, script: &mut S, out: &mut K, gate: &G) -> Ended<D>
     ensures { (schedule : ℕ) (asked : Script) (image : Blocks) → IsSound image →
-        IsTold D.trust (D.seen device) image → IsTrue S.tells →
+        Settles D.trust (D.seen device) image → IsTrue S.tells →
         command_of words.now
         ≡ Some (Run (record { drive = Schedule schedule; core = default_core })) →
         whole_script (S.seen script.old).left ≡ Ok asked →
@@ -85,13 +91,29 @@ fn an_unsound_image_is_refused_for_its_fault<
     K: Sink,
     G: ZoneGate + Sync,
 >(rt: &R, words: &Words, device: D, script: &mut S, out: &mut K, gate: &G) -> Ended<D>
-    ensures { (schedule : ℕ) (image : Blocks) → IsTold D.trust (D.seen device) image →
+    ensures { (schedule : ℕ) (image : Blocks) → Settles D.trust (D.seen device) image →
         IsUnclean image →
         ((head : Super) (last : ℕ) (window : List CommittedEntry) → Opens image head last window →
         HasNoFault (image_of head image window) → ⊥)
         → command_of words.now
         ≡ Some (Run (record { drive = Schedule schedule; core = default_core })) →
         (result.fault ≢ None) × (result.fault ≢ Some (fault.Image Unclean)) }
+{
+    run(rt, words, device, script, out, gate)
+}
+
+// Each call that changes an image begins with a flush: a run, a workload, a recovery, a forced rebuild and a growth.
+fn a_change_begins_with_a_flush<
+    R: Threads + Wait + Sync,
+    D: Disk + Send + Drop,
+    S: Source,
+    K: Sink,
+    G: ZoneGate + Sync,
+>(rt: &R, words: &Words, device: D, script: &mut S, out: &mut K, gate: &G) -> Ended<D>
+    ensures { (asked : Change) → served_of words.now ≡ Some (served.Change asked) →
+        result.fault ≡ None → IsTrue D.trust.tells
+        → (calls : List Call)
+        × ((D.seen result.device).log ≡ calls ++ Flush true ∷ (D.seen device).log) }
 {
     run(rt, words, device, script, out, gate)
 }
@@ -140,7 +162,7 @@ fn a_closed_image_has_no_entries<
     K: Sink,
     G: ZoneGate + Sync,
 >(rt: &R, words: &Words, device: D, script: &mut S, out: &mut K, gate: &G) -> Ended<D>
-    ensures { (image : Blocks) → IsTold D.trust (D.seen device) image → IsCleanImage image →
+    ensures { (image : Blocks) → Settles D.trust (D.seen device) image → IsCleanImage image →
         IsTrue K.tells → command_of words.now ≡ Some Recover → result.fault ≡ None →
         (K.seen out.new).held ≡ (K.seen out.old).held ++ codes "clean\n" }
 {

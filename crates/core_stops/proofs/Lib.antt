@@ -4,6 +4,9 @@ pub mod SoundStops
 pub mod LogLaws
 pub mod SequenceLaws
 pub mod EarlyLaws
+pub mod EndLaws
+pub mod EndOfTrace
 pub mod InsideLaws
 pub mod LogRows
 pub mod SequenceRows
+pub mod EndRows

@@ -5,7 +5,6 @@ use Rattle.blk_base.specs.Regions.{DataBlock, IsDataBlock, Place, ReferenceBlock
 use Rattle.blk_base.specs.Sectors.{sector}
 use Rattle.blk_base.specs.declared.geometry.Geometry.{Geometry}
 use Rattle.blk_base.specs.declared.layout.DataPlace.{DataPlace}
-use Rattle.blk_base.specs.declared.place.Pbn.{Pbn}
 use Rattle.byte_fields.specs.Fields.{number_at}
 use Rattle.core_laws.proofs.Common.{IsAsOpened, IsSession, KeptStands, Session, Trace, log, opened_image}
 use Rattle.core_laws.proofs.kept.OpenedBlocks.{page_left}

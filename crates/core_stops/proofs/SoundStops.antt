@@ -128,7 +128,7 @@ module _ (s : Session) (u : Trace) (session : IsSession s) (fair : IsFair s u) (
         by Durable is stands = durable shown.kept shown.journal stands
 
 -- The values that its window gives are those of the sound image.
-values_same : (s : Session) (image : Blocks) (left : IsLeft s image) (last : ℕ) (window : List CommittedEntry) → IsWindow s.sizes.geometry s.sizes.start (journal_of s.sizes.geometry image) last window
+pub values_same : (s : Session) (image : Blocks) (left : IsLeft s image) (last : ℕ) (window : List CommittedEntry) → IsWindow s.sizes.geometry s.sizes.start (journal_of s.sizes.geometry image) last window
     → (a : ℕ) → value_of (image_with s.sizes.geometry image window) a ≡ value_of (image_in image left.sound) a
 values_same s image left last window is a =
     let own = subst₂ (λ (h : Geometry) (n : ℕ). IsWindow h n (journal_of h image) left.sound.last left.sound.window) left.sizes left.start left.sound.opens.is_window in

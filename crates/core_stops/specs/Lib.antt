@@ -1,2 +1,3 @@
 pub mod Logs
 pub mod Sequences
+pub mod Ends

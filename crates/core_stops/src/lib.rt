@@ -8,17 +8,20 @@
 //!
 //! Of any device, and of any image that was opened: nothing behind the image is written.
 //!
-//! And what one run leaves to the next: the laws by which its parts, the recovery, the opening and the session, fit together.
+//! And what one run leaves to the next: the laws by which its parts, the recovery, the opening and the session, fit together;
+//! and that the end of a session is more than a stop: behind one flush nothing is lost that was answered Ok (`specs/Ends`).
 //!
 //! Not there: that an image is closed, as a session isn't yet; that a core's session is right after stops over such images.
 #![tactic(auto)]
 
+mod ends;
 mod inside;
 mod laws;
 mod logs;
 mod runs;
 mod sequences;
 
+pub use ends::an_end_is_more_than_a_stop;
 pub use inside::nothing_behind_the_image_is_written;
 pub use laws::each_stop_of_a_session_leaves_a_sound_image;
 pub use logs::stops_over_the_whole_log;

@@ -4,6 +4,8 @@
 #![tactic(auto)]
 
 #[cfg(test)]
+mod pending;
+#[cfg(test)]
 mod printed;
 #[cfg(test)]
 mod rows;

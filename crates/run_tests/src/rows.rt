@@ -7,9 +7,9 @@ use image_model::ImageFault;
 use stream_text::{LineFault, ScriptFault};
 use vdo_cli::Fault;
 
-/// The calls of a device before a session on a closed image: recovery reads the superblock, and then it is read again, with the
-/// journal, the roots, and of the slab its counters and its journal.
-pub(crate) const OPENING: usize = 1 + 1 + 8 + 60 + 1 + 4;
+/// The calls of a device before a session on a closed image: it is flushed, recovery reads the superblock, and then it is read again,
+/// with the journal, the roots, and of the slab its counters and its journal.
+pub(crate) const OPENING: usize = 1 + 1 + 1 + 8 + 60 + 1 + 4;
 
 /// A run of which nothing fails.
 pub(crate) const RUN: Run = Run {
@@ -111,8 +111,14 @@ const READ: FaultAt = FaultAt {
     ..WRITE
 };
 
+// The first flush.
+const FLUSH: FaultAt = FaultAt {
+    kind: CallKind::Flush,
+    ..WRITE
+};
+
 /// Calls of the device that fail.
-pub(crate) static FAULTS: [&[Run]; 11] = [
+pub(crate) static FAULTS: [&[Run]; 12] = [
     // The write of the superblock fails, behind which nothing is written: only reads are served then.
     &[Run {
         script: b"0 write 5 4096*61\n0 flush\n0 read 5\n",
@@ -189,12 +195,18 @@ pub(crate) static FAULTS: [&[Run]; 11] = [
         status: 3,
         ..RUN
     }],
+    // The flush with which a run begins fails, and nothing else is done; and then that of a session.
+    &[Run {
+        script: b"0 flush\n",
+        faults: &[FLUSH],
+        text: b"device fault\n",
+        status: 3,
+        calls: Calls::Count(1),
+        ..RUN
+    }],
     &[Run {
         script: b"0 flush\n0 read 0\n0 flush\n",
-        faults: &[FaultAt {
-            kind: CallKind::Flush,
-            ..WRITE
-        }],
+        faults: &[FaultAt { nth: 1, ..FLUSH }],
         text: b"0 0 flush stopped\n0 1 read 0 4096*00 z0:0\n0 2 flush stopped\nused 0 of 64\n",
         status: 3,
         ..RUN
@@ -303,7 +315,7 @@ const CLOSED: Run = Run {
 
 /// Blocks that read otherwise than they were written: what no honest device does.
 pub(crate) static BENT: [&[Run]; 4] = [
-    // The superblock is read once, and refused.
+    // Behind the flush the superblock is read once, and refused.
     &[Run {
         bends: &[BendAt {
             at: Pbn(0),
@@ -313,7 +325,7 @@ pub(crate) static BENT: [&[Run]; 4] = [
         }],
         text: b"bad image: version 255\n",
         status: 4,
-        calls: Calls::Count(1),
+        calls: Calls::Count(2),
         ..RUN
     }],
     // A leaf is read once the superblock is written, and then otherwise. The session is stopped: nothing else is written.

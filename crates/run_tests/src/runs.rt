@@ -13,7 +13,7 @@ use vdo_cli::{Ended, Words, run};
 use vdo_model::RunReport;
 
 /// What a run has beside its device: its words, its script, and what it puts.
-type Outside = (Words, MemSource, MemSink);
+pub(crate) type Outside = (Words, MemSource, MemSink);
 
 /// What a run leaves: an image that a stop behind it may leave, its status, whether the calls of its device are as wanted, and its
 /// receipts.
@@ -51,7 +51,7 @@ pub(crate) struct Run {
     pub(crate) receipts: Receipts,
 }
 
-fn outside_of(alloc: Global, asked: &Run) -> Result<Outside, AllocError> {
+pub(crate) fn outside_of(alloc: Global, asked: &Run) -> Result<Outside, AllocError> {
     let mut words = Words::new(alloc);
     for word in asked.words {
         words.push(word)?;

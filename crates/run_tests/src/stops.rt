@@ -57,13 +57,13 @@ static ON_AN_EMPTY_IMAGE: Stopped = Stopped {
     ],
 };
 
-/// The calls of a recovery of the two entries of the earlier run: the superblock, the journal's 8 blocks, the 60 roots, the leaf,
-/// the reference block and the 4 blocks of the slab's journal are read; the root, the leaf and the reference block are read and
-/// written; then come a flush, block 0, and a flush.
-const RECOVERY: usize = 84;
+/// The calls up to the end of a recovery of the two entries of the earlier run: the device is flushed; the superblock, the journal's
+/// 8 blocks, the 60 roots, the leaf, the reference block and the 4 blocks of the slab's journal are read; the root, the leaf and the
+/// reference block are read and written; then come a flush, block 0, and a flush.
+const RECOVERY: usize = 85;
 
-/// The calls up to the session's first one.
-const OPENED: usize = RECOVERY + OPENING;
+/// The calls up to the session's first one: all that is read above is read again.
+const OPENED: usize = RECOVERY + 1 + 8 + 60 + 1 + 1 + 4;
 
 /// The calls of the session are two for the superblock, four for each of the three writes, one for each of the two flushes, one for
 /// each read of the leaf, which the first two writes make, and one for the read at the end.

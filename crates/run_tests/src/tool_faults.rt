@@ -56,15 +56,15 @@ static STATUS: Tool = Tool {
     behind: &[],
 };
 
-// The superblock, the journal's 8 blocks, the 60 roots, the leaf, the counters and the 4 blocks of the slab's journal are read; the
-// root, the leaf and the counters are read and written; then come a flush, block 0, and a flush.
+// The device is flushed; the superblock, the journal's 8 blocks, the 60 roots, the leaf, the counters and the 4 blocks of the slab's
+// journal are read; the root, the leaf and the counters are read and written; then come a flush, block 0, and a flush.
 static RECOVERY: Tool = Tool {
     image: STOPPED,
     words: &["recover"],
     text: b"recovered 2 entries\n",
-    calls: 84,
+    calls: 85,
     spare: 0,
-    writes: 74,
+    writes: 75,
     numbers: &[0, 1, 7],
     behind: &[
         (&["recover"], &[b"recovered 2 entries\n", b"clean\n"]),
@@ -90,15 +90,15 @@ const NOISY: Image = Image {
     ],
 };
 
-// The superblock, the journal's 8 blocks, the 60 roots and the leaf are read; the root and the leaf are read and written; the 4
-// blocks of the slab's journal and its counters are written; then come a flush, block 0, and a flush.
+// The device is flushed; the superblock, the journal's 8 blocks, the 60 roots and the leaf are read; the root and the leaf are read
+// and written; the 4 blocks of the slab's journal and its counters are written; then come a flush, block 0, and a flush.
 static REBUILD: Tool = Tool {
     image: NOISY,
     words: &["force-rebuild"],
     text: b"rebuilt, used 2 of 64\n",
-    calls: 82,
+    calls: 83,
     spare: 0,
-    writes: 70,
+    writes: 71,
     numbers: &[0, 1, 7],
     behind: &[
         (&["force-rebuild"], &[b"rebuilt, used 2 of 64\n"]),
@@ -118,16 +118,16 @@ const SHORT: Image = Image {
     patches: &[LINK, LEAF, MAPPING, COUNTS, (0, 24, b"\x06\0\0\0")],
 };
 
-// The superblock, the journal's 8 blocks, the 60 roots, the leaf, the counters and the 4 blocks of the slab's journal are read, and
-// the leaf again, since it has addresses that are new; then the 5 blocks of the new slab are written, and come a flush, block 0,
-// and a flush.
+// The device is flushed; the superblock, the journal's 8 blocks, the 60 roots, the leaf, the counters and the 4 blocks of the slab's
+// journal are read, and the leaf again, since it has addresses that are new; then the 5 blocks of the new slab are written, and come
+// a flush, block 0, and a flush.
 static GROWTH: Tool = Tool {
     image: SHORT,
     words: GROW,
     text: GROWN,
-    calls: 84,
+    calls: 85,
     spare: 0,
-    writes: 76,
+    writes: 77,
     numbers: &[0, 1, 7],
     behind: &[
         (&["audit"], &[b"audit clean, used 2 of 64\n", LARGER]),

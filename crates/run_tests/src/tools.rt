@@ -103,7 +103,7 @@ const AUDIT_2: Run = Run {
 const CLEAN: Run = Run {
     words: &["recover"],
     text: b"clean\n",
-    calls: Calls::Count(1),
+    calls: Calls::Count(2),
     ..DONE
 };
 

@@ -1,8 +1,8 @@
 //! The text of a run: a script is read from a source of bytes, and the answers of a run are put to a sink.
 //!
-//! Only tested: tables of lines and texts; the requests of two seeds, as another program draws them; that a script of
-//! 65,536 requests is read, one of 65,537 refused, and how often and what is put of its answers, as another program
-//! says; the instructions that this takes (docs/PERFORMANCE.md).
+//! Only tested: scripts and their answers, as the program prints them, the lines that are refused and why, and a script of
+//! 65,536 requests and of one more (`cases/scripts.case`, `cases/refused_scripts.case`); the requests of two seeds, as
+//! another program draws them (`cases/workloads.case`); the instructions that this takes (docs/PERFORMANCE.md).
 #![tactic(auto)]
 
 mod added_lines;

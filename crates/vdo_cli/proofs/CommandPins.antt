@@ -11,7 +11,8 @@ use Rattle.vdo_words.specs.declared.commands.GrowOptions.{GrowOptions}
 use Rattle.vdo_words.specs.declared.commands.WorkloadOptions.{WorkloadOptions}
 use Rattle.vdo_words.specs.declared.commands.Drive.TheVariants.{Schedule, Threads}
 use Rattle.vdo_words.proofs.CommandRows.{core}
-use Rattle.vdo_cli.specs.declared.words.Served.TheVariants.{Audit, Crash, ForceRebuild, Format, Grow, Recover, Script, Status, Workload}
+use Rattle.vdo_cli.specs.declared.words.Change.TheVariants.{ForceRebuild, Grow, Recover, Script, Workload}
+use Rattle.vdo_cli.specs.declared.words.Served.TheVariants.{Audit, Change, Crash, Format, Status}
 use Rattle.vdo_cli.specs.Commands.{IsServedWithin, IsWorkload, are_default, number_of, served_in, served_of, sizes_of}
 
 -- are_default: each option counts
@@ -38,7 +39,7 @@ each_size_is_its_option : sizes_of (record { logical = 1; slabs = 2; slab_blocks
 each_size_is_its_option = refl
 
 -- served_in: `run`, `workload` and `crash` with such a core and a schedule, `format`, `recover`, `force-rebuild`, `grow`, `audit` and `status`
-in_run : (number : ℕ) → served_in (Some (Run (record { drive = Schedule number; core = core }))) ≡ Some (Script number)
+in_run : (number : ℕ) → served_in (Some (Run (record { drive = Schedule number; core = core }))) ≡ Some (Change (Script number))
 in_run number = refl
 
 not_in_threads : served_in (Some (Run (record { drive = Threads; core = core }))) ≡ None
@@ -50,13 +51,13 @@ not_with_another_core number = refl
 in_format : (options : FormatOptions) → served_in (Some (FormatCommand options)) ≡ Some (Format (sizes_of options))
 in_format options = refl
 
-in_recover : served_in (Some RecoverCommand) ≡ Some Recover
+in_recover : served_in (Some RecoverCommand) ≡ Some (Change Recover)
 in_recover = refl
 
-in_force_rebuild : served_in (Some RebuildCommand) ≡ Some ForceRebuild
+in_force_rebuild : served_in (Some RebuildCommand) ≡ Some (Change ForceRebuild)
 in_force_rebuild = refl
 
-in_grow : (options : GrowOptions) → served_in (Some (GrowCommand options)) ≡ Some (Grow options)
+in_grow : (options : GrowOptions) → served_in (Some (GrowCommand options)) ≡ Some (Change (Grow options))
 in_grow options = refl
 
 in_audit : served_in (Some AuditCommand) ≡ Some Audit
@@ -66,7 +67,7 @@ in_status : served_in (Some StatusCommand) ≡ Some Status
 in_status = refl
 
 -- `workload` with such a core
-in_workload : (options : WorkloadOptions) → served_in (Some (WorkloadCommand (record options { core = core }))) ≡ Some (Workload (record options { core = core }))
+in_workload : (options : WorkloadOptions) → served_in (Some (WorkloadCommand (record options { core = core }))) ≡ Some (Change (Workload (record options { core = core })))
 in_workload options = refl
 
 not_in_workload_with_another_core : (options : WorkloadOptions) → served_in (Some (WorkloadCommand (record options { core = record core { depth = 2 } }))) ≡ None
@@ -83,7 +84,7 @@ not_in_crash_with_another_core options = refl
 abbrev pub draws : ℕ → ℕ → WorkloadOptions
 draws requests streams = record { schedule = 0; core = core; seed = 0; requests = requests; streams = streams }
 
-least_workload : IsServedWithin (Some (Workload (draws 1 1)))
+least_workload : IsServedWithin (Some (Change (Workload (draws 1 1))))
 least_workload = record { some = omega arith; few = omega arith; one = omega arith; streams = omega arith }
 
 greatest_workload : IsWorkload (draws 65536 16)
@@ -92,7 +93,7 @@ greatest_workload = record { some = omega arith; few = omega arith; one = omega 
 workload_of_none : IsWorkload (draws 0 1) → ⊥
 workload_of_none within = omega (arith, within.some)
 
-workload_of_too_many : IsServedWithin (Some (Workload (draws 65537 1))) → ⊥
+workload_of_too_many : IsServedWithin (Some (Change (Workload (draws 65537 1)))) → ⊥
 workload_of_too_many within = omega (arith, within.few)
 
 workload_of_no_stream : IsWorkload (draws 1 0) → ⊥
@@ -108,13 +109,13 @@ not_in_no_command = refl
 abbrev pub run_words : List (List ℕ)
 run_words = codes "run" ∷ []
 
-pub run_by_0 : served_of run_words ≡ Some (Script 0)
+pub run_by_0 : served_of run_words ≡ Some (Change (Script 0))
 run_by_0 = refl
 
-pub run_by_7 : served_of (codes "run" ∷ codes "--schedule" ∷ codes "7" ∷ []) ≡ Some (Script 7)
+pub run_by_7 : served_of (codes "run" ∷ codes "--schedule" ∷ codes "7" ∷ []) ≡ Some (Change (Script 7))
 run_by_7 = refl
 
-run_by_8 : served_of (codes "run" ∷ codes "--schedule=8" ∷ codes "--depth" ∷ codes "1" ∷ []) ≡ Some (Script 8)
+run_by_8 : served_of (codes "run" ∷ codes "--schedule=8" ∷ codes "--depth" ∷ codes "1" ∷ []) ≡ Some (Change (Script 8))
 run_by_8 = refl
 
 -- the default sizes where none is given, else those that are
@@ -131,7 +132,7 @@ two_slabs = refl
 abbrev pub recover_words : List (List ℕ)
 recover_words = codes "recover" ∷ []
 
-pub recovered : served_of recover_words ≡ Some Recover
+pub recovered : served_of recover_words ≡ Some (Change Recover)
 recovered = refl
 
 recovered_with_an_option : served_of (codes "recover" ∷ codes "--schedule" ∷ codes "2" ∷ []) ≡ None
@@ -141,7 +142,7 @@ recovered_with_an_option = refl
 abbrev pub rebuild_words : List (List ℕ)
 rebuild_words = codes "force-rebuild" ∷ []
 
-pub rebuilt : served_of rebuild_words ≡ Some ForceRebuild
+pub rebuilt : served_of rebuild_words ≡ Some (Change ForceRebuild)
 rebuilt = refl
 
 rebuilt_with_an_option : served_of (codes "force-rebuild" ∷ codes "--slabs" ∷ codes "2" ∷ []) ≡ None
@@ -151,7 +152,7 @@ rebuilt_with_an_option = refl
 abbrev pub grow_words : List (List ℕ)
 grow_words = codes "grow" ∷ codes "--logical" ∷ codes "2000" ∷ codes "--slabs" ∷ codes "2" ∷ []
 
-pub grows : served_of grow_words ≡ Some (Grow (record { logical = 2000; slabs = 2 }))
+pub grows : served_of grow_words ≡ Some (Change (Grow (record { logical = 2000; slabs = 2 })))
 grows = refl
 
 grows_without_slabs : served_of (codes "grow" ∷ codes "--logical" ∷ codes "2000" ∷ []) ≡ None
@@ -191,17 +192,17 @@ no_number : served_of (codes "run" ∷ codes "--schedule" ∷ codes "seven" ∷ 
 no_number = refl
 
 -- a workload has the seed 0, 1,000 requests and 4 streams where none are given, else those that are
-pub workload : served_of (codes "workload" ∷ []) ≡ Some (Workload (draws 1000 4))
+pub workload : served_of (codes "workload" ∷ []) ≡ Some (Change (Workload (draws 1000 4)))
 workload = refl
 
 abbrev pub workload_words : List (List ℕ)
 workload_words = codes "workload" ∷ codes "--requests" ∷ codes "1" ∷ []
 
-pub workload_of_one : served_of workload_words ≡ Some (Workload (draws 1 4))
+pub workload_of_one : served_of workload_words ≡ Some (Change (Workload (draws 1 4)))
 workload_of_one = refl
 
 workload_of_a_seed : served_of (codes "workload" ∷ codes "--seed=7" ∷ codes "--streams" ∷ codes "2" ∷ codes "--schedule" ∷ codes "3" ∷ [])
-    ≡ Some (Workload (record (draws 1000 2) { schedule = 3; seed = 7 }))
+    ≡ Some (Change (Workload (record (draws 1000 2) { schedule = 3; seed = 7 })))
 workload_of_a_seed = refl
 
 workload_by_threads : served_of (codes "workload" ∷ codes "--threads" ∷ []) ≡ None

@@ -32,20 +32,23 @@ use Rattle.vdo_model.specs.declared.report.DeskLine.TheVariants.{Begin, Answer}
 use Rattle.vdo_model.specs.declared.report.RunReport.{RunReport}
 use Rattle.vdo_cli.specs.declared.fault.Fault.{Fault}
 use Rattle.vdo_cli.specs.declared.fault.Fault.TheVariants as fault
+use Rattle.vdo_cli.specs.declared.words.Change.TheVariants as change
 use Rattle.vdo_cli.specs.declared.words.Served.{Served}
 use Rattle.vdo_cli.specs.declared.words.Served.TheVariants as served
 use Rattle.vdo_cli.specs.Commands.{served_of}
 use Rattle.vdo_cli.specs.Complete.{IsAllServed, IsComplete, NeedsNoFault, NoneRose}
 use Rattle.vdo_cli.specs.Closings.{Closes, PutsWith}
 use Rattle.vdo_cli.specs.Endings.{FailsUnready, PlayFails, ScriptFails, ServesRequests}
+use Rattle.vdo_cli.specs.Flushes.{Settles}
 use Rattle.vdo_cli.specs.Inspections.{told_as}
 use Rattle.vdo_cli.specs.Openings.{IsNotOpened, IsReady, IsUnready, recovered_of}
 use Rattle.vdo_cli.specs.Outsides.{Outcome, Outside, RefusesAfter, Setting, input_setting_of, inputs_of}
-use Rattle.vdo_cli.specs.Runs.{EndsAs, EndsSo, PlayedOut, RunsScript, RunsScriptBy}
+use Rattle.vdo_cli.specs.Runs.{EndsAs, EndsFlushed, EndsSo, PlayedOut, RunsScript, RunsScriptBy}
 use Rattle.vdo_cli.specs.Sessions.{IsReported}
 use Rattle.vdo_cli.specs.Texts.{fault_status, is_lost, served_status, session_text, some_full, some_lost, struck_status}
 use Rattle.vdo_cli.specs.Workloads.{EndsWorkload, EndsWorkloadBy, WorkloadFails, WorkloadServed, requests_for, summary_of}
 use Rattle.vdo_words.specs.declared.commands.WorkloadOptions.{WorkloadOptions}
+use Rattle.vdo_cli.proofs.FlushLaws.{told_behind}
 use Rattle.vdo_cli.proofs.OpenedSessions.{head_of_sound}
 use Rattle.vdo_cli.proofs.RecoveredImages.{IsLeft, left_by}
 
@@ -306,16 +309,35 @@ module _ (s : Setting) (before after : Outside) (outcome : Outcome) (blocks : Bl
     pub seeded_complete : EndsWorkload s options before after outcome → IsComplete wanted outcome
     seeded_complete ends = seeded_by outcome.fault refl ends.ends
 
+-- Behind the flush, of which it is told.
+
+still_none : (before after : Outside) (flushed : Seen) → before.device.faults ≤ flushed.faults → NoneRose before after → NoneRose (record before { device = flushed }) after
+still_none before after flushed later none = record {
+  device = λ rose. none.device (rose_from before.device.faults flushed.faults after.device.faults later rose);
+  source = none.source;
+  sink = none.sink;
+}
+
 pub run_complete : (s : Setting) (words : List (List ℕ)) (schedule : ℕ) (script : Script) (before after : Outside) (outcome : Outcome) (blocks : Blocks) → IsSound blocks
-    → IsTold s.device before.device blocks → IsTrue s.source_tells → served_of words ≡ Some (served.Script schedule) → whole_script before.source.left ≡ Ok script
+    → Settles s.device before.device blocks → IsTrue s.source_tells → served_of words ≡ Some (served.Change (change.Script schedule)) → whole_script before.source.left ≡ Ok script
     → NoneRose before after → EndsSo s words before after outcome → IsComplete script outcome
-run_complete s words schedule script before after outcome blocks sound told tells asked valid none ends =
-    script_complete s before after outcome blocks sound told none schedule script tells valid
-    (subst (λ (what : Option Served). EndsAs s what before after outcome) asked ends)
+run_complete s words schedule script before after outcome blocks sound settles tells asked valid none ends =
+    by_flush (subst (λ (what : Option Served). EndsAs s what before after outcome) asked ends)
+  where
+    by_flush : EndsFlushed s (change.Script schedule) before after outcome → IsComplete script outcome
+    by_flush (inl (flushed, is, does)) =
+        script_complete s (record before { device = flushed }) after outcome blocks sound (told_behind s.device before.device flushed blocks is settles)
+        (still_none before after flushed is.later.faults none) schedule script tells valid does
+    by_flush (inr fails) = absurd (none.device fails.device.rose)
 
 pub workload_complete : (s : Setting) (words : List (List ℕ)) (options : WorkloadOptions) (before after : Outside) (outcome : Outcome) (blocks : Blocks) (sound : IsSound blocks)
-    → IsTold s.device before.device blocks → served_of words ≡ Some (served.Workload options)
+    → Settles s.device before.device blocks → served_of words ≡ Some (served.Change (change.Workload options))
     → NoneRose before after → EndsSo s words before after outcome → IsComplete (requests_for options sound.head.geometry.logical) outcome
-workload_complete s words options before after outcome blocks sound told asked none ends =
-    seeded_complete s before after outcome blocks sound told none options
-    (subst (λ (what : Option Served). EndsAs s what before after outcome) asked ends)
+workload_complete s words options before after outcome blocks sound settles asked none ends =
+    by_flush (subst (λ (what : Option Served). EndsAs s what before after outcome) asked ends)
+  where
+    by_flush : EndsFlushed s (change.Workload options) before after outcome → IsComplete (requests_for options sound.head.geometry.logical) outcome
+    by_flush (inl (flushed, is, does)) =
+        seeded_complete s (record before { device = flushed }) after outcome blocks sound (told_behind s.device before.device flushed blocks is settles)
+        (still_none before after flushed is.later.faults none) options does
+    by_flush (inr fails) = absurd (none.device fails.device.rose)

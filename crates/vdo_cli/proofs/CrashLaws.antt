@@ -1,6 +1,5 @@
 -- What a crash shows of an honest device with a sound image.
-use Rattle.std.proofs.Common.{ℕ, ◌≡◌, ◌++◌, true, List, [], ◌∷◌, map, Ok, refl, sym, ◌∙◌, ap, ap₂, subst, inl, inr, arith}
-use Rattle.std.proofs.lemmas.List.{append-nil}
+use Rattle.std.proofs.Common.{ℕ, ◌≡◌, ◌⊎◌, ◌++◌, true, false, List, [], ◌∷◌, length, map, Ok, refl, sym, ◌∙◌, ap, ap₂, subst, append_assoc, length-append, inl, inr, arith}
 use Rattle.blk_base.specs.declared.geometry.Geometry.{Geometry}
 use Rattle.blk_base.specs.declared.place.Lba.{Lba}
 use Rattle.command_text.specs.declared.crashes.AddressValue.{AddressValue}
@@ -15,6 +14,7 @@ use Rattle.disk_model.proofs.LookedLaws.{one_in-all}
 use Rattle.disk_model.proofs.OneImageLaws.{one_image-opening}
 use Rattle.disk_model.proofs.PickImageLaws.{picked_may_stand}
 use Rattle.disk_model.specs.declared.call.Call.{Call}
+use Rattle.disk_model.specs.declared.call.Call.TheVariants.{Flush}
 use Rattle.disk_model.specs.Images.{IsImage}
 use Rattle.disk_model.specs.Log.{Blocks}
 use Rattle.disk_model.specs.Memory.{Memory, fresh, seen_of}
@@ -29,11 +29,22 @@ use Rattle.recovery_laws.specs.Kept.{image_in}
 use Rattle.vdo_model.specs.Scripts.{Script}
 use Rattle.vdo_model.specs.declared.report.RunReport.{RunReport}
 use Rattle.vdo_words.specs.declared.commands.CrashOptions.{CrashOptions}
-use Rattle.vdo_cli.specs.Crashes.{IsCrashTold, IsNotServed, IsServed, IsServedOrNot, RunsOnCopy, ShowsSound, of_memory}
+use Rattle.vdo_cli.specs.Crashes.{IsCrashTold, IsNotServed, IsServed, IsServedOrNot, RunsFlushed, RunsOnCopy, ShowsSound, of_memory}
+use Rattle.core_stops.proofs.EarlyLaws.{reads_show}
+use Rattle.core_stops.proofs.LogLaws.{parted, same_front}
+use Rattle.core_stops.specs.Sequences.{next_start}
+use Rattle.vdo_cli.specs.Flushes.{IsFlushed, IsNotFlushed}
+use Rattle.vdo_cli.specs.Onward.{GoesOn}
 use Rattle.vdo_cli.specs.Openings.{HasSequencesLeft}
 use Rattle.vdo_cli.specs.Outsides.{Outcome, Outside, Setting, input_setting_of, inputs_of}
-use Rattle.vdo_cli.proofs.OnwardLaws.{not_ready}
+use Rattle.vdo_cli.proofs.FlushLaws.{image_behind_failed, told_behind, told_settles}
+use Rattle.vdo_cli.proofs.OnwardLaws.{not_ready, serves_on}
 use Rattle.vdo_cli.proofs.RecoveredImages.{IsLeft, left_by, still_told, unready_kept}
+
+-- a device goes on over what was tried on it
+tried_goes_on : (schedule : ℕ) (report : RunReport) (before after : Seen) → IsServedOrNot of_memory schedule report before after → GoesOn true before after
+tried_goes_on schedule report before after (inl served) = serves_on of_memory schedule served.found served.start report before after served.serves
+tried_goes_on schedule report before after (inr not) = not_ready of_memory before after not.recovered not.why not.unready
 
 -- The image that was picked.
 
@@ -42,33 +53,90 @@ module _ (first copy : Memory) (blocks : Blocks) (sound : IsSound blocks) (told 
   abbrev IsOne : Blocks → Type 0
   IsOne picked = (own : IsSound picked) × (own.head.geometry ≡ sound.head.geometry)
 
-  behind : (older : List Call) → older ++ first.log ≡ older
-  behind older = ap (λ (log : List Call). older ++ log) empty ∙ append-nil older
+  -- before the flush
+  as_copied : (picked : Blocks) → IsImage first.opening first.log picked → IsOne picked
+  as_copied picked is =
+      let shown = (reads_show first.opening blocks first.log sound (next_start blocks sound) sound.head.geometry.logical (omega arith) [] tt told.one [] [] refl picked is).1 in
+      (shown.sound, shown.sizes)
+
+  -- and behind it
+  module _ (flushed : Seen) (is_flushed : IsFlushed true (seen_of first) flushed) where
+    told_then : IsTold (trust_of true true) flushed blocks
+    told_then = told_behind of_memory (seen_of first) flushed blocks is_flushed (told_settles of_memory (seen_of first) blocks told)
+
+    log_then : flushed.log ≡ Flush true ∷ []
+    log_then = is_flushed.logged refl ∙ ap (λ (log : List Call). Flush true ∷ log) empty
+
+    module _ (newer front : List Call) (parts : copy.log ≡ newer ++ (front ++ flushed.log)) (picked : Blocks) (is : IsImage flushed.opening (front ++ flushed.log) picked) where
+      left_served : (schedule : ℕ) (report : RunReport) → IsServed of_memory schedule report flushed (seen_of copy) → IsOne picked
+      left_served schedule report served =
+          let shown = (served.serves.stops blocks told_then sound late newer front parts picked is).1 in (shown.sound, shown.sizes)
+
+      left_unserved : (report : RunReport) → IsNotServed of_memory report flushed (seen_of copy) → IsOne picked
+      left_unserved report not =
+          let kept = unready_kept of_memory flushed (seen_of copy) not.recovered not.why not.unready blocks told_then sound in
+          let calls_are : kept.0 ≡ newer ++ front = same_front kept.0 (newer ++ front) flushed.log (sym kept.1 ∙ parts ∙ sym (append_assoc newer front flushed.log)) in
+          let shown = (kept.2 newer front calls_are picked is).1 in (shown.sound, shown.sizes)
+
+      left_of_run : (schedule : ℕ) (report : RunReport) → IsServedOrNot of_memory schedule report flushed (seen_of copy) → IsOne picked
+      left_of_run schedule report (inl served) = left_served schedule report served
+      left_of_run schedule report (inr not) = left_unserved report not
 
   module _ (newer older : List Call) (parts : copy.log ≡ newer ++ older) (picked : Blocks) (is : IsImage first.opening older picked) where
-    is_behind : IsImage first.opening (older ++ first.log) picked
-    is_behind = subst (λ (log : List Call). IsImage first.opening log picked) (sym (behind older)) is
+    before_all : older ≡ [] → IsOne picked
+    before_all none = as_copied picked (subst (λ (log : List Call). IsImage first.opening log picked) (none ∙ sym empty) is)
 
-    parts_behind : copy.log ≡ newer ++ (older ++ first.log)
-    parts_behind = parts ∙ ap (λ (log : List Call). newer ++ log) (sym (behind older))
+    left_behind : (schedule : ℕ) (report : RunReport) (flushed : Seen) → IsFlushed true (seen_of first) flushed → GoesOn true flushed (seen_of copy)
+        → IsServedOrNot of_memory schedule report flushed (seen_of copy) → IsOne picked
+    left_behind schedule report flushed is_flushed on runs =
+        let more = on.calls refl in
+        let log_is = log_then flushed is_flushed in
+        let all : newer ++ older ≡ more.0 ++ (Flush true ∷ []) = sym parts ∙ more.1 ∙ ap (λ (log : List Call). more.0 ++ log) log_is in
+        elim (parted newer older more.0 (Flush true ∷ []) all) [
+          | inl within ↦ with_flush within.0 within.2
+          | inr back ↦ elim (one_at_most back.0 older back.2) [ inl none ↦ before_all none | inr one ↦ with_flush [] one ]
+        ]
+      where
+        one_at_most : (back rest : List Call) → Flush true ∷ [] ≡ back ++ rest → (rest ≡ []) ⊎ (rest ≡ [] ++ (Flush true ∷ []))
+        one_at_most [] rest same = inr (sym same)
+        one_at_most (call ∷ back) [] same = inl refl
+        one_at_most (call ∷ back) (next ∷ rest) same = absurd (let size = ap length same in let sizes = length-append back (next ∷ rest) in omega (arith, size, sizes))
 
-    left_served : (schedule : ℕ) (report : RunReport) → IsServed of_memory schedule report (seen_of first) (seen_of copy) → IsOne picked
-    left_served schedule report served =
-        let shown = (served.serves.stops blocks told sound late newer older parts_behind picked is_behind).1 in (shown.sound, shown.sizes)
+        with_flush : (front : List Call) → older ≡ front ++ (Flush true ∷ []) → IsOne picked
+        with_flush front older_is =
+            let log_is = log_then flushed is_flushed in
+            let here : older ≡ front ++ flushed.log = older_is ∙ ap (λ (log : List Call). front ++ log) (sym log_is) in
+            left_of_run flushed is_flushed newer front (parts ∙ ap (λ (log : List Call). newer ++ log) here) picked
+            (subst (λ (opening : Blocks). IsImage opening (front ++ flushed.log) picked) (sym is_flushed.stays.opening)
+            (subst (λ (log : List Call). IsImage first.opening log picked) here is)) schedule report runs
 
-    left_unserved : (report : RunReport) → IsNotServed of_memory report (seen_of first) (seen_of copy) → IsOne picked
-    left_unserved report not =
-        let kept = unready_kept of_memory (seen_of first) (seen_of copy) not.recovered not.why not.unready blocks told sound in
-        let calls_are : kept.0 ≡ newer ++ older = sym (behind kept.0) ∙ sym kept.1 ∙ parts in
-        let shown = (kept.2 newer older calls_are picked is_behind).1 in (shown.sound, shown.sizes)
+    -- or it failed
+    left_in_vain : IsNotFlushed true (seen_of first) (seen_of copy) → IsOne picked
+    left_in_vain fails = elim (fails.logged refl) [
+      | inl failed ↦ one_call newer older (sym parts ∙ failed ∙ ap (λ (log : List Call). Flush false ∷ log) empty) refl
+      | inr unkept ↦ before_all (nothing newer older (sym parts ∙ unkept.0 ∙ empty))
+    ]
+      where
+        nothing : (front rest : List Call) → front ++ rest ≡ [] → rest ≡ []
+        nothing front [] same = refl
+        nothing [] (call ∷ rest) same = absurd (cc same)
+        nothing (other ∷ front) (call ∷ rest) same = absurd (cc same)
 
-    left_of_run : (schedule : ℕ) (report : RunReport) → IsServedOrNot of_memory schedule report (seen_of first) (seen_of copy) → IsOne picked
-    left_of_run schedule report (inl served) = left_served schedule report served
-    left_of_run schedule report (inr not) = left_unserved report not
+        one_call : (front rest : List Call) → front ++ rest ≡ Flush false ∷ [] → rest ≡ older → IsOne picked
+        one_call front [] same own = before_all (sym own)
+        one_call [] (call ∷ rest) same own =
+            let here : IsImage first.opening (Flush false ∷ []) picked = subst (λ (log : List Call). IsImage first.opening log picked) (sym own ∙ same) is in
+            as_copied picked (subst (λ (log : List Call). IsImage first.opening log picked) (sym empty) (image_behind_failed first.opening [] picked here))
+        one_call (other ∷ front) (call ∷ rest) same own = absurd (let size = ap length same in let sizes = length-append front (call ∷ rest) in omega (arith, size, sizes))
 
-same_opening : (schedule : ℕ) (report : RunReport) (first copy : Memory) → IsServedOrNot of_memory schedule report (seen_of first) (seen_of copy) → copy.opening ≡ first.opening
-same_opening schedule report first copy (inl served) = served.serves.stays.opening
-same_opening schedule report first copy (inr not) = (not_ready of_memory (seen_of first) (seen_of copy) not.recovered not.why not.unready).stays.opening
+    left_of_tried : (schedule : ℕ) (report : RunReport) → RunsFlushed of_memory schedule report (seen_of first) (seen_of copy) → IsOne picked
+    left_of_tried schedule report (inl behind) =
+        left_behind schedule report behind.0 behind.1 (tried_goes_on schedule report behind.0 (seen_of copy) behind.2) behind.2
+    left_of_tried schedule report (inr fails) = left_in_vain fails.0
+
+same_opening : (schedule : ℕ) (report : RunReport) (first copy : Memory) → RunsFlushed of_memory schedule report (seen_of first) (seen_of copy) → copy.opening ≡ first.opening
+same_opening schedule report first copy (inl behind) = (tried_goes_on schedule report behind.0 (seen_of copy) behind.2).stays.opening ∙ behind.1.stays.opening
+same_opening schedule report first copy (inr fails) = fails.0.stays.opening
 
 -- What it shows.
 
@@ -138,7 +206,7 @@ module _ (s : Setting) (options : CrashOptions) (before after : Outside) (outcom
     pub picked_sound : (own : IsSound picked) × (own.head.geometry ≡ sound.head.geometry)
     picked_sound =
         let parts = counted_behind copy.fuse copy.log in
-        left_of_run first copy blocks sound (run.copied.keeps blocks told) late no_calls parts.0 (counted_log copy.fuse copy.log) parts.1 picked
+        left_of_tried first copy blocks sound (run.copied.keeps blocks told) late no_calls parts.0 (counted_log copy.fuse copy.log) parts.1 picked
         (subst (λ (opening : Blocks). IsImage opening (counted_log copy.fuse copy.log) picked) (same_opening options.schedule outcome.report first copy run.tried.runs) may_stand)
         options.schedule outcome.report run.tried.runs
 

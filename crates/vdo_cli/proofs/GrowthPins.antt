@@ -1,4 +1,4 @@
--- Rows that pin how growing ends (`EndsSo` of the words `grow --logical 2000 --slabs 2`): for each part some that it accepts, and
+-- Rows that pin how growing ends (`EndsChange` of `grow --logical 2000 --slabs 2`): for each part some that it accepts, and
 -- some that break this part alone. What no command's work decides is in `ResultPins`.
 use Rattle.std.proofs.Common.{ℕ, ◌≡◌, ◌⊎◌, true, false, List, [], ◌∷◌, take, Option, Some, None, Ok, Err, codes, refl, ap, inl, inr, arith}
 use Rattle.blk_base.specs.Forms.{pbn as at}
@@ -19,15 +19,20 @@ use Rattle.grow_image.specs.declared.forms.Grown.{Grown}
 use Rattle.vdo_model.specs.declared.report.RunReport.{RunReport}
 use Rattle.vdo_cli.specs.declared.fault.Fault.{Fault}
 use Rattle.vdo_cli.specs.declared.fault.Fault.TheVariants as fault
+use Rattle.vdo_cli.specs.declared.words.Change.{Change}
+use Rattle.vdo_cli.specs.declared.words.Change.TheVariants as change
 use Rattle.vdo_cli.specs.Growths.{grow_told_as}
 use Rattle.vdo_cli.specs.Outsides.{Outside, Tells, no_report, outcome, outside}
 use Rattle.vdo_cli.specs.Results.{TellsResult}
 use Rattle.vdo_cli.specs.Texts.{fault_text}
-use Rattle.vdo_cli.proofs.CommandPins.{grow_words}
 use Rattle.vdo_cli.proofs.PlayPins.{bare, begins, first_of, no_image, source}
 use Rattle.vdo_cli.proofs.ResultPins as pins
 use Rattle.vdo_cli.proofs.ResultPins.{failed, flushed}
-use Rattle.vdo_cli.proofs.RunPins.{Ends, some_report}
+use Rattle.vdo_cli.proofs.RunPins.{Changes, some_report}
+
+-- the growth to 2,000 addresses and 2 slabs
+abbrev growing : Change
+growing = change.Grow (record { logical = 2000; slabs = 2 })
 
 -- grow_told_as: by the kind of the fault
 told_image : grow_told_as (growth.Image (image.Super NotAnImage)) ≡ fault.Image (image.Super NotAnImage)
@@ -60,14 +65,14 @@ refused = record {
 }
 
 -- and the line says so
-image-refused : Ends grow_words begins (bare [] (7 ∷ []) (fault_text no_image) 0) 4 no_report (Some no_image)
+image-refused : Changes growing begins (bare [] (7 ∷ []) (fault_text no_image) 0) 4 no_report (Some no_image)
 image-refused = pins.refused (IsGrowing (trust_of true false) 2000 2) grown_text grow_told_as begins.device (growth.Image (image.Super NotAnImage)) refused
 
-image-not_another_status : (after : Outside) → Ends grow_words begins after 0 no_report (Some no_image) → ⊥
+image-not_another_status : (after : Outside) → Changes growing begins after 0 no_report (Some no_image) → ⊥
 image-not_another_status = pins.refused-not_another_status (IsGrowing (trust_of true false) 2000 2) grown_text grow_told_as
 
 -- a refused image isn't written
-image-not_written : (held : List ℕ) → Ends grow_words begins (bare (Flush true ∷ []) (7 ∷ []) held 0) 4 no_report (Some no_image) → ⊥
+image-not_written : (held : List ℕ) → Changes growing begins (bare (Flush true ∷ []) (7 ∷ []) held 0) 4 no_report (Some no_image) → ⊥
 image-not_written = pins.refused-not_written (IsGrowing (trust_of true false) 2000 2) grown_text grow_told_as nothing
   where
     nothing : (why : GrowFault) → IsGrowing (trust_of true false) 2000 2 begins.device flushed (Err why) → (grow_told_as why ≡ fault.Device) ⊎ IsUntouched true begins.device flushed
@@ -88,34 +93,34 @@ failed_so = record {
 }
 
 -- and the line says so
-device-failed : Ends grow_words begins (outside failed (source (7 ∷ []) 0) (sink (codes "device fault\n") 0)) 3 no_report (Some fault.Device)
+device-failed : Changes growing begins (outside failed (source (7 ∷ []) 0) (sink (codes "device fault\n") 0)) 3 no_report (Some fault.Device)
 device-failed = pins.refused (IsGrowing (trust_of true false) 2000 2) grown_text grow_told_as failed (growth.Image image.Device) failed_so
 
 -- The script isn't looked at
-script-not_taken : (held : List ℕ) (status : ℕ) (report : RunReport) (ended : Option Fault) → Ends grow_words begins (bare [] [] held 0) status report ended → ⊥
+script-not_taken : (held : List ℕ) (status : ℕ) (report : RunReport) (ended : Option Fault) → Changes growing begins (bare [] [] held 0) status report ended → ⊥
 script-not_taken held status report ended = pins.not_taken (IsGrowing (trust_of true false) 2000 2) (TellsResult true (λ found. Tells true (grown_text found)) grow_told_as) held (outcome status report ended)
 
 script-not_failed : (held : List ℕ) (status : ℕ) (report : RunReport) (ended : Option Fault)
-    → Ends grow_words begins (outside begins.device (source (7 ∷ []) 1) (sink held 0)) status report ended → ⊥
+    → Changes growing begins (outside begins.device (source (7 ∷ []) 1) (sink held 0)) status report ended → ⊥
 script-not_failed held status report ended = pins.not_source_failed (IsGrowing (trust_of true false) 2000 2) (TellsResult true (λ found. Tells true (grown_text found)) grow_told_as) held (outcome status report ended)
 
 -- Told. The image has grown, and the line was put, with status 0;
 told-put : (before after : Seen) (found : Grown) → IsGrowing (trust_of true false) 2000 2 before after (Ok found)
-    → Ends grow_words (outside before (source [] 0) (sink [] 0)) (outside after (source [] 0) (sink (grown_text found) 0)) 0 no_report None
+    → Changes growing (outside before (source [] 0) (sink [] 0)) (outside after (source [] 0) (sink (grown_text found) 0)) 0 no_report None
 told-put = pins.put (IsGrowing (trust_of true false) 2000 2) grown_text grow_told_as
 
 -- or a part of it, with 7
 told-part : (before after : Seen) (found : Grown) → IsGrowing (trust_of true false) 2000 2 before after (Ok found) → (n : ℕ)
-    → Ends grow_words (outside before (source [] 0) (sink [] 0)) (outside after (source [] 0) (sink (take n (grown_text found)) 1)) 7 no_report (Some fault.Sink)
+    → Changes growing (outside before (source [] 0) (sink [] 0)) (outside after (source [] 0) (sink (take n (grown_text found)) 1)) 7 no_report (Some fault.Sink)
 told-part = pins.put_part (IsGrowing (trust_of true false) 2000 2) grown_text grow_told_as
 
-told-not_another_status : (before after : Outside) (report : RunReport) → Ends grow_words before after 4 report None → ⊥
+told-not_another_status : (before after : Outside) (report : RunReport) → Changes growing before after 4 report None → ⊥
 told-not_another_status = pins.put-not_another_status (IsGrowing (trust_of true false) 2000 2) grown_text grow_told_as 4 (omega arith)
 
-told-not_reported : (before after : Outside) → Ends grow_words before after 0 some_report None → ⊥
+told-not_reported : (before after : Outside) → Changes growing before after 0 some_report None → ⊥
 told-not_reported = pins.not_reported (IsGrowing (trust_of true false) 2000 2) (λ found. Tells true (grown_text found)) grow_told_as
 
-told-not_silent : (before after : Seen) → Ends grow_words (outside before (source [] 0) (sink [] 0)) (outside after (source [] 0) (sink [] 0)) 0 no_report None → ⊥
+told-not_silent : (before after : Seen) → Changes growing (outside before (source [] 0) (sink [] 0)) (outside after (source [] 0) (sink [] 0)) 0 no_report None → ⊥
 told-not_silent = pins.put-not_silent (IsGrowing (trust_of true false) 2000 2) grown_text grow_told_as some
   where
     some : (found : Grown) → [] ≡ grown_text found → ⊥

@@ -7,6 +7,8 @@ pub mod ScriptLaws
 pub mod SeededScripts
 pub mod EndingLaws
 pub mod OnwardLaws
+pub mod FlushLaws
+pub mod LandedWrites
 pub mod NextRuns
 pub mod CompleteLaws
 pub mod CrashEnds
@@ -22,6 +24,7 @@ pub mod AuditPins
 pub mod StatusPins
 pub mod RecoveryPins
 pub mod ReadyPins
+pub mod FlushPins
 pub mod RebuildPins
 pub mod GrowthPins
 pub mod EmptyScript

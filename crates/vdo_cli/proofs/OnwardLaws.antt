@@ -1,8 +1,9 @@
 -- A device goes on over runs.
-use Rattle.std.proofs.Common.{ℕ, ◌≡◌, ◌++◌, Bool, List, [], Option, Some, None, Result, Ok, inl, inr, refl, sym, ◌∙◌, ap, append_assoc}
+use Rattle.std.proofs.Common.{ℕ, ◌≡◌, ◌++◌, Bool, true, false, List, [], ◌∷◌, Option, Some, None, Result, Ok, inl, inr, refl, sym, ◌∙◌, ap, append_assoc}
 use Rattle.blk_base.specs.declared.geometry.Geometry.{Geometry}
 use Rattle.blk_base.specs.declared.opened.Opened.{Opened}
 use Rattle.disk_model.specs.declared.call.Call.{Call}
+use Rattle.disk_model.specs.declared.call.Call.TheVariants.{Flush}
 use Rattle.disk_model.specs.Seen.{Seen}
 use Rattle.disk_model.specs.Trust.{Trust}
 use Rattle.disk_model.specs.Since.{IsUntouched}
@@ -14,13 +15,16 @@ use Rattle.rebuild.specs.declared.forms.Recovered.{Recovered}
 use Rattle.vdo_cli.specs.declared.fault.Fault.{Fault}
 use Rattle.vdo_cli.specs.declared.fault.Fault.TheVariants as fault
 use Rattle.vdo_cli.specs.Onward.{GoesOn}
+use Rattle.vdo_cli.specs.declared.words.Change.{Change}
+use Rattle.vdo_cli.specs.declared.words.Change.TheVariants as change
 use Rattle.vdo_cli.specs.declared.words.Served.{Served}
 use Rattle.vdo_cli.specs.declared.words.Served.TheVariants as served
 use Rattle.vdo_cli.specs.Commands.{served_of}
 use Rattle.vdo_cli.specs.NewImages.{MakesImage}
 use Rattle.vdo_cli.specs.Openings.{IsUnready}
 use Rattle.vdo_cli.specs.Outsides.{Outcome, Outside, Setting}
-use Rattle.vdo_cli.specs.Runs.{EndsAs, EndsSo, NotBegun, PlayedOut, RunsScriptBy}
+use Rattle.vdo_cli.specs.Flushes.{IsFlushed, IsNotFlushed}
+use Rattle.vdo_cli.specs.Runs.{EndsAs, EndsChange, EndsFlushed, EndsSo, NotBegun, PlayedOut, RunsScriptBy}
 use Rattle.vdo_cli.specs.Endings.{ServesRequests}
 use Rattle.vdo_cli.specs.Workloads.{EndsWorkloadBy, WorkloadNotBegun, WorkloadServed}
 use Rattle.vdo_model.specs.declared.report.RunReport.{RunReport}
@@ -54,7 +58,7 @@ not_begun s before after ends why fails = elim fails.cause [
   | inr on_script ↦ recovered s.device before.device on_script.ready.middle after.device (Ok on_script.found) on_script.ready.recovery on_script.ready.opening.untouched
 ]
 
-serves_on : (trust : Trust) (schedule : ℕ) (found : Recovered) (start : Opened) (report : RunReport) (before after : Seen)
+pub serves_on : (trust : Trust) (schedule : ℕ) (found : Recovered) (start : Opened) (report : RunReport) (before after : Seen)
     → ServesRequests trust schedule found start report before after → GoesOn trust.tells before after
 serves_on trust schedule found start report before after session = record {
   stays = session.stays;
@@ -103,17 +107,39 @@ format_goes_on s g before after ends makes = record {
 same_device : (tells : Bool) (before after : Seen) → after ≡ before → GoesOn tells before after
 same_device tells before after same = rw same (record { stays = record { opening = refl; size = refl }; calls = λ told. ([], refl) })
 
+-- over a change of an image
+pub change_goes_on : (s : Setting) (asked : Change) (before after : Outside) (outcome : Outcome)
+    → EndsChange s asked before after outcome → GoesOn s.device.tells before.device after.device
+change_goes_on s (change.Script schedule) before after outcome ends = script_goes_on outcome.fault s schedule before after outcome ends
+change_goes_on s (change.Workload options) before after outcome ends = workload_goes_on outcome.fault s options before after outcome ends.ends
+change_goes_on s change.Recover before after outcome ends = record { stays = ends.works.stays; calls = ends.works.grows }
+change_goes_on s change.ForceRebuild before after outcome ends = record { stays = ends.works.stays; calls = ends.works.grows }
+change_goes_on s (change.Grow options) before after outcome ends = record { stays = ends.works.stays; calls = ends.works.grows }
+
+-- and the flush before it
+pub flush_goes_on : (tells : Bool) (before flushed : Seen) → IsFlushed tells before flushed → GoesOn tells before flushed
+flush_goes_on tells before flushed is = record { stays = is.stays; calls = λ told. (Flush true ∷ [], is.logged told) }
+
+pub failed_goes_on : (tells : Bool) (before now : Seen) → IsNotFlushed tells before now → GoesOn tells before now
+failed_goes_on tells before now is = record {
+  stays = is.stays;
+  calls = λ told. elim (is.logged told) [ inl failed ↦ (Flush false ∷ [], failed) | inr unkept ↦ ([], unkept.0) ];
+}
+
+flushed_goes_on : (s : Setting) (asked : Change) (before after : Outside) (outcome : Outcome)
+    → EndsFlushed s asked before after outcome → GoesOn s.device.tells before.device after.device
+flushed_goes_on s asked before after outcome (inl (flushed, is, ends)) =
+    goes_on s.device.tells before.device flushed after.device (flush_goes_on s.device.tells before.device flushed is)
+    (change_goes_on s asked (record before { device = flushed }) after outcome ends)
+flushed_goes_on s asked before after outcome (inr fails) = failed_goes_on s.device.tells before.device after.device fails.device
+
 -- over what is served
 served_goes_on : (s : Setting) (asked : Option Served) (before after : Outside) (outcome : Outcome)
     → EndsAs s asked before after outcome → GoesOn s.device.tells before.device after.device
 served_goes_on s None before after outcome ends = same_device s.device.tells before.device after.device ends.device
-served_goes_on s (Some (served.Script schedule)) before after outcome ends = script_goes_on outcome.fault s schedule before after outcome ends
-served_goes_on s (Some (served.Workload options)) before after outcome ends = workload_goes_on outcome.fault s options before after outcome ends.ends
+served_goes_on s (Some (served.Change asked)) before after outcome ends = flushed_goes_on s asked before after outcome ends
 served_goes_on s (Some (served.Crash options)) before after outcome ends = untouched s.device.tells before.device after.device ends.untouched
 served_goes_on s (Some (served.Format sizes)) before after outcome ends = format_goes_on s sizes before after outcome ends
-served_goes_on s (Some served.Recover) before after outcome ends = record { stays = ends.works.stays; calls = ends.works.grows }
-served_goes_on s (Some served.ForceRebuild) before after outcome ends = record { stays = ends.works.stays; calls = ends.works.grows }
-served_goes_on s (Some (served.Grow options)) before after outcome ends = record { stays = ends.works.stays; calls = ends.works.grows }
 served_goes_on s (Some served.Audit) before after outcome ends = untouched s.device.tells before.device after.device ends.works.untouched
 served_goes_on s (Some served.Status) before after outcome ends = untouched s.device.tells before.device after.device ends.works.untouched
 

@@ -25,13 +25,12 @@ use Rattle.vdo_cli.specs.Endings.{KeepsImage, PlayFails}
 use Rattle.vdo_cli.specs.Inspections.{told_as}
 use Rattle.vdo_cli.specs.Openings.{IsReady, IsUnready, recovered_of}
 use Rattle.vdo_cli.specs.Outsides.{Outside, input_setting, inputs, no_report, outcome, setting}
-use Rattle.vdo_cli.specs.Runs.{EndsSo}
+use Rattle.vdo_cli.specs.Runs.{EndsChange}
 use Rattle.vdo_cli.specs.Texts.{fault_text, refusal_text}
-use Rattle.vdo_cli.proofs.CommandPins.{run_words}
 use Rattle.vdo_cli.proofs.PlayPins.{source, bare, begins, no_image}
 use Rattle.vdo_cli.proofs.RecoveryPins.{failed_so, refused}
 use Rattle.vdo_cli.proofs.ResultPins.{failed}
-use Rattle.vdo_cli.proofs.RunPins.{Ends, some_report}
+use Rattle.vdo_cli.proofs.RunPins.{Changes, Ends, script, some_report}
 
 -- a device that tells, and a source that does, with these bytes left
 abbrev Fails : Seen → Seen → List ℕ → List ℕ → Option ℕ → Fault → Type 0
@@ -139,7 +138,7 @@ read-not_without_rise before after left recovered (inl fails) = not_of_source fa
 read-not_without_rise before after left recovered (inr fails) = omega (arith, fails.cause)
 
 -- NotBegun. The words are served, and the fault's line was put, with its status
-not_begun-told : Ends run_words begins (bare [] (7 ∷ []) (fault_text no_image) 0) 4 no_report (Some no_image)
+not_begun-told : Changes script begins (bare [] (7 ∷ []) (fault_text no_image) 0) 4 no_report (Some no_image)
 not_begun-told = record {
   recovered = None;
   cause = image-refused (7 ∷ []);
@@ -150,13 +149,13 @@ not_begun-told = record {
 not_begun-not_other_words : Ends [] begins (bare [] (7 ∷ []) (fault_text no_image) 0) 4 no_report (Some no_image) → ⊥
 not_begun-not_other_words ends = absurd (let is = ends.fault_is in cc)
 
-not_begun-not_another_status : (after : Outside) → Ends run_words begins after 3 no_report (Some no_image) → ⊥
+not_begun-not_another_status : (after : Outside) → Changes script begins after 3 no_report (Some no_image) → ⊥
 not_begun-not_another_status after ends = omega (arith, ends.refuses.status_is)
 
-not_begun-not_reported : (after : Outside) → Ends run_words begins after 4 some_report (Some no_image) → ⊥
+not_begun-not_reported : (after : Outside) → Changes script begins after 4 some_report (Some no_image) → ⊥
 not_begun-not_reported after ends = let same = ap (λ (report : RunReport). length report.requests) ends.refuses.report_is in omega (arith, same)
 
-not_begun-not_silent : Ends run_words begins (bare [] (7 ∷ []) [] 0) 4 no_report (Some no_image) → ⊥
+not_begun-not_silent : Changes script begins (bare [] (7 ∷ []) [] 0) 4 no_report (Some no_image) → ⊥
 not_begun-not_silent ends = elim ends.refuses.puts [
   | inl put ↦ by_recovered ends.recovered (put refl)
   | inr (rose, part) ↦ omega (arith, rose)
@@ -167,15 +166,15 @@ not_begun-not_silent ends = elim ends.refuses.puts [
     by_recovered (Some count) put = absurd cc
 
 -- Where the device or the image ended the call, nothing was taken of the script.
-device-takes_nothing : (before after : Outside) (status : ℕ) (report : RunReport) → Ends run_words before after status report (Some fault.Device) → after.source ≡ before.source
+device-takes_nothing : (before after : Outside) (status : ℕ) (report : RunReport) → Changes script before after status report (Some fault.Device) → after.source ≡ before.source
 device-takes_nothing before after status report ends = elim ends.cause [ inl on_image ↦ on_image.unread | inr on_script ↦ absurd on_script.cause ]
 
-image-takes_nothing : (before after : Outside) (status : ℕ) (report : RunReport) (why : ImageFault) → Ends run_words before after status report (Some (fault.Image why)) → after.source ≡ before.source
+image-takes_nothing : (before after : Outside) (status : ℕ) (report : RunReport) (why : ImageFault) → Changes script before after status report (Some (fault.Image why)) → after.source ≡ before.source
 image-takes_nothing before after status report why ends = elim ends.cause [ inl on_image ↦ on_image.unread | inr on_script ↦ absurd on_script.cause ]
 
 -- Whatever a stop leaves of a sound image is sound, where no session was begun either: not where a moment leaves an image that isn't.
 not_begun-not_unsound : (before after : Outside) (status : ℕ) (report : RunReport) (why : ImageFault) (blocks : Blocks) (other : Blocks) → IsTold (trust_of true true) before.device blocks → IsSound blocks
-    → EndsSo (setting (trust_of true true) true true) run_words before after (outcome status report (Some (fault.Image why))) → IsImage before.device.opening after.device.log other → (IsSound other → ⊥) → ⊥
+    → EndsChange (setting (trust_of true true) true true) script before after (outcome status report (Some (fault.Image why))) → IsImage before.device.opening after.device.log other → (IsSound other → ⊥) → ⊥
 not_begun-not_unsound before after status report why blocks other told sound ends is_image never =
     let kept = ends.early blocks told sound in
     let shown = kept.2 [] kept.0 refl other (subst (λ (log : List Call). IsImage before.device.opening log other) kept.1 is_image) in

@@ -1,4 +1,4 @@
--- Rows that pin how a forced rebuild ends (`EndsSo` of the word `force-rebuild`): for each part some that it accepts, and some that
+-- Rows that pin how a forced rebuild ends (`EndsChange` of `force-rebuild`): for each part some that it accepts, and some that
 -- break this part alone. What no command's work decides is in `ResultPins`.
 use Rattle.std.proofs.Common.{ℕ, ◌≡◌, ◌⊎◌, true, false, List, [], ◌∷◌, take, Option, Some, None, Ok, Err, codes, refl, ap, inl, inr, arith}
 use Rattle.blk_base.specs.Forms.{pbn as at}
@@ -17,15 +17,15 @@ use Rattle.force_rebuild.specs.declared.forms.Forced.{Forced}
 use Rattle.vdo_model.specs.declared.report.RunReport.{RunReport}
 use Rattle.vdo_cli.specs.declared.fault.Fault.{Fault}
 use Rattle.vdo_cli.specs.declared.fault.Fault.TheVariants as fault
+use Rattle.vdo_cli.specs.declared.words.Change.TheVariants as change
 use Rattle.vdo_cli.specs.Inspections.{told_as}
 use Rattle.vdo_cli.specs.Outsides.{Outside, Tells, no_report, outcome, outside}
 use Rattle.vdo_cli.specs.Results.{TellsResult}
 use Rattle.vdo_cli.specs.Texts.{fault_text}
-use Rattle.vdo_cli.proofs.CommandPins.{rebuild_words}
 use Rattle.vdo_cli.proofs.PlayPins.{bare, begins, first_of, no_image, source}
 use Rattle.vdo_cli.proofs.ResultPins as pins
 use Rattle.vdo_cli.proofs.ResultPins.{failed, flushed, went_on}
-use Rattle.vdo_cli.proofs.RunPins.{Ends, some_report}
+use Rattle.vdo_cli.proofs.RunPins.{Changes, some_report}
 
 -- Image. There is none, nothing was done,
 refused : IsForcing (trust_of true false) begins.device begins.device (Err (image.Super NotAnImage))
@@ -42,14 +42,14 @@ refused = record {
 }
 
 -- and the line says so
-image-refused : Ends rebuild_words begins (bare [] (7 ∷ []) (fault_text no_image) 0) 4 no_report (Some no_image)
+image-refused : Changes change.ForceRebuild begins (bare [] (7 ∷ []) (fault_text no_image) 0) 4 no_report (Some no_image)
 image-refused = pins.refused (IsForcing (trust_of true false)) rebuilt_text told_as begins.device (image.Super NotAnImage) refused
 
-image-not_another_status : (after : Outside) → Ends rebuild_words begins after 0 no_report (Some no_image) → ⊥
+image-not_another_status : (after : Outside) → Changes change.ForceRebuild begins after 0 no_report (Some no_image) → ⊥
 image-not_another_status = pins.refused-not_another_status (IsForcing (trust_of true false)) rebuilt_text told_as
 
 -- a refused image isn't written
-image-not_written : (held : List ℕ) → Ends rebuild_words begins (bare (Flush true ∷ []) (7 ∷ []) held 0) 4 no_report (Some no_image) → ⊥
+image-not_written : (held : List ℕ) → Changes change.ForceRebuild begins (bare (Flush true ∷ []) (7 ∷ []) held 0) 4 no_report (Some no_image) → ⊥
 image-not_written = pins.refused-not_written (IsForcing (trust_of true false)) rebuilt_text told_as nothing
   where
     nothing : (why : ImageFault) → IsForcing (trust_of true false) begins.device flushed (Err why) → (told_as why ≡ fault.Device) ⊎ IsUntouched true begins.device flushed
@@ -70,41 +70,41 @@ failed_so = record {
 }
 
 -- and the line says so;
-device-failed : Ends rebuild_words begins (outside failed (source (7 ∷ []) 0) (sink (codes "device fault\n") 0)) 3 no_report (Some fault.Device)
+device-failed : Changes change.ForceRebuild begins (outside failed (source (7 ∷ []) 0) (sink (codes "device fault\n") 0)) 3 no_report (Some fault.Device)
 device-failed = pins.refused (IsForcing (trust_of true false)) rebuilt_text told_as failed image.Device failed_so
 
 -- and none was made after it
-device-not_last : (held : List ℕ) → Ends rebuild_words begins (outside went_on (source (7 ∷ []) 0) (sink held 0)) 3 no_report (Some fault.Device) → ⊥
+device-not_last : (held : List ℕ) → Changes change.ForceRebuild begins (outside went_on (source (7 ∷ []) 0) (sink held 0)) 3 no_report (Some fault.Device) → ⊥
 device-not_last = pins.failed-not_last (IsForcing (trust_of true false)) rebuilt_text none
   where
     none : IsForcing (trust_of true false) begins.device went_on (Err image.Device) → ⊥
     none is = let last = (force_last (trust_of true false) begins.device went_on is.fails).logged refl in pins.not_last last.0 last.1 last.2 last.3
 
 -- The script isn't looked at
-script-not_taken : (held : List ℕ) (status : ℕ) (report : RunReport) (ended : Option Fault) → Ends rebuild_words begins (bare [] [] held 0) status report ended → ⊥
+script-not_taken : (held : List ℕ) (status : ℕ) (report : RunReport) (ended : Option Fault) → Changes change.ForceRebuild begins (bare [] [] held 0) status report ended → ⊥
 script-not_taken held status report ended = pins.not_taken (IsForcing (trust_of true false)) (TellsResult true (λ found. Tells true (rebuilt_text found)) told_as) held (outcome status report ended)
 
 script-not_failed : (held : List ℕ) (status : ℕ) (report : RunReport) (ended : Option Fault)
-    → Ends rebuild_words begins (outside begins.device (source (7 ∷ []) 1) (sink held 0)) status report ended → ⊥
+    → Changes change.ForceRebuild begins (outside begins.device (source (7 ∷ []) 1) (sink held 0)) status report ended → ⊥
 script-not_failed held status report ended = pins.not_source_failed (IsForcing (trust_of true false)) (TellsResult true (λ found. Tells true (rebuilt_text found)) told_as) held (outcome status report ended)
 
 -- Told. The image was rebuilt, and the line was put, with status 0;
 told-put : (before after : Seen) (found : Forced) → IsForcing (trust_of true false) before after (Ok found)
-    → Ends rebuild_words (outside before (source [] 0) (sink [] 0)) (outside after (source [] 0) (sink (rebuilt_text found) 0)) 0 no_report None
+    → Changes change.ForceRebuild (outside before (source [] 0) (sink [] 0)) (outside after (source [] 0) (sink (rebuilt_text found) 0)) 0 no_report None
 told-put = pins.put (IsForcing (trust_of true false)) rebuilt_text told_as
 
 -- or a part of it, with 7
 told-part : (before after : Seen) (found : Forced) → IsForcing (trust_of true false) before after (Ok found) → (n : ℕ)
-    → Ends rebuild_words (outside before (source [] 0) (sink [] 0)) (outside after (source [] 0) (sink (take n (rebuilt_text found)) 1)) 7 no_report (Some fault.Sink)
+    → Changes change.ForceRebuild (outside before (source [] 0) (sink [] 0)) (outside after (source [] 0) (sink (take n (rebuilt_text found)) 1)) 7 no_report (Some fault.Sink)
 told-part = pins.put_part (IsForcing (trust_of true false)) rebuilt_text told_as
 
-told-not_another_status : (before after : Outside) (report : RunReport) → Ends rebuild_words before after 4 report None → ⊥
+told-not_another_status : (before after : Outside) (report : RunReport) → Changes change.ForceRebuild before after 4 report None → ⊥
 told-not_another_status = pins.put-not_another_status (IsForcing (trust_of true false)) rebuilt_text told_as 4 (omega arith)
 
-told-not_reported : (before after : Outside) → Ends rebuild_words before after 0 some_report None → ⊥
+told-not_reported : (before after : Outside) → Changes change.ForceRebuild before after 0 some_report None → ⊥
 told-not_reported = pins.not_reported (IsForcing (trust_of true false)) (λ found. Tells true (rebuilt_text found)) told_as
 
-told-not_silent : (before after : Seen) → Ends rebuild_words (outside before (source [] 0) (sink [] 0)) (outside after (source [] 0) (sink [] 0)) 0 no_report None → ⊥
+told-not_silent : (before after : Seen) → Changes change.ForceRebuild (outside before (source [] 0) (sink [] 0)) (outside after (source [] 0) (sink [] 0)) 0 no_report None → ⊥
 told-not_silent = pins.put-not_silent (IsForcing (trust_of true false)) rebuilt_text told_as some
   where
     some : (found : Forced) → [] ≡ rebuilt_text found → ⊥

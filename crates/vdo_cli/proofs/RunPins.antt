@@ -1,4 +1,4 @@
--- Rows that pin how a run ends (`EndsSo`): for each part some that it accepts, and some that break this part alone.
+-- Rows that pin how a run ends (`EndsSo`, and `EndsChange` of a script): for each part some that it accepts, and some that break this part alone.
 use Rattle.std.proofs.Common.{ℕ, zero, suc, ◌≡◌, ◌++◌, true, false, List, [], ◌∷◌, length, take, Option, Some, None, codes, refl, ap, inl, inr, arith, length-append}
 use Rattle.blk_base.specs.Forms.{pbn as at}
 use Rattle.disk_model.specs.declared.call.Call.{Call}
@@ -13,15 +13,16 @@ use Rattle.image_model.specs.declared.fault.ImageFault.{ImageFault}
 use Rattle.image_model.specs.declared.fault.ImageFault.TheVariants as image
 use Rattle.vdo_cli.specs.declared.fault.Fault.{Fault}
 use Rattle.vdo_cli.specs.declared.fault.Fault.TheVariants as fault
+use Rattle.vdo_cli.specs.declared.words.Change.{Change}
+use Rattle.vdo_cli.specs.declared.words.Change.TheVariants as change
 use Rattle.vdo_cli.specs.Closings.{PutsWith}
 use Rattle.vdo_cli.specs.Endings.{RunsSession}
 use Rattle.vdo_cli.specs.Inspections.{told_as}
 use Rattle.vdo_cli.specs.Onward.{GoesOn}
 use Rattle.vdo_cli.specs.Outsides.{Setting, Outside, no_report, input_setting, inputs, outcome, outside, setting}
-use Rattle.vdo_cli.specs.Runs.{EndsSo}
+use Rattle.vdo_cli.specs.Runs.{EndsChange, EndsSo}
 use Rattle.vdo_cli.specs.Texts.{served_status, session_text, struck_status}
 use Rattle.vdo_cli.specs.Openings.{recovered_of}
-use Rattle.vdo_cli.proofs.CommandPins.{run_words}
 use Rattle.vdo_cli.proofs.PlayPins.{device, source}
 
 -- all of the outside tells
@@ -30,6 +31,14 @@ telling = setting (trust_of true false) true true
 
 abbrev pub Ends : List (List ℕ) → Outside → Outside → ℕ → RunReport → Option Fault → Type 0
 Ends words before after status report why = EndsSo telling words before after (outcome status report why)
+
+-- a change of an image, behind the flush of the device
+abbrev pub Changes : Change → Outside → Outside → ℕ → RunReport → Option Fault → Type 0
+Changes asked before after status report why = EndsChange telling asked before after (outcome status report why)
+
+-- a script is run by the schedule 0
+abbrev pub script : Change
+script = change.Script 0
 
 -- a device of one block, a source with one byte left, and a sink that holds these bytes
 abbrev pub with : List Call → List ℕ → List ℕ → ℕ → Outside
@@ -60,7 +69,7 @@ usage-part = record {
   refuses = record { status_is = refl; report_is = refl; puts = inr (omega arith, λ told. (2, refl)) };
 }
 
-usage-not_run : Ends run_words begins (with [] (7 ∷ []) (codes "usage\n") 0) 2 no_report (Some fault.Usage) → ⊥
+usage-not_run : Changes script begins (with [] (7 ∷ []) (codes "usage\n") 0) 2 no_report (Some fault.Usage) → ⊥
 usage-not_run ends = elim ends.cause [ inl on_image ↦ not_usage on_image.fails.cause on_image.fails.fault_is | inr on_script ↦ absurd on_script.cause ]
   where
     not_usage : (cause : ImageFault) → fault.Usage ≡ told_as cause → ⊥
@@ -117,7 +126,7 @@ status_by (Some struck) served = struck
 status_by None served = served
 
 served-whole : (found : Recovered) (report : RunReport) (before after : Seen) (left rest : List ℕ) → RunsSession (input_setting (trust_of true false) true) 0 found report (inputs before (source left 0)) (inputs after (source rest 0))
-    → Ends run_words (outside before (source left 0) (sink [] 0)) (outside after (source rest 0) (sink (session_text (recovered_of found) report) 0))
+    → Changes script (outside before (source left 0) (sink [] 0)) (outside after (source rest 0) (sink (session_text (recovered_of found) report) 0))
     (status_by (struck_status report) (served_status report.desk)) report None
 served-whole found report before after left rest played = record {
   found = found;
@@ -132,14 +141,14 @@ served-whole found report before after left rest played = record {
 served-not_other_words : (after : Outside) (report : RunReport) → Ends [] begins after 0 report None → ⊥
 served-not_other_words after report ends = absurd (let is = ends.fault_is in cc)
 
-served-not_another_status : (after : Outside) → Ends run_words begins after 1 no_report None → ⊥
+served-not_another_status : (after : Outside) → Changes script begins after 1 no_report None → ⊥
 served-not_another_status after ends = omega (arith, ends.closes.0)
 
 -- The sink failed in a session: its count rose, and the status is 7
-sink-not_without_rise : Ends run_words begins (with [] [] [] 0) 7 no_report (Some fault.Sink) → ⊥
+sink-not_without_rise : Changes script begins (with [] [] [] 0) 7 no_report (Some fault.Sink) → ⊥
 sink-not_without_rise ends = omega (arith, ends.closes.2)
 
-sink-not_another_status : Ends run_words begins (with [] [] [] 1) 0 no_report (Some fault.Sink) → ⊥
+sink-not_another_status : Changes script begins (with [] [] [] 1) 0 no_report (Some fault.Sink) → ⊥
 sink-not_another_status ends = omega (arith, ends.closes.0)
 
 -- A device goes on over a run: it has more calls; and not fewer ones, nor another size

@@ -42,16 +42,16 @@ use Rattle.vdo_model.specs.Places.{placed}
 use Rattle.zone_counts.specs.Zone.{Zone as Counters}
 use Rattle.vdo_cli.specs.Openings.{HasSequencesLeft, IsReady, recovered_of}
 use Rattle.vdo_cli.specs.Outsides.{Outside, outcome, outside, setting}
-use Rattle.vdo_cli.specs.Runs.{EndsSo}
+use Rattle.vdo_cli.specs.Runs.{EndsChange}
 use Rattle.vdo_cli.specs.Texts.{session_text}
-use Rattle.vdo_cli.proofs.CommandPins.{run_words}
 use Rattle.vdo_cli.proofs.PlayPins.{source}
+use Rattle.vdo_cli.proofs.RunPins.{script}
 use Rattle.vdo_cli.proofs.EmptyScript.{AreFirst, empty_plays, empty_report, still_report}
 
 -- A run of a session that was served, over a source with these bytes left, where all of the outside tells and the device
 -- is honest.
 abbrev Served : Seen → List ℕ → Outside → ℕ → RunReport → Type 0
-Served before left after status report = EndsSo (setting (trust_of true true) true true) run_words (outside before (source left 0) (sink [] 0)) after (outcome status report None)
+Served before left after status report = EndsChange (setting (trust_of true true) true true) script (outside before (source left 0) (sink [] 0)) after (outcome status report None)
 
 -- a report of one read of address 1, which gave a block of this byte
 abbrev reads_one : Script

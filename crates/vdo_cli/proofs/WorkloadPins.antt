@@ -1,4 +1,4 @@
--- Rows that pin how a workload ends (`EndsSo` of the word `workload`, its parts `ServesWorkload`, `WorkloadFails` and
+-- Rows that pin how a workload ends (`EndsChange` of `workload`, its parts `ServesWorkload`, `WorkloadFails` and
 -- `EndsWorkload`): for each part some that it accepts, and some that break this part alone.
 use Rattle.std.proofs.Common.{ℕ, ◌≡◌, ◌≢◌, true, false, List, [], ◌∷◌, replicate, length, take, Option, Some, None, refl, ap, inl, inr, arith}
 use Rattle.blk_base.specs.declared.opened.Opened.{Opened}
@@ -20,6 +20,7 @@ use Rattle.vdo_model.specs.declared.report.RunReport.{RunReport}
 use Rattle.vdo_model.proofs.Example.{of_a}
 use Rattle.vdo_cli.specs.declared.fault.Fault.{Fault}
 use Rattle.vdo_cli.specs.declared.fault.Fault.TheVariants as fault
+use Rattle.vdo_cli.specs.declared.words.Change.TheVariants as change
 use Rattle.vdo_cli.specs.Closings.{PutsWith}
 use Rattle.vdo_cli.specs.Endings.{ServesRequests}
 use Rattle.vdo_cli.specs.Inspections.{told_as}
@@ -27,11 +28,11 @@ use Rattle.vdo_cli.specs.Openings.{IsReady, recovered_of}
 use Rattle.vdo_cli.specs.Outsides.{Outside, no_report, outside}
 use Rattle.vdo_cli.specs.Texts.{fault_text, served_status, struck_status}
 use Rattle.vdo_cli.specs.Workloads.{ServesWorkload, WorkloadFails, requests_for, summary_of}
-use Rattle.vdo_cli.proofs.CommandPins.{draws, workload_words}
+use Rattle.vdo_cli.proofs.CommandPins.{draws}
 use Rattle.vdo_cli.proofs.EmptyScript.{empty_report}
 use Rattle.vdo_cli.proofs.PlayPins.{device, source, bare, begins, no_image}
 use Rattle.vdo_cli.proofs.RecoveryPins.{refused}
-use Rattle.vdo_cli.proofs.RunPins.{Ends, some_report, status_by}
+use Rattle.vdo_cli.proofs.RunPins.{Changes, some_report, status_by}
 
 -- requests_for: those of the seed, the streams, the logical size, and so many
 drawn_of_0 : requests_for (draws 2 2) 1000 ≡ (request.Discard (record { 0 = 424 }) ∷ []) ∷ (request.Write (record { 0 = 236 }) (filled_block 13) false ∷ []) ∷ replicate 14 []
@@ -57,7 +58,7 @@ abbrev summary : Recovered → RunReport → List ℕ
 summary found report = summary_text (summary_of (recovered_of found) (draws 1 4) report)
 
 module _ (found : Recovered) (report : RunReport) (before after : Seen) (left : List ℕ) (worked : ServesWorkload (trust_of true false) (draws 1 4) found report before after) where
-  served-whole : Ends workload_words (outside before (source left 0) (sink [] 0)) (outside after (source left 0) (sink (summary found report) 0))
+  served-whole : Changes (change.Workload (draws 1 4)) (outside before (source left 0) (sink [] 0)) (outside after (source left 0) (sink (summary found report) 0))
       (status_by (struck_status report) (served_status report.desk)) report None
   served-whole = record {
     ends = record { found = found; session = worked; closes = both (struck_status report) (summary found report) (served_status report.desk) };
@@ -70,7 +71,7 @@ module _ (found : Recovered) (report : RunReport) (before after : Seen) (left : 
 
   -- or a first part of it, where the sink failed
   sink-failed : (n : ℕ) → struck_status report ≡ None
-      → Ends workload_words (outside before (source left 0) (sink [] 0)) (outside after (source left 0) (sink (take n (summary found report)) 1)) 7 report (Some fault.Sink)
+      → Changes (change.Workload (draws 1 4)) (outside before (source left 0) (sink [] 0)) (outside after (source left 0) (sink (take n (summary found report)) 1)) 7 report (Some fault.Sink)
   sink-failed n none = record { ends = record { found = found; session = worked; closes = (refl, none, omega arith, λ told. (n, refl)) }; source = refl }
 
 -- ServesWorkload: the requests are those of the seed
@@ -94,16 +95,16 @@ serves-not_of_another_size : (found : Recovered) (report : RunReport) → Serves
 serves-not_of_another_size found report worked = omega (arith, worked.serves.stays.size)
 
 -- The status is that of the answers, or 7 where the sink failed, whose count rose then; another text isn't put
-served-not_another_status : (after : Outside) → Ends workload_words begins after 1 no_report None → ⊥
+served-not_another_status : (after : Outside) → Changes (change.Workload (draws 1 4)) begins after 1 no_report None → ⊥
 served-not_another_status after ends = omega (arith, ends.ends.closes.0)
 
-sink-not_another_status : (after : Outside) → Ends workload_words begins after 0 no_report (Some fault.Sink) → ⊥
+sink-not_another_status : (after : Outside) → Changes (change.Workload (draws 1 4)) begins after 0 no_report (Some fault.Sink) → ⊥
 sink-not_another_status after ends = omega (arith, ends.ends.closes.0)
 
-sink-not_without_rise : (held : List ℕ) → Ends workload_words begins (bare [] (7 ∷ []) held 0) 7 no_report (Some fault.Sink) → ⊥
+sink-not_without_rise : (held : List ℕ) → Changes (change.Workload (draws 1 4)) begins (bare [] (7 ∷ []) held 0) 7 no_report (Some fault.Sink) → ⊥
 sink-not_without_rise held ends = omega (arith, ends.ends.closes.2)
 
-served-not_silent : Ends workload_words begins begins 0 no_report None → ⊥
+served-not_silent : Changes (change.Workload (draws 1 4)) begins begins 0 no_report None → ⊥
 served-not_silent ends = by_recovered (recovered_of ends.ends.found) (ends.ends.closes.1 refl)
   where
     by_recovered : (recovered : Option ℕ) → [] ≡ summary_text (summary_of recovered (draws 1 4) no_report) → ⊥
@@ -111,11 +112,11 @@ served-not_silent ends = by_recovered (recovered_of ends.ends.found) (ends.ends.
     by_recovered (Some count) put = absurd (cc put)
 
 -- The script isn't looked at
-source-not_taken : (held : List ℕ) (status : ℕ) (report : RunReport) (ended : Option Fault) → Ends workload_words begins (bare [] [] held 0) status report ended → ⊥
+source-not_taken : (held : List ℕ) (status : ℕ) (report : RunReport) (ended : Option Fault) → Changes (change.Workload (draws 1 4)) begins (bare [] [] held 0) status report ended → ⊥
 source-not_taken held status report ended ends = let same = ap (λ (s : SourceSeen). length s.left) ends.source in omega (arith, same)
 
 -- No session was begun: the device has no image, and the fault's line was put, with its status
-not_begun-told : Ends workload_words begins (bare [] (7 ∷ []) (fault_text no_image) 0) 4 no_report (Some no_image)
+not_begun-told : Changes (change.Workload (draws 1 4)) begins (bare [] (7 ∷ []) (fault_text no_image) 0) 4 no_report (Some no_image)
 not_begun-told = record {
   ends = record {
     recovered = None;
@@ -126,10 +127,10 @@ not_begun-told = record {
   source = refl;
 }
 
-not_begun-not_another_status : (after : Outside) → Ends workload_words begins after 3 no_report (Some no_image) → ⊥
+not_begun-not_another_status : (after : Outside) → Changes (change.Workload (draws 1 4)) begins after 3 no_report (Some no_image) → ⊥
 not_begun-not_another_status after ends = omega (arith, ends.ends.refuses.status_is)
 
-not_begun-not_reported : (after : Outside) → Ends workload_words begins after 4 some_report (Some no_image) → ⊥
+not_begun-not_reported : (after : Outside) → Changes (change.Workload (draws 1 4)) begins after 4 some_report (Some no_image) → ⊥
 not_begun-not_reported after ends = let same = ap (λ (report : RunReport). length report.requests) ends.ends.refuses.report_is in omega (arith, same)
 
 -- or it was opened, and memory ran out; and not another fault of what is no image

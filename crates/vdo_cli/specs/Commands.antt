@@ -10,6 +10,8 @@ use Rattle.vdo_words.specs.declared.commands.WorkloadOptions.{WorkloadOptions}
 use Rattle.vdo_words.specs.declared.commands.Drive.{Drive}
 use Rattle.vdo_words.specs.declared.commands.Drive.TheVariants.{Schedule, Threads}
 use Rattle.vdo_core.specs.declared.cores.Setup.{Setup}
+use Rattle.vdo_cli.specs.declared.words.Change.{Change}
+use Rattle.vdo_cli.specs.declared.words.Change.TheVariants as change
 use Rattle.vdo_cli.specs.declared.words.Served.{Served}
 use Rattle.vdo_cli.specs.declared.words.Served.TheVariants as served
 
@@ -43,13 +45,13 @@ sizes_of o = record {
 
 -- `run`, `workload` and `crash` are served, with a schedule, and `format`, `recover`, `force-rebuild`, `grow`, `audit` and `status`
 abbrev pub served_in : Option Command → Option Served
-served_in (Some (Run options)) = if are_default options.core then option_map served.Script (number_of options.drive) else None
-served_in (Some (Workload options)) = if are_default options.core then Some (served.Workload options) else None
+served_in (Some (Run options)) = if are_default options.core then option_map (λ (schedule : ℕ). served.Change (change.Script schedule)) (number_of options.drive) else None
+served_in (Some (Workload options)) = if are_default options.core then Some (served.Change (change.Workload options)) else None
 served_in (Some (Crash options)) = if are_default options.core then Some (served.Crash options) else None
 served_in (Some (Format options)) = Some (served.Format (sizes_of options))
-served_in (Some Recover) = Some served.Recover
-served_in (Some ForceRebuild) = Some served.ForceRebuild
-served_in (Some (Grow options)) = Some (served.Grow options)
+served_in (Some Recover) = Some (served.Change change.Recover)
+served_in (Some ForceRebuild) = Some (served.Change change.ForceRebuild)
+served_in (Some (Grow options)) = Some (served.Change (change.Grow options))
 served_in (Some Audit) = Some served.Audit
 served_in (Some Status) = Some served.Status
 served_in other = None
@@ -62,8 +64,12 @@ pub record IsWorkload (options : WorkloadOptions) : Type 0 where
   pub streams : options.streams ≤ 16
 
 -- so it is of what is asked for
+abbrev pub IsChangeWithin : Change → Type 0
+IsChangeWithin (change.Workload options) = IsWorkload options
+IsChangeWithin other = Unit {0}
+
 abbrev pub IsServedWithin : Option Served → Type 0
-IsServedWithin (Some (served.Workload options)) = IsWorkload options
+IsServedWithin (Some (served.Change asked)) = IsChangeWithin asked
 IsServedWithin other = Unit {0}
 
 -- what these words ask for, of what is served

@@ -36,6 +36,7 @@ use Rattle.vdo_cli.specs.declared.fault.Fault.TheVariants as fault
 use Rattle.vdo_cli.specs.declared.words.Served.{Served}
 use Rattle.vdo_cli.specs.declared.words.Served.TheVariants as served
 use Rattle.vdo_cli.specs.Endings.{ScriptFails, ServesRequests}
+use Rattle.vdo_cli.specs.Flushes.{BehindFlush, IsNotFlushed}
 use Rattle.vdo_cli.specs.Inspections.{told_as}
 use Rattle.vdo_cli.specs.Openings.{IsUnready}
 use Rattle.vdo_cli.specs.Outsides.{InputSetting, Inputs, Outcome, Outside, PutsOrFails, Refuses, Setting, Tells, input_setting_of, inputs_of, no_report}
@@ -83,9 +84,15 @@ pub record IsNotServed (trust : Trust) (report : RunReport) (before after : Seen
 abbrev pub IsServedOrNot : Trust → ℕ → RunReport → Seen → Seen → Type 0
 IsServedOrNot trust schedule report before after = IsServed trust schedule report before after ⊎ IsNotServed trust report before after
 
+-- the copy was flushed, and then as above; or the flush failed, and none was begun
+abbrev pub RunsFlushed : Trust → ℕ → RunReport → Seen → Seen → Type 0
+RunsFlushed trust schedule report before after =
+    BehindFlush trust.tells before (λ (flushed : Seen). IsServedOrNot trust schedule report flushed after)
+    ⊎ (IsNotFlushed trust.tells before after × (report ≡ unserved report.requests))
+
 -- so the requests were run on a copy, of which all calls behind the first so many failed
 pub record IsTried (options : CrashOptions) (report : RunReport) (first copy : Memory) : Type 0 where
-  pub runs : IsServedOrNot of_memory options.schedule report (seen_of first) (seen_of copy)
+  pub runs : RunsFlushed of_memory options.schedule report (seen_of first) (seen_of copy)
   pub cut : IsCutOff options.after copy
 
 -- the device was copied, and the script was read to its end and run on the copy

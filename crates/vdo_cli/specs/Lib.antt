@@ -3,6 +3,7 @@ pub mod Openings
 pub mod Sessions
 pub mod Stops
 pub mod Endings
+pub mod Flushes
 pub mod Texts
 pub mod Outsides
 pub mod Results

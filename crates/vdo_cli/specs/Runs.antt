@@ -1,14 +1,18 @@
 -- What a run promises, by what its words ask for and how it ended.
-use Rattle.std.specs.Prelude.{ℕ, ◌≡◌, List, Option, Some, None}
+use Rattle.std.specs.Prelude.{ℕ, ◌≡◌, ◌⊎◌, List, Option, Some, None}
 use Rattle.rebuild.specs.declared.forms.Recovered.{Recovered}
 use Rattle.vdo_cli.specs.declared.fault.Fault.{Fault}
 use Rattle.vdo_cli.specs.declared.fault.Fault.TheVariants as fault
+use Rattle.disk_model.specs.Seen.{Seen}
+use Rattle.vdo_cli.specs.declared.words.Change.{Change}
+use Rattle.vdo_cli.specs.declared.words.Change.TheVariants as change
 use Rattle.vdo_cli.specs.declared.words.Served.{Served}
 use Rattle.vdo_cli.specs.declared.words.Served.TheVariants as served
 use Rattle.vdo_cli.specs.Closings.{Closes}
 use Rattle.vdo_cli.specs.Commands.{served_of}
 use Rattle.vdo_cli.specs.Crashes.{EndsCrash}
 use Rattle.vdo_cli.specs.Endings.{KeepsImage, PlayFails, RunsSession}
+use Rattle.vdo_cli.specs.Flushes.{BehindFlush, IsNotFlushed}
 use Rattle.vdo_cli.specs.Growths.{EndsGrowth}
 use Rattle.vdo_cli.specs.Inspections.{EndsAudit, EndsStatus}
 use Rattle.vdo_cli.specs.Openings.{recovered_of}
@@ -50,16 +54,33 @@ pub record IsUsage (s : Setting) (before after : Outside) (outcome : Outcome) : 
   pub source : after.source ≡ before.source
   pub refuses : Refuses s.sink_tells fault.Usage outcome.status outcome.report before.sink after.sink
 
+-- how a change of an image ends, of a device that was flushed before
+abbrev pub EndsChange : Setting → Change → Outside → Outside → Outcome → Type 0
+EndsChange s (change.Script schedule) before after outcome = RunsScript s schedule before after outcome
+EndsChange s (change.Workload options) before after outcome = EndsWorkload s options before after outcome
+EndsChange s change.Recover before after outcome = EndsRecovery s before after outcome
+EndsChange s change.ForceRebuild before after outcome = EndsRebuild s before after outcome
+EndsChange s (change.Grow options) before after outcome = EndsGrowth s options before after outcome
+
+-- the flush failed: nothing else was looked at, and the line of that fault was put
+pub record FlushFails (s : Setting) (before after : Outside) (outcome : Outcome) : Type 0 where
+  pub fault_is : outcome.fault ≡ Some fault.Device
+  pub device : IsNotFlushed s.device.tells before.device after.device
+  pub source : after.source ≡ before.source
+  pub refuses : Refuses s.sink_tells fault.Device outcome.status outcome.report before.sink after.sink
+
+-- The device was flushed, and from then on the change ends so; or the flush failed.
+abbrev pub EndsFlushed : Setting → Change → Outside → Outside → Outcome → Type 0
+EndsFlushed s asked before after outcome =
+    BehindFlush s.device.tells before.device (λ (flushed : Seen). EndsChange s asked (record before { device = flushed }) after outcome)
+    ⊎ FlushFails s before after outcome
+
 -- how a run of what is served ends
 abbrev pub EndsAs : Setting → Option Served → Outside → Outside → Outcome → Type 0
 EndsAs s None before after outcome = IsUsage s before after outcome
-EndsAs s (Some (served.Script schedule)) before after outcome = RunsScript s schedule before after outcome
-EndsAs s (Some (served.Workload options)) before after outcome = EndsWorkload s options before after outcome
+EndsAs s (Some (served.Change asked)) before after outcome = EndsFlushed s asked before after outcome
 EndsAs s (Some (served.Crash options)) before after outcome = EndsCrash s options before after outcome
 EndsAs s (Some (served.Format sizes)) before after outcome = MakesImage s sizes before after outcome
-EndsAs s (Some served.Recover) before after outcome = EndsRecovery s before after outcome
-EndsAs s (Some served.ForceRebuild) before after outcome = EndsRebuild s before after outcome
-EndsAs s (Some (served.Grow options)) before after outcome = EndsGrowth s options before after outcome
 EndsAs s (Some served.Audit) before after outcome = EndsAudit s before after outcome
 EndsAs s (Some served.Status) before after outcome = EndsStatus s before after outcome
 

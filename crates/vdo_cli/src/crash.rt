@@ -5,7 +5,7 @@ ghost use Rattle.disk_model.specs.Since.{IsUntouched};
 ghost use Rattle.crash_images.specs.Shows.{IsPickShown, PickFails};
 ghost use Rattle.stream_text.specs.ReadingBytes.{IsWholeScript};
 ghost use Rattle.vdo_cli.specs.Crashes as crashes;
-ghost use Rattle.vdo_cli.specs.Crashes.{CopyFails, CrashFails, IsServedOrNot, IsTried, IsWholeCopy, RunsOnCopy};
+ghost use Rattle.vdo_cli.specs.Crashes.{CopyFails, CrashFails, IsServedOrNot, IsTried, IsWholeCopy, RunsFlushed, RunsOnCopy};
 ghost use Rattle.vdo_cli.specs.Outsides.{input_setting, inputs};
 
 use crate::Fault;
@@ -73,9 +73,9 @@ fn unserved(alloc: Global, requests: Requests) -> RunReport
     }
 }
 
-// Serves requests on the image of a device, recovered where its last session wasn't closed; none where it is refused. It fails
-// where memory runs out.
-fn serve_on<R: Wait, D: Disk>(
+// Serves requests on the image of a device that was flushed, recovered where its last session wasn't closed; none where it is
+// refused. It fails where memory runs out.
+fn serve_flushed<R: Wait, D: Disk>(
     rt: &R,
     alloc: Global,
     schedule: u64,
@@ -95,6 +95,26 @@ fn serve_on<R: Wait, D: Disk>(
                 ..
             },
         ) => Err(AllocError),
+        Err(_) => Ok(unserved(alloc, requests)),
+    }
+}
+
+// Flushes a device, as each run does, and then serves requests on its image; none where the flush fails. It fails where memory
+// runs out.
+fn serve_on<R: Wait, D: Disk>(
+    rt: &R,
+    alloc: Global,
+    schedule: u64,
+    requests: Requests,
+    device: &mut D,
+) -> Result<RunReport, AllocError>
+    requires { IsWholeScript requests }
+    ensures runs { IfOk result (λ report. RunsFlushed D.trust
+        schedule report (D.seen device.old) (D.seen device.new)) }
+    ensures requests { IfOk result (λ report. report.requests ≡ requests) }
+{
+    match device.flush() {
+        Ok(()) => serve_flushed(rt, alloc, schedule, requests, device),
         Err(_) => Ok(unserved(alloc, requests)),
     }
 }

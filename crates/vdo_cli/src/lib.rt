@@ -1,19 +1,13 @@
 //! The top call: what the program does with its words, a device, a script and a place for its output.
 //!
-//! Only tested: of `format`, a table of its words, texts, statuses and numbers of calls, and a script on an image that
-//! was made. Of `recover`, `force-rebuild`, `grow`, `audit` and `status`, a table of images with some bytes changed, of
-//! which each is recovered, rebuilt or grown twice and audited; calls that fail, with three images each of what a stop
-//! leaves, on which it is done again; full sinks; files with bytes changed in each region, and one with 100,000 entries
-//! (`tools/image_files.sh`), with texts and statuses as a plain program finds them (`tools/whole_image.py`). Of `run`,
-//! whole scripts with faults, runs one after the other on one device, each refusal of a superblock, and the texts; a leaf
-//! that reads otherwise once the session has written; a script stopped at each call, with the last write old, new, and
-//! torn in some sectors, run again; one output of a script of one stream, and one of two, by the schedules 0 to 7. Of
-//! `workload`, two sessions of one stream on one device, as a plain program counts them, and words that are refused. Of
-//! `crash`, a stop before the first call and a run to its end, words, a script and devices that are refused, a short
-//! script stopped at each call of its session, with four images each, and three images of which blocks differ.
+//! Only tested: what each command prints and its status, as 761 cases have it (`cases/`): sizes, images with bytes changed in
+//! each region, scripts and runs one after the other, refusals, and stops by `crash`; calls of the device, the source and
+//! the sink that fail, blocks that read otherwise, how many calls are made, and scripts and commands stopped at each call,
+//! with the last write old, new, and torn in some sectors, and done again (`run_tests`); and on real files, with texts and
+//! statuses as a plain program finds them (`tools/image_files.sh`, `tools/whole_image.py`, `tools/two_calls.py`).
 //!
-//! Not there: that a session closes its image. Of an image that isn't sound, or on which writes are pending when it is
-//! opened, those of the index aside, a session says nothing of values, nor of stops.
+//! Not there: that a session closes its image. Of an image that isn't sound, or of which a block's last write failed, those
+//! of the index aside, a session says nothing of values, nor of stops.
 //!
 //! No rows yet: but through the definitions that use them: `IsReady`, `PlayedOut`, `EndsAs` and `IsCrashTold`; that a
 //! script's answers are put behind `recovered 30 entries`.
@@ -37,6 +31,8 @@ pub use adapters::{StdSink, StdSource};
 pub use crash_laws::{a_crash_shows_a_sound_image, a_crash_without_faults_is_complete};
 pub use endings::put_fault;
 pub use fault::Fault;
-pub use laws::{a_run_without_faults_is_complete, runs_go_on, what_a_run_leaves_can_be_run};
+pub use laws::{
+    a_run_behind_a_run, a_run_without_faults_is_complete, runs_go_on, what_a_run_leaves_can_be_run,
+};
 pub use runner::{Ended, run};
 pub use words::Words;

@@ -3,14 +3,14 @@ ghost use Rattle.command_text.specs.Workloads.{summary_text};
 ghost use Rattle.disk_model.specs.Streams.{Puts, SinkSeen};
 ghost use Rattle.stream_text.specs.AnswerRooms.{HasRoomFor};
 ghost use Rattle.vdo_cli.specs.Closings.{Closes};
-ghost use Rattle.vdo_cli.specs.Commands.{IsServedWithin, IsWorkload, served_of};
+ghost use Rattle.vdo_cli.specs.Commands.{IsChangeWithin, IsServedWithin, IsWorkload, served_of};
 ghost use Rattle.vdo_cli.specs.Crashes.{HasCopyOf, IsOnDevice};
 ghost use Rattle.vdo_cli.specs.Inspections.{TellsReport, told_as};
 ghost use Rattle.vdo_cli.specs.NewImages.{MakesImage};
 ghost use Rattle.vdo_cli.specs.Openings as openings;
 ghost use Rattle.vdo_cli.specs.Outsides.{Refuses, RefusesAfter, Tells, no_report, outcome, outcome_with, outside, setting};
 ghost use Rattle.vdo_cli.specs.Results.{TellsResult};
-ghost use Rattle.vdo_cli.specs.Runs.{EndsAs, EndsSo, RunsScript};
+ghost use Rattle.vdo_cli.specs.Runs.{EndsAs, EndsChange, EndsFlushed, EndsSo, RunsScript};
 ghost use Rattle.vdo_cli.specs.Texts.{session_text};
 ghost use Rattle.vdo_cli.specs.Workloads as workloads;
 ghost use Rattle.vdo_cli.specs.Workloads.{EndsWorkload};
@@ -23,7 +23,7 @@ use crate::new_image::make_image;
 use crate::ready::recovered_of;
 use crate::seeded::{Worked, summary_of, work};
 use crate::session::{Played, SessionFault, play};
-use crate::words::Served;
+use crate::words::{Change, Served};
 use crate::{Fault, Words};
 use audit::{Report, audit};
 use blk_base::Geometry;
@@ -339,6 +339,57 @@ fn format<D: Disk, S: Source, K: Sink>(
     }
 }
 
+// Changes an image, on a device that was flushed before.
+fn change<R: Wait, D: Disk, S: Source, K: Sink>(
+    rt: &R,
+    alloc: Global,
+    asked: Change,
+    device: D,
+    script: &mut S,
+    out: &mut K,
+) -> Finished<D>
+    requires within { IsChangeWithin asked }
+    ensures { EndsChange (setting D.trust S.tells K.tells) asked
+        (outside (D.seen device) (S.seen script.old) (K.seen out.old))
+        (outside (D.seen result.device) (S.seen script.new) (K.seen out.new))
+        (outcome result.status result.report result.fault) }
+{
+    let mut device = device;
+    match asked {
+        Change::Script(schedule) => run_script(rt, alloc, schedule, device, script, out),
+        Change::Workload(options) => run_workload(rt, alloc, &options, device, script, out),
+        Change::Recover => end(alloc, recover(alloc, &mut device), device, out),
+        Change::ForceRebuild => end(alloc, force(alloc, &mut device), device, out),
+        Change::Grow(options) => {
+            let grown = grow(alloc, &mut device, options.logical, options.slabs);
+            end(alloc, grown, device, out)
+        }
+    }
+}
+
+// Flushes the device, and then changes its image. What a program before this one wrote may be in the system's memory alone:
+// what is read here must not be lost behind what is written by it.
+fn flush_and_change<R: Wait, D: Disk, S: Source, K: Sink>(
+    rt: &R,
+    alloc: Global,
+    asked: Change,
+    device: D,
+    script: &mut S,
+    out: &mut K,
+) -> Finished<D>
+    requires within { IsChangeWithin asked }
+    ensures { EndsFlushed (setting D.trust S.tells K.tells) asked
+        (outside (D.seen device) (S.seen script.old) (K.seen out.old))
+        (outside (D.seen result.device) (S.seen script.new) (K.seen out.new))
+        (outcome result.status result.report result.fault) }
+{
+    let mut device = device;
+    match device.flush() {
+        Ok(()) => change(rt, alloc, asked, device, script, out),
+        Err(_) => refuse(alloc, Fault::Device, device, out),
+    }
+}
+
 // Does what is served on the device itself.
 fn serve_on_device<R: Wait, D: Disk, S: Source, K: Sink>(
     rt: &R,
@@ -357,15 +408,8 @@ fn serve_on_device<R: Wait, D: Disk, S: Source, K: Sink>(
 {
     let mut device = device;
     match served {
-        Some(Served::Script(schedule)) => run_script(rt, alloc, schedule, device, script, out),
-        Some(Served::Workload(options)) => run_workload(rt, alloc, &options, device, script, out),
+        Some(Served::Change(asked)) => flush_and_change(rt, alloc, asked, device, script, out),
         Some(Served::Format(sizes)) => format(alloc, &sizes, device, script, out),
-        Some(Served::Recover) => end(alloc, recover(alloc, &mut device), device, out),
-        Some(Served::ForceRebuild) => end(alloc, force(alloc, &mut device), device, out),
-        Some(Served::Grow(options)) => {
-            let grown = grow(alloc, &mut device, options.logical, options.slabs);
-            end(alloc, grown, device, out)
-        }
         Some(Served::Audit) => end_audit(alloc, audit(alloc, &mut device), device, out),
         Some(Served::Status) => end(alloc, read_status(alloc, &mut device), device, out),
         Some(Served::Crash(_)) => unreachable!(),
@@ -392,7 +436,10 @@ fn serve_on_device<R: Wait, D: Disk, S: Source, K: Sink>(
 /// `audit`: each data block whose stored count isn't the number of its mappings is told, or how many are used where
 /// none differs; nothing is written. `status`: what the image says of itself is told, and nothing is written.
 ///
-/// On an honest device on which nothing was pending, and whose image is sound, a stop at any moment of the run of a script leaves
+/// `run`, `workload`, `recover`, `force-rebuild` and `grow` flush the device before they read it: what an earlier call wrote may be
+/// pending there. Where that flush fails, nothing else is done.
+///
+/// On an honest device of which that flush leaves one image, and that is sound, a stop at any later moment of the run of a script leaves
 /// a sound image, on which the next run may begin: each stored count is the number of mappings, also where no session was begun.
 /// Until the session begins each address has the value that it had. From then on, as long as 2^20 sequences were left, it has that
 /// value or the one of one of its writes: of none older than the last one that was answered before a flush was begun which was
@@ -408,14 +455,14 @@ fn serve_on_device<R: Wait, D: Disk, S: Source, K: Sink>(
 /// | 0 | each request was answered Ok, or with bytes; or what a stop leaves was told; or the image was made; or recovered, or was closed; or rebuilt, or grown; or no block differs, or the status was told |
 /// | 1 | a request was answered Full, as no journal block was left for its entry or that of a page, or NoSpace, as at one moment no data block was free |
 /// | 2 | the words are no command that is served (`Usage`) or a line of the script has a fault (`Script`) |
-/// | 3 | the device failed: before the script was read, or while it was copied, or while an image was made, recovered, rebuilt, grown or looked at (`Device`), or a request was answered Stopped or with a read fault |
+/// | 3 | the device failed: in the first flush, or before the script was read, or while it was copied, or while an image was made, recovered, rebuilt, grown or looked at (`Device`), or a request was answered Stopped or with a read fault |
 /// | 4 | the device has no image, or the image that was picked is none, or it has a fault in its window, a page or a count (`Image`); or it isn't closed, or has a mapping in an address that it is to get (`Image`, `Grow`); or a session found damage |
 /// | 5 | memory ran out before the first request was served, or at any moment of a crash, or while an image was looked at, or before the first write of a recovery, a rebuild or a growth (`Memory`) |
 /// | 6 | an audit found blocks that differ, also that of a picked image (`Differs`) |
 /// | 7 | the source or the sink failed (`Read`, `Sink`) |
 /// | 8 | an image of these sizes can't be had on the device, or it has too many blocks for a crash (`Layout`), or the image is larger (`Grow`) |
 ///
-/// The first that applies is taken in this order: words, superblock, image, script; and of a session 4, 3, 7, 1, 0.
+/// The first that applies is taken in this order: words, flush, superblock, image, script; and of a session 4, 3, 7, 1, 0.
 pub fn run<R: Threads + Wait + Sync, D: Disk + Send + Drop, S: Source, K: Sink, G: ZoneGate + Sync>(
     rt: &R,
     words: &Words,

@@ -22,23 +22,30 @@ fn are_default(options: &CoreOptions) -> bool
         && options.cache == DEFAULT_CORE.cache
 }
 
-/// What words ask for, of what is served.
+/// What is done to an image that is there, and may write it. The device is flushed before.
 #[derive(Clone, Copy)]
-pub(crate) enum Served {
+pub(crate) enum Change {
     /// A script is run by the schedule of this number.
     Script(u64),
     /// The requests of a seed are served.
     Workload(WorkloadOptions),
-    /// A stop of a script is tried on a copy.
-    Crash(CrashOptions),
-    /// An image of these sizes is made.
-    Format(Geometry),
     /// An image whose last session wasn't closed is closed.
     Recover,
     /// An image's stored counts are set from its block map.
     ForceRebuild,
     /// An image gets so many addresses and slabs.
     Grow(GrowOptions),
+}
+
+/// What words ask for, of what is served.
+#[derive(Clone, Copy)]
+pub(crate) enum Served {
+    /// An image is changed.
+    Change(Change),
+    /// A stop of a script is tried on a copy.
+    Crash(CrashOptions),
+    /// An image of these sizes is made.
+    Format(Geometry),
     /// An image's stored counts are compared with its mappings.
     Audit,
     /// An image is asked what it says of itself.
@@ -69,17 +76,17 @@ fn served_in(command: Option<Command>) -> Option<Served>
 {
     match command {
         Some(Command::Run(options)) if are_default(&options.core) => match options.drive {
-            Drive::Schedule(number) => Some(Served::Script(number)),
+            Drive::Schedule(number) => Some(Served::Change(Change::Script(number))),
             Drive::Threads => None,
         },
         Some(Command::Workload(options)) if are_default(&options.core) => {
-            Some(Served::Workload(options))
+            Some(Served::Change(Change::Workload(options)))
         }
         Some(Command::Crash(options)) if are_default(&options.core) => Some(Served::Crash(options)),
         Some(Command::Format(options)) => Some(Served::Format(sizes_of(&options))),
-        Some(Command::Recover) => Some(Served::Recover),
-        Some(Command::ForceRebuild) => Some(Served::ForceRebuild),
-        Some(Command::Grow(options)) => Some(Served::Grow(options)),
+        Some(Command::Recover) => Some(Served::Change(Change::Recover)),
+        Some(Command::ForceRebuild) => Some(Served::Change(Change::ForceRebuild)),
+        Some(Command::Grow(options)) => Some(Served::Change(Change::Grow(options))),
         Some(Command::Audit) => Some(Served::Audit),
         Some(Command::Status) => Some(Served::Status),
         _ => None,

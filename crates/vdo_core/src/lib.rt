@@ -1,10 +1,9 @@
 //! The core: its zones, and each event of it. A zone steps, or what it posted moves to another.
 //! Each function does what the relation of `core_model` says; what a zone does itself stands in its crate.
 //!
-//! Only tested: answers of one stream, with discards and zeros, for which no data block is written, with a full journal
-//! and with calls that fail; two streams over two zones by events in three orders; for what there is work before the
-//! first event, behind the last one, and along a run; a report of four logical zones; a core taken apart and made again
-//! within a run.
+//! Only tested (`core_tests`): tables of sessions that events lead in given orders, of one stream and of several over one
+//! to four zones, with a journal that is used up, blocks that are let go and used again, and none free; for what there is
+//! work before the first event and behind the last one; a core taken apart and made again within a session.
 #![tactic(auto)]
 
 mod cores;

@@ -3,7 +3,7 @@
 //! The first word is the command. Then come its options and flags, in any order, each at most once. An option is
 //! written `--name value` or `--name=value`; a value is 1 to 20 decimal digits.
 //!
-//! Only tested: a table of command lines.
+//! Only tested: what the program says of command lines, and of those that are refused (`cases/usage.case`).
 //!
 //! Not there: a program that serves `run --threads`, or a core with other options than it has without any.
 #![tactic(auto)]

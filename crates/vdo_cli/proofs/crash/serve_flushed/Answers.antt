@@ -6,7 +6,7 @@ use Rattle.vdo_model.specs.declared.report.RunReport.{RunReport}
 use Rattle.vdo_cli.specs.Crashes.{IsServedOrNot}
 use Rattle.vdo_cli.specs.Endings.{ServesRequests}
 use Rattle.vdo_cli.specs.Openings.{IsReady}
-use Rattle.vdo_cli.proofs.crash.serve_on.Goals as goal
+use Rattle.vdo_cli.proofs.crash.serve_flushed.Goals as goal
 
 pub returns-in-Ok-clause-runs : goal.returns-in-Ok-clause-runs
 returns-in-Ok-clause-runs g c =
