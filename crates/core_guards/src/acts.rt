@@ -258,6 +258,28 @@ fn an_entry_decrements_nothing_yet(
     journal_zone::act(sizes, zone, Item::Request(vio), posts);
 }
 
+// An entry for which the block has room is handed in, behind those that were, and doesn't wait for the next block: so
+// all that come in until that is sealed share it.
+fn an_entry_shares_the_block(
+    sizes: &Sizes,
+    zone: &mut JournalZone,
+    vio: BoxedVio,
+    posts: &mut Posts,
+)
+    requires physical { HasPhysical sizes.now }
+    requires within { IsJournalWithin zone.old }
+    requires rule { HasAct sizes.now (at.Journal zone.old) (item.Request vio ∷ []) }
+    requires none { posts.old ≡ [] }
+    requires enters { vio.phase ≡ phase.Enter }
+    requires opened { journal.is_closed zone.old ≡ false }
+    requires block { journal.has_block zone.old ≡ true }
+    requires room { journal.has_room zone.old ≡ true }
+    ensures filling { zone.new.filling ≡ zone.old.filling ++ turned phase.Pending vio ∷ [] }
+    ensures waiting { zone.new.waiting ≡ zone.old.waiting }
+{
+    journal_zone::act(sizes, zone, Item::Request(vio), posts);
+}
+
 // The data of a block's entries last before the block is written: it is sealed at the stage of that flush.
 fn a_sealed_block_is_covered_first(
     sizes: &Sizes,
@@ -271,7 +293,7 @@ fn a_sealed_block_is_covered_first(
     requires none { posts.old ≡ [] }
     requires commits { block.stage ≡ stage.Commit }
     requires done { block.vios ≡ [] }
-    requires due { journal.IsSealable zone.old.log }
+    requires due { journal.IsDue zone.old }
     ensures { (v : Vio) (vs : List Vio) → zone.old.filling ≡ v ∷ vs
         → posts.new
         ≡ (

@@ -3,3 +3,4 @@ pub mod LogLaws
 pub mod LoggedEntries
 pub mod PageEntries
 pub mod SealedBlocks
+pub mod SealLaws

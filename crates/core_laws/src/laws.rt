@@ -1,11 +1,13 @@
 //! The laws of the core that other crates stand on.
 
-ghost use Rattle.std.specs.Prelude.{◌≡◌, ◌≢◌, ◌<◌, ◌≤◌, ◌+◌, ◌⊎◌, ◌↔◌, ℕ, true, false, length, map, reverse, take, None, Some, IsSome, List, [], ◌∷◌, slice_get, slice_set, ◌++◌};
+ghost use Rattle.std.specs.Prelude.{◌≡◌, ◌≢◌, ◌<◌, ◌≤◌, ◌+◌, ◌⊎◌, ◌↔◌, ℕ, true, false, length, map, min, reverse, take, None, Some, IsSome, List, [], ◌∷◌, slice_get, slice_set, ◌++◌};
 ghost use Rattle.std.specs.List.{AllByRecursion};
+ghost use Rattle.blk_base.specs.declared.place.ZoneId.TheVariants as id;
 ghost use Rattle.blk_base.specs.declared.request.Answer.{Answer};
 ghost use Rattle.blk_base.specs.declared.request.Answer.TheVariants.{Damaged, Range, Stopped};
 ghost use Rattle.blk_base.specs.declared.request.Request.{Request};
 ghost use Rattle.blk_base.specs.declared.request.Writer.{Writer};
+ghost use Rattle.blk_base.specs.declared.sizes.TheConstants.{JOURNAL_ENTRIES};
 ghost use Rattle.disk_model.specs.Log.{is_ok};
 ghost use Rattle.disk_model.specs.declared.call.Call.{Call};
 ghost use Rattle.vdo_model.specs.DeskLog.{IsDeskLog, AllAnswered, answer_of};
@@ -21,6 +23,7 @@ ghost use Rattle.core_model.specs.declared.zones.ZoneData.TheVariants.{Desk, Dev
 ghost use Rattle.core_model.specs.DeskData.{Desk as DeskData};
 ghost use Rattle.core_model.specs.declared.zones.DeviceZone.{DeviceZone};
 ghost use Rattle.core_model.specs.JournalData.{JournalZone};
+ghost use Rattle.core_model.specs.JournalRules.{all_again};
 ghost use Rattle.core_model.specs.LogicalData.{LogicalZone};
 ghost use Rattle.blk_base.specs.Pages.{above, leaf_of};
 ghost use Rattle.core_model.specs.PageLinks.{IsThere, page_in};
@@ -30,6 +33,8 @@ ghost use Rattle.data_vio.specs.declared.logged.Remapping.{Remapping};
 ghost use Rattle.core_model.specs.declared.zones.Zone.{Zone};
 ghost use Rattle.core_model.specs.declared.zones.ZoneData.{ZoneData};
 ghost use Rattle.data_vio.specs.declared.items.Item.{Item};
+ghost use Rattle.data_vio.specs.declared.items.Item.TheVariants.{Block};
+ghost use Rattle.data_vio.specs.declared.items.SealedBlock.{SealedBlock};
 ghost use Rattle.data_vio.specs.declared.sizes.Sizes.{Sizes};
 ghost use Rattle.core_model.specs.Legal.{Legal};
 ghost use Rattle.core_model.specs.Reports.{IsMappedIn, ShowsValues, opening_values, progress_of, report_of};
@@ -41,7 +46,7 @@ ghost use Rattle.core_model.specs.Start.{IsFirst};
 ghost use Rattle.core_model.specs.Steps.{Act, CallsDevice, Core, HasAct, Leads, MayBegin, MoveOf, StepOf, ZoneStep};
 ghost use Rattle.core_model.specs.Superblocks.{WritesNoOther, superblock_stage};
 ghost use Rattle.core_model.specs.declared.zones.SuperblockStage.TheVariants.{Durable};
-ghost use Rattle.core_model.specs.Trace.{Enters, Trace, aborted, calls, damage_in, durable, entry_of, is_read, journaled, lines, marks, moments, places, receipts};
+ghost use Rattle.core_model.specs.Trace.{Enters, Seals, Trace, aborted, calls, damage_in, durable, entry_of, is_read, journaled, lines, marks, moments, places, receipts};
 ghost use Rattle.core_model.specs.Views.{AreEmptyLanes, PostsBatch, ReceivesBatch, TakesBatch, View, core_of, zones_seen};
 ghost use Rattle.data_vio.specs.Vios.{Post};
 ghost use Rattle.data_vio.specs.Zones.{zone_number};
@@ -233,6 +238,17 @@ pub fn an_act_has_one_result()
         → Act sizes keeps front new made posts → Act sizes keeps front new' made' posts' →
         (CallsDevice keeps → made ≡ made')
         → (new ≡ new') × (made ≡ made') × (posts ≡ posts') }
+{}
+
+/// Each block that the journal seals has all requests that wait there, in the block being filled and for the next one, in their
+/// order, up to 192 of them: so what came in while a block was under way shares the next one.
+pub fn a_sealed_block_has_all_that_wait()
+    ensures { (sizes : Sizes) (old : JournalZone) (b : SealedBlock) (new : ZoneData)
+        (posts : List Post) → Act sizes (Journal old) (Block b ∷ []) new (Seals ∷ []) posts →
+        (block : SealedBlock)
+        × (posts ≡ (id.Device, Block block) ∷ all_again old.waiting)
+        × (block.vios ≡ old.filling)
+        × (length block.vios ≡ min JOURNAL_ENTRIES (length old.filling + length old.waiting)) }
 {}
 
 /// A step of one zone's view is a step of the core that the views and the lanes stand for, whatever the others are by then.

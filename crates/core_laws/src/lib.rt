@@ -17,7 +17,8 @@ pub use block_laws::{
 pub use laws::{
     a_fair_session_finds_no_damage, a_legal_core_goes_on, a_legal_core_is_in_order,
     a_legal_core_is_right_after_a_stop, a_legal_core_reads_right, a_legal_core_stops_at_a_failure,
-    a_quiet_write_finds_no_space_in_a_full_image, a_view_steps_as_its_zone, an_act_has_one_result,
-    an_entry_says_what_it_replaces, entries_come_in_turn, every_event_keeps_a_core_legal,
-    the_log_hands_out_what_is_committed, the_views_stand_for_a_core,
+    a_quiet_write_finds_no_space_in_a_full_image, a_sealed_block_has_all_that_wait,
+    a_view_steps_as_its_zone, an_act_has_one_result, an_entry_says_what_it_replaces,
+    entries_come_in_turn, every_event_keeps_a_core_legal, the_log_hands_out_what_is_committed,
+    the_views_stand_for_a_core,
 };

@@ -91,9 +91,11 @@ pub record IsUnused (filling waiting : List Vio) : Type 0 where
   pub unfilled : filling ≡ []
   pub unawaited : waiting ≡ []
 
--- The block being filled has no more entries than a block may; while no block goes round none is filled, and nobody waits.
+-- The block being filled has no more entries than a block may; while no block goes round none is filled, and nobody waits; and somebody waits
+-- for the next one only where that block is full.
 abbrev pub IsSoundJournal : JournalZone → Type 0
-IsSoundJournal j = (length j.filling ≤ JOURNAL_ENTRIES) × (j.busy ≡ false → IsUnused j.filling j.waiting)
+IsSoundJournal j =
+    (length j.filling ≤ JOURNAL_ENTRIES) × (j.busy ≡ false → IsUnused j.filling j.waiting) × (0 < length j.waiting → length j.filling ≡ JOURNAL_ENTRIES)
 
 -- While no block is under way all that was sealed is committed; and where the session is fair, it stands on the device.
 abbrev pub RestsAt : Session → Trace → (busy broken : Bool) → Type 0

@@ -1,5 +1,5 @@
 -- What the journal does: entries are handed in, sealed and committed.
-use Rattle.std.specs.Prelude.{◌+◌, ◌≡◌, ◌<◌, Bool, true, false, ◌||◌, Option, None, List, [], ◌∷◌, ◌++◌, length, nat_lt}
+use Rattle.std.specs.Prelude.{◌+◌, ◌≡◌, ◌<◌, Bool, true, false, ◌||◌, Option, None, List, [], ◌∷◌, ◌++◌, length, min, nat_lt}
 use Rattle.blk_base.specs.declared.journal_entry.Entry.{Entry}
 use Rattle.blk_base.specs.declared.place.Mapping.{Mapping}
 use Rattle.blk_base.specs.declared.place.Mapping.TheVariants.{At}
@@ -100,6 +100,12 @@ sealed_log log =
 abbrev pub sealed_by : JournalZone → JournalZone
 sealed_by j = record j { log = sealed_log j.log; filling = []; waiting = [] }
 
+-- The block being filled is due: it may be sealed, and it has all requests that wait at the journal by then, those in it and those for the
+-- next one, up to as many as a block may have.
+pub record IsDue (j : JournalZone) : Type 0 where
+  pub sealable : IsSealable j.log
+  pub all : length j.filling ≡ min JOURNAL_ENTRIES (length j.filling + length j.waiting)
+
 pub data JournalServes (sizes : Sizes) (old : JournalZone) (v : Vio) (new : JournalZone) (made : Trace) (posts : List Post) : Type 0 where
   -- an entry is refused, or waits for the next block, or is handed in; with the first one the block goes round that is sealed
   is_stopped : v.phase ≡ phase.Enter → is_closed old ≡ true
@@ -138,7 +144,7 @@ pub data JournalEnds (sizes : Sizes) (old : JournalZone) (b : SealedBlock) (new 
       → posts ≡ hands_out sizes v ++ (id.Journal, item.Block (record b { vios = vs })) ∷ []
       → JournalEnds sizes old b new made posts
   -- all are: the next block is sealed, or there is none
-  seals : (v : Vio) (vs : List Vio) → b.stage ≡ stage.Commit → b.vios ≡ [] → old.filling ≡ v ∷ vs → IsSealable old.log
+  seals : (v : Vio) (vs : List Vio) → b.stage ≡ stage.Commit → b.vios ≡ [] → old.filling ≡ v ∷ vs → IsDue old
       → new ≡ sealed_by old → made ≡ Seals ∷ []
       → posts ≡ (id.Device, item.Block (next_block old stage.Cover (v ∷ vs))) ∷ all_again old.waiting
       → JournalEnds sizes old b new made posts

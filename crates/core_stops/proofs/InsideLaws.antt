@@ -1,5 +1,5 @@
 -- No call of a session writes a block behind the image.
-use Rattle.std.proofs.Common.{ℕ, ◌≡◌, ◌+◌, ◌<◌, ◌≤◌, ◌++◌, Bool, true, false, Ok, Some, List, [], ◌∷◌, length, sym, ap, subst, arith, append_assoc}
+use Rattle.std.proofs.Common.{ℕ, ◌≡◌, ◌%◌, ◌<◌, ◌≤◌, ◌++◌, Bool, true, false, Ok, Some, List, [], ◌∷◌, length, sym, subst, arith}
 use Rattle.std.specs.List.{AllByRecursion}
 use Rattle.std.proofs.Math.Nat.{mod-lt}
 use Rattle.blk_base.proofs.RegionLaws.{inside}
@@ -15,9 +15,8 @@ use Rattle.image_layout.specs.Opened.{super_of_image}
 use Rattle.image_model.proofs.LookedLaws.{looked_high, one_by_sizes}
 use Rattle.image_model.specs.Looked.{HasOneImageButIndex, is_looked_at}
 use Rattle.recovery_laws.specs.Kept.{AreInside, WritesBelow}
-use Rattle.core_laws.proofs.Common.{Call, Calls, Desk, DeviceZone, Fails, Harms, Item, JournalZone, LogicalZone, Pbn, PhysicalZone, Post, Remapping, SealedBlock, Sizes, Stage, SuperblockStage, Trace, Vio, Writer, ZoneData, calls, same_Some}
+use Rattle.core_laws.proofs.Common.{Call, Desk, DeviceZone, Fails, Item, JournalZone, LogicalZone, Pbn, PhysicalZone, Post, Remapping, SealedBlock, Sizes, Stage, SuperblockStage, Trace, Vio, Writer, ZoneData, calls, same_Some}
 use Rattle.core_laws.proofs.trace.Cuts.{calls_append}
-use Rattle.core_model.specs.DeskRules as desk
 use Rattle.core_model.specs.DeskRules.{DeskBegins, DeskServes}
 use Rattle.core_model.specs.DeviceRules as device
 use Rattle.core_model.specs.DeviceRules.{Announces, DeviceServes, DeviceWorks, IsItsSlot, call_of, superblock_call}
@@ -25,7 +24,6 @@ use Rattle.core_model.specs.JournalRules as journal
 use Rattle.core_model.specs.JournalRules.{JournalEnds, JournalServes}
 use Rattle.core_model.specs.LogicalRules as logical
 use Rattle.core_model.specs.LogicalRules.{LogicalHears, LogicalServes}
-use Rattle.core_model.specs.PhysicalRules as physical
 use Rattle.core_model.specs.PhysicalRules.{PhysicalServes, PhysicalTakes}
 use Rattle.core_model.specs.Steps as steps
 use Rattle.core_model.specs.Steps.{Act, Core, Leads}
@@ -75,17 +73,17 @@ module _ (sizes : Sizes) (some : 1 ≤ sizes.geometry.journal) where
   failing w call false below = tt
 
   super_below : (ok : Bool) (now : SuperblockStage) (call : Call) → superblock_call sizes ok now ≡ Some call → IsBelow call
-  super_below ok AsOpened call is = subst IsBelow (same_Some is) (inside g Superblock tt)
-  super_below ok Written call is = subst IsBelow (same_Some is) tt
+  super_below ok AsOpened call is = subst IsBelow (same_Some _ _ is) (inside g Superblock tt)
+  super_below ok Written call is = subst IsBelow (same_Some _ _ is) tt
   super_below ok Durable call is = absurd cc
 
   slot_below : (b : SealedBlock) (slot : Pbn) → IsItsSlot sizes b slot → slot.0 < needed_blocks g
   slot_below b slot is = let low = inside g (JournalSlot (b.sequence % g.journal)) (mod-lt b.sequence (omega (arith, some))) in omega (arith, is, low)
 
   block_below : (b : SealedBlock) (slot : Pbn) (ok : Bool) (now : Stage) (call : Call) → IsItsSlot sizes b slot → call_of sizes b slot ok now ≡ Some call → IsBelow call
-  block_below b slot ok stage.Cover call place is = subst IsBelow (same_Some is) tt
-  block_below b slot ok stage.Write call place is = subst IsBelow (same_Some is) (slot_below b slot place)
-  block_below b slot ok stage.Harden call place is = subst IsBelow (same_Some is) tt
+  block_below b slot ok stage.Cover call place is = subst IsBelow (same_Some _ _ is) tt
+  block_below b slot ok stage.Write call place is = subst IsBelow (same_Some _ _ is) (slot_below b slot place)
+  block_below b slot ok stage.Harden call place is = subst IsBelow (same_Some _ _ is) tt
   block_below b slot ok other call place is = absurd cc
 
   announced : (old : DeviceZone) (front : Item) (w : Writer) (new : DeviceZone) (made : Trace) (posts : List Post) → Announces sizes old front w new made posts → Within made

@@ -9,7 +9,7 @@ use Rattle.data_vio.specs.declared.items.Vio.{Vio}
 use Rattle.data_vio.specs.declared.sizes.Sizes.{Sizes}
 use Rattle.core_model.specs.declared.zones.ZoneData.TheVariants as at
 use Rattle.core_model.specs.JournalData.{JournalZone}
-use Rattle.core_model.specs.JournalRules.{HasNext, IsSealable, JournalServes, JournalEnds, all_again, all_refused, committed_by, hands_out, next_block, sealed_by}
+use Rattle.core_model.specs.JournalRules.{HasNext, IsDue, JournalServes, JournalEnds, all_again, all_refused, committed_by, hands_out, next_block, sealed_by}
 use Rattle.core_model.specs.JournalRules.JournalServes.{is_stopped, waits, is_full, enters as hands_in, enters_first}
 use Rattle.core_model.specs.JournalRules.JournalEnds.{commits, seals, rests, fails}
 use Rattle.core_model.specs.Steps.{HasAct}
@@ -74,14 +74,14 @@ module _ (sizes : Sizes) (old : JournalZone) (b : SealedBlock) (is : b.stage ≡
 
   -- and the next one is sealed where it is due
   module _ (done : b.vios ≡ []) (v : Vio) (vs : List Vio) (filling : old.filling ≡ v ∷ vs) where
-    pub seals_next : (new : JournalZone) (posts : List Post) → IsSealable old.log → new ≡ sealed_by old
+    pub seals_next : (new : JournalZone) (posts : List Post) → IsDue old → new ≡ sealed_by old
         → posts ≡ (id.Device, item.Block (next_block old stage.Cover old.filling)) ∷ all_again old.waiting → (made : Trace) × JournalEnds sizes old b new made posts
     seals_next new posts due new_is posts_is = (
       Seals ∷ [],
       seals v vs is done filling due new_is refl (posts_is ∙ ap (λ (us : List Vio). (id.Device, item.Block (next_block old stage.Cover us)) ∷ all_again old.waiting) filling),
     )
 
-    pub is_due : Applies (JournalEnds sizes old b) → IsSealable old.log
+    pub is_due : Applies (JournalEnds sizes old b) → IsDue old
     is_due (new, made, posts, commits u us h1 some h3 h4 h5 h6) = absurd (let both : [] ≡ u ∷ us = sym done ∙ some in cc)
     is_due (new, made, posts, seals u us h1 h2 h3 due h5 h6 h7) = due
     is_due (new, made, posts, rests h1 h2 unfilled h4 h5 h6) = absurd (let both : [] ≡ v ∷ vs = sym unfilled ∙ filling in cc)

@@ -118,12 +118,12 @@ filled_few s (Enters (Makes p) ∷ t) right = let room = right.0.room in omega (
 filled_few s (Seals ∷ t) right = omega arith
 filled_few s (other ∷ t) right = filled_few s t right.2
 
--- one that has no room left isn't empty
-crowded : (s : Session) (t : Trace) (j : JournalZone) → JournalLists s t j → j.broken ≡ false → has_room j ≡ false → j.filling ≡ [] → ⊥
-crowded s t j lists sound full none =
+-- one that has no room left has as many as it may
+crowded : (s : Session) (t : Trace) (j : JournalZone) → JournalLists s t j → j.broken ≡ false → has_room j ≡ false → 192 ≤ length j.filling
+crowded s t j lists sound full =
     let most = ltb-false (length j.log.filling) 192 full in
     let same = ap length (lists.filled_is sound) in
-    omega (arith, most, filling_length s t j.log lists.log_is, same, logged_length j.filling, ap length none)
+    omega (arith, most, filling_length s t j.log lists.log_is, same, logged_length j.filling)
 
 -- one more request, whose entry is the newest
 logged_last : (vs : List Vio) (v : Vio) → all_logged (vs ++ v ∷ []) ≡ logged v ∷ all_logged vs
@@ -304,6 +304,7 @@ module _ {s : Session} {t : Trace} {n : ℕ} {old : JournalZone} {v : Vio} (know
           sound = (
             let less = ltb-true (length old.log.filling) 192 room in let few = k.lists.filling_few in omega (arith, less, few, length-append old.filling (turned phase.Pending v ∷ [])),
             λ idle. absurd (let both : true ≡ false = sym works ∙ idle in cc),
+            λ some. absurd (let less = ltb-true (length old.log.filling) 192 room in let few = k.lists.filling_few in let full = k.sound.2 some in omega (arith, less, few, full)),
           );
           kept = (
             every-append (KeptOk s (Enters (logged v) ∷ t) phase.Pending) old.filling (turned phase.Pending v ∷ []) kept.0
@@ -330,7 +331,10 @@ module _ {s : Session} {t : Trace} {n : ℕ} {old : JournalZone} {v : Vio} (know
           filling_few = k.lists.filling_few;
           log_is = k.lists.log_is;
         };
-        sound = (k.sound.0, λ idle. absurd (crowded s t old k.lists (or_parts old.notified old.broken closed).1 full (k.sound.1 idle).unfilled));
+        sound =
+            let most = crowded s t old k.lists (or_parts old.notified old.broken closed).1 full in
+            let few = k.sound.0 in
+            (few, λ idle. absurd (let none = ap length (k.sound.1 idle).unfilled in omega (arith, most, none)), λ some. omega (arith, most, few));
         kept = (k.kept.0, every-append (KeptOk s t phase.Enter) old.waiting (v ∷ []) k.kept.1 ((vio_ok known, known.front_ok.0.1, is, known.front_ok.0.3), tt));
         answers = k.answers;
         told = k.told;
@@ -361,7 +365,7 @@ journal_notified {s} {t} {n} {old} known =
         filling_few = k.lists.filling_few;
         log_is = k.lists.log_is;
       };
-      sound = (k.sound.0, λ idle. record { unfilled = (k.sound.1 idle).unfilled; unawaited = refl });
+      sound = (k.sound.0, λ idle. record { unfilled = (k.sound.1 idle).unfilled; unawaited = refl }, λ some. absurd (omega (arith, some)));
       kept = (k.kept.0, tt);
       answers = k.answers;
       told = λ closed. stopped;
@@ -651,7 +655,7 @@ module _ {s : Session} {t : Trace} {n : ℕ} {old : JournalZone} {b : SealedBloc
           filling_few = omega arith;
           log_is = log_sealed s t old.log k.lists.log_is (omega (arith, count v vs is done_with filling)) (all_there v vs is done_with filling).0;
         };
-        sound = (omega arith, λ idle. record { unfilled = refl; unawaited = refl });
+        sound = (omega arith, λ idle. record { unfilled = refl; unawaited = refl }, λ some. absurd (omega (arith, some)));
         kept = (tt, tt);
         answers = busy_on s t (Seals ∷ t) old.busy old.broken busy k.answers;
         told = k.told;
@@ -670,7 +674,7 @@ module _ {s : Session} {t : Trace} {n : ℕ} {old : JournalZone} {b : SealedBloc
           filling_few = k.lists.filling_few;
           log_is = k.lists.log_is;
         };
-        sound = (k.sound.0, λ idle. record { unfilled = filling; unawaited = refl });
+        sound = (k.sound.0, λ idle. record { unfilled = filling; unawaited = refl }, λ some. absurd (omega (arith, some)));
         kept = (k.kept.0, tt);
         answers = subst (RestsAt s t false) (sym whole) (there, stands.1);
         told = k.told;
@@ -689,7 +693,7 @@ module _ {s : Session} {t : Trace} {n : ℕ} {old : JournalZone} {b : SealedBloc
           filling_few = omega arith;
           log_is = k.lists.log_is;
         };
-        sound = (omega arith, λ idle. record { unfilled = refl; unawaited = refl });
+        sound = (omega arith, λ idle. record { unfilled = refl; unawaited = refl }, λ some. absurd (omega (arith, some)));
         kept = (tt, tt);
         answers = tt;
         told = λ closed. stopped;

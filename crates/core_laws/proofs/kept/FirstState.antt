@@ -245,7 +245,7 @@ module _ (s : Session) (session : IsSession s) where
       filling_few = let none = ap length h.filling in omega (arith, none);
       log_is = log_at_start s j.log h.log;
     };
-    sound = ((let none = ap length h.filling in omega (arith, none)), λ idle. record { unfilled = h.filling; unawaited = h.waiting });
+    sound = ((let none = ap length h.filling in omega (arith, none)), λ idle. record { unfilled = h.filling; unawaited = h.waiting }, λ some. absurd (let none = ap length h.waiting in omega (arith, some, none)));
     kept = nobody_at_start n (at.Journal j) h;
     answers = subst (λ (b : Bool). RestsAt s [] b j.broken) (sym h.busy) (subst (λ (b : Bool). RestsAt s [] false b) (sym h.broken) (refl, λ fair. at_rest s session fair.opened));
     told = λ closed. absurd (let notified = h.notified in let broken = h.broken in let opened : is_closed j ≡ false = rw (notified, broken) refl in cc);

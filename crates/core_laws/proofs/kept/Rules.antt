@@ -52,7 +52,8 @@ use Rattle.zone_counts.proofs.FreeBlocks.{can_begin, can_change, can_withdraw}
 use Rattle.zone_counts.specs.ByBlock.{claims_in, counter_in, is_at, out_with, waits_with}
 use Rattle.zone_counts.specs.Operations.{SpendsPage}
 use Rattle.zone_counts.specs.Zone.{IsClaimedIn, IsOfZone, IsZone, slab_of}
-use Rattle.core_model.specs.JournalRules.{JournalServes, JournalEnds, is_closed, has_block, has_room}
+use Rattle.core_model.specs.JournalFacts.{IsSoundJournal}
+use Rattle.core_model.specs.JournalRules.{IsDue, IsSealable, JournalServes, JournalEnds, is_closed, has_block, has_room}
 use Rattle.core_model.specs.Legal.{Legal}
 use Rattle.core_model.specs.LogicalRules.{LogicalHears, LogicalServes, awaits_report, settling_of, is_among, is_held, known_at, known_by, lacks, latest_at, looked, next_for, goes_on, passes_by}
 use Rattle.core_model.specs.PageTrees.{leaf_at}
@@ -314,14 +315,23 @@ module _ (s : Session) (session : IsSession s) (t : Trace) (right : RightTrace s
     ]
   ]
 
-  commits : (j : JournalZone) (b : SealedBlock) (vios filling : List Vio) → JournalLists s t j → all_of (sealed t) ≡ all_logged vios ++ durable t → b.vios ≡ vios → j.filling ≡ filling → b.stage ≡ stage.Commit
+  due : (j : JournalZone) → IsSoundJournal j → IsSealable j.log → IsDue j
+  due j sound sealable = record {
+    sealable = sealable;
+    all = elim (cases_lt 0 (length j.waiting)) [
+      | inl some ↦ let full = sound.2 some in omega (arith, full)
+      | inr none ↦ let few = sound.0 in omega (arith, few, none)
+    ];
+  }
+
+  commits : (j : JournalZone) (b : SealedBlock) (vios filling : List Vio) → JournalLists s t j → IsSoundJournal j → all_of (sealed t) ≡ all_logged vios ++ durable t → b.vios ≡ vios → j.filling ≡ filling → b.stage ≡ stage.Commit
       → HasAct s.sizes (at.Journal j) (item.Block b ∷ [])
-  commits j b (v ∷ vs) filling lists left are fills is = (_, _, _, steps.ends (JournalEnds.commits v vs is are (has_next s t j.log (v ∷ vs) lists.log_is left (omega arith)) refl refl refl))
-  commits j b [] [] lists left are fills is = (_, _, _, steps.ends (JournalEnds.rests is are fills refl refl refl))
-  commits j b [] (v ∷ vs) lists left are fills is =
+  commits j b (v ∷ vs) filling lists sound left are fills is = (_, _, _, steps.ends (JournalEnds.commits v vs is are (has_next s t j.log (v ∷ vs) lists.log_is left (omega arith)) refl refl refl))
+  commits j b [] [] lists sound left are fills is = (_, _, _, steps.ends (JournalEnds.rests is are fills refl refl refl))
+  commits j b [] (v ∷ vs) lists sound left are fills is =
       let few = lists.filling_few in
       let some = ap length fills in
-      (_, _, _, steps.ends (JournalEnds.seals v vs is are fills (is_sealable s t j.log lists.log_is (omega (arith, few, some)) left) refl refl refl))
+      (_, _, _, steps.ends (JournalEnds.seals v vs is are fills (due j sound (is_sealable s t j.log lists.log_is (omega (arith, few, some)) left)) refl refl refl))
 
   -- the device: the session is stopped, or the superblock is durable, or its next call comes first
   when_ready : (d : DeviceZone) {X : Type 0} → (d.stopped ≡ true → X) → (d.stopped ≡ false → d.superblock ≡ Durable → X)
@@ -480,8 +490,8 @@ module _ (s : Session) (session : IsSession s) (t : Trace) (right : RightTrace s
             withdraws_it n p ok v is k others has (held.1 p keeps k.number (one_held k others p.counts.zone has (sym same)))
             (λ x mine some. held.0 p keeps x (zone_is s p ok.sound x mine) (omega (arith, some))))
 
-    in_journal : (it : Item) → n ≡ journal_number s.sizes → ((j : JournalZone) → JournalLists s t j → HasAct s.sizes (at.Journal j) (it ∷ [])) → Has it
-    in_journal it is rule = in_kind at.Journal (journal_number s.sizes) it is (journal_keeps s t) (λ j here. rule j here.lists)
+    in_journal : (it : Item) → n ≡ journal_number s.sizes → ((j : JournalZone) → JournalLists s t j → IsSoundJournal j → HasAct s.sizes (at.Journal j) (it ∷ [])) → Has it
+    in_journal it is rule = in_kind at.Journal (journal_number s.sizes) it is (journal_keeps s t) (λ j here. rule j here.lists here.sound)
 
     in_device : (it : Item) → n ≡ device_number s.sizes → ((dev : DeviceZone) → HasAct s.sizes (at.Device dev) (it ∷ [])) → Has it
     in_device it is rule = in_kind at.Device (device_number s.sizes) it is (device_keeps s t) (λ dev here. rule dev)
@@ -502,7 +512,7 @@ module _ (s : Session) (session : IsSession s) (t : Trace) (right : RightTrace s
     by_phase v phase.Claim is bare ok carries to claim held = asking v to (λ p keeps ok. claims p v is carries.4.fewer)
     by_phase v phase.Withdraw is bare ok carries to claim held = withdraws_at v is carries.3 held to
     by_phase v phase.Store is bare ok carries to claim held = in_device _ to (λ dev. stores_by dev v v.new is refl carries.2 (claim.on_data refl))
-    by_phase v phase.Enter is bare ok carries to claim held = in_journal _ to (λ j lists. enters j v is)
+    by_phase v phase.Enter is bare ok carries to claim held = in_journal _ to (λ j lists sound. enters j v is)
     by_phase v phase.Count is bare ok carries to claim held = counts_by v is carries.3 claim held to
     by_phase v phase.Settle is bare ok carries to claim held = in_home v ok to (λ l here. settles l v is bare)
     by_phase v phase.Load is bare ok carries to claim held = in_device _ to (λ dev. loads_by dev v v.old is refl carries.1)
@@ -521,7 +531,7 @@ module _ (s : Session) (session : IsSession s) (t : Trace) (right : RightTrace s
     by_page v page phase.Claim is some ok carries to claim held = asking v to (λ p keeps ok. claims p v is carries.2.fewer)
     by_page v page phase.Withdraw is some ok carries to claim held = withdraws_at v is carries.2 held to
     by_page v page phase.Store is some ok carries to claim held = in_device _ to (λ dev. stores_by dev v v.new is refl carries.2 (claim.on_data refl))
-    by_page v page phase.Enter is some ok carries to claim held = in_journal _ to (λ j lists. enters j v is)
+    by_page v page phase.Enter is some ok carries to claim held = in_journal _ to (λ j lists sound. enters j v is)
     by_page v page phase.Count is some ok carries to claim held = counts_by v is carries.1 claim held to
     by_page v page phase.Settle is some ok carries to claim held = in_home v ok to (λ l here. links l v page is some ok carries here)
     by_page v page phase.AbortClaim is some ok carries to claim held = drops_by v is claim held to
@@ -540,8 +550,8 @@ module _ (s : Session) (session : IsSession s) (t : Trace) (right : RightTrace s
     by_stage b stage.Cover is stands to = in_device _ to (λ dev. flushes_block dev b stage.Cover is refl refl stands.0.some)
     by_stage b stage.Write is stands to = in_device _ to (λ dev. writes_block dev b is stands.0.some)
     by_stage b stage.Harden is stands to = in_device _ to (λ dev. flushes_block dev b stage.Harden is refl refl stands.0.some)
-    by_stage b stage.Commit is stands to = in_journal _ to (λ j lists. commits j b b.vios j.filling lists stands.0 refl refl is)
-    by_stage b stage.Fail is stands to = in_journal _ to (λ j lists. (_, _, _, steps.ends (JournalEnds.fails is refl refl refl)))
+    by_stage b stage.Commit is stands to = in_journal _ to (λ j lists sound. commits j b b.vios j.filling lists sound stands.0 refl refl is)
+    by_stage b stage.Fail is stands to = in_journal _ to (λ j lists sound. (_, _, _, steps.ends (JournalEnds.fails is refl refl refl)))
 
     -- a stop notice, by the kind of zone
     by_kind : (k : ZoneData) → DataOk s t n k → n ≤ notified_zones s.sizes → HasAct s.sizes k (item.StopNotice ∷ [])

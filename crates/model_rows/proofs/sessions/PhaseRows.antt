@@ -46,7 +46,9 @@ use Rattle.slab_counts.specs.Counts.{Counts, ClaimsFree, HasNoFree, Takes as Fit
 use Rattle.slab_tickets.specs.declared.forms.Waiting.{Waiting}
 use Rattle.zone_counts.specs.ZoneAnswers.{GivesBlock}
 use Rattle.zone_counts.specs.Zone.{Zone, IsClaimedIn, NoneFree, slab_at}
-use Rattle.core_model.specs.JournalRules.{JournalServes, JournalEnds, hands_out}
+use Rattle.core_model.specs.JournalData.{JournalZone}
+use Rattle.core_model.specs.JournalFacts.{IsSoundJournal}
+use Rattle.core_model.specs.JournalRules.{IsDue, JournalServes, JournalEnds, hands_out}
 use Rattle.core_model.specs.LogicalRules.{LogicalServes, LogicalHears, awaits_report, goes_on, known_by}
 use Rattle.core_model.specs.Steps.{Act, begins, answers, hears, serves, serves_notice, takes, takes_notice, enters, ends, enters_notice, calls, works, halts, updates}
 use Rattle.core_model.specs.Steps as step
@@ -497,10 +499,32 @@ hands_to_its_slot = refl
 hands_a_decrement : hands_out sizes (record (writes phase.Pending) { old = At (block 90) }) ≡ (id.Physical 0, Request (record (writes phase.Count) { old = At (block 90) })) ∷ (id.Physical 0, Decrement (record of_first { old = At (block 90) })) ∷ []
 hands_a_decrement = refl
 
-seals : Acts (journal true (log_with 1 (of_write ∷ []) [] 0 1) (writes phase.Pending ∷ []) (reads phase.Enter ∷ []) [] []) (Block (block_of stage.Commit []) ∷ [])
+seals : Acts (journal true (log_with 1 (of_write ∷ []) [] 0 1) (writes phase.Pending ∷ []) [] [] []) (Block (block_of stage.Commit []) ∷ [])
+    (journal true (log_with 2 [] (placed 1 0 (of_write ∷ [])) 0 1) [] [] [] []) (Seals ∷ []) ((id.Device, Block (sealed stage.Cover)) ∷ [])
+seals = ends (JournalEnds.seals _ _ refl refl refl (record { sealable = record { some = omega arith; durable = refl }; all = refl }) refl refl refl)
+
+-- a block that is full, while another waits for the next one
+seals_full : (others : List Vio) → length others ≡ 191
+    → Acts (journal true (log_with 1 (of_write ∷ []) [] 0 1) (writes phase.Pending ∷ others) (reads phase.Enter ∷ []) [] []) (Block (block_of stage.Commit []) ∷ [])
     (journal true (log_with 2 [] (placed 1 0 (of_write ∷ [])) 0 1) [] [] [] []) (Seals ∷ [])
-    ((id.Device, Block (sealed stage.Cover)) ∷ (id.Journal, Request (reads phase.Enter)) ∷ [])
-seals = ends (JournalEnds.seals _ _ refl refl refl (record { some = omega arith; durable = refl }) refl refl refl)
+    ((id.Device, Block (block_of stage.Cover (writes phase.Pending ∷ others))) ∷ (id.Journal, Request (reads phase.Enter)) ∷ [])
+seals_full others full = ends (JournalEnds.seals _ _ refl refl refl (record { sealable = record { some = omega arith; durable = refl }; all = omega (arith, full) }) refl refl refl)
+
+-- but none with room for one that waits, and none that may not be sealed; nor does anybody wait while there is room
+abbrev filled_with : List Vio → List Vio → JournalZone
+filled_with filling waiting = record { notified = false; busy = true; broken = false; log = log_with 1 (of_write ∷ []) [] 0 1; filling = filling; waiting = waiting; entered = []; committed = [] }
+
+due : IsDue (filled_with (writes phase.Pending ∷ reads phase.Pending ∷ []) [])
+due = record { sealable = record { some = omega arith; durable = refl }; all = refl }
+
+due-alone : ¬ IsDue (filled_with (writes phase.Pending ∷ []) (reads phase.Enter ∷ []))
+due-alone = λ is. let all = is.all in omega (arith, all)
+
+due-while_one_is_written : ¬ IsDue (record (filled_with (writes phase.Pending ∷ []) []) { log = log_with 2 (of_write ∷ []) [] 0 1 })
+due-while_one_is_written = λ is. omega (arith, is.sealable.durable)
+
+waits_for_no_room : ¬ IsSoundJournal (filled_with (writes phase.Pending ∷ []) (reads phase.Enter ∷ []))
+waits_for_no_room = λ is. let full = is.2 (omega arith) in omega (arith, full)
 
 rests : Acts (journal true (full_log 2) [] [] [] []) (Block (block_of stage.Commit []) ∷ []) (journal false (full_log 2) [] [] [] []) [] []
 rests = ends (JournalEnds.rests refl refl refl refl refl refl)
