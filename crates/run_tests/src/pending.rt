@@ -70,7 +70,10 @@ fn shows<R: Threads + Wait + Sync>(
     let (left, sink, status, ..) = served(rt, alloc, image, &READS)?;
     let shows = status == 0 && answers(sink.bytes()) == answers(text);
     let (_, sink, status, ..) = served(rt, alloc, &left, &AUDIT)?;
-    Ok((shows, status == 0 && sink.bytes().starts_with(b"audit clean")))
+    Ok((
+        shows,
+        status == 0 && sink.bytes().starts_with(b"audit clean"),
+    ))
 }
 
 // The answers of a text, behind the line that says how many entries were recovered.
