@@ -620,8 +620,8 @@ else
     leave_out 'no file system can be mounted here, so none is tried that is full'
 fi
 
-# A file that may grow no further.
-printed=$(trap '' XFSZ; ulimit -f 8; "$vdo" grown 154 format 2>errors)
+# A file that may grow no further: the program asks for the limit, so that no signal ends it.
+printed=$(ulimit -f 8; "$vdo" grown 154 format 2>errors)
 same "$? $printed" '3 device fault' 'format of a file that may grow no further'
 
 # A file that is put onto an image by several runs, killed before each of the first system calls that write.

@@ -40,6 +40,8 @@ refused = record {
   says = λ blocks is. let fair = is.fair in absurd cc;
   stops = λ blocks is. let fair = is.fair in absurd cc;
   closed = tt;
+  stands = λ blocks is. let fair = is.fair in absurd cc;
+  left = tt;
 }
 
 -- and the line says so
@@ -68,6 +70,8 @@ failed_so = record {
   says = λ blocks is. let fair = is.fair in absurd cc;
   stops = λ blocks is. let fair = is.fair in absurd cc;
   closed = tt;
+  stands = λ blocks is. let fair = is.fair in absurd cc;
+  left = tt;
 }
 
 -- and the line says so;
