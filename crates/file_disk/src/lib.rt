@@ -4,7 +4,7 @@
 //! Only tested: that a file is made where there is none and grows no further than it is written, and that a read or a write
 //! of the system's file that was interrupted is carried on; on a real file, and on one that gives a few bytes at a time and
 //! fails. So is how `open_disk` opens it: alone to change it, shared and for reading to look at it, and never at the number
-//! of a standard stream.
+//! of a standard stream; and how large a file the system allows, by tables of its limits.
 //!
 //! Not there: any clause on what the system's calls on a file do, and that the name of a file that was made lasts. That is
 //! the system's word. A file that tells is taken to lose, at a stop, whole sectors alone (`IsFileImage`).
