@@ -35,7 +35,9 @@ fn write_some(rt: &HostRuntime) -> Option<Found> {
         disk.flush().is_ok(),
     ];
     let told = (disk.blocks(), disk.faults());
-    let length = OpenFile::metadata(&disk.into_file()).ok()?.len();
+    let length = OpenFile::metadata(&disk.into_file().into_file())
+        .ok()?
+        .len();
     Some(([behind, done[0], done[1], done[2]], told, length))
 }
 
@@ -53,7 +55,9 @@ fn find_them(rt: &HostRuntime) -> Option<Found> {
         disk.flush().is_ok(),
     ];
     let told = (disk.blocks(), disk.faults());
-    let length = OpenFile::metadata(&disk.into_file()).ok()?.len();
+    let length = OpenFile::metadata(&disk.into_file().into_file())
+        .ok()?
+        .len();
     if done == [true; 2] {
         Some((found, told, length))
     } else {
@@ -83,7 +87,7 @@ fn open_to_others(rt: &HostRuntime, access: Access) -> Option<[bool; 2]> {
         may_open(rt, HELD, Access::Change),
         may_open(rt, HELD, Access::Look),
     ];
-    let _held: File = held.into_file();
+    let _held: File = held.into_file().into_file();
     Some(others)
 }
 

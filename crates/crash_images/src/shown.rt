@@ -80,6 +80,7 @@ fn read_values<D: Disk>(
     values_in(alloc, device, &found, requests)
 }
 
+// Long to prove: each clause is shown on each way out.
 /// Recovers the image on a device where its last session wasn't closed, audits it, and reads the values of the addresses that a
 /// script names, by its map, also where blocks differ. The script has at most 256 streams.
 ///
@@ -116,6 +117,7 @@ fn pick_fault_of(why: ImageFault) -> ImageFault
     }
 }
 
+// Long to prove: each clause is shown on each way out.
 /// What the image shows that a number picks of those that a stop may leave of a device in memory, as [`show`] says it. The
 /// device stays as it is.
 ///

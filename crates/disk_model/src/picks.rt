@@ -163,6 +163,7 @@ fn write(call: &Call, blocks: &mut Vec<Block>)
 }
 
 // Marks for so many blocks: those that one of these calls writes.
+// Long to prove: a mark is shown to be set for each call.
 fn mark_written(alloc: Global, calls: &[Call], count: usize) -> Result<Vec<bool>, AllocError>
     ensures size { IfOk result (λ marks. length marks.items ≡ count) }
     ensures marked { IfOk result (λ marks. AreMarked (reverse calls.now) marks.items) }

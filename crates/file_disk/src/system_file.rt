@@ -17,6 +17,11 @@ impl SystemFile {
     pub fn new(file: File, most: Option<u64>) -> SystemFile {
         SystemFile { file, most }
     }
+
+    /// The open file.
+    pub fn into_file(self) -> File {
+        self.file
+    }
 }
 
 impl ByteFile for SystemFile {

@@ -53,6 +53,7 @@ fn put_slab<D: Disk>(
 }
 
 // Writes this one, if it has.
+// Long to prove: each clause is shown on each way out.
 fn put_block<D: Disk>(
     device: &mut D,
     layout: &Layout,

@@ -145,6 +145,7 @@ fn run_on_copy<R: Wait>(
     Ok(Tried { copy, report })
 }
 
+// Long to prove: each clause is shown on each way out.
 /// Copies the device, runs the script on the copy, which is cut off behind so many calls, and looks at the image that a number
 /// picks of those that a stop may leave there. The device is read and no more.
 pub(crate) fn crash<R: Wait, D: Disk, S: Source>(

@@ -123,6 +123,7 @@ fn refuse_crash<D: Disk, K: Sink>(
     end_run(status_of(&fault), Some(fault), tried, device)
 }
 
+// Long to prove: each clause is shown on each way out.
 /// Tries a stop of a script on a copy of the device.
 pub(crate) fn run_crash<R: Wait, D: Disk, S: Source, K: Sink>(
     rt: &R,

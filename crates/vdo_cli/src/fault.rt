@@ -4,6 +4,7 @@ use image_model::ImageFault;
 use stream_text::ScriptFault;
 use thiserror::Error;
 
+// Long to prove: each fault is shown to have its own text.
 /// Why a run ended with a status other than 0, 1 and, after requests were served, 3 and 4.
 #[derive(Debug, Drop, Error)]
 pub enum Fault {

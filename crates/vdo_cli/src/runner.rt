@@ -78,6 +78,7 @@ pub(crate) fn without_copy<D: Disk>(finished: Finished<D>) -> Ended<D>
 }
 
 // The report where no session was begun.
+// Long to prove: what it promises is put together of the views of its parts.
 fn empty_report(alloc: Global) -> RunReport
     ensures { result ≡ no_report }
 {
@@ -391,6 +392,7 @@ fn flush_and_change<R: Wait, D: Disk, S: Source, K: Sink>(
 }
 
 // Does what is served on the device itself.
+// Long to prove: each command ends by a clause of its own.
 fn serve_on_device<R: Wait, D: Disk, S: Source, K: Sink>(
     rt: &R,
     alloc: Global,

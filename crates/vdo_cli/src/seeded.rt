@@ -27,6 +27,7 @@ pub(crate) struct Worked {
 }
 
 // The requests of the seed, at addresses below the logical size.
+// Long to prove: the options are shown to be within what is drawn.
 fn draw_requests(
     alloc: Global,
     options: &WorkloadOptions,

@@ -42,6 +42,7 @@ pub(crate) struct SessionFault {
     pub(crate) fault: Fault,
 }
 
+// Long to prove: each clause is shown on each way out.
 /// Reads the requests of the script, and says its refusal as a fault of the run.
 pub(crate) fn read_requests<S: Source>(alloc: Global, script: &mut S) -> Result<Requests, Fault>
     ensures script { IsTrue S.tells → IfOk result (λ requests.
@@ -58,6 +59,7 @@ pub(crate) fn read_requests<S: Source>(alloc: Global, script: &mut S) -> Result<
     }
 }
 
+// Long to prove: what a core did is told again of the whole call.
 /// Serves requests by the schedule of this number on an image that is ready, and tells what became of them. It fails where no
 /// memory is found to begin, and then nothing was done.
 pub(crate) fn serve<R: Wait, D: Disk>(
@@ -84,6 +86,7 @@ pub(crate) fn serve<R: Wait, D: Disk>(
     Ok(core.report())
 }
 
+// Long to prove: each clause is shown on each way out.
 /// Recovers the image where its last session wasn't closed, opens it, reads the script, and serves its requests by the schedule
 /// of this number. Before the session nothing is written but by the recovery.
 pub(crate) fn play<R: Wait, D: Disk, S: Source>(

@@ -12,6 +12,7 @@ use vdo_words::{
 };
 
 // Whether the options of a core are those that it has without any.
+// Long to prove: five options are compared at once.
 fn are_default(options: &CoreOptions) -> bool
     ensures { result ≡ commands.are_default options.now }
 {
