@@ -30,26 +30,27 @@ use Rattle.vdo_cli.specs.Commands.{served_in}
 use Rattle.vdo_cli.specs.Complete.{IsComplete}
 use Rattle.vdo_cli.specs.Crashes.{EndsCrash, EndsCrashBy, TellsAudit, shown_text}
 use Rattle.vdo_cli.specs.Endings.{PlayFails}
-use Rattle.vdo_cli.specs.Flushes.{IsFlushed, Settles}
+use Rattle.vdo_cli.specs.Flushes.{BehindFlush, IsFlushed, Settles}
 use Rattle.vdo_cli.specs.Inspections.{EndsAudit, TellsReport, told_as}
 use Rattle.vdo_cli.specs.Openings.{IsUnready, recovered_of}
 use Rattle.vdo_cli.specs.Outsides.{Outcome, Outside, Setting, Tells, inputs_of, input_setting_of}
+use Rattle.vdo_cli.specs.Growths.{EndsGrowth}
+use Rattle.vdo_cli.specs.Rebuilds.{EndsRebuild}
 use Rattle.vdo_cli.specs.Recoveries.{EndsRecovery}
 use Rattle.vdo_cli.specs.Results.{TellsResult}
-use Rattle.vdo_cli.specs.Runs.{EndsAs, EndsChange, EndsFlushed, EndsSo, NotBegun, PlayedOut, RunsScript, RunsScriptBy}
+use Rattle.vdo_cli.specs.Runs.{EndsAs, EndsSo, FlushFails, NotBegun, PlayedOut, RunsScript, RunsScriptBy}
 use Rattle.vdo_cli.specs.Sessions.{IsDriven, task}
 use Rattle.vdo_cli.specs.Texts.{session_text}
-use Rattle.vdo_cli.specs.Workloads.{EndsWorkloadBy, WorkloadServed, requests_for}
+use Rattle.vdo_cli.specs.Workloads.{EndsWorkload, EndsWorkloadBy, WorkloadServed, requests_for}
 use Rattle.vdo_cli.specs.declared.fault.Fault.{Fault}
 use Rattle.vdo_cli.specs.declared.fault.Fault.TheVariants as fault
-use Rattle.vdo_cli.specs.declared.words.Change.{Change}
-use Rattle.vdo_cli.specs.declared.words.Change.TheVariants as change
 use Rattle.vdo_cli.proofs.FlushLaws.{told_behind}
-use Rattle.vdo_cli.proofs.OnwardLaws.{change_goes_on}
+use Rattle.vdo_cli.proofs.OnwardLaws.{serves_on}
 use Rattle.vdo_words.specs.Commands.{command_of}
 use Rattle.vdo_words.specs.declared.commands.Command.{Command}
 use Rattle.vdo_model.specs.Scripts.{Script}
 use Rattle.vdo_words.specs.declared.commands.CrashOptions.{CrashOptions}
+use Rattle.vdo_words.specs.declared.commands.GrowOptions.{GrowOptions}
 use Rattle.vdo_words.specs.declared.commands.WorkloadOptions.{WorkloadOptions}
 
 -- the command is known
@@ -57,24 +58,34 @@ pub ends_as : (s : Setting) (words : List (List ℕ)) (asked : Option Command) (
     → command_of words ≡ asked → EndsAs s (served_in asked) before after outcome
 ends_as s words asked before after outcome ends is = subst (λ (a : Option Command). EndsAs s (served_in a) before after outcome) is ends
 
--- A change of an image.
+-- What changes an image.
+
+-- the device was flushed, and from then on it ends so; or the flush failed
+abbrev pub EndsFlushed : Setting → (Outside → Outside → Outcome → Type 0) → Outside → Outside → Outcome → Type 0
+EndsFlushed s Ends before after outcome =
+    BehindFlush s.device.tells before.device (λ (flushed : Seen). Ends (record before { device = flushed }) after outcome) ⊎ FlushFails s before after outcome
 
 -- behind the flush, where that isn't said to have failed
-behind : (s : Setting) (asked : Change) (before after : Outside) (outcome : Outcome) → EndsFlushed s asked before after outcome → (outcome.fault ≡ Some fault.Device → ⊥)
-    → (flushed : Seen) × IsFlushed s.device.tells before.device flushed × EndsChange s asked (record before { device = flushed }) after outcome
-behind s asked before after outcome (inl does) never = does
-behind s asked before after outcome (inr fails) never = absurd (never fails.fault_is)
+behind : (s : Setting) (Ends : Outside → Outside → Outcome → Type 0) (before after : Outside) (outcome : Outcome) → EndsFlushed s Ends before after outcome
+    → (outcome.fault ≡ Some fault.Device → ⊥)
+    → (flushed : Seen) × IsFlushed s.device.tells before.device flushed × Ends (record before { device = flushed }) after outcome
+behind s Ends before after outcome (inl does) never = does
+behind s Ends before after outcome (inr fails) never = absurd (never fails.fault_is)
 
 no_fault : (f : Option Fault) → f ≡ None → f ≡ Some fault.Device → ⊥
 no_fault f none is = let both : None ≡ Some fault.Device = sym none ∙ is in cc
 
 -- the flush is the first call
-pub flushed_first : (s : Setting) (asked : Change) (before after : Outside) (outcome : Outcome) → EndsFlushed s asked before after outcome → outcome.fault ≡ None
-    → IsTrue s.device.tells → (calls : List Call) × (after.device.log ≡ calls ++ (Flush true ∷ before.device.log))
-flushed_first s asked before after outcome ends none tells =
-    let does = behind s asked before after outcome ends (no_fault outcome.fault none) in
-    let on = (change_goes_on s asked (record before { device = does.0 }) after outcome does.2).calls tells in
-    (on.0, on.1 ∙ ap (λ (log : List Call). on.0 ++ log) (does.1.logged tells))
+abbrev pub FlushesFirst : Setting → Outside → Outside → Type 0
+FlushesFirst s before after = (calls : List Call) × (after.device.log ≡ calls ++ (Flush true ∷ before.device.log))
+
+flushed_first : (s : Setting) (Ends : Outside → Outside → Outcome → Type 0) (before after : Outside) (outcome : Outcome)
+    → ((first : Outside) → Ends first after outcome → (calls : List Call) × (after.device.log ≡ calls ++ first.device.log))
+    → EndsFlushed s Ends before after outcome → outcome.fault ≡ None → IsTrue s.device.tells → FlushesFirst s before after
+flushed_first s Ends before after outcome on ends none tells =
+    let does = behind s Ends before after outcome ends (no_fault outcome.fault none) in
+    let later = on (record before { device = does.0 }) does.2 in
+    (later.0, later.1 ∙ ap (λ (log : List Call). later.0 ++ log) (does.1.logged tells))
 
 -- A script.
 script_sink_rose : (s : Setting) (schedule : ℕ) (before after : Outside) (outcome : Outcome) → RunsScript s schedule before after outcome
@@ -83,20 +94,20 @@ script_sink_rose s schedule before after outcome ends is =
     let played : PlayedOut s schedule before after outcome = subst (λ (f : Option Fault). RunsScriptBy f s schedule before after outcome) is ends in
     (subst (λ (f : Option Fault). Closes s.sink_tells (session_text (recovered_of played.found) outcome.report) outcome.report outcome.status f before.sink after.sink) is played.closes).2
 
-pub sink_rose : (s : Setting) (schedule : ℕ) (before after : Outside) (outcome : Outcome) → EndsFlushed s (change.Script schedule) before after outcome
+pub sink_rose : (s : Setting) (schedule : ℕ) (before after : Outside) (outcome : Outcome) → EndsFlushed s (RunsScript s schedule) before after outcome
     → outcome.fault ≡ Some fault.Sink → Rose before.sink.faults after.sink.faults
 sink_rose s schedule before after outcome ends is =
-    let does = behind s (change.Script schedule) before after outcome ends (λ other. let both : Some fault.Sink ≡ Some fault.Device = sym is ∙ other in cc) in
+    let does = behind s (RunsScript s schedule) before after outcome ends (λ other. let both : Some fault.Sink ≡ Some fault.Device = sym is ∙ other in cc) in
     script_sink_rose s schedule (record before { device = does.0 }) after outcome does.2 is
 
 played_out : (s : Setting) (schedule : ℕ) (before after : Outside) (outcome : Outcome) → RunsScript s schedule before after outcome
     → outcome.fault ≡ None → PlayedOut s schedule before after outcome
 played_out s schedule before after outcome ends is = subst (λ (f : Option Fault). RunsScriptBy f s schedule before after outcome) is ends
 
-pub driven_by : (s : Setting) (schedule : ℕ) (before after : Outside) (outcome : Outcome) → EndsFlushed s (change.Script schedule) before after outcome → outcome.fault ≡ None
+pub driven_by : (s : Setting) (schedule : ℕ) (before after : Outside) (outcome : Outcome) → EndsFlushed s (RunsScript s schedule) before after outcome → outcome.fault ≡ None
     → (start : Opened) × (opened : Seen) × (trace : Trace) × IsDriven s.device schedule (task start outcome.report.requests) trace opened after.device
 driven_by s schedule before after outcome ends none =
-    let does = behind s (change.Script schedule) before after outcome ends (no_fault outcome.fault none) in
+    let does = behind s (RunsScript s schedule) before after outcome ends (no_fault outcome.fault none) in
     let played = played_out s schedule (record before { device = does.0 }) after outcome does.2 none in
     (played.session.start, played.session.serves.opened, played.session.serves.trace, played.session.serves.driven)
 
@@ -158,7 +169,7 @@ script_refused s schedule before after outcome blocks told unclean faulty ends =
 
 pub refused_so : (s : Setting) (schedule : ℕ) (before after : Outside) (outcome : Outcome) (blocks : Blocks) → Settles s.device before.device blocks → IsUnclean blocks
     → ((head : Super) (last : ℕ) (window : List CommittedEntry) → Opens blocks head last window → HasNoFault (image_of head blocks window) → ⊥)
-    → EndsFlushed s (change.Script schedule) before after outcome → (outcome.fault ≢ None) × (outcome.fault ≢ Some (fault.Image image.Unclean))
+    → EndsFlushed s (RunsScript s schedule) before after outcome → (outcome.fault ≢ None) × (outcome.fault ≢ Some (fault.Image image.Unclean))
 refused_so s schedule before after outcome blocks settles unclean faulty (inl (flushed, is, ends)) =
     script_refused s schedule (record before { device = flushed }) after outcome blocks (told_behind s.device before.device flushed blocks is settles) unclean faulty ends
 refused_so s schedule before after outcome blocks settles unclean faulty (inr fails) = (
@@ -167,10 +178,10 @@ refused_so s schedule before after outcome blocks settles unclean faulty (inr fa
 )
 
 -- A workload.
-pub drawn_of : (s : Setting) (options : WorkloadOptions) (before after : Outside) (outcome : Outcome) → EndsFlushed s (change.Workload options) before after outcome
+pub drawn_of : (s : Setting) (options : WorkloadOptions) (before after : Outside) (outcome : Outcome) → EndsFlushed s (EndsWorkload s options) before after outcome
     → outcome.fault ≡ None → (logical : ℕ) × (outcome.report.requests ≡ requests_for options logical)
 drawn_of s options before after outcome ends is =
-    let does = behind s (change.Workload options) before after outcome ends (no_fault outcome.fault is) in
+    let does = behind s (EndsWorkload s options) before after outcome ends (no_fault outcome.fault is) in
     let first : Outside = record before { device = does.0 } in
     let served : WorkloadServed s options first after outcome = subst (λ (f : Option Fault). EndsWorkloadBy f s options first after outcome) is does.2.ends in
     (served.session.start.head.geometry.logical, served.session.requests_are)
@@ -200,9 +211,9 @@ recovery_clean s before after outcome blocks told clean tells ends is = by_resul
     by_result (Err why) works tells_it = absurd (none_is outcome.fault (told_as why) is tells_it.fault_is)
 
 pub told_clean : (s : Setting) (before after : Outside) (outcome : Outcome) (blocks : Blocks) → Settles s.device before.device blocks → IsCleanImage blocks
-    → IsTrue s.sink_tells → EndsFlushed s change.Recover before after outcome → outcome.fault ≡ None → after.sink.held ≡ before.sink.held ++ codes "clean\n"
+    → IsTrue s.sink_tells → EndsFlushed s (EndsRecovery s) before after outcome → outcome.fault ≡ None → after.sink.held ≡ before.sink.held ++ codes "clean\n"
 told_clean s before after outcome blocks settles clean tells ends is =
-    let does = behind s change.Recover before after outcome ends (no_fault outcome.fault is) in
+    let does = behind s (EndsRecovery s) before after outcome ends (no_fault outcome.fault is) in
     recovery_clean s (record before { device = does.0 }) after outcome blocks (told_behind s.device before.device does.0 blocks does.1 settles) clean tells does.2 is
 
 -- An audit.
@@ -233,3 +244,30 @@ shows_it s options before after outcome tells ends is = by_copy outcome.copy end
     by_copy (Some copy) (inl told) copied =
         let put = subst (λ (f : Option Fault). TellsAudit s.sink_tells (shown_text (stop_of options.after copy.log) told.shown) told.shown.audit outcome.status f before.sink after.sink) is told.told in
         (copy, told.shown, copied, told.shows, put.1.1 tells)
+
+-- The flush before each of the five.
+pub script_flushes : (s : Setting) (schedule : ℕ) (before after : Outside) (outcome : Outcome) → EndsFlushed s (RunsScript s schedule) before after outcome → outcome.fault ≡ None
+    → IsTrue s.device.tells → FlushesFirst s before after
+script_flushes s schedule before after outcome ends none tells =
+    flushed_first s (RunsScript s schedule) before after outcome (λ first does.
+    let played = played_out s schedule first after outcome does none in
+    (serves_on s.device schedule played.found played.session.start outcome.report first.device after.device played.session.serves).calls tells) ends none tells
+
+pub workload_flushes : (s : Setting) (options : WorkloadOptions) (before after : Outside) (outcome : Outcome) → EndsFlushed s (EndsWorkload s options) before after outcome
+    → outcome.fault ≡ None → IsTrue s.device.tells → FlushesFirst s before after
+workload_flushes s options before after outcome ends none tells =
+    flushed_first s (EndsWorkload s options) before after outcome (λ first does.
+    let served : WorkloadServed s options first after outcome = subst (λ (f : Option Fault). EndsWorkloadBy f s options first after outcome) none does.ends in
+    (serves_on s.device options.schedule served.found served.session.start outcome.report first.device after.device served.session.serves).calls tells) ends none tells
+
+pub recovery_flushes : (s : Setting) (before after : Outside) (outcome : Outcome) → EndsFlushed s (EndsRecovery s) before after outcome → outcome.fault ≡ None
+    → IsTrue s.device.tells → FlushesFirst s before after
+recovery_flushes s before after outcome ends none tells = flushed_first s (EndsRecovery s) before after outcome (λ first does. does.works.grows tells) ends none tells
+
+pub rebuild_flushes : (s : Setting) (before after : Outside) (outcome : Outcome) → EndsFlushed s (EndsRebuild s) before after outcome → outcome.fault ≡ None
+    → IsTrue s.device.tells → FlushesFirst s before after
+rebuild_flushes s before after outcome ends none tells = flushed_first s (EndsRebuild s) before after outcome (λ first does. does.works.grows tells) ends none tells
+
+pub growth_flushes : (s : Setting) (options : GrowOptions) (before after : Outside) (outcome : Outcome) → EndsFlushed s (EndsGrowth s options) before after outcome → outcome.fault ≡ None
+    → IsTrue s.device.tells → FlushesFirst s before after
+growth_flushes s options before after outcome ends none tells = flushed_first s (EndsGrowth s options) before after outcome (λ first does. does.works.grows tells) ends none tells

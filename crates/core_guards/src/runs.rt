@@ -24,20 +24,18 @@ ghost use Rattle.rebuild.specs.Openings.{IsCleanImage};
 ghost use Rattle.rebuild.specs.Recoveries.{IsUnclean};
 ghost use Rattle.stream_text.specs.WholeScript.{whole_script};
 ghost use Rattle.stream_text.specs.Workloads.{workload_of};
-ghost use Rattle.vdo_cli.specs.Commands.{served_of};
 ghost use Rattle.vdo_cli.specs.Complete.{NoneRose};
 ghost use Rattle.vdo_cli.specs.Crashes.{shown_text};
 ghost use Rattle.vdo_cli.specs.Flushes.{Settles};
 ghost use Rattle.vdo_cli.specs.Outsides.{outside};
 ghost use Rattle.vdo_cli.specs.Sessions.{IsDriven, task};
 ghost use Rattle.vdo_cli.specs.declared.fault.Fault.TheVariants as fault;
-ghost use Rattle.vdo_cli.specs.declared.words.Change.{Change};
-ghost use Rattle.vdo_cli.specs.declared.words.Served.TheVariants as served;
 ghost use Rattle.vdo_model.specs.Scripts.{Script};
 ghost use Rattle.vdo_words.specs.Commands.{command_of, default_core};
-ghost use Rattle.vdo_words.specs.declared.commands.Command.TheVariants.{Audit, Crash, Recover, Run, Workload};
+ghost use Rattle.vdo_words.specs.declared.commands.Command.TheVariants.{Audit, Crash, ForceRebuild, Grow, Recover, Run, Workload};
 ghost use Rattle.vdo_words.specs.declared.commands.CrashOptions.{CrashOptions};
 ghost use Rattle.vdo_words.specs.declared.commands.Drive.TheVariants.{Schedule};
+ghost use Rattle.vdo_words.specs.declared.commands.GrowOptions.{GrowOptions};
 ghost use Rattle.vdo_words.specs.declared.commands.WorkloadOptions.{WorkloadOptions};
 
 use disk_model::{Disk, Sink, Source, ZoneGate};
@@ -110,7 +108,23 @@ fn a_change_begins_with_a_flush<
     K: Sink,
     G: ZoneGate + Sync,
 >(rt: &R, words: &Words, device: D, script: &mut S, out: &mut K, gate: &G) -> Ended<D>
-    ensures { (asked : Change) → served_of words.now ≡ Some (served.Change asked) →
+    ensures script { (schedule : ℕ) → command_of words.now ≡ Some (Run (record { drive = Schedule schedule; core = default_core })) →
+        result.fault ≡ None → IsTrue D.trust.tells
+        → (calls : List Call)
+        × ((D.seen result.device).log ≡ calls ++ Flush true ∷ (D.seen device).log) }
+    ensures workload { (options : WorkloadOptions) → command_of words.now ≡ Some (Workload (record options { core = default_core })) →
+        result.fault ≡ None → IsTrue D.trust.tells
+        → (calls : List Call)
+        × ((D.seen result.device).log ≡ calls ++ Flush true ∷ (D.seen device).log) }
+    ensures recovery { command_of words.now ≡ Some Recover →
+        result.fault ≡ None → IsTrue D.trust.tells
+        → (calls : List Call)
+        × ((D.seen result.device).log ≡ calls ++ Flush true ∷ (D.seen device).log) }
+    ensures rebuild { command_of words.now ≡ Some ForceRebuild →
+        result.fault ≡ None → IsTrue D.trust.tells
+        → (calls : List Call)
+        × ((D.seen result.device).log ≡ calls ++ Flush true ∷ (D.seen device).log) }
+    ensures growth { (options : GrowOptions) → command_of words.now ≡ Some (Grow options) →
         result.fault ≡ None → IsTrue D.trust.tells
         → (calls : List Call)
         × ((D.seen result.device).log ≡ calls ++ Flush true ∷ (D.seen device).log) }
