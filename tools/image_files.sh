@@ -632,13 +632,21 @@ else
     leave_out 'python3 or cc is missing, so no run is killed'
 fi
 
+# Two commands one behind the other, the first killed before each of its calls, and a power cut before each of the second.
+if [ -n "$python" ] && command -v cc >errors; then
+    printed=$($python "$top/tools/two_calls.py" "$vdo" 2>errors | tail -n 1)
+    same "$printed" 'two calls: 6546 cuts, 3152 images, 0 went wrong' 'two commands, and a power cut'
+else
+    leave_out 'python3 or cc is missing, so no two commands are replayed'
+fi
+
 # Images and scripts of which none is served, and the stops of two scripts.
 if [ -n "$python" ]; then
     printed=$($python "$top/tools/refused_runs.py" "$vdo" 2>errors)
     same "$? $printed" '0 refused runs: 215 tries, 0 went wrong' 'runs that were refused'
     printed=$($python "$top/tools/crash_stops.py" "$vdo" 2>errors)
-    same "$? $printed" '0 one stream: 2532 images of 633 stops
-four streams: 3732 images of 933 stops
+    same "$? $printed" '0 one stream: 2536 images of 634 stops
+four streams: 3736 images of 934 stops
 stopped scripts: 0 images went wrong' 'scripts that were stopped'
 fi
 
