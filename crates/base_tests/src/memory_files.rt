@@ -17,17 +17,18 @@ fn block_of(byte: u8) -> Block {
 }
 
 // Two blocks of a byte, and 100 bytes more.
-fn file_of(alloc: Global, byte: u8, most: usize) -> Result<MemFile, AllocError> {
+fn bytes_of_file(alloc: Global, byte: u8) -> Result<Vec<u8>, AllocError> {
     let mut bytes = Vec::new(alloc);
     for _ in 0..8292_u64 {
         bytes.push(byte)?;
     }
-    Ok(MemFile::new(bytes, most))
+    Ok(bytes)
 }
 
 // What is read and written of it, and how many calls failed: the last block goes past its end.
 fn device_in_memory(alloc: Global, most: usize) -> Result<([bool; 6], u64), AllocError> {
-    let mut disk = FileDisk::new(file_of(alloc, 7, most)?, 3);
+    let file = MemFile::new(bytes_of_file(alloc, 7)?, most);
+    let mut disk = FileDisk::new(file, 3);
     let first = reads(&mut disk, 1, &block_of(7));
     let written = disk.write(Pbn(1), &block_of(5)).is_ok();
     let past = disk.write(Pbn(2), &block_of(5)).is_ok();
