@@ -11,7 +11,8 @@ import argparse
 import itertools
 import re
 import subprocess
-from collections.abc import Iterator, Sequence
+import tempfile
+from collections.abc import Iterable, Iterator, Sequence
 from dataclasses import dataclass
 
 from vector import BLOCK_BYTES
@@ -19,8 +20,10 @@ from vector import BLOCK_BYTES
 STREAMS = 16
 # A script has at most 134,217,728 bytes, and a block without two equal bytes side by side takes 20,480 of them.
 MOST_BLOCKS = 4096
+ADDRESSES = 2**32
 ZEROS = bytes(BLOCK_BYTES)
-REQUEST = re.compile(r"(\d+) (\d+) (?:(read|write) (\d+)|flush) (.+?)(?: z\d+:\d+)?")
+EQUAL_BYTES = re.compile(rb"(.)\1+", re.DOTALL)
+LONGER_RUN = re.compile(r"\+(\d+)\*(..)")
 
 
 class Stopped(Exception):
@@ -51,53 +54,79 @@ def blocks_of(data: bytes, address: int) -> dict[int, bytes]:
     return {address + i: data[at : at + BLOCK_BYTES].ljust(BLOCK_BYTES, b"\0") for i, at in enumerate(starts)}
 
 
+def spelled_singly(part: bytes) -> Iterator[str]:
+    """Bytes of which no two side by side are equal, as runs of one byte."""
+    if part:
+        yield "1*" + part.hex("+").replace("+", "+1*")
+
+
+def runs_of(block: bytes) -> Iterator[str]:
+    """The runs of a block: those of one byte many at once."""
+    behind = 0
+    for run in EQUAL_BYTES.finditer(block):
+        yield from spelled_singly(block[behind : run.start()])
+        yield f"{len(run[0])}*{run[1].hex()}"
+        behind = run.end()
+    yield from spelled_singly(block[behind:])
+
+
 def spelled(block: bytes) -> str:
     """A block as runs of equal bytes."""
-    return "+".join(f"{len(list(run))}*{byte:02x}" for byte, run in itertools.groupby(block))
+    return "+".join(runs_of(block))
 
 
 def block_of(text: str) -> bytes:
-    """The block that these runs spell."""
-    runs = (run.split("*") for run in text.split("+"))
-    return b"".join(int(length) * bytes.fromhex(byte) for length, byte in runs)
+    """The block that these runs spell. Without `+1*` the runs of one byte are hexadecimal digits already."""
+    digits = LONGER_RUN.sub(lambda run: int(run[1]) * run[2], f"+{text}".replace("+1*", ""))
+    return bytes.fromhex(digits)
 
 
-def requests_of(stream: int, blocks: Sequence[tuple[int, bytes]], flush_every: int) -> Iterator[str]:
+def writes_of(stream: int, blocks: Sequence[tuple[int, bytes]], flush_every: int) -> Iterator[str]:
     """A stream's writes of these blocks, and its flushes."""
     for number, (address, block) in enumerate(blocks, 1):
-        yield f"{stream} write {address} {spelled(block)}"
+        yield f"{stream} write {address} {spelled(block)}\n"
         if number % flush_every == 0 or number == len(blocks):
-            yield f"{stream} flush"
+            yield f"{stream} flush\n"
 
 
-def script_of_writes(blocks: dict[int, bytes], how: Put) -> str:
-    """A script that writes these blocks."""
+def script_of_writes(blocks: dict[int, bytes], how: Put) -> Iterator[str]:
+    """The lines of a script that writes these blocks."""
     listed = list(blocks.items())
-    requests = (requests_of(stream, listed[stream :: how.streams], how.flush_every) for stream in range(how.streams))
-    return "".join(f"{request}\n" for request in itertools.chain.from_iterable(requests))
+    for stream in range(how.streams):
+        yield from writes_of(stream, listed[stream :: how.streams], how.flush_every)
 
 
-def script_of_reads(addresses: Sequence[int]) -> str:
-    """A script that reads these addresses."""
-    return "".join(f"0 read {address}\n" for address in addresses)
+def script_of_reads(addresses: Iterable[int]) -> Iterator[str]:
+    """The lines of a script that reads these addresses."""
+    return (f"0 read {address}\n" for address in addresses)
 
 
-def answers_of(text: str) -> Iterator[Answer]:
-    """The answers of a run, without its other lines."""
-    for line in text.splitlines():
-        if found := REQUEST.fullmatch(line):
-            _, _, asked, address, answer = found.groups()
-            yield Answer(asked or "flush", None if address is None else int(address), answer)
+def answer_of(line: str) -> Answer | None:
+    """The answer in a line of a run; the other lines begin with a word."""
+    number, *words = line.split(" ")
+    if not number.isdigit() or len(words) < 3:
+        return None
+    if words[-1].startswith("z"):
+        words.pop()
+    _, asked, *answer = words
+    address = None if asked == "flush" else int(answer.pop(0))
+    return Answer(asked, address, " ".join(answer))
 
 
-def ended(command: Sequence[str], script: str) -> tuple[int, list[Answer]]:
-    """The status of a run that served the whole script, 0 or 1, and its answers."""
-    ran = subprocess.run(command, input=script, stdout=subprocess.PIPE, text=True)
-    answers = list(answers_of(ran.stdout))
+def answers(command: Sequence[str], script: Iterable[str]) -> Iterator[Answer]:
+    """The answers of a run that serves the whole script, which ends with status 0 or 1."""
+    others = []
+    with tempfile.TemporaryFile("w+", encoding="ascii") as lines:
+        lines.writelines(script)
+        lines.seek(0)
+        with subprocess.Popen(command, stdin=lines, stdout=subprocess.PIPE, text=True) as ran:
+            for line in map(str.rstrip, ran.stdout):
+                if answer := answer_of(line):
+                    yield answer
+                else:
+                    others.append(line)
     if ran.returncode not in (0, 1):
-        lines = [line for line in ran.stdout.splitlines() if not REQUEST.fullmatch(line)]
-        raise Stopped("; ".join([f"the program ended with status {ran.returncode}", *lines]))
-    return ran.returncode, answers
+        raise Stopped("; ".join([f"the program ended with status {ran.returncode}", *others]))
 
 
 def put(left: dict[int, bytes], command: Sequence[str], how: Put) -> Iterator[int]:
@@ -105,24 +134,27 @@ def put(left: dict[int, bytes], command: Sequence[str], how: Put) -> Iterator[in
     lasts."""
     while left:
         part = dict(itertools.islice(left.items(), how.run_blocks))
-        _, answers = ended(command, script_of_writes(part, how))
-        written = [it.address for it in answers if it.asked == "write" and it.answer == "ok"]
+        writes = [it for it in answers(command, script_of_writes(part, how)) if it.asked == "write"]
+        written = [it.address for it in writes if it.answer == "ok"]
         if not written:
-            raise Stopped("; ".join(sorted({it.answer for it in answers if it.asked == "write"})) or "no answer")
+            raise Stopped("; ".join(sorted({it.answer for it in writes})) or "no answer")
         for address in written:
             del left[address]
         yield len(written)
 
 
+def held_of(answer: Answer) -> bytes:
+    """The block that a read answered."""
+    if "*" not in answer.answer:
+        raise Stopped(f"address {answer.address}: {answer.answer}")
+    return block_of(answer.answer)
+
+
 def get(addresses: Sequence[int], command: Sequence[str]) -> dict[int, bytes]:
-    """What these addresses hold."""
-    held: dict[int, bytes] = {}
-    for start in range(0, len(addresses), MOST_BLOCKS):
-        _, answers = ended(command, script_of_reads(addresses[start : start + MOST_BLOCKS]))
-        for it in answers:
-            if "*" not in it.answer:
-                raise Stopped(f"address {it.address}: {it.answer}")
-            held[it.address] = block_of(it.answer)
+    """What these addresses hold, by one run: at most MOST_BLOCKS of them."""
+    held = {it.address: held_of(it) for it in answers(command, script_of_reads(addresses)) if it.address is not None}
+    if len(held) < len(addresses):
+        raise Stopped(f"{len(held)} of {len(addresses)} addresses were answered")
     return held
 
 

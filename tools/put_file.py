@@ -16,7 +16,7 @@ import argparse
 import sys
 from pathlib import Path
 
-from file_scripts import MOST_BLOCKS, STREAMS, Put, Stopped, blocks_of, number_from, put, script_of_writes
+from file_scripts import ADDRESSES, MOST_BLOCKS, STREAMS, Put, Stopped, blocks_of, number_from, put, script_of_writes
 
 
 def main() -> int:
@@ -25,20 +25,24 @@ def main() -> int:
     parser.add_argument("--flush-every", type=number_from(1, MOST_BLOCKS), default=Put.flush_every, help="writes of a stream")
     parser.add_argument("--run-blocks", type=number_from(1, MOST_BLOCKS), default=Put.run_blocks, help="the most of one run")
     parser.add_argument("file", type=Path)
-    parser.add_argument("address", type=int)
+    parser.add_argument("address", type=number_from(0, ADDRESSES - 1))
     parser.add_argument("command", nargs=argparse.REMAINDER)
     given = parser.parse_args()
-    blocks = blocks_of(given.file.read_bytes(), given.address)
     how = Put(given.streams, given.flush_every, given.run_blocks)
+    try:
+        blocks = blocks_of(given.file.read_bytes(), given.address)
+    except OSError as why:
+        print(why, file=sys.stderr)
+        return 1
     if not given.command:
-        print(script_of_writes(blocks, how), end="")
+        sys.stdout.writelines(script_of_writes(blocks, how))
         return 0
     left = dict(blocks)
     runs = 0
     try:
         for _ in put(left, given.command, how):
             runs += 1
-    except Stopped as why:
+    except (Stopped, OSError) as why:
         print(f"{len(blocks) - len(left)} of {len(blocks)} blocks in {runs} runs; then {why}", file=sys.stderr)
         return 1
     print(f"{len(blocks)} blocks in {runs} runs")
