@@ -21,8 +21,9 @@ import mapping
 import slab
 import superblock
 from layout import DEFAULT, SLOTS_PER_PAGE, TREES, point
+from plain_image import INCREMENT, Image
 from vector import BLOCK_BYTES, Steps, Vector
-from whole_image import INCREMENT, Image, audit, crash, force_rebuild, grow, recover, status
+from whole_image import audit, crash, force_rebuild, grow, recover, status
 
 Patch = tuple[int, int, bytes]
 Patches = tuple[Patch, ...]

@@ -168,6 +168,30 @@ grow() {
     esac
 }
 
+# inside FILE BLOCKS: what the plain program lists of a file is what the status and the audit say: the entries of the journal, the
+# data blocks that are used, and of each block that differs its count and its mappings. As JSON it lists the same.
+inside() {
+    for command in map journal counts; do
+        $python "$top/tools/whole_image.py" "$command" "$1" "$2" >"listed.$command"
+        $python "$top/tools/whole_image.py" "$command" "$1" "$2" --json | $python -c 'import json, sys
+for line in sys.stdin:
+    print(*(word for pair in json.loads(line).items() for word in pair))' | sed 's/None/none/g' >told
+        alike told "listed.$command" "$command of $1 as JSON says something else"
+    done
+    "$vdo" "$1" "$2" status >told
+    used=$(sed -n 's/^used //p' told)
+    entries=$(sed -n 's/^recovery \([0-9]*\) entries$/\1/p' told)
+    same "$(tail -n 1 listed.journal)" "$(sed -n '/^mode /p' told) entries ${entries:-0}" "the mode and entries of $1"
+    same "$(($(wc -l <listed.journal) - 1))" "${entries:-0}" "the entries of $1"
+    same "$(tail -n 1 listed.counts)" "used $used" "the data blocks of $1 that are counted"
+    "$vdo" "$1" "$2" audit | grep ' mapped ' >told
+    while read -r word block _ stored _ mapped; do
+        same "$(sed -n "s/^$word $block stored //p" listed.counts)" "$stored" "the count of block $block of $1"
+        same "$(grep -c " block $block\$" listed.map)" "$mapped" "the mappings of block $block of $1"
+    done <told
+    [ -s told ] || same "$(tail -n 1 listed.map | sed 's/.* used \(.*\) percent.*/\1/')" "$used" "the data blocks of $1 that are mapped"
+}
+
 # noise FILE FROM COUNT: blocks of a file are filled with ones.
 noise() {
     head -c "$((4096 * $3))" /dev/zero | tr '\000' '\377' | dd of="$1" bs=4096 seek="$2" conv=notrunc 2>errors || exit 1
@@ -307,6 +331,22 @@ put stopped 348160 130
 cp stopped kept
 try 4 'bad image: page 85 header' stopped 154 recover
 alike stopped kept 'an image that was refused was written'
+
+# What stands inside the images of the cases, and of the example.
+if [ -n "$python" ]; then
+    for name in fresh written counted-twice counted-never stopped stopped-later indexed; do
+        $python "$top/tools/case_images.py" "$name" case
+        inside case 154
+    done
+    $python "$top/tools/example_image.py" example >errors
+    inside example 1114
+    same "$(tail -n 1 listed.map)" 'addresses 1022 used 1024 of 1024 percent-saved 0' 'what is mapped in the example'
+    $python "$top/tools/case_images.py" mapped-254-times case
+    printed=$($python "$top/tools/whole_image.py" map case 154 | tail -n 1)
+    same "$printed" 'addresses 254 used 2 of 64 percent-saved 99' 'what is mapped where one block is shared'
+    printed=$($python "$top/tools/whole_image.py" counts case 154)
+    same "$? $printed" '4 bad image counter 85' 'counts that are noise'
+fi
 
 # A large image with 100,000 entries in its journal, of which nothing is left of the counters and the slabs' journals: it is
 # rebuilt, then it grows twice, and a script is served on it. Each address stays mapped to its block, and each block has what it had.

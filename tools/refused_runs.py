@@ -27,7 +27,7 @@ from pathlib import Path
 import whole_image
 from case_images import INSPECTED, UNRECOVERED, Patch, Patches, empty, patched
 from layout import DEFAULT
-from whole_image import Image
+from plain_image import SIZES, Image
 
 IMAGE_BLOCKS = DEFAULT.needed()
 WRITE = "0 write 5 4096*61\n"
@@ -91,7 +91,7 @@ def faulty_images() -> Iterator[tuple[str, Patches]]:
     for name, patches in {**INSPECTED, **UNRECOVERED}.items():
         if name != "stopped-later":
             yield name, patches
-    for field, start, length, _, _ in whole_image.SIZES:
+    for field, start, length, _, _ in SIZES:
         yield f"a superblock with the greatest {field}", ((0, start, b"\xff" * length),)
     for place, byte in ((28, 2), (48, 2), (52, 1), (63, 64), (64, 1), (511, 1)):
         yield f"a superblock with {byte} at {place}", ((0, place, bytes([byte])),)
