@@ -1,12 +1,13 @@
 -- Small cases that each clause on a file accepts, and ones that it refuses.
-use Rattle.std.proofs.Common.{ℕ, ◌≡◌, ◌≢◌, ◌≤◌, Bool, true, false, List, [], ◌∷◌, refl, inl, inr, arith}
+use Rattle.std.proofs.Common.{ℕ, ◌≡◌, ◌≢◌, ◌≤◌, Bool, true, false, List, [], ◌∷◌, refl, inl, inr, arith, ap}
 use Rattle.blk_base.specs.declared.place.Pbn.{Pbn}
 use Rattle.disk_model.specs.declared.call.Call.TheVariants.{Read, Write, Flush}
 use Rattle.disk_model.specs.Trust.{trust_of}
-use Rattle.file_disk.specs.FileBytes.{front, file_sector}
+use Rattle.file_disk.specs.FileBytes.{blocks_of, file_block, file_sector, front}
 use Rattle.file_disk.specs.FileBlocks.{file_calls, AreWhole, IsTied}
 use Rattle.file_disk.specs.FileLog.{WriteAt, Sync, reaches, put_into, sector_settled, sector_contents, HoldsCalls, IsFileImage}
-use Rattle.file_disk.specs.FileSeen.{IsJustOpened, Gives, BeginsSector}
+use Rattle.file_disk.specs.FileReads.{IsReadTo}
+use Rattle.file_disk.specs.FileSeen.{FileSeen, IsJustOpened, Gives, BeginsSector}
 
 -- Behind the end are zeros, and only there.
 front_zeros : front 3 (7 ∷ 8 ∷ []) ≡ 7 ∷ 8 ∷ 0 ∷ []
@@ -102,3 +103,34 @@ begins_one = (1, refl)
 
 begins_none : BeginsSector 513 → ⊥
 begins_none begins = let e = begins.1 in absurd (omega (arith, e))
+
+-- Two blocks of a file are its first ones, in rising order.
+two_blocks : (bytes : List ℕ) → blocks_of 2 bytes ≡ file_block 0 bytes ∷ file_block 1 bytes ∷ []
+two_blocks bytes = refl
+
+not_one_block : (bytes : List ℕ) → blocks_of 2 bytes ≡ file_block 0 bytes ∷ [] → ⊥
+not_one_block bytes same = absurd (cc)
+
+-- A file of two bytes, as it was opened.
+abbrev two_bytes : FileSeen
+two_bytes = record { opening = 7 ∷ 8 ∷ []; log = []; bytes = 7 ∷ 8 ∷ [] }
+
+-- Of a file that tells and is honest what is read is what it holds, and it stays as it is; before the first byte was read
+-- nothing is known of its calls.
+read_one : IsReadTo (trust_of true true) two_bytes two_bytes 1 (8 ∷ []) 1
+unfolding front
+read_one = record { opening = refl; stays = λ tells. refl; given = λ tells honest. refl; holds = λ tells honest some. holds_same (7 ∷ 8 ∷ []) }
+
+read_other : IsReadTo (trust_of true true) two_bytes two_bytes 1 (7 ∷ []) 1 → ⊥
+unfolding front
+read_other read = let e = read.given refl refl in absurd (cc)
+
+read_changes : IsReadTo (trust_of true true) two_bytes (record two_bytes { log = Sync true ∷ [] }) 1 (8 ∷ []) 1 → ⊥
+read_changes read = let e = ap (λ (seen : FileSeen). seen.log) (read.stays refl) in absurd (cc)
+
+read_opens_anew : IsReadTo (trust_of false false) two_bytes (record two_bytes { opening = [] }) 1 (8 ∷ []) 1 → ⊥
+read_opens_anew read = let e = read.opening in absurd (cc)
+
+read_of_nothing : (bytes : List ℕ) → IsReadTo (trust_of true true) (record two_bytes { bytes = bytes }) (record two_bytes { bytes = bytes }) 1 (8 ∷ []) 0
+unfolding front
+read_of_nothing bytes = record { opening = refl; stays = λ tells. refl; given = λ tells honest. refl; holds = λ tells honest some. absurd (omega (arith, some)) }

@@ -6,3 +6,4 @@ pub mod FileBlocks
 pub mod Histories
 pub mod BlockLaws
 pub mod FileHistories
+pub mod OpenLog

@@ -1,12 +1,12 @@
-//! A file as a device of blocks. It tells what its file tells: a file in memory its bytes and its log, the system's file
-//! nothing.
+//! A file as a device of blocks, and how it is opened. The device tells what its file tells: a file in memory its bytes and
+//! its log, the system's file nothing.
 //!
-//! Only tested: that a file is made where there is none and grows no further than it is written, and that a read or a write
-//! of the system's file that was interrupted is carried on; on a real file, and on one that gives a few bytes at a time and
-//! fails. So is how `open_disk` opens it: alone to change it, shared and for reading to look at it, and never at the number
-//! of a standard stream; and how large a file the system allows, by tables of its limits.
+//! Only tested: that a file grows no further than it is written, and that a read or a write of the system's file that was
+//! interrupted is carried on; on a real file, and on one that gives a few bytes at a time and fails. So is how a real file
+//! is opened: alone to change it, shared and for reading to look at it, and never at the number of a standard stream; and
+//! how large a file the system allows, by tables of its limits.
 //!
-//! Not there: any clause on what the system's calls on a file do, and that the name of a file that was made lasts. That is
+//! Not there: any clause on what the system's calls on a file and those that open one do (`ByteFile`, `OpenCalls`): that is
 //! the system's word. A file that tells is taken to lose, at a stop, whole sectors alone (`IsFileImage`).
 #![tactic(auto)]
 
@@ -17,8 +17,10 @@ mod history;
 mod laws;
 mod limits;
 mod memory;
+mod open_calls;
 mod open_files;
 mod places;
+mod system_calls;
 mod system_file;
 
 pub use byte_file::ByteFile;
@@ -26,5 +28,6 @@ pub use disk::FileDisk;
 pub use laws::files_as_devices;
 pub use limits::{file_limit, largest_file};
 pub use memory::MemFile;
-pub use open_files::{Access, open_disk};
+pub use open_calls::{Attempt, FileKind, OpenCalls, OpenMode};
+pub use open_files::{Access, open_disk, open_file};
 pub use system_file::SystemFile;
