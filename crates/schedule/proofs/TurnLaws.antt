@@ -1,4 +1,5 @@
 -- Turns: which event each takes, and what they play.
+use Rattle.vdo_core.specs.declared.numbers.TheConstants.{MOST_ZONES}
 use Rattle.std.proofs.Common.{ℕ, zero, suc, ◌≡◌, ◌≢◌, ◌<◌, ◌≤◌, ◌+◌, ◌-◌, ◌*◌, ◌%◌, Bool, true, false, ltb, le-ltb, lt-ltb, List, [], ◌∷◌, ◌++◌, length, length-append, map, drop, get_or, slice_get, refl, sym, ◌∙◌, ap, append_assoc, subst, inl, inr, arith}
 use Rattle.std.proofs.Math.Nat.{mod-eq_of_lt, mul-add-mod_self_right}
 use Rattle.std.proofs.Math.Seq.{drop-cons}
@@ -110,10 +111,10 @@ left_ahead left left' first n taken inside =
 pub left_nothing : (left left' first n : ℕ) → TakesFirst left left' first → first < n → is_in left' n ≡ false → is_in left n ≡ false
 left_nothing left left' first n taken behind outside = sym (taken.left.others n (λ (same : n ≡ first). omega (arith, same, behind))) ∙ outside
 
--- the number of an event is one of 132
-pub row_room : (count from to : ℕ) → count ≤ 11 → from < count → to < count → count + from * count + to < 132
+-- the number of an event is one of those that there is room for
+pub row_room : (count from to : ℕ) → count ≤ MOST_ZONES → from < count → to < count → count + from * count + to < 272
 row_room count from to few inside below =
-    let most : from * count ≤ 10 * 11 = mul-le from count 10 11 (omega (arith, inside, few)) few in
+    let most : from * count ≤ 15 * 16 = mul-le from count 15 16 (omega (arith, inside, few)) few in
     omega (arith, most, few, below)
 
 -- no event has work past the zones

@@ -22,7 +22,7 @@ use Rattle.schedule.specs.Turns.{AreReady, Drives, Driving, IsTurn, PlaysUntilDo
 use Rattle.schedule.proofs.TurnLaws.{ready_once, turn_once}
 
 -- event_count: a step of each zone, and a move from each to each
-counts : (event_count 1 ≡ 2) × (event_count 2 ≡ 6) × (event_count 11 ≡ 132)
+counts : (event_count 1 ≡ 2) × (event_count 2 ≡ 6) × (event_count 16 ≡ 272)
 counts = (refl, refl, refl)
 
 counts-not_steps_alone : event_count 2 ≡ 2 → ⊥

@@ -78,11 +78,11 @@ fn list_steps(core: &Core, ready: &mut EventList)
     ensures ready { AreReady core.now.sizes core.now.zones (length core.now.zones)
         (map (event_of (length core.now.zones)) ready.new) }
 {
-    // Asked for the proof alone: a core has at most eleven zones.
+    // Asked for the proof alone: a core has few zones.
     let _zones = core.zone_count();
     let mut workers = core.workers();
     while let Some(zone) = workers.take_first() {
-        ready.push(zone as u8);
+        ready.push(zone as u16);
     }
 }
 
@@ -103,13 +103,12 @@ fn add_moves(core: &Core, from: u32, ready: &mut EventList)
     let first = zones + from * zones;
     let mut receivers = core.receivers(from);
     while let Some(to) = receivers.take_first() {
-        ready.push((first + to) as u8);
+        ready.push((first + to) as u16);
     }
 }
 
 // The numbers of the events for which there is work, in their order, in an empty list.
-// Listed anew each turn, so that no list has to follow what steps and moves change. A core of eleven zones has 132
-// events.
+// Listed anew each turn, so that no list has to follow what steps and moves change.
 fn list_ready(core: &Core, ready: &mut EventList)
     requires none { ready.old ≡ [] }
     ensures { AreReady core.now.sizes core.now.zones (event_count (length core.now.zones))

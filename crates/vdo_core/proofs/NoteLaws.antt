@@ -1,4 +1,5 @@
 -- What is known of the zones' work stays right over each event, and what it tells of moves.
+use Rattle.vdo_core.specs.declared.numbers.TheConstants.{MOST_ZONES}
 use Rattle.std.proofs.Common.{ℕ, zero, suc, ◌≡◌, ◌≢◌, ◌<◌, ◌≤◌, Bool, true, false, Some, List, [], ◌∷◌, ◌++◌, length, take, slice_get, slice_set, slice_index_or, get_or, inl, inr, refl, sym, ◌∙◌, ap, subst, arith}
 use Rattle.std.proofs.lemmas.Bool.{cases_lt}
 use Rattle.std.proofs.lemmas.Bool.Decides.{eqb_tells}
@@ -87,7 +88,7 @@ still_below : (count number old new : ℕ) (inside : Bool) → number < count �
 still_below count number old new inside low puts few n past = puts.others n (λ (is : n ≡ number). omega (arith, is, low, past)) ∙ few n past
 
 -- what is known of posts after a zone was looked at
-pub knows_posts : (count number receivers : ℕ) (flag : Bool) (z : Zone) (before now : List Zone) (posted : List ℕ) (senders senders' : ℕ) → number < count → count ≤ 11
+pub knows_posts : (count number receivers : ℕ) (flag : Bool) (z : Zone) (before now : List Zone) (posted : List ℕ) (senders senders' : ℕ) → number < count → count ≤ MOST_ZONES
     → slice_get now number ≡ Some z → TellsPosts count number receivers z → (flag ≡ false → receivers ≡ 0) → Puts senders senders' number flag → OtherPostsStay count number before now
     → KnowsPosts count posted senders before → KnowsPosts count (slice_set posted number receivers) senders' now
 knows_posts count number receivers flag z before now posted senders senders' low few had told empty puts stay known =
@@ -126,7 +127,7 @@ work_still count number sizes before now works past stay known =
     record { work = told_still (TellsWork sizes) number before now (is_in works) past stay known.work; few = known.few }
 
 -- what is known of no zone
-pub posts_of_none : (count : ℕ) (posted : List ℕ) (senders : ℕ) → length posted ≡ 11 → senders ≡ 0 → KnowsPosts count posted senders []
+pub posts_of_none : (count : ℕ) (posted : List ℕ) (senders : ℕ) → length posted ≡ MOST_ZONES → senders ≡ 0 → KnowsPosts count posted senders []
 posts_of_none count posted senders long none = record {
   long = long;
   posts = λ n at got. absurd cc;

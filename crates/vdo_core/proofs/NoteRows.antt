@@ -1,4 +1,5 @@
 -- Rows that pin what a core knows of its zones' work: what each definition accepts, and for each clause what it refuses.
+use Rattle.vdo_core.specs.declared.numbers.TheConstants.{MOST_ZONES}
 use Rattle.std.proofs.Common.{ℕ, zero, suc, ◌≡◌, true, false, List, [], ◌∷◌, replicate, refl, subst, inl, arith}
 use Rattle.std.proofs.lemmas.Option.{same_Some}
 use Rattle.data_vio.specs.declared.items.Item.{Item}
@@ -102,7 +103,7 @@ module _ (sizes : Sizes) (keeps : ZoneData) where
   knows-not_by_fewer zones sent known = omega (arith, known.long)
 
   -- posts: not with a wrong set
-  knows-not_by_a_wrong_set : (sent : ℕ) → KnowsPosts 2 (replicate 11 0) sent (zone [] [] ∷ zone [] one_item ∷ []) → ⊥
+  knows-not_by_a_wrong_set : (sent : ℕ) → KnowsPosts 2 (replicate MOST_ZONES 0) sent (zone [] [] ∷ zone [] one_item ∷ []) → ⊥
   knows-not_by_a_wrong_set sent known = tells-not_too_few (known.posts 1 (zone [] one_item) refl)
 
   -- senders: nor with one left out
@@ -122,11 +123,11 @@ module _ (sizes : Sizes) (keeps : ZoneData) where
   knows-not_of_work_past zones known = let outside : true ≡ false = known.few 1 (omega arith) in absurd cc
 
   -- posts and work: a core's notes are right of all its zones
-  known-not_with_wrong_posts : (works senders : ℕ) → IsKnown sizes (record { works = works; senders = senders; posted = replicate 11 0 }) (zone [] [] ∷ zone [] one_item ∷ []) → ⊥
+  known-not_with_wrong_posts : (works senders : ℕ) → IsKnown sizes (record { works = works; senders = senders; posted = replicate MOST_ZONES 0 }) (zone [] [] ∷ zone [] one_item ∷ []) → ⊥
   known-not_with_wrong_posts works senders known = knows-not_by_a_wrong_set senders known.posts
 
   known-not_with_wrong_work : (IsIdle sizes (zone (StopNotice ∷ []) []) → ⊥)
-      → IsKnown sizes (record { works = 0; senders = 0; posted = replicate 11 0 }) (zone (StopNotice ∷ []) [] ∷ []) → ⊥
+      → IsKnown sizes (record { works = 0; senders = 0; posted = replicate MOST_ZONES 0 }) (zone (StopNotice ∷ []) [] ∷ []) → ⊥
   known-not_with_wrong_work works known = knows-not_of_wrong_work works known.work
 
   -- the others stay where one posts

@@ -1,4 +1,5 @@
 -- A session for what was opened of an image, whatever is on the device: nothing is said of that.
+use Rattle.vdo_core.specs.declared.numbers.TheConstants.{MOST_ZONES}
 use Rattle.std.proofs.Common.{ℕ, ◌≡◌, ◌≤◌, ◌*◌, Bool, true, List, slice_index, inl, inr, [], ◌∷◌, ◌++◌, length, refl, sym, ◌∙◌, ap, subst, arith}
 use Rattle.std.proofs.lemmas.Bool.{cases_lt}
 use Rattle.std.proofs.lemmas.List.{get_or_past}
@@ -98,8 +99,8 @@ module _ (sizes : Sizes) (zones : List Zone) (reached : IsReached sizes zones) w
       let start = core_with reached.first [] in
       legal_leads reached.session start (core_with zones reached.trace) reached.is_session reached.leads (legal_first reached.session start reached.is_first reached.is_session)
 
-  -- a core has eleven zones at most
-  pub few_zones : length zones ≤ 11
+  -- a core has at most as many zones as there is room for
+  pub few_zones : length zones ≤ MOST_ZONES
   few_zones = let limits = reached.is_session.limits in omega (arith, legal_here.count, limits.zones, limits.physical)
 
   abbrev pub reached_on : (trust : Trust) (later : List Zone) (before after : Seen) → LeadsTo trust sizes zones later before after → IsReached sizes later

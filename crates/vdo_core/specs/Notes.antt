@@ -10,6 +10,7 @@ use Rattle.core_model.specs.ZoneSets.{IsBelow, is_in}
 use Rattle.vdo_core.specs.declared.events.Event.{Event}
 use Rattle.vdo_core.specs.declared.events.Event.TheVariants as event
 use Rattle.vdo_core.specs.declared.notes.WorkNotes.{WorkNotes}
+use Rattle.vdo_core.specs.declared.numbers.TheConstants.{MOST_ZONES}
 
 -- the zone that steps, or from which something moves: no other changes what it posted
 abbrev pub sender_of : Event → ℕ
@@ -41,7 +42,7 @@ IsTold P noted zones = Each (λ n z. P n (noted n) z) zones
 
 -- what was posted is known of each of these zones, in a core of so many
 pub record KnowsPosts (count : ℕ) (receivers : List ℕ) (sent : ℕ) (zones : List Zone) : Type 0 where
-  pub long : length receivers ≡ 11
+  pub long : length receivers ≡ MOST_ZONES
   pub posts : IsTold (TellsPosts count) (λ n. slice_index_or receivers n 0) zones
   pub senders : IsTold (TellsNone count) (is_in sent) zones
   pub few : IsBelow count sent

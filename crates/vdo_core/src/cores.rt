@@ -13,6 +13,7 @@ ghost use Rattle.vdo_core.specs.Done.{IsDone};
 ghost use Rattle.vdo_core.specs.Notes.{IsSetOfSenders, IsSetOfWork};
 ghost use Rattle.vdo_core.specs.Plays.{HasNoWork, PlaysOne, core_with, vdo};
 ghost use Rattle.vdo_core.specs.Starts.{IsOf};
+ghost use Rattle.vdo_core.specs.declared.numbers.TheConstants.{MOST_ZONES};
 
 use crate::events::{Event, play_one};
 use crate::notes::WorkNotes;
@@ -164,10 +165,10 @@ impl Core {
         is_done(&self.zones)
     }
 
-    /// How many zones there are, 5 to 11.
+    /// How many zones there are, at least 5.
     pub fn zone_count(&self) -> u32
         ensures count { result ≡ length self.now.zones }
-        ensures few { result ≤ 11 }
+        ensures few { result ≤ MOST_ZONES }
     {
         self.zones.as_slice().len() as u32
     }

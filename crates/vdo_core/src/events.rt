@@ -5,6 +5,7 @@ ghost use Rattle.device_zone.specs.DeviceCalls.{Fits};
 ghost use Rattle.vdo_core.specs.Conditions.{AllCanStep};
 ghost use Rattle.vdo_core.specs.declared.events.Event.TheVariants as event;
 ghost use Rattle.vdo_core.specs.Plays.{ComesTo, StepsAt, HasNoWork, PlaysOne, LeadsTo, vdo};
+ghost use Rattle.vdo_core.specs.declared.numbers.TheConstants.{MOST_ZONES};
 
 use crate::moves::move_items;
 use crate::stepped::Stepped;
@@ -49,7 +50,7 @@ pub(crate) fn play_one<D: Disk>(
     disk: &mut D,
 ) -> Stepped
     requires can { AllCanStep sizes.now zones.old }
-    requires few { length zones.old ≤ 11 }
+    requires few { length zones.old ≤ MOST_ZONES }
     requires fits { Fits sizes.now (D.seen disk.old) }
     ensures stays { Stays (D.seen disk.old) (D.seen disk.new) }
     ensures plays { (made : Trace)

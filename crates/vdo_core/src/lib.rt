@@ -27,6 +27,7 @@ pub use laws::{
     a_legal_core_can_step, a_legal_core_is_done_when_all_are_answered,
     a_legal_core_without_work_is_done, a_view_can_step_as_its_zone,
 };
+pub use numbers::MOST_ZONES;
 pub use stepped::Stepped;
 pub use steps::step_zone;
 pub use tools::Tools;

@@ -6,6 +6,7 @@ ghost use Rattle.core_model.specs.SessionLimits.{IsShort};
 ghost use Rattle.plain_laws.specs.Sums.{Each};
 ghost use Rattle.vdo_core.specs.Moves.{MovesNothing, MovesSome, has_items};
 ghost use Rattle.vdo_core.specs.Plays.{ComesTo, MovesAll};
+ghost use Rattle.vdo_core.specs.declared.numbers.TheConstants.{MOST_ZONES};
 
 use crate::stepped::Stepped;
 use crate::zones::Zones;
@@ -48,7 +49,7 @@ fn carry(zones: &mut Vec<Zone>, from: u32, to: u32)
 
 /// Whether one zone has posted something to another.
 pub(crate) fn can_move(zones: &Zones, from: u32, to: u32) -> bool
-    requires { length zones.now ≤ 11 }
+    requires { length zones.now ≤ MOST_ZONES }
     ensures yes { IsTrue result → MovesSome zones.now from to }
     ensures no { (result ≡ false) → MovesNothing zones.now from to }
 {
@@ -62,7 +63,7 @@ pub(crate) fn can_move(zones: &Zones, from: u32, to: u32) -> bool
 /// What one zone posted to another moves from the outbox to the tail of the inbox, all of it. It asks for no memory.
 pub(crate) fn move_items(zones: &mut Zones, from: u32, to: u32) -> Stepped
     requires within { Each (λ n z. IsWithin z) zones.old }
-    requires few { length zones.old ≤ 11 }
+    requires few { length zones.old ≤ MOST_ZONES }
     ensures { ComesTo (MovesAll from to zones.old zones.new) (MovesNothing zones.old from to)
         (zones.new ≡ zones.old) result }
 {

@@ -4,15 +4,14 @@ ghost use Rattle.vdo_core.specs.Conditions.{AllCanStep, CanBeginAt};
 ghost use Rattle.vdo_core.specs.Notes.{IsKnown, KnowsPosts, KnowsWork, OtherPostsStay, OthersStay, TellsPosts, TellsWork, sender_of, worker_of};
 ghost use Rattle.vdo_core.specs.Plays.{HasNoWork};
 ghost use Rattle.vdo_core.specs.declared.events.Event.TheVariants as event;
+ghost use Rattle.vdo_core.specs.declared.numbers.TheConstants.{MOST_ZONES};
 
 use crate::events::Event;
+use crate::numbers::MOST_ZONES;
 use crate::work::has_work;
 use crate::zones::Zones;
 use core_model::{Zone, ZoneSet};
 use data_vio::Sizes;
-
-/// How many zones a core has at most.
-const MOST_ZONES: usize = 11;
 
 /// What is known of the work of a core's zones, so that a turn needn't look through all of them.
 #[derive(Drop)]
@@ -27,7 +26,7 @@ pub(crate) struct WorkNotes {
 
 // Those of so many zones to which the zone of this number posted something that hasn't moved yet.
 fn receivers_of(zone: &Zone, number: u32, count: u32) -> ZoneSet
-    requires few { count ≤ 11 }
+    requires few { count ≤ MOST_ZONES }
     requires there { number < count }
     ensures { TellsPosts count number result zone.now }
 {
@@ -59,7 +58,7 @@ fn worker_of(event: Event) -> u32
 impl WorkNotes {
     // It is noted what a zone of so many posted.
     fn note_posts(&mut self, zone: &Zone, number: u32, count: u32)
-        requires few { count ≤ 11 }
+        requires few { count ≤ MOST_ZONES }
         requires there { number < count }
         ensures posts { (before now : List Zone) → slice_get now number ≡ Some zone.now →
             OtherPostsStay count number before now →
@@ -75,7 +74,7 @@ impl WorkNotes {
     // It is noted whether there is work for a zone of so many.
     fn note_work(&mut self, sizes: &Sizes, zone: &Zone, number: u32, count: u32)
         requires can { CanBeginAt sizes.now zone.now.keeps }
-        requires few { count ≤ 11 }
+        requires few { count ≤ MOST_ZONES }
         requires there { number < count }
         ensures work { (before now : List Zone) → slice_get now number ≡ Some zone.now →
             OthersStay (TellsWork sizes.now) number before now →
@@ -90,7 +89,7 @@ impl WorkNotes {
     /// What is known of these zones, each of which is looked at.
     pub(crate) fn of(sizes: &Sizes, zones: &Zones) -> WorkNotes
         requires can { AllCanStep sizes.now zones.now }
-        requires few { length zones.now ≤ 11 }
+        requires few { length zones.now ≤ MOST_ZONES }
         ensures { IsKnown sizes.now result zones.now }
     {
         let mut notes = WorkNotes {
@@ -109,7 +108,7 @@ impl WorkNotes {
 
     // What the zones posted is known after that of this number was looked at, where no other changed that.
     fn follow_posts(&mut self, zones: &Zones, number: u32)
-        requires few { length zones.now ≤ 11 }
+        requires few { length zones.now ≤ MOST_ZONES }
         ensures posts { (before : List Zone) →
             OtherPostsStay (length zones.now) number before zones.now →
             KnowsPosts (length zones.now) self.old.posted self.old.senders before →
@@ -125,7 +124,7 @@ impl WorkNotes {
     // What work there is is known after the zone of this number was looked at, where no other has more or less.
     fn follow_work(&mut self, sizes: &Sizes, zones: &Zones, number: u32)
         requires can { AllCanStep sizes.now zones.now }
-        requires few { length zones.now ≤ 11 }
+        requires few { length zones.now ≤ MOST_ZONES }
         ensures work { (before : List Zone) →
             OthersStay (TellsWork sizes.now) number before zones.now →
             KnowsWork (length zones.now) sizes.now self.old.works before →
@@ -144,7 +143,7 @@ impl WorkNotes {
     #[inline(always)]
     pub(crate) fn follow(&mut self, sizes: &Sizes, zones: &Zones, event: Event)
         requires can { AllCanStep sizes.now zones.now }
-        requires few { length zones.now ≤ 11 }
+        requires few { length zones.now ≤ MOST_ZONES }
         ensures { (before : List Zone) → length before ≡ length zones.now →
             OtherPostsStay (length zones.now) (sender_of event) before zones.now →
             OthersStay (TellsWork sizes.now) (worker_of event) before zones.now →
@@ -157,7 +156,7 @@ impl WorkNotes {
     /// Whether the zone of this number is there, and there is work for a step of it.
     pub(crate) fn has_work(&self, sizes: &Sizes, zones: &Zones, number: u32) -> bool
         requires known { IsKnown sizes.now self.now zones.now }
-        requires few { length zones.now ≤ 11 }
+        requires few { length zones.now ≤ MOST_ZONES }
         ensures yes { IsTrue result → HasNoWork sizes.now zones.now (event.Step number) → ⊥ }
         ensures no { (result ≡ false) → HasNoWork sizes.now zones.now (event.Step number) }
     {

@@ -4,6 +4,10 @@ ghost use Rattle.data_vio.specs.Zones as zones;
 use blk_base::ZoneId;
 use data_vio::Sizes;
 
+/// How many zones a core has at most: the desk, the journal and the device, and four each of logical, physical and hash
+/// zones, and of the index one.
+pub const MOST_ZONES: usize = 16;
+
 /// The number of the desk.
 pub(crate) const DESK: u32 = 0;
 

@@ -5,6 +5,7 @@ ghost use Rattle.vdo_core.specs.Conditions.{CanBeginAt};
 ghost use Rattle.vdo_core.specs.Done.{IsDone};
 ghost use Rattle.vdo_core.specs.Notes.{IsKnown};
 ghost use Rattle.vdo_core.specs.Plays.{HasNoWork};
+ghost use Rattle.vdo_core.specs.declared.numbers.TheConstants.{MOST_ZONES};
 
 use crate::events::Event;
 use crate::moves::can_move;
@@ -61,7 +62,7 @@ pub(crate) fn is_done(zones: &Zones) -> bool
 /// Whether there is work for an event: exactly where a step of the zone, or a move between the two, isn't idle.
 pub(crate) fn ready(sizes: &Sizes, zones: &Zones, notes: &WorkNotes, event: Event) -> bool
     requires known { IsKnown sizes.now notes.now zones.now }
-    requires few { length zones.now ≤ 11 }
+    requires few { length zones.now ≤ MOST_ZONES }
     ensures yes { IsTrue result → HasNoWork sizes.now zones.now event → ⊥ }
     ensures no { (result ≡ false) → HasNoWork sizes.now zones.now event }
 {
