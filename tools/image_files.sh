@@ -762,6 +762,16 @@ else
     leave_out 'python3 or cc is missing, so no two commands are replayed'
 fi
 
+# Each call of a run that fails, and each allocation of each command that is refused.
+if [ -n "$python" ] && command -v cc >errors; then
+    printed=$($python "$top/tools/failing_calls.py" "$vdo" 2>errors)
+    same "$? $printed" '0 failing calls: 422 calls, 0 went wrong' 'a run of which a call failed'
+    printed=$($python "$top/tools/refused_memory.py" "$vdo" 2>errors | tail -n 1)
+    same "$printed" 'refused memory: 1056 refusals, 0 went wrong' 'commands of which an allocation was refused'
+else
+    leave_out 'python3 or cc is missing, so no call fails, and no allocation is refused'
+fi
+
 # Images and scripts of which none is served, and the stops of two scripts.
 if [ -n "$python" ]; then
     printed=$($python "$top/tools/refused_runs.py" "$vdo" 2>errors)

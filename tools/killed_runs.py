@@ -25,6 +25,7 @@ from dataclasses import dataclass, field
 from pathlib import Path
 
 from file_scripts import ZEROS, Put, Stopped, get, put
+from preloaded import compiled
 from vector import BLOCK_BYTES
 
 FILE_BLOCKS = 256
@@ -153,9 +154,8 @@ def main() -> int:
     given = parser.parse_args()
     folder = Path(tempfile.mkdtemp(prefix="vdo-killed-"))
     tries = Tries(str(given.program.absolute()), folder)
-    source = Path(__file__).with_name("stop_writes.c")
     try:
-        subprocess.run(["cc", "-shared", "-fPIC", "-o", folder / "stop_writes.so", source], check=True)
+        compiled("stop_writes", folder)
         for case in CASES:
             try_case(tries, case, given.calls)
     finally:

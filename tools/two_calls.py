@@ -44,6 +44,7 @@ from pathlib import Path
 from crash_stops import Request, Told, Wrong, ages_of
 from file_scripts import Stopped, get, number_from
 from layout import Geometry
+from preloaded import compiled
 from vector import BLOCK_BYTES
 
 # With more pending writes not each choice of them is tried, but this many that are drawn.
@@ -539,9 +540,8 @@ def main() -> int:
     parser.add_argument("--at-once", type=at_once, default=os.cpu_count(), metavar="N", help="look at N images at once")
     given = parser.parse_args()
     folder = Path(tempfile.mkdtemp(prefix="vdo-two-calls-"))
-    source = Path(__file__).with_name("note_calls.c")
     try:
-        subprocess.run(["cc", "-shared", "-fPIC", "-o", folder / "note_calls.so", source], check=True)
+        compiled("note_calls", folder)
         with ThreadPoolExecutor(given.at_once) as pool:
             tries = Tries(str(given.program.absolute()), folder, given.every, pool)
             try_killed_recovery(tries)
