@@ -80,6 +80,14 @@ script() {
     same "$? $printed" "$status $text" "vdo $* with '$lines'"
 }
 
+# cause TEXT: this is what the last try told on standard error, or its beginning.
+cause() {
+    case $(cat errors) in
+        "vdo: $1"*) well=$((well + 1)) ;;
+        *) say_wrong "cause: '$(cat errors)', not 'vdo: $1'" ;;
+    esac
+}
+
 python=$(command -v python3) || leave_out 'python3 is missing, so no other program is asked what an image says'
 
 # bytes FILE FROM COUNT: bytes of a file, in hexadecimal.
@@ -467,16 +475,25 @@ alike served kept 'an image that was refused was written'
 
 # Words that are no command line.
 try 2 usage image
+cause 'a word is missing'
 try 2 usage image 154
 try 2 usage image blocks format
+cause 'blocks: not served; see vdo --help'
 try 2 usage image +154 format
 try 2 usage image 154 erase
+cause 'erase: not served; see vdo --help'
+try 2 usage image 154 format --slabs two
+cause 'two: not served; see vdo --help'
 try 2 usage run
 try 2 usage run --schedule 7
 try 2 usage image 154 run now
+cause 'now: not served; see vdo --help'
+try 2 usage image 154 run --schedule=-1
+cause '--schedule=-1: not served; see vdo --help'
 try 2 usage image 154 recover --schedule 0
 try 2 usage image 154 force-rebuild --slabs 1
 try 2 usage image 154 grow --slabs 1
+cause 'a word is missing, or an option stands twice or has another range; see vdo --help'
 try 2 usage image 154 crash
 try 2 usage image 154 audit now
 try 2 usage image 154 status --logical 1
@@ -484,6 +501,7 @@ try 2 usage image 154 status --logical 1
 # Files that can't be opened, or written.
 mkdir directory
 try 3 'device fault' directory 154 format
+cause 'directory: Is a directory'
 try 3 'device fault' directory 154 run
 try 3 'device fault' directory 154 audit
 try 3 'device fault' directory 154 status
@@ -491,6 +509,7 @@ try 3 'device fault' directory 154 recover
 try 3 'device fault' directory 154 force-rebuild
 try 3 'device fault' directory 154 grow --logical 2000 --slabs 1
 try 3 'device fault' missing/image 154 format
+cause 'missing/image: '
 mkfifo pipe
 try 3 'device fault' pipe 154 format
 try 3 'device fault' pipe 154 status
@@ -518,6 +537,7 @@ else
     chmod 755 "$as_another"
     vdo=$as_another
     try 3 'device fault' closed 154 format
+    cause 'closed: Permission denied'
     try 3 'device fault' closed 154 recover
     try 3 'device fault' closed 154 status
     try 0 'audit clean, used 0 of 64' readable 154 audit
@@ -556,6 +576,7 @@ if command -v flock >errors; then
         # shellcheck disable=SC2086
         printed=$(flock -x held "$vdo" held 154 $command 2>errors)
         same "$? $printed" '3 device fault' "$command of a file that another changes"
+        cause 'held: held by another program'
     done
     for command in format run recover force-rebuild 'grow --logical 2000 --slabs 1'; do
         # shellcheck disable=SC2086

@@ -5,6 +5,7 @@ use std::{env, io};
 use vdo_cli::Words;
 
 /// Why the program can't begin.
+#[derive(Drop)]
 pub(crate) enum ArgumentsFault {
     /// The words name no device and no command, or one isn't UTF-8.
     Usage,
@@ -51,7 +52,7 @@ fn words_of(alloc: Global, texts: &[String]) -> Result<Words, AllocError> {
 }
 
 /// A number in decimal digits, without a sign.
-fn number_of(text: &str) -> Option<u32> {
+pub(crate) fn number_of(text: &str) -> Option<u32> {
     if text.starts_with('+') {
         return None;
     }
@@ -116,8 +117,8 @@ fn line_of(alloc: Global, texts: &[String]) -> Result<CommandLine, ArgumentsFaul
     })
 }
 
-/// What the words behind the program's name ask for.
-pub(crate) fn command_line(rt: &HostRuntime) -> Result<CommandLine, ArgumentsFault> {
+/// The words behind the program's name.
+pub(crate) fn texts_of(rt: &HostRuntime) -> Result<Vec<String>, ArgumentsFault> {
     let arguments = match env::args(rt) {
         Ok(arguments) => arguments,
         Err(error) if error.kind() == io::ErrorKind::OutOfMemory => return Err(
@@ -131,5 +132,10 @@ pub(crate) fn command_line(rt: &HostRuntime) -> Result<CommandLine, ArgumentsFau
             return Err(ArgumentsFault::Memory);
         };
     }
-    line_of(rt.alloc(), &texts)
+    Ok(texts)
+}
+
+/// What the words behind the program's name ask for.
+pub(crate) fn command_line(rt: &HostRuntime) -> Result<CommandLine, ArgumentsFault> {
+    line_of(rt.alloc(), &texts_of(rt)?)
 }

@@ -1,9 +1,9 @@
 //! The program: it makes an image, recovers, rebuilds or grows one, looks at one, or serves a script on one. The image is
 //! on a file, or in memory, where it is a new one.
 //!
-//! Only tested: the stored run; which device and command the words name, a file that can't be opened or written, scripts
-//! one after the other on a file, and runs on it that are killed (`tools/image_files.sh`); the instructions of a run
-//! (docs/PERFORMANCE.md).
+//! Only tested: the stored run; which device and command the words name, a file that can't be opened or written, what is
+//! told on standard error of that and of words that aren't served, scripts one after the other on a file, and runs on it
+//! that are killed (`tools/image_files.sh`); the instructions of a run (docs/PERFORMANCE.md).
 //!
 //! Not there: what the operating system's calls do on streams and files, which device and command `main` takes from the words of
 //! the program, what it prints before it calls `run`, that memory is found, how long a call takes, and that `drive`
@@ -12,18 +12,20 @@
 #![tactic(auto)]
 
 mod arguments;
+mod causes;
 
 use arguments::{ArgumentsFault, CommandLine, Device, command_line};
+use causes::{tell_unopened, tell_unserved};
 use disk_model::{Disk, OpenGate, RamDisk};
 use file_disk::open_disk;
 use standard_streams::{InputSource, OutputSink, StandardInput};
-use std::alloc::{AllocError, Global};
+use std::alloc::AllocError;
 use std::io;
 use std::io::Printer;
 use std::process::ExitCode;
 use std::sync::Wait;
 use std::thread::Threads;
-use vdo_cli::{Ended, Words, run};
+use vdo_cli::{Ended, Fault, Words, run};
 
 /// The standard streams.
 #[derive(Drop)]
@@ -62,22 +64,30 @@ impl<'r> Streams<'r> {
     }
 }
 
+/// The status of a command that ended. Words that aren't served are told.
+fn status_of<D: Drop>(rt: &HostRuntime, ended: Ended<D>) -> u8 {
+    if let Some(Fault::Usage) = &ended.fault {
+        tell_unserved(rt);
+    }
+    ended.status
+}
+
 /// A command on a device in memory, on which an image of the default sizes is made first; where that fails, its status.
 fn run_in_memory<R: Threads + Wait + Sync>(
-    rt: &R,
-    alloc: Global,
+    threads: &R,
+    rt: &HostRuntime,
     words: &Words,
     blocks: u32,
     streams: &mut Streams<'_>,
 ) -> Result<u8, AllocError> {
-    let mut format = Words::new(alloc);
+    let mut format = Words::new(rt.alloc());
     format.push("format")?;
-    let device = RamDisk::zeroed(alloc, blocks)?;
-    let made = streams.run(rt, &format, device);
+    let device = RamDisk::zeroed(rt.alloc(), blocks)?;
+    let made = streams.run(threads, &format, device);
     if made.status != 0 {
         return Ok(made.status);
     }
-    Ok(streams.run(rt, words, made.device).status)
+    Ok(status_of(rt, streams.run(threads, words, made.device)))
 }
 
 /// A command on its device. Threads are started by `threads`, and files opened by `rt`. A file that another program holds
@@ -90,16 +100,17 @@ fn run_on<R: Threads + Wait + Sync>(
 ) -> Result<u8, ArgumentsFault> {
     let CommandLine { device, words } = line;
     match device {
-        Device::Memory(blocks) => {
-            Ok(run_in_memory(threads, rt.alloc(), &words, blocks, streams)?)
-        }
+        Device::Memory(blocks) => { Ok(run_in_memory(threads, rt, &words, blocks, streams)?) }
         Device::File {
             path,
             blocks,
             access,
         } => match open_disk(rt, path.as_str(), blocks, access) {
-            Ok(file) => Ok(streams.run(threads, &words, file).status),
-            Err(_) => Err(ArgumentsFault::Device),
+            Ok(file) => Ok(status_of(rt, streams.run(threads, &words, file))),
+            Err(error) => {
+                tell_unopened(rt, path.as_str(), &error);
+                Err(ArgumentsFault::Device)
+            },
         },
     }
 }
@@ -122,7 +133,10 @@ fn serve<R: Threads + Wait + Sync>(threads: &R, rt: &HostRuntime) -> Result<u8, 
 fn main(rt: HostRuntime) -> ExitCode {
     let (text, status) = match serve(&rt, &rt) {
         Ok(status) => return ExitCode::from(status),
-        Err(ArgumentsFault::Usage) => ("usage", 2),
+        Err(ArgumentsFault::Usage) => {
+            tell_unserved(&rt);
+            ("usage", 2)
+        },
         Err(ArgumentsFault::Device) => ("device fault", 3),
         Err(ArgumentsFault::Memory) => ("no memory", 5),
     };
