@@ -483,17 +483,17 @@ try 2 usage image +154 format
 try 2 usage image 154 erase
 cause 'erase: not served; see vdo --help'
 try 2 usage image 154 format --slabs two
-cause 'two: not served; see vdo --help'
+cause '--slabs: not served; see vdo --help'
 try 2 usage run
 try 2 usage run --schedule 7
 try 2 usage image 154 run now
 cause 'now: not served; see vdo --help'
 try 2 usage image 154 run --schedule=-1
-cause '--schedule=-1: not served; see vdo --help'
+cause '--schedule: not served; see vdo --help'
 try 2 usage image 154 recover --schedule 0
 try 2 usage image 154 force-rebuild --slabs 1
 try 2 usage image 154 grow --slabs 1
-cause 'a word is missing, or an option stands twice or has another range; see vdo --help'
+cause 'a word is missing, or two don'\''t go together; see vdo --help'
 try 2 usage image 154 crash
 try 2 usage image 154 audit now
 try 2 usage image 154 status --logical 1

@@ -9,3 +9,5 @@ pub mod FindingLaws
 pub mod OptionRows
 pub mod CommandRows
 pub mod MatchingRows
+pub mod RefusedLaws
+pub mod RefusedRows

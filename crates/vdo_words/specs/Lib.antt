@@ -3,3 +3,4 @@ pub mod Options
 pub mod OptionMatches
 pub mod Commands
 pub mod Ranges
+pub mod Refused

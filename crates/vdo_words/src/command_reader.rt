@@ -1,9 +1,10 @@
-ghost use Rattle.std.specs.Prelude.{◌≡◌, IfOk, map, string_bytes};
+ghost use Rattle.std.specs.Prelude.{◌≡◌, IfOk, map, option_map, string_bytes};
 ghost use Rattle.vdo_words.specs.Given.{given};
 ghost use Rattle.vdo_words.specs.Options.{number_or};
 ghost use Rattle.vdo_words.specs.Ranges.{IsCommandWithin};
 ghost use Rattle.vdo_words.specs.declared.option_names.OptionName.TheVariants.{Schedule};
 ghost use Rattle.vdo_words.specs.Commands.{bare_command, command_named, core_of, crash_of, format_of, grow_of, read, run_of, workload_of, drive_of};
+ghost use Rattle.vdo_words.specs.Refused.{first_refused, names_of};
 
 use crate::commands::{
     Command, CoreOptions, CrashOptions, DEFAULT_CORE, Drive, FormatOptions, GrowOptions,
@@ -12,7 +13,7 @@ use crate::commands::{
 use crate::line::Line;
 use crate::option_names::OptionName;
 use crate::options::{is_given, number, wide};
-use crate::rules::are_right;
+use crate::rules::{are_right, first_wrong};
 use std::alloc::Global;
 
 const FORMAT: [OptionName; 8] = [
@@ -199,6 +200,36 @@ fn bare(command: Command, words: &[String]) -> Option<Command>
     ensures { result ≡ bare_command command (given (map string_bytes words.now)) }
 {
     are_right(&[], words).then_some(command)
+}
+
+// The options of the command of this name.
+fn names_of(name: &str) -> Option<&'static [OptionName]>
+    ensures { option_map (λ names. names.now) result ≡ names_of name.now }
+{
+    match name {
+        "format" => Some(&FORMAT),
+        "run" => Some(&RUN),
+        "grow" => Some(&GROW),
+        "crash" => Some(&CRASH),
+        "workload" => Some(&WORKLOAD),
+        "recover" | "force-rebuild" | "audit" | "status" => Some(&[]),
+        _ => None,
+    }
+}
+
+/// The first word that is refused where it stands: the name of no command, or of an option that isn't the command's, stands
+/// again behind, or has no value or one that it may not have. None where only a word is missing, or two options exclude each
+/// other.
+pub fn first_refused(words: &[String]) -> Option<&str>
+    ensures { option_map (λ word. word.now) result ≡ first_refused (map string_bytes words.now) }
+{
+    let [name, rest @ ..] = words else {
+        return None;
+    };
+    match names_of(name.as_str()) {
+        Some(names) => first_wrong(names, rest),
+        None => Some(name.as_str()),
+    }
 }
 
 /// The command that the words are; of one that runs a core every number is within its range.

@@ -17,7 +17,7 @@ mod option_names;
 mod options;
 mod rules;
 
-pub use command_reader::read_command;
+pub use command_reader::{first_refused, read_command};
 pub use commands::{
     Command, CoreOptions, CrashOptions, DEFAULT_CORE, Drive, FormatOptions, GrowOptions,
     RunOptions, Usage, WorkloadOptions,

@@ -1,6 +1,7 @@
 ghost use Rattle.std.specs.Prelude.{◌≡◌, map, option_map, string_bytes};
 ghost use Rattle.vdo_words.specs.Given.{given};
 ghost use Rattle.vdo_words.specs.Options.{accepts, is_right, are_right};
+ghost use Rattle.vdo_words.specs.Refused.{first_wrong};
 
 use crate::given::{Given, find, first_given};
 use crate::option_names::OptionName;
@@ -31,16 +32,24 @@ fn is_right(names: &[OptionName], option: &Given<'_>) -> bool
     false
 }
 
-/// Whether the words give options of these alone, each at most once and with a value that it may have.
-pub(crate) fn are_right(names: &[OptionName], words: &[String]) -> bool
-    ensures { result ≡ are_right names.now (given (map string_bytes words.now)) }
+/// The name of the first option that isn't one of these, has a value that it may not have, or stands again behind.
+pub(crate) fn first_wrong<'a>(names: &[OptionName], words: &'a [String]) -> Option<&'a str>
+    ensures { option_map (λ word. word.now) result
+        ≡ first_wrong names.now (given (map string_bytes words.now)) }
 {
     let mut left = words;
     'options: while let Some((option, rest)) = first_given(left) {
         if !is_right(names, &option) || find(option.name, rest).is_some() {
-            return false;
+            return Some(option.name);
         }
         left = rest;
     }
-    true
+    None
+}
+
+/// Whether the words give options of these alone, each at most once and with a value that it may have.
+pub(crate) fn are_right(names: &[OptionName], words: &[String]) -> bool
+    ensures { result ≡ are_right names.now (given (map string_bytes words.now)) }
+{
+    first_wrong(names, words).is_none()
 }

@@ -1,10 +1,10 @@
 use Rattle.std.proofs.Common.{◌≡◌, map, string_bytes, length}
 use Rattle.vdo_words.specs.Given.{given}
-use Rattle.vdo_words.specs.Options.{are_right}
-use Rattle.vdo_words.proofs.rules.are_right.Given as goal
+use Rattle.vdo_words.specs.Refused.{first_wrong}
+use Rattle.vdo_words.proofs.rules.first_wrong.Given as goal
 
 abbrev pub invariant-options : goal.invariant-options
-invariant-options l = are_right l.names (given (map string_bytes l.left)) ≡ are_right l.names (given (map string_bytes l.words))
+invariant-options l = first_wrong l.names (given (map string_bytes l.left)) ≡ first_wrong l.names (given (map string_bytes l.words))
 
 abbrev pub decreases-options : goal.decreases-options
 decreases-options l = length l.left
