@@ -50,24 +50,32 @@ const CHANGED: Image = Image {
 };
 
 // The requests of two streams; block 0 to write, since no value matters.
-fn script(alloc: Global) -> Result<Requests, AllocError> {
+fn first_stream(alloc: Global) -> Result<Vec<Request>, AllocError> {
+    let mut asked = Vec::with_capacity(alloc, 4)?;
     let block = BoxedBlock::new(alloc, Block::zero())?;
-    let mut first = Vec::with_capacity(alloc, 4)?;
-    let mut second = Vec::with_capacity(alloc, 3)?;
-    let mut streams = Vec::with_capacity(alloc, 2)?;
-    first.push_reserved(Request::Read(Lba(900)));
-    first.push_reserved(Request::Flush);
-    first.push_reserved(Request::Write {
+    asked.push_reserved(Request::Read(Lba(900)));
+    asked.push_reserved(Request::Flush);
+    asked.push_reserved(Request::Write {
         at: Lba(7),
         block,
         fua: false,
     });
-    first.push_reserved(Request::Read(Lba(1000)));
-    second.push_reserved(Request::Discard(Lba(5)));
-    second.push_reserved(Request::Read(Lba(7)));
-    second.push_reserved(Request::Read(Lba(6)));
-    streams.push_reserved(first);
-    streams.push_reserved(second);
+    asked.push_reserved(Request::Read(Lba(1000)));
+    Ok(asked)
+}
+
+fn second_stream(alloc: Global) -> Result<Vec<Request>, AllocError> {
+    let mut asked = Vec::with_capacity(alloc, 3)?;
+    asked.push_reserved(Request::Discard(Lba(5)));
+    asked.push_reserved(Request::Read(Lba(7)));
+    asked.push_reserved(Request::Read(Lba(6)));
+    Ok(asked)
+}
+
+fn script(alloc: Global) -> Result<Requests, AllocError> {
+    let mut streams = Vec::with_capacity(alloc, 2)?;
+    streams.push_reserved(first_stream(alloc)?);
+    streams.push_reserved(second_stream(alloc)?);
     Ok(Requests::of_streams(streams))
 }
 

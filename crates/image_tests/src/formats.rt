@@ -27,17 +27,17 @@ const BLOCKS: u32 = 92;
 // How many calls make it: two, then one for each of 75 blocks, and three.
 const CALLS: u64 = 80;
 
-// What stands in all blocks at first.
-static FILL: [u8; 4096] = [7; 4096];
+// The byte that stands everywhere at first.
+const FILL: u8 = 7;
 
 // What an image is: 'o' the older one, 'n' none, 'e' the empty one that was wanted, and 'x' anything else.
 type Judged = char;
 
 /// A device of so many blocks.
 pub(crate) fn filled(alloc: Global, blocks: u32) -> Result<MemDisk, AllocError> {
-    let mut all = Vec::new(alloc);
-    for _ in 0..blocks {
-        all.push(Block { bytes: FILL })?;
+    let mut all = zeros(alloc, blocks)?;
+    for block in &mut all {
+        block.bytes = [FILL; 4096];
     }
     MemDisk::from_blocks(alloc, all)
 }
@@ -58,9 +58,9 @@ fn is_image(device: &mut MemDisk, layout: &Layout, image: &[Block]) -> bool {
     for at in 0..device.blocks() {
         let found = bytes_at(device, at);
         let right = match image.get(at as usize) {
-            _ if layout.is_data_block(Pbn(at)) => found == FILL,
+            _ if layout.is_data_block(Pbn(at)) => found == [FILL; 4096],
             Some(block) => found == block.bytes,
-            None => image.is_empty() || found == FILL,
+            None => image.is_empty() || found == [FILL; 4096],
         };
         if !right {
             return false;

@@ -63,8 +63,8 @@ const NEW_ABOVE: PageId = PageId { tree: 1, ..ABOVE };
 // Two addresses are mapped.
 const LEAF_SLOTS: &[(u16, Mapping)] = &[(5, At(Pbn(74))), (6, At(Pbn(75))), (8, Zero)];
 
-/// The leaf of the first addresses stands at block 73. The slab's journal has an update that its counter includes.
-pub const CLOSED: Image = Image {
+// The images `CLOSED` and `HIGH`, from which others differ: a static can't be the base of one.
+const ENDED: Image = Image {
     geometry: SMALL,
     clean: true,
     start: 6,
@@ -75,8 +75,11 @@ pub const CLOSED: Image = Image {
     updates: &[(2990, 2)],
 };
 
+/// The leaf of the first addresses stands at block 73. The slab's journal has an update that its counter includes.
+pub static CLOSED: Image = ENDED;
+
 /// The same with a session that wasn't closed.
-pub const UNCLEAN: Image = Image {
+pub static UNCLEAN: Image = Image {
     clean: false,
     journal: &[
         (5, 5, &[]),
@@ -97,11 +100,11 @@ pub const UNCLEAN: Image = Image {
             ],
         ),
     ],
-    ..CLOSED
+    ..ENDED
 };
 
 /// That session made a leaf of tree 1 at block 77, and mapped its first address.
-pub const GROWN: Image = Image {
+pub static GROWN: Image = Image {
     clean: false,
     journal: &[
         (5, 5, &[]),
@@ -126,11 +129,10 @@ pub const GROWN: Image = Image {
         (LEAF, 73, LEAF_SLOTS),
         (NEW_LEAF, 77, &[]),
     ],
-    ..CLOSED
+    ..ENDED
 };
 
-/// A page stands between the root and the leaf, at block 77.
-pub const HIGH: Image = Image {
+const ENDED_HIGH: Image = Image {
     geometry: TALL,
     pages: &[
         (TOP, 9, &[(0, At(Pbn(77)))]),
@@ -138,11 +140,14 @@ pub const HIGH: Image = Image {
         (LEAF, 73, LEAF_SLOTS),
     ],
     counters: &[(0, 1), (1, 1), (2, 1), (4, 1)],
-    ..CLOSED
+    ..ENDED
 };
 
+/// A page stands between the root and the leaf, at block 77.
+pub static HIGH: Image = ENDED_HIGH;
+
 /// The same with a session that made two pages of tree 1, and wasn't closed.
-pub const HIGH_GROWN: Image = Image {
+pub static HIGH_GROWN: Image = Image {
     clean: false,
     journal: &[
         (5, 5, &[]),
@@ -168,7 +173,7 @@ pub const HIGH_GROWN: Image = Image {
         (NEW_ABOVE, 79, &[]),
         (NEW_LEAF, 78, &[]),
     ],
-    ..HIGH
+    ..ENDED_HIGH
 };
 
 /// The blocks of this image. The slab's counters stand behind its data blocks, and its journal behind them.

@@ -1,5 +1,7 @@
 use crate::images::LEAF;
-use blk_base::{CommittedEntry, Entry, Geometry, Lba, Mapping, Mappings, PageId, Pbn, Point};
+use blk_base::{
+    Block, CommittedEntry, Entry, Geometry, Lba, Mapping, Mappings, PageId, Pbn, Point,
+};
 use page_codec::{PageFault, PageHead};
 use replay_map::{Changes, Link, links_of, read_page};
 use std::alloc::{AllocError, Global};
@@ -100,13 +102,8 @@ const HEAD: PageHead = PageHead {
 // What slots 4, 5 and 6 say.
 type Said = Result<[Mapping; 3], PageFault>;
 
-// What is read of it, with some other bytes.
-fn read(
-    alloc: Global,
-    others: &[(usize, u8)],
-    window: &[CommittedEntry],
-) -> Result<Said, AllocError> {
-    let changes = Changes::of(alloc, window)?;
+// Its block, with some other bytes.
+fn block_with(others: &[(usize, u8)]) -> Block {
     let slots = [(4, Mapping::Zero), (5, Mapping::At(Pbn(88)))];
     let mut block = page_block(HEAD.geometry, HEAD.page, 100, &slots);
     for &(at, byte) in others {
@@ -114,6 +111,17 @@ fn read(
             *into = byte;
         }
     }
+    block
+}
+
+// What is read of it, with some other bytes.
+fn read(
+    alloc: Global,
+    others: &[(usize, u8)],
+    window: &[CommittedEntry],
+) -> Result<Said, AllocError> {
+    let block = block_with(others);
+    let changes = Changes::of(alloc, window)?;
     let mut into = Mappings::new();
     Ok(match read_page(&block, &HEAD, &changes, &mut into) {
         Ok(()) => Ok([into.get(4), into.get(5), into.get(6)]),

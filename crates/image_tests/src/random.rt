@@ -65,11 +65,21 @@ fn change(blocks: &mut [Block], state: &mut u64) {
 
 // Whether the answer is as an audit says, which finds more where an image is recovered, and where it isn't closed.
 fn is_alike(clean: bool, answer: Answer, audit: Answer) -> bool {
+    if clean {
+        return answer == audit || answer == Err(ImageFault::Unclean);
+    }
     match answer {
-        Err(ImageFault::Unclean) if clean => true,
-        Ok(None) => !clean,
-        Ok(Some(_)) if !clean => matches!(audit, Ok(_) | Err(ImageFault::Counts { .. })),
-        _ => answer == audit,
+        Ok(None) => true,
+        Ok(Some(_)) => is_counted(audit),
+        Err(_) => answer == audit,
+    }
+}
+
+// Whether an audit has come to count its blocks.
+fn is_counted(audit: Answer) -> bool {
+    match audit {
+        Ok(_) => true,
+        Err(fault) => matches!(fault, ImageFault::Counts { .. }),
     }
 }
 

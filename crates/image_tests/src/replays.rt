@@ -4,6 +4,7 @@ ghost use Rattle.blk_base.specs.Regions.{needed_blocks};
 ghost use Rattle.disk_model.specs.Fuses.{HasNotCut};
 ghost use Rattle.disk_model.specs.Memory.{seen_of};
 
+use crate::bent_images::{Change, put_changes};
 use crate::images::{
     ABOVE as FIRST_ROOT, Image, Journal, LEAF as FIRST_LEAF, TOP as HIGH_ROOT, blocks_of,
 };
@@ -25,14 +26,8 @@ use test_images::Page;
 // logical size is 1000: addresses 812 to 999 have the first leaf of tree 1.
 
 // The height, the session's first sequence, the journal, the pages (other roots have no mappings), and bytes that are put
-// elsewhere: a block, the number of the byte, and the byte.
-type Written = (
-    u32,
-    u64,
-    Journal,
-    &'static [Page],
-    &'static [(usize, usize, u8)],
-);
+// elsewhere.
+type Written = (u32, u64, Journal, &'static [Page], &'static [Change]);
 
 // The first links, changes and mapped blocks (0 where there are no more), the last sequence and the window's length.
 type Found = (
@@ -44,6 +39,18 @@ type Found = (
 );
 
 type Replayed = Result<Found, ImageFault>;
+
+// The same as a row has it.
+type Wanted = Result<
+    (
+        &'static [Link],
+        &'static [SlotChange],
+        &'static [Pbn],
+        u64,
+        u32,
+    ),
+    ImageFault,
+>;
 
 // The roots and leaves of the first two trees. At height 3 the page above the first leaves has the name of the first root at
 // height 2.
@@ -130,23 +137,22 @@ const ENTRIES: &[Entry] = &[
     },
 ];
 
-const ROWS: [(Written, Replayed); 16] = [
+static ROWS: [(Written, Wanted); 16] = [
     (
         (2, 6, &[], PAGES, &[]),
         Ok((
-            [
-                Some(Link {
+            &[
+                Link {
                     page: FIRST_LEAF,
                     at: Pbn(90),
-                }),
-                Some(Link {
+                },
+                Link {
                     page: SECOND_LEAF,
                     at: Pbn(91),
-                }),
-                None,
+                },
             ],
-            [None; 3],
-            [86, 86, 87, 0, 0],
+            &[],
+            &[Pbn(86), Pbn(86), Pbn(87)],
             5,
             0,
         )),
@@ -154,35 +160,34 @@ const ROWS: [(Written, Replayed); 16] = [
     (
         (2, 6, &[(6, 6, ENTRIES)], PAGES, &[]),
         Ok((
-            [
-                Some(Link {
+            &[
+                Link {
                     page: FIRST_LEAF,
                     at: Pbn(90),
-                }),
-                Some(Link {
+                },
+                Link {
                     page: SECOND_LEAF,
                     at: Pbn(92),
-                }),
-                None,
+                },
             ],
-            [
-                Some(SlotChange {
+            &[
+                SlotChange {
                     page: FIRST_LEAF,
                     slot: 5,
                     mapping: At(Pbn(89)),
-                }),
-                Some(SlotChange {
+                },
+                SlotChange {
                     page: FIRST_LEAF,
                     slot: 6,
                     mapping: Mapping::Unmapped,
-                }),
-                Some(SlotChange {
+                },
+                SlotChange {
                     page: SECOND_ROOT,
                     slot: 0,
                     mapping: At(Pbn(92)),
-                }),
+                },
             ],
-            [89, 86, 88, 0, 0],
+            &[Pbn(89), Pbn(86), Pbn(88)],
             6,
             4,
         )),
@@ -270,31 +275,29 @@ const ROWS: [(Written, Replayed); 16] = [
             &[],
         ),
         Ok((
-            [
-                Some(Link {
+            &[
+                Link {
                     page: FIRST_LEAF,
                     at: Pbn(90),
-                }),
-                Some(Link {
+                },
+                Link {
                     page: SECOND_LEAF,
                     at: Pbn(91),
-                }),
-                None,
+                },
             ],
-            [
-                Some(SlotChange {
+            &[
+                SlotChange {
                     page: FIRST_LEAF,
                     slot: 5,
                     mapping: At(Pbn(100)),
-                }),
-                Some(SlotChange {
+                },
+                SlotChange {
                     page: FIRST_LEAF,
                     slot: 7,
                     mapping: At(Pbn(95)),
-                }),
-                None,
+                },
             ],
-            [100, 95, 86, 87, 0],
+            &[Pbn(100), Pbn(95), Pbn(86), Pbn(87)],
             17,
             6,
         )),
@@ -316,30 +319,26 @@ const ROWS: [(Written, Replayed); 16] = [
             &[],
         ),
         Ok((
-            [
-                Some(Link {
+            &[
+                Link {
                     page: FIRST_ROOT,
                     at: Pbn(90),
-                }),
-                Some(Link {
+                },
+                Link {
                     page: FIRST_LEAF,
                     at: Pbn(92),
-                }),
-                Some(Link {
+                },
+                Link {
                     page: NEXT_LEAF,
                     at: Pbn(91),
-                }),
+                },
             ],
-            [
-                Some(SlotChange {
-                    page: FIRST_ROOT,
-                    slot: 0,
-                    mapping: At(Pbn(92)),
-                }),
-                None,
-                None,
-            ],
-            [88, 87, 0, 0, 0],
+            &[SlotChange {
+                page: FIRST_ROOT,
+                slot: 0,
+                mapping: At(Pbn(92)),
+            }],
+            &[Pbn(88), Pbn(87)],
             6,
             1,
         )),
@@ -361,54 +360,53 @@ const ROWS: [(Written, Replayed); 16] = [
             &[],
             &[],
         ),
-        Ok(([None; 3], [None; 3], [0; 5], 6, 1)),
+        Ok((&[], &[], &[], 6, 1)),
     ),
     // A slot that can't be read isn't judged where the window replaces it.
     (
-        (2, 6, &[(6, 6, ENTRIES)], PAGES, &[(90, 61, 2)]),
+        (2, 6, &[(6, 6, ENTRIES)], PAGES, &[(90, 61, 1, 2)]),
         Ok((
-            [
-                Some(Link {
+            &[
+                Link {
                     page: FIRST_LEAF,
                     at: Pbn(90),
-                }),
-                Some(Link {
+                },
+                Link {
                     page: SECOND_LEAF,
                     at: Pbn(92),
-                }),
-                None,
+                },
             ],
-            [
-                Some(SlotChange {
+            &[
+                SlotChange {
                     page: FIRST_LEAF,
                     slot: 5,
                     mapping: At(Pbn(89)),
-                }),
-                Some(SlotChange {
+                },
+                SlotChange {
                     page: FIRST_LEAF,
                     slot: 6,
                     mapping: Mapping::Unmapped,
-                }),
-                Some(SlotChange {
+                },
+                SlotChange {
                     page: SECOND_ROOT,
                     slot: 0,
                     mapping: At(Pbn(92)),
-                }),
+                },
             ],
-            [89, 86, 88, 0, 0],
+            &[Pbn(89), Pbn(86), Pbn(88)],
             6,
             4,
         )),
     ),
     (
-        (2, 6, &[], PAGES, &[(90, 61, 2)]),
+        (2, 6, &[], PAGES, &[(90, 61, 1, 2)]),
         Err(ImageFault::Page {
             at: Pbn(90),
             fault: PageFault::Compressed(5),
         }),
     ),
     (
-        (2, 6, &[], PAGES, &[(11, 0, 0)]),
+        (2, 6, &[], PAGES, &[(11, 0, 1, 0)]),
         Err(ImageFault::Page {
             at: Pbn(11),
             fault: PageFault::Header,
@@ -416,14 +414,14 @@ const ROWS: [(Written, Replayed); 16] = [
     ),
     // The leaf below the first root comes before the second root, whatever their blocks are.
     (
-        (2, 6, &[], PAGES, &[(10, 0, 0), (90, 62, 84)]),
+        (2, 6, &[], PAGES, &[(10, 0, 1, 0), (90, 62, 1, 84)]),
         Err(ImageFault::Page {
             at: Pbn(90),
             fault: PageFault::OutOfRange(5),
         }),
     ),
     (
-        (2, 6, &[], TURNED, &[(91, 0, 0), (95, 0, 0)]),
+        (2, 6, &[], TURNED, &[(91, 0, 1, 0), (95, 0, 1, 0)]),
         Err(ImageFault::Page {
             at: Pbn(95),
             fault: PageFault::Header,
@@ -460,7 +458,7 @@ const ROWS: [(Written, Replayed); 16] = [
         Err(ImageFault::SharedPage { at: Pbn(91) }),
     ),
     (
-        (2, 6, &[], SHARED, &[(68, 4, 9)]),
+        (2, 6, &[], SHARED, &[(68, 4, 1, 9)]),
         Err(ImageFault::Page {
             at: Pbn(68),
             fault: PageFault::Header,
@@ -468,40 +466,61 @@ const ROWS: [(Written, Replayed); 16] = [
     ),
     // The window's fault comes before that of a page.
     (
-        (2, 6, &[(7, 6, ENTRIES)], PAGES, &[(9, 0, 0)]),
+        (2, 6, &[(7, 6, ENTRIES)], PAGES, &[(9, 0, 1, 0)]),
         Err(ImageFault::Window { sequence: 6 }),
     ),
     (
-        (2, (1 << 54) - 1, &[], PAGES, &[(9, 0, 0)]),
+        (2, (1 << 54) - 1, &[], PAGES, &[(9, 0, 1, 0)]),
         Err(ImageFault::Super(SuperFault::BadField(Field::Start))),
     ),
 ];
 
 // What was found, as far as it is compared; there are no more links and changes than three, and no more mapped blocks than
 // five.
-fn shown(map: &RecoveredMap) -> Found {
-    let mut mapped = [0; 5];
-    for (shown, block) in mapped.iter_mut().zip(&map.mapped) {
-        *shown = block.0;
-    }
+fn shown(links: &[Link], slots: &[SlotChange], mapped: &[Pbn], last: u64, entries: u32) -> Found {
+    let blocks = [
+        block_at(mapped, 0),
+        block_at(mapped, 1),
+        block_at(mapped, 2),
+        block_at(mapped, 3),
+        block_at(mapped, 4),
+    ];
     let links = [
-        map.links.first().copied(),
-        map.links.get(1).copied(),
-        map.links.get(2).copied(),
+        links.first().copied(),
+        links.get(1).copied(),
+        links.get(2).copied(),
     ];
     let slots = [
-        map.slots.first().copied(),
-        map.slots.get(1).copied(),
-        map.slots.get(2).copied(),
+        slots.first().copied(),
+        slots.get(1).copied(),
+        slots.get(2).copied(),
     ];
-    (links, slots, mapped, map.last, map.entries)
+    (links, slots, blocks, last, entries)
 }
 
-fn device_of(alloc: Global, written: Written) -> Result<MemDisk, AllocError>
-    ensures { IfOk result (λ device. HasNotCut device.fuse) }
-{
-    let (height, start, journal, pages, others) = written;
-    let image = Image {
+fn shown_of(map: &RecoveredMap) -> Found {
+    shown(&map.links, &map.slots, &map.mapped, map.last, map.entries)
+}
+
+fn wanted_by(wanted: Wanted) -> Replayed {
+    match wanted {
+        Ok((links, slots, mapped, last, entries)) => {
+            Ok(shown(links, slots, mapped, last, entries))
+        }
+        Err(fault) => Err(fault),
+    }
+}
+
+// The block at a place, or 0.
+fn block_at(mapped: &[Pbn], place: usize) -> u32 {
+    match mapped.get(place) {
+        Some(block) => block.0,
+        None => 0,
+    }
+}
+
+fn image_of((height, start, journal, pages, _): Written) -> Image {
+    Image {
         geometry: Geometry {
             height,
             ..Geometry::DEFAULT
@@ -513,15 +532,14 @@ fn device_of(alloc: Global, written: Written) -> Result<MemDisk, AllocError>
         counters: &[],
         commits: &[],
         updates: &[],
-    };
-    let mut blocks = blocks_of(alloc, &image)?;
-    for &(at, place, byte) in others {
-        if let Some(block) = blocks.get_mut(at)
-            && let Some(into) = block.bytes.get_mut(place)
-        {
-            *into = byte;
-        }
     }
+}
+
+fn device_of(alloc: Global, written: Written) -> Result<MemDisk, AllocError>
+    ensures { IfOk result (λ device. HasNotCut device.fuse) }
+{
+    let mut blocks = blocks_of(alloc, &image_of(written))?;
+    put_changes(&mut blocks, written.4);
     MemDisk::from_blocks(alloc, blocks)
 }
 
@@ -542,7 +560,7 @@ fn found(alloc: Global, head: &Super, device: &mut MemDisk, with_window: bool) -
         replay(alloc, head, device)
     };
     match replayed {
-        Ok(map) => Ok(shown(&map)),
+        Ok(map) => Ok(shown_of(&map)),
         Err(fault) => Err(fault),
     }
 }
@@ -567,7 +585,7 @@ fn find(
 fn other_row(alloc: Global, with_window: bool) -> Result<Option<(usize, Replayed)>, AllocError> {
     for (i, &(written, wanted)) in ROWS.iter().enumerate() {
         let (found, _) = find(alloc, written, 1000, with_window)?;
-        if found != wanted {
+        if found != wanted_by(wanted) {
             return Ok(Some((i, found)));
         }
     }
@@ -584,17 +602,25 @@ fn images_are_replayed(rt: HostRuntime) -> Result<(), Fail> {
 // After so many calls the next one fails: of the journal's 8 blocks, of the 60 roots, or the last one, of a leaf.
 static CUTS: [u64; 4] = [0, 7, 8, 69];
 
+// The first of them by which something else is found.
+fn other_cut(
+    alloc: Global,
+    written: Written,
+) -> Result<Option<(u64, Replayed, usize)>, AllocError> {
+    for passes in CUTS {
+        let (found, calls) = find(alloc, written, passes, false)?;
+        if found != Err(ImageFault::Device) || calls as u64 != passes + 1 {
+            return Ok(Some((passes, found, calls)));
+        }
+    }
+    Ok(None)
+}
+
 #[test]
 fn a_page_that_is_not_read_is_told(rt: HostRuntime) -> Result<(), Fail> {
-    let (written, replayed) = ROWS[1];
-    for passes in CUTS {
-        let found = find(rt.alloc(), written, passes, false)?;
-        assert_eq!(rt;
-            (passes, found),
-            (passes, (Err(ImageFault::Device), passes as usize + 1))
-        );
-    }
+    let (written, wanted) = ROWS[1];
+    let cut = other_cut(rt.alloc(), written)?;
     let whole = find(rt.alloc(), written, 70, false)?;
-    assert_eq!(rt; whole, (replayed, 70));
+    assert_eq!(rt; (cut, whole), (None, (wanted_by(wanted), 70)));
     Ok(())
 }

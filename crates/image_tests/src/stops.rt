@@ -7,15 +7,16 @@ ghost use Rattle.disk_model.specs.Memory.{seen_of};
 use crate::images::blocks_of;
 use crate::rows::{ROWS, Row};
 use audit::audit;
-use blk_base::{Pbn, Super};
+use blk_base::{Block, Pbn, Super};
 use disk_model::{Call, MemDisk};
 use force_rebuild::force;
 use image_model::ImageFault;
 use image_opening::read_head;
 use rebuild::{Recovered, recover};
 use replay_counts::counts;
-use replay_map::{Link, replay};
+use replay_map::{Link, RecoveredMap, replay};
 use std::alloc::{AllocError, Global};
+use std::process::Abort;
 use std::test::Fail;
 
 /// What an image says: its links, the blocks of its addresses, and its stored counts, none where they can't be read.
@@ -41,16 +42,31 @@ fn read_with(alloc: Global, head: &Super, device: &mut MemDisk) -> Option<Said>
     requires below { head.now.start < 2 ^ 54 }
     requires room { needed_blocks head.now.geometry ≤ (seen_of device.old).size }
 {
-    let map = replay(alloc, head, device).ok()?;
-    let counts = match counts(alloc, head, device) {
+    let Ok(map) = replay(alloc, head, device) else {
+        return None;
+    };
+    Some(made_of(map, counted(alloc, head, device)))
+}
+
+// The stored counts, none where they can't be read.
+fn counted(alloc: Global, head: &Super, device: &mut MemDisk) -> Vec<u16>
+    requires sizes { IsGeometry head.now.geometry }
+    requires some { 1 ≤ head.now.start }
+    requires below { head.now.start < 2 ^ 54 }
+    requires room { needed_blocks head.now.geometry ≤ (seen_of device.old).size }
+{
+    match counts(alloc, head, device) {
         Ok(found) => found.counts,
         Err(_) => Vec::new(alloc),
-    };
-    Some(Said {
+    }
+}
+
+fn made_of(map: RecoveredMap, counts: Vec<u16>) -> Said {
+    Said {
         links: map.links,
         mapped: map.mapped,
         counts,
-    })
+    }
 }
 
 // Whether an image says the same as before; of one that is rebuilt the stored counts aren't asked.
@@ -73,11 +89,17 @@ pub(crate) fn device_of(alloc: Global, row: &Row, forced: bool) -> Result<MemDis
 {
     let mut blocks = blocks_of(alloc, &row.image)?;
     if forced {
-        for block in blocks.iter_mut().rev().take(3) {
-            block.bytes = [255; 4096];
-        }
+        put_noise(&mut blocks);
     }
     MemDisk::from_blocks(alloc, blocks)
+}
+
+// Puts noise into the last three blocks.
+fn put_noise(blocks: &mut [Block]) {
+    let first = blocks.len().saturating_sub(3);
+    for block in &mut blocks[first..] {
+        block.bytes = [255; 4096];
+    }
 }
 
 /// How many entries an image is recovered by, none where it is closed; or how many data blocks are used after a forced
@@ -246,19 +268,31 @@ fn calls_are_few(rt: HostRuntime) -> Result<(), Fail> {
 // A stop: how many calls went on, and the number of the image that it leaves.
 type Stop = (u64, u64);
 
+// What the stop leaves, and whether the first time had come to its end.
+fn left_by(
+    alloc: Global,
+    row: &Row,
+    forced: bool,
+    (passes, number): Stop,
+) -> Result<(bool, MemDisk), AllocError> {
+    let mut image = device_of(alloc, row, forced)?;
+    image.set_fuse(passes);
+    let ended = mend(alloc, forced, &mut image).is_ok();
+    let left = image.pick_image(alloc, number)?;
+    Ok((ended, left))
+}
+
 // What is left by the stop, mended again; and whether the first time had come to its end.
 fn stopped(
     alloc: Global,
     row: &Row,
     forced: bool,
     before: &Option<Said>,
-    (passes, number): Stop,
+    stop: Stop,
 ) -> Result<(bool, Outcome), AllocError> {
-    let mut image = device_of(alloc, row, forced)?;
-    image.set_fuse(passes);
-    let ended = mend(alloc, forced, &mut image).is_ok();
-    let mut left = image.pick_image(alloc, number)?;
-    Ok((ended, mend_twice(alloc, forced, before, &mut left)))
+    let (ended, mut left) = left_by(alloc, row, forced, stop)?;
+    let found = mend_twice(alloc, forced, before, &mut left);
+    Ok((ended, found))
 }
 
 // The first stop that leaves something else, from this call on.
@@ -297,28 +331,30 @@ fn other_image(alloc: Global, number: u64) -> Result<Option<(usize, Stop, Outcom
 
 #[test]
 fn what_was_certain_is_recovered(rt: HostRuntime) -> Result<(), Fail> {
-    assert_eq!(rt; other_image(rt.alloc(), 0)?, None);
-    Ok(())
+    all_are_recovered(&rt, rt.alloc(), 0)
 }
 
 #[test]
 fn what_was_written_is_recovered(rt: HostRuntime) -> Result<(), Fail> {
-    assert_eq!(rt; other_image(rt.alloc(), 1)?, None);
-    Ok(())
+    all_are_recovered(&rt, rt.alloc(), 1)
 }
 
 #[test]
 fn what_was_torn_is_recovered(rt: HostRuntime) -> Result<(), Fail> {
-    assert_eq!(rt; other_image(rt.alloc(), 7)?, None);
+    all_are_recovered(&rt, rt.alloc(), 7)
+}
+
+fn all_are_recovered<R: Abort>(rt: &R, alloc: Global, number: u64) -> Result<(), Fail> {
+    assert_eq!(rt; other_image(alloc, number)?, None);
     Ok(())
 }
 
 // From the first call on that isn't a read: a stop before leaves the image as it was, which is rebuilt above.
 #[test]
 fn what_is_left_is_rebuilt(rt: HostRuntime) -> Result<(), Fail> {
-    let Some(row) = ROWS.get(STOPPED) else {
-        return Ok(());
-    };
-    assert_eq!(rt; other_stop(rt.alloc(), row, true, 72, &[0, 1, 7])?, None);
+    assert_eq!(rt;
+        other_stop(rt.alloc(), &ROWS[STOPPED], true, 72, &[0, 1, 7])?,
+        None
+    );
     Ok(())
 }

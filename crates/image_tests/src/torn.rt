@@ -1,3 +1,5 @@
+ghost use Rattle.std.specs.Prelude.{◌<◌};
+
 use crate::rows::{ROWS, Row};
 use crate::stops::{Outcome, Said, calls_made, device_of, is_right, mend_twice, read_image};
 use blk_base::Block;
@@ -12,12 +14,20 @@ const LAST: u64 = 14;
 /// Of a block that is being written one sector is new and the others are old, or the other way round.
 const PARTS: u32 = 16;
 
+/// Puts a sector of another block into a block.
+pub(crate) fn put_sector(into: &mut Block, from: &Block, sector: usize)
+    requires { sector < 8 }
+{
+    let start = 512 * sector;
+    into.bytes[start..start + 512].copy_from_slice(&from.bytes[start..start + 512]);
+}
+
 // Puts the new sectors of a part into a block.
 fn put_part(into: &mut Block, new: &Block, part: u32) {
-    for sector in 0..8 {
-        if (part % 8 == sector) == (part < 8) {
-            let start = 512 * sector as usize;
-            into.bytes[start..start + 512].copy_from_slice(&new.bytes[start..start + 512]);
+    for sector in 0..8_usize {
+        let is_named = (part % 8) as usize == sector;
+        if is_named == (part < 8) {
+            put_sector(into, new, sector);
         }
     }
 }

@@ -1,3 +1,4 @@
+use crate::torn::put_sector;
 use blk_base::{Block, Entry, Geometry, Lba, Mapping, PageId, Pbn, Super};
 use disk_model::{Disk, MemDisk};
 use image_layout::{Field, SuperFault};
@@ -152,10 +153,9 @@ fn windows_are_found(rt: HostRuntime) {
 
 // Makes a block of which some sectors are those of another one: sector `i` where bit `i` is 0.
 fn tear(into: &mut Block, new: &Block, old: &Block, bits: u32) {
-    for i in 0..8 {
-        let from = if bits & (1 << i) != 0 { new } else { old };
-        let start = 512 * i;
-        into.bytes[start..start + 512].copy_from_slice(&from.bytes[start..start + 512]);
+    for sector in 0..8_usize {
+        let from = if bits & (1 << sector) != 0 { new } else { old };
+        put_sector(into, from, sector);
     }
 }
 
