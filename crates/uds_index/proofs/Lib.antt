@@ -1,12 +1,12 @@
-mod RoomLaws
-mod BookLaws
-mod SearchLaws
+pub mod RoomLaws
+pub mod BookLaws
+pub mod SearchLaws
 mod CacheLaws
 pub mod LookRows
 mod TagRows
-mod ListLaws
-mod PlaceLaws
-mod KeepLaws
+pub mod ListLaws
+pub mod PlaceLaws
+pub mod KeepLaws
 mod AddLaws
 mod LoadLaws
 mod LoadRows

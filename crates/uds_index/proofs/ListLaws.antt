@@ -1,6 +1,6 @@
 -- The list of tags: what is left out of it, added to it and found in it.
-use Rattle.std.specs.Prelude.{ℕ, zero, suc, ◌≡◌, ◌≢◌, ◌<◌, ◌≤◌, ◌+◌, ◌-◌, ◌*◌, ◌||◌, ◌&&◌, not, Bool, true, false, List, [], ◌∷◌, ◌++◌, length, map, take, drop, filter, All, AllPairs, Contains, nat_eq, nat_le, nat_lt, cond, slice_index_or, refl}
-use Rattle.std.specs.List.{list_any, dedup}
+use Rattle.std.specs.Prelude.{ℕ, zero, suc, ◌≡◌, ◌≢◌, ◌<◌, ◌≤◌, ◌+◌, ◌-◌, ◌*◌, ◌||◌, ◌&&◌, not, Bool, true, false, List, [], ◌∷◌, ◌++◌, length, map, take, drop, filter, All, AllPairs, Contains, nat_eq, nat_le, nat_lt, cond, slice_index_or, Option, Some, refl}
+use Rattle.std.specs.List.{list_any, dedup, slice_get}
 use Rattle.std.specs.List.Sorted.{IsStrictlyIncreasing, IsPartitionPoint, IsPermutation, IsSorted}
 use Rattle.std.specs.Ordering.{nat_cmp}
 use Rattle.std.proofs.Common.{sym, ◌∙◌, ap, subst, arith, length-drop}
@@ -14,10 +14,11 @@ use Rattle.std.proofs.lemmas.Map.Keys.{IsStrictlyIncreasing-dedup}
 use Rattle.block_names.specs.Names.{tag_of}
 use Rattle.uds_chapters.specs.declared.entry.Record.{Record}
 use Rattle.uds_chapters.specs.Chapters.{Numbered}
-use Rattle.index_advice.specs.Books.{has_tag, is_same_place, chapters_elsewhere}
+use Rattle.index_advice.specs.Books.{Book, number_after, has_tag, is_same_place, chapters_elsewhere}
 use Rattle.uds_index.specs.declared.tags.Tagged.{Tagged}
 use Rattle.uds_index.proofs.SearchLaws.{take_few, drop_here}
-use Rattle.uds_index.specs.Tags.{AreTagsRising, AreListed, AreTagsOf, ArePartedAt, tagged_with, with_tag, with_tags}
+use Rattle.uds_index.specs.Places.{WasClosed}
+use Rattle.uds_index.specs.Tags.{AreTagsRising, AreListed, IsListed, IsNewestToList, Listed, AreTagsOf, ArePartedAt, tagged_with, with_tag, with_tags}
 
 -- what is left out by numbers
 
@@ -477,3 +478,50 @@ pub listed_next : (kept : List Numbered) (k : ℕ) (one : Numbered) (tags : List
     → AreListed (one ∷ drop (suc k) kept) tags → AreListed (drop k kept) tags
 listed_next kept k one tags inside at listed =
     subst (λ (cs : List Numbered). AreListed cs tags) (ap (λ (c : Numbered). c ∷ drop (suc k) kept) at ∙ sym (drop_here kept k one inside)) listed
+
+-- the newest chapter is listed in place of others
+
+some_is : (a b : Numbered) → ◌≡◌ {A = Option Numbered} (Some a) (Some b) → a ≡ b
+some_is a b same = cc
+
+module _ (book : Book) (list : Listed) (first : Numbered) (to : IsNewestToList book list) (is : slice_get book.kept 0 ≡ Some first) where
+  newest_is : first ≡ to.newest
+  newest_is = some_is first to.newest (sym is ∙ ap (λ (cs : List Numbered). slice_get cs 0) to.kept)
+
+  pub newest_kept : first ∷ chapters_elsewhere book.places first.number to.older ≡ book.kept
+  newest_kept = ap (λ (c : Numbered). c ∷ chapters_elsewhere book.places c.number to.older) newest_is ∙ sym to.kept
+
+  pub newest_room : (left : List Tagged) → AreListed (chapters_elsewhere book.places first.number to.older) left → length book.kept ≤ 4 * book.places → length left + 680 ≤ list.room
+  newest_room left listed few =
+      let less = listed_few (chapters_elsewhere book.places first.number to.older) left listed in
+      let count : length book.kept ≡ suc (length (chapters_elsewhere book.places first.number to.older)) = ap length (sym newest_kept) in
+      let all = to.room in
+      omega (arith, less, count, all, few)
+
+  pub newest_listed : (new : Listed) → AreListed (first ∷ chapters_elsewhere book.places first.number to.older) new.tags → list.room ≡ new.room → IsListed book new
+  newest_listed new listed same = record {
+    listed = subst (λ (cs : List Numbered). AreListed cs new.tags) newest_kept listed;
+    room = let all = to.room in omega (arith, all, same);
+  }
+
+-- a chapter that was closed is to be listed
+pub closed_to_list : (was : Bool) (old new : Book) (list : Listed) → was ≡ true → WasClosed was old new → IsListed old list → IsNewestToList new list
+closed_to_list false old new list is how listed = absurd (false≢true is)
+closed_to_list true old new list is how listed = record {
+  older = old.kept;
+  newest = newest;
+  kept = how.1 ∙ ap (λ (places : ℕ). newest ∷ chapters_elsewhere places newest.number old.kept) (sym how.0);
+  listed = listed.listed;
+  room = let room = listed.room in let same = how.0 in omega (arith, room, same);
+}
+  where
+    newest : Numbered
+    newest = record { number = number_after old.kept; records = old.unclosed }
+
+-- and else the list is that of the same chapters
+pub still_listed : (was : Bool) (old new : Book) (list : Listed) → was ≡ false → WasClosed was old new → IsListed old list → IsListed new list
+still_listed true old new list is how listed = absurd (false≢true (sym is))
+still_listed false old new list is how listed = record {
+  listed = subst (λ (cs : List Numbered). AreListed cs list.tags) (sym how.1) listed.listed;
+  room = let room = listed.room in let same = how.0 in omega (arith, room, same);
+}

@@ -27,7 +27,7 @@ place_from number kept place inside point = record {
   behind = λ d within. ltb-false number (slice_index_or kept place d).number (point.1 place d (omega arith) within);
 }
 
-nowhere : (number : ℕ) (kept : List Numbered) → All (λ chapter. chapter.number ≢ number) kept → chapter_of number kept ≡ None
+pub nowhere : (number : ℕ) (kept : List Numbered) → All (λ chapter. chapter.number ≢ number) kept → chapter_of number kept ≡ None
 nowhere number [] all = refl
 nowhere number (one ∷ kept) all =
     rw (ne_eqb one.number number (All-head (λ (c : Numbered). c.number ≢ number) one kept all)) (nowhere number kept (All-tail (λ (c : Numbered). c.number ≢ number) one kept all))

@@ -8,7 +8,6 @@ use Rattle.blk_base.specs.Regions.{first_index_of}
 use Rattle.disk_model.specs.Seen.{Seen}
 use Rattle.disk_model.specs.Trust.{Trust}
 use Rattle.disk_model.specs.Since.{WereRead, NextFailed}
-use Rattle.uds_chapters.specs.declared.entry.Record.{Record}
 use Rattle.uds_chapters.specs.Chapters.{Numbered, location_of}
 use Rattle.uds_chapters.specs.Pages.{IsPage}
 use Rattle.index_advice.specs.Books.{Book}

@@ -3,7 +3,7 @@ use Rattle.std.specs.Prelude.{ℕ, ◌≡◌, ◌*◌, ◌<◌, ◌≤◌, Bool,
 use Rattle.std.specs.List.{list_any}
 use Rattle.std.specs.List.Sorted.{IsNonDecreasingBy, IsStrictlyIncreasing}
 use Rattle.uds_chapters.specs.Chapters.{Numbered}
-use Rattle.index_advice.specs.Books.{Book, has_tag}
+use Rattle.index_advice.specs.Books.{Book, has_tag, chapters_elsewhere}
 use Rattle.uds_index.specs.declared.tags.Tagged.{Tagged}
 
 -- tags with the numbers of their chapters, and how many there is room for
@@ -52,3 +52,11 @@ pub record ArePartedAt (tag : ℕ) (tags : List Tagged) (place : ℕ) : Type 0 w
   pub inside : place ≤ length tags
   pub below : All (λ one. one.tag < tag) (take place tags)
   pub behind : All (λ one. tag ≤ one.tag) (drop place tags)
+
+-- the newest chapter of the book is in place of others, of which and of all older ones this is the list
+pub record IsNewestToList (book : Book) (list : Listed) : Type 0 where
+  pub older : List Numbered
+  pub newest : Numbered
+  pub kept : book.kept ≡ newest ∷ chapters_elsewhere book.places newest.number older
+  pub listed : AreListed older list.tags
+  pub room : 2720 * book.places ≤ list.room

@@ -28,11 +28,11 @@ const ASKED_OF_CHAPTER: usize = 3;
 
 /// Where the index stands on the device.
 #[derive(Clone, Copy)]
-pub(crate) struct Region {
+pub struct Region {
     /// The first index block.
-    pub(crate) first: u32,
+    pub first: u32,
     /// How many chapters there is room for.
-    pub(crate) places: u32,
+    pub places: u32,
 }
 
 // What the kept chapters say of a name: the newest record in the four newest that have its tag, or that there is none, or

@@ -34,8 +34,8 @@ pub(crate) fn keep_page(kept: &mut Vec<Chapter>, number: u32, page: &[Record])
     }
 }
 
-// The chapter with this number, which is found by halving.
-pub(crate) fn chapter_of(kept: &[Chapter], number: u32) -> Option<&Chapter>
+/// The chapter with this number, which is found by halving.
+pub fn chapter_of(kept: &[Chapter], number: u32) -> Option<&Chapter>
     requires { AllPairs IsNewer kept.now }
     ensures { option_copied result ≡ chapter_of number kept.now }
 {

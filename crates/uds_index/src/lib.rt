@@ -30,4 +30,9 @@ mod tags;
 mod uds;
 mod volume;
 
+pub use index_search::Region;
+pub use kept_pages::chapter_of;
+pub use loader::load_volume;
+pub use tags::{TagList, Tagged};
 pub use uds::Uds;
+pub use volume::{Volume, is_same_place, list_all};

@@ -64,8 +64,8 @@ impl Uds {
     }
 }
 
-// Reads each index block once, in rising order, and keeps the records of those that hold a page. All memory is taken first.
-fn load_volume<D: Disk>(
+/// Reads each index block once, in rising order, and keeps the records of those that hold a page. All memory is taken first.
+pub fn load_volume<D: Disk>(
     alloc: Global,
     layout: &Layout,
     device: &mut D,

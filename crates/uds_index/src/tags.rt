@@ -1,4 +1,4 @@
-ghost use Rattle.std.specs.Prelude.{◌≡◌, ◌+◌, ◌*◌, ◌<◌, ◌≤◌, ◌++◌, ◌∷◌, [], List, IfOk, length, vec_len, vec_capacity};
+ghost use Rattle.std.specs.Prelude.{◌≡◌, ◌+◌, ◌*◌, ◌<◌, ◌≤◌, ◌++◌, ◌∷◌, [], List, IfOk, filter, nat_le, length, vec_len, vec_capacity};
 ghost use Rattle.std.specs.List.Sorted.{IsStrictlyIncreasing};
 ghost use Rattle.uds_chapters.specs.Chapters.{Numbered};
 ghost use Rattle.index_advice.specs.Books.{chapters_elsewhere};
@@ -16,15 +16,15 @@ const TAGS: usize = 680;
 
 /// A tag that some name of a chapter has, and the chapter's number.
 #[derive(Clone, Copy, PartialEq, Eq)]
-pub(crate) struct Tagged {
-    pub(crate) tag: u32,
-    pub(crate) number: u32,
+pub struct Tagged {
+    pub tag: u32,
+    pub number: u32,
 }
 
 /// The tags of the chapters that are kept, in rising order, those of newer chapters first. There is room for all that it will
 /// have, so that no call asks for memory.
 #[derive(Drop)]
-pub(crate) struct TagList {
+pub struct TagList {
     room: usize,
     tags: Vec<Tagged>,
     // Where a list with one chapter more is put together.
@@ -50,7 +50,7 @@ impl Model for TagList {
 
 impl TagList {
     /// No tag, and room for those of so many chapters.
-    pub(crate) fn new(alloc: Global, chapters: u32) -> Result<TagList, AllocError>
+    pub fn new(alloc: Global, chapters: u32) -> Result<TagList, AllocError>
         ensures { IfOk result (λ list. list ≡ record { room = 680 * chapters; tags = [] }) }
     {
         let room = TAGS * chapters as usize;
@@ -66,7 +66,7 @@ impl TagList {
     }
 
     /// The chapters with this tag, the newest first, which are found by halving.
-    pub(crate) fn with_tag(&self, tag: u32) -> &[Tagged]
+    pub fn with_tag(&self, tag: u32) -> &[Tagged]
         requires { AreTagsRising self.now.tags }
         ensures { result.now ≡ tagged_with tag self.now.tags }
     {
@@ -74,7 +74,7 @@ impl TagList {
     }
 
     /// Leaves out the chapters that stand where this one does.
-    pub(crate) fn leave_out(&mut self, places: u32, number: u32)
+    pub fn leave_out(&mut self, places: u32, number: u32)
         requires { 0 < places }
         ensures listed { (kept : List Numbered) → AreListed kept self.old.tags →
             AreListed (chapters_elsewhere places number kept) self.new.tags }
@@ -84,8 +84,24 @@ impl TagList {
             .retain(|one| !is_same_place(places, one.number, number));
     }
 
+    /// Leaves out the chapters that are older than this number.
+    pub fn leave_out_older(&mut self, number: u32)
+        ensures listed { (kept : List Numbered) → AreListed kept self.old.tags →
+            AreListed (filter (λ chapter. nat_le number chapter.number) kept) self.new.tags }
+        ensures room { self.new.room ≡ self.old.room }
+    {
+        self.tags.retain(|one| number <= one.number);
+    }
+
+    /// Leaves out all.
+    pub fn clear(&mut self)
+        ensures { self.new ≡ record self.old { tags = [] } }
+    {
+        self.tags.clear();
+    }
+
     /// Adds the tags of a chapter that is newer than all others.
-    pub(crate) fn add(&mut self, chapter: &Chapter)
+    pub fn add(&mut self, chapter: &Chapter)
         requires rising { AreTagsRising self.old.tags }
         requires room { length self.old.tags + 680 ≤ self.old.room }
         ensures listed { (kept : List Numbered) → AreListed kept self.old.tags →

@@ -134,7 +134,9 @@ impl Advisor for Uds {
         ensures book { Leads self.old.book (Learnt name.now at) self.new.book }
         ensures same { SameLook self.old self.new }
     {
-        self.volume.learn(&mut self.tags, name, at);
+        if self.volume.learn(name, at) {
+            self.volume.list_newest(&mut self.tags);
+        }
     }
 
     fn write_due(&mut self, into: &mut Block) -> Option<Pbn>
@@ -150,7 +152,9 @@ impl Advisor for Uds {
         ensures book { Leads self.old.book Finished self.new.book }
         ensures same { SameLook self.old self.new }
     {
-        self.volume.finish(&mut self.tags);
+        if self.volume.finish() {
+            self.volume.list_newest(&mut self.tags);
+        }
     }
 }
 

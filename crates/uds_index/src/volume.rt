@@ -1,11 +1,13 @@
 ghost use Rattle.std.specs.Prelude.{◌≡◌, ◌+◌, ◌*◌, ◌%◌, ◌<◌, ◌≤◌, ◌^◌, [], ◌++◌, length, IfOk, IfSome, IfNone, vec_len, vec_capacity};
 ghost use Rattle.index_advice.specs.Books.{number_after, chapters_elsewhere, pages_elsewhere, pages_of, closed, added, learnt, finished, is_same_place};
 ghost use Rattle.std.specs.Map.{keys_of};
+ghost use Rattle.uds_chapters.specs.Chapters.{location_of};
 ghost use Rattle.uds_chapters.specs.Names.{AreRising};
 ghost use Rattle.uds_index.specs.Held.{KeepsPage, records_of};
 ghost use Rattle.uds_index.specs.Looks.{AsksOf, Finds};
+ghost use Rattle.uds_index.specs.Places.{IsKept, WasClosed};
 ghost use Rattle.uds_index.specs.Rooms.{count_at, place_of_chapter};
-ghost use Rattle.uds_index.specs.Tags.{AreListed, IsListed};
+ghost use Rattle.uds_index.specs.Tags.{AreListed, IsListed, IsNewestToList};
 ghost use Rattle.index_advice.specs.Advices.{TakesDue, HasDuePage};
 
 use crate::index_search::{Region, find_kept};
@@ -26,7 +28,7 @@ const LAST: u32 = 4_294_967_294;
 /// What the index knows, which contracts see as its book. There is room for all that it will keep, so that no call asks for
 /// memory.
 #[derive(Drop)]
-pub(crate) struct Volume {
+pub struct Volume {
     nonce: u64,
     first: u32,
     places: u32,
@@ -94,42 +96,44 @@ impl Volume {
     }
 
     /// Learns that a block with this name is stored here. Where the open chapter has 680 other names it is closed first; but
-    /// while pages are to be written, and behind the last number, nothing is learnt.
-    pub(crate) fn learn(&mut self, tags: &mut TagList, name: &Name, at: Pbn)
-        requires listed { IsListed self.old tags.old }
+    /// while pages are to be written, and behind the last number, nothing is learnt. Whether a chapter was closed.
+    pub fn learn(&mut self, name: &Name, at: Pbn) -> bool
         ensures learnt { self.new ≡ learnt (record { name = name.now; at = at }) self.old }
-        ensures listed { IsListed self.new tags.new }
+        ensures closed { WasClosed result self.old self.new }
     {
         let Some(number) = next_number(&self.kept) else {
-            return;
+            return false;
         };
         match self.unclosed.add(name, at) {
-            Added::New | Added::Replaced => {}
+            Added::New | Added::Replaced => false,
             Added::Full => {
-                if self.due.is_empty() {
-                    self.close(tags, number);
-                    self.add(name, at);
+                if !self.due.is_empty() {
+                    return false;
                 }
+                self.close(number);
+                self.add(name, at);
+                true
             }
         }
     }
 
-    /// Closes the open chapter, if it has a record and a number, so that its pages are to be written.
-    pub(crate) fn finish(&mut self, tags: &mut TagList)
-        requires listed { IsListed self.old tags.old }
+    /// Closes the open chapter, if it has a record and a number, so that its pages are to be written. Whether it did.
+    pub fn finish(&mut self) -> bool
         ensures finished { self.new ≡ finished self.old }
-        ensures listed { IsListed self.new tags.new }
+        ensures closed { WasClosed result self.old self.new }
     {
         let Some(number) = next_number(&self.kept) else {
-            return;
+            return false;
         };
-        if !self.unclosed.records().is_empty() {
-            self.close(tags, number);
+        if self.unclosed.records().is_empty() {
+            return false;
         }
+        self.close(number);
+        true
     }
 
     /// The next page that is to be written, and its block; `None` exactly where there is none.
-    pub(crate) fn write_due(&mut self, into: &mut Block) -> Option<Pbn>
+    pub fn write_due(&mut self, into: &mut Block) -> Option<Pbn>
         ensures some { IfSome result (λ at. TakesDue self.old self.new at.0) }
         ensures filled { IfSome result (λ at. HasDuePage self.old into.new) }
         ensures none { IfNone result ((self.old.due ≡ []) × (self.new ≡ self.old)) }
@@ -179,8 +183,45 @@ impl Volume {
         list_all(&self.kept, tags);
     }
 
+    /// Lists the tags of the newest chapter, in place of those of the chapters in whose index blocks it stands.
+    pub(crate) fn list_newest(&self, tags: &mut TagList)
+        requires { IsNewestToList self.now tags.old }
+        ensures { IsListed self.now tags.new }
+    {
+        let Some(newest) = self.kept.first() else {
+            unreachable!()
+        };
+        tags.leave_out(self.places, newest.number());
+        tags.add(newest);
+    }
+
+    /// The location that the open chapter has for a name.
+    pub fn open_location(&self, name: &Name) -> Option<Pbn>
+        ensures { result ≡ location_of name.now self.now.unclosed }
+    {
+        location(self.unclosed.records(), name)
+    }
+
+    /// The chapters that are kept, the newest first.
+    pub fn kept(&self) -> &[Chapter]
+        ensures value { result.now ≡ self.now.kept }
+        ensures order { IsKept self.now }
+    {
+        &self.kept
+    }
+
+    /// Where the index stands on the device.
+    pub fn region(&self) -> Region
+        ensures { result ≡ record { first = self.now.first; places = self.now.places } }
+    {
+        Region {
+            first: self.first,
+            places: self.places,
+        }
+    }
+
     /// How many chapters are kept.
-    pub(crate) fn chapters(&self) -> u32
+    pub fn chapters(&self) -> u32
         ensures { result ≡ length self.now.kept }
     {
         self.kept.len() as u32
@@ -198,33 +239,23 @@ impl Volume {
         ensures finds { Finds self.now (keys_of cache.now.entries) given.now name.now result }
         ensures asks { AsksOf self.now (keys_of cache.now.entries) given.now name.now result }
     {
-        match location(self.unclosed.records(), name) {
+        match self.open_location(name) {
             Some(at) => Look::Known(at),
-            None => {
-                let region = Region {
-                    first: self.first,
-                    places: self.places,
-                };
-                find_kept(region, &self.kept, tags, name, cache, given)
-            }
+            None => find_kept(self.region(), &self.kept, tags, name, cache, given),
         }
     }
 
     // Closes the open chapter under this number, in place of what stood in its index blocks.
     // What was kept in its index blocks is replaced, also two chapters that a stop left there. All four pages are to be
     // written, also those without records: else stale pages would stand beside it.
-    fn close(&mut self, tags: &mut TagList, number: u32)
+    fn close(&mut self, number: u32)
         requires number { number ≡ number_after self.old.kept }
-        requires listed { IsListed self.old tags.old }
         ensures closed { self.new ≡ closed self.old }
-        ensures listed { IsListed self.new tags.new }
     {
         let places = self.places;
         leave_out_chapters(&mut self.kept, places, number);
         leave_out_pages(&mut self.due, places, number);
-        tags.leave_out(places, number);
         let chapter = self.unclosed.close(number);
-        tags.add(&chapter);
         let Ok(()) = self.kept.insert(0, chapter) else {
             unreachable!()
         };
@@ -249,9 +280,9 @@ fn next_number(kept: &[Chapter]) -> Option<u32>
     }
 }
 
-// Whether two chapters stand in the same index blocks. Of other numbers that are near none does, which is told without
-// dividing.
-pub(crate) fn is_same_place(places: u32, number: u32, other: u32) -> bool
+/// Whether two chapters stand in the same index blocks.
+// Of other numbers that are near none does, which is told without dividing.
+pub fn is_same_place(places: u32, number: u32, other: u32) -> bool
     requires { 0 < places }
     ensures { result ≡ is_same_place places number other }
 {
@@ -294,8 +325,8 @@ fn push_pages(due: &mut Vec<Page>, number: u32)
     due.push_reserved(Page::new(number, 3));
 }
 
-// Lists the tags of these chapters, the oldest first.
-fn list_all(kept: &[Chapter], tags: &mut TagList)
+/// Lists the tags of these chapters, of which the newest stands first, in a list that has none.
+pub fn list_all(kept: &[Chapter], tags: &mut TagList)
     requires none { tags.old.tags ≡ [] }
     requires room { 680 * length kept.now ≤ tags.old.room }
     ensures listed { AreListed kept.now tags.new.tags }

@@ -1,10 +1,7 @@
-use Rattle.std.proofs.Common.{◌≡◌, ◌∙◌, ◌*◌, ◌≤◌, List, ap, sym, subst, arith}
+use Rattle.std.proofs.Common.{◌≡◌, ◌∙◌, ap, sym, subst, arith}
 use Rattle.index_advice.specs.Books.{Book, number_after}
 use Rattle.uds_index.specs.Places.{IsKept}
-use Rattle.uds_chapters.specs.Chapters.{Numbered}
-use Rattle.uds_index.specs.Tags.{AreListed}
-use Rattle.uds_index.proofs.ListLaws.{listed_few}
-use Rattle.uds_index.proofs.BookLaws.{insert_first, closed_by, closed_kept, left_room, left_page_room}
+use Rattle.uds_index.proofs.BookLaws.{closed_by, closed_kept, left_room, left_page_room}
 use Rattle.uds_index.proofs.volume.Volume.close.Goals as goal
 
 pub unreachable-requires : goal.unreachable-requires
@@ -43,41 +40,4 @@ invariant_of-self c =
           c.close-chapter.ensures.empty c.leave_out_pages.ensures.items c.push_pages.ensures.items)) (closed_kept book c.self.invariant.kept);
       room = omega (arith, chapters, grown, c.self.invariant.room);
       room_for_pages = omega (arith, pages, pushed, c.self.invariant.room_for_pages);
-    }
-
-pub add-requires-clause-rising : goal.add-requires-clause-rising
-add-requires-clause-rising c =
-    let v = c.self.inside in
-    let book : Book = record { nonce = v.nonce; first = v.first; places = v.places; kept = v.kept.items; unclosed = v.unclosed; due = v.due.items } in
-    let listed : AreListed book.kept c.args.tags.now.tags = subst (λ (b : Book). AreListed b.kept c.args.tags.now.tags) (sym c.self.view_is) c.requires.listed.listed in
-    let left : AreListed c.leave_out_chapters.new.kept.items c.leave_out.new.self.tags =
-    subst (λ (ks : List Numbered). AreListed ks c.leave_out.new.self.tags) (sym c.leave_out_chapters.ensures.items) (c.leave_out.ensures.listed book.kept listed) in
-    left.rising
-
-pub add-requires-clause-room : goal.add-requires-clause-room
-add-requires-clause-room c =
-    let v = c.self.inside in
-    let book : Book = record { nonce = v.nonce; first = v.first; places = v.places; kept = v.kept.items; unclosed = v.unclosed; due = v.due.items } in
-    let listed : AreListed book.kept c.args.tags.now.tags = subst (λ (b : Book). AreListed b.kept c.args.tags.now.tags) (sym c.self.view_is) c.requires.listed.listed in
-    let left : AreListed c.leave_out_chapters.new.kept.items c.leave_out.new.self.tags =
-    subst (λ (ks : List Numbered). AreListed ks c.leave_out.new.self.tags) (sym c.leave_out_chapters.ensures.items) (c.leave_out.ensures.listed book.kept listed) in
-    let number : c.args.number ≡ number_after book.kept = c.requires.number ∙ sym (ap (λ (b : Book). number_after b.kept) c.self.view_is) in
-    let few = listed_few c.leave_out_chapters.new.kept.items c.leave_out.new.self.tags left in
-    let room = left_room book c.args.number c.leave_out_chapters.new.kept.items c.self.invariant.kept number c.leave_out_chapters.ensures.items in
-    let all : 2720 * book.places ≤ c.args.tags.now.room = subst (λ (b : Book). 2720 * b.places ≤ c.args.tags.now.room) (sym c.self.view_is) c.requires.listed.room in
-    omega (arith, few, room, all, c.leave_out.ensures.room)
-
-pub returns-clause-listed : goal.returns-clause-listed
-returns-clause-listed c =
-    let v = c.self.inside in
-    let book : Book = record { nonce = v.nonce; first = v.first; places = v.places; kept = v.kept.items; unclosed = v.unclosed; due = v.due.items } in
-    let listed : AreListed book.kept c.args.tags.now.tags = subst (λ (b : Book). AreListed b.kept c.args.tags.now.tags) (sym c.self.view_is) c.requires.listed.listed in
-    let left : AreListed c.leave_out_chapters.new.kept.items c.leave_out.new.self.tags =
-    subst (λ (ks : List Numbered). AreListed ks c.leave_out.new.self.tags) (sym c.leave_out_chapters.ensures.items) (c.leave_out.ensures.listed book.kept listed) in
-    let all : 2720 * book.places ≤ c.args.tags.now.room = subst (λ (b : Book). 2720 * b.places ≤ c.args.tags.now.room) (sym c.self.view_is) c.requires.listed.room in
-    record {
-      listed = subst (λ (ks : List Numbered). AreListed ks c.add.new.self.tags)
-          (sym (c.in-Ok.ensures.items ∙ insert_first c.leave_out_chapters.new.kept.items c.close-chapter.result))
-          (c.add.ensures.listed c.leave_out_chapters.new.kept.items left);
-      room = omega (arith, all, c.leave_out.ensures.room, c.add.ensures.room);
     }
