@@ -17,6 +17,7 @@ import map_page
 import names
 import picks
 import slab
+import sparse
 import superblock
 from cases import sections
 from rust_source import literals
@@ -27,7 +28,7 @@ CRATES = TOP / "crates"
 
 
 def vectors() -> Iterator[Vector | Steps]:
-    for module in (layout, superblock, journal, map_page, slab, names, picks, chapters, case_images):
+    for module in (layout, superblock, journal, map_page, slab, names, picks, chapters, sparse, case_images):
         yield from module.vectors()
 
 

@@ -8,3 +8,4 @@ mod journals;
 mod lanes;
 mod maps;
 mod slabs;
+mod sparse;

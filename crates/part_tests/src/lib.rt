@@ -37,6 +37,8 @@ mod shares;
 #[cfg(test)]
 mod sharing;
 #[cfg(test)]
+mod sparse;
+#[cfg(test)]
 mod tickets;
 #[cfg(test)]
 mod trees;

@@ -1,0 +1,8 @@
+mod HookLaws
+mod ListLaws
+mod FoundLaws
+mod NewestLaws
+mod DenseLaws
+mod LookLaws
+mod FollowLaws
+mod OrderRows

@@ -1,0 +1,5 @@
+pub mod Hooks
+pub mod Orders
+pub mod Lookups
+pub mod Keeps
+pub mod Finds
