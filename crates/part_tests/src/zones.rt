@@ -159,21 +159,26 @@ fn spend_page(zone: &mut SlabZone, asked: Option<Asked>) -> Option<Pbn> {
     }
 }
 
+// The block of a claim on a block that is to be shared.
+fn share(zone: &mut SlabZone, at: u32) -> Result<u32, Refusal> {
+    block_of(zone.claim_share(Pbn(at)))
+}
+
 // What a zone refuses to share: a block as high as can be, a free one, one with a tree page, and one of another zone; and a
 // block once it becomes a tree page.
 #[test]
 fn what_a_zone_does_not_share(rt: HostRuntime) -> Result<(), Fail> {
     let mut zone = zone_in_step(rt.alloc(), 1)?;
     let before = [
-        block_of(zone.claim_share(Pbn(107))),
-        block_of(zone.claim_share(Pbn(112))),
-        block_of(zone.claim_share(Pbn(106))),
-        block_of(zone.claim_share(Pbn(85))),
-        block_of(zone.claim_share(Pbn(111))),
+        share(&mut zone, 107),
+        share(&mut zone, 112),
+        share(&mut zone, 106),
+        share(&mut zone, 85),
+        share(&mut zone, 111),
     ];
     let asked = ask(&mut zone);
     let at = spend_page(&mut zone, asked);
-    let page = block_of(zone.claim_share(Pbn(112)));
+    let page = share(&mut zone, 112);
     let wanted = [
         Err(Refusal::Full),
         Err(Refusal::NotLive),
@@ -188,16 +193,17 @@ fn what_a_zone_does_not_share(rt: HostRuntime) -> Result<(), Fail> {
     Ok(())
 }
 
-// What a zone tells before it is asked for more: a share makes a claim, and no ticket or block is out.
-#[test]
-fn what_may_be_called(rt: HostRuntime) -> Result<(), Fail> {
-    let mut zone = zone_in_step(rt.alloc(), 7)?;
-    let before = zone.is_claimed(Pbn(111));
-    let shared = block_of(zone.claim_share(Pbn(111)));
-    let update = Update {
-        at: Pbn(111),
-        point: Point(2000),
-    };
+// The counter of a block, whether it is free, and whether there is room for its updates, where the zone owns it.
+fn told_of(zone: &SlabZone, at: Pbn) -> Option<(u16, bool, bool)> {
+    if zone.owns(at) {
+        Some((zone.count(at), zone.is_free(at), zone.has_room(at)))
+    } else {
+        None
+    }
+}
+
+// Whether a ticket that the step asked for is out, and the first block of the second slab's journal.
+fn are_out(zone: &SlabZone) -> [bool; 2] {
     let work = SlabWork {
         at: Pbn(123),
         slab: 1,
@@ -209,21 +215,28 @@ fn what_may_be_called(rt: HostRuntime) -> Result<(), Fail> {
         number: 0,
         asked: 7,
     };
+    [zone.is_out(&ticket), zone.is_work_out(work)]
+}
+
+// What a zone tells before it is asked for more: a share makes a claim, and no ticket or block is out.
+#[test]
+fn what_may_be_called(rt: HostRuntime) -> Result<(), Fail> {
+    let mut zone = zone_in_step(rt.alloc(), 7)?;
+    let before = zone.is_claimed(Pbn(111));
+    let shared = share(&mut zone, 111);
+    let update = Update {
+        at: Pbn(111),
+        point: Point(2000),
+    };
     let blocks = [zone.owns(Pbn(106)), zone.owns(Pbn(85)), before];
     let claimed = [zone.is_claimed(Pbn(111)), zone.may_take(&update)];
-    let said = if zone.owns(Pbn(111)) {
-        let free = zone.is_free(Pbn(111));
-        Some((zone.count(Pbn(111)), free, zone.has_room(Pbn(111))))
-    } else {
-        None
-    };
-    let out = [zone.is_out(&ticket), zone.is_work_out(work)];
+    let said = told_of(&zone, Pbn(111));
     assert_eq!(rt;
         (zone.step(), shared, said),
         (Some(7), Ok(111), Some((3, false, true)))
     );
     assert_eq!(rt;
-        (blocks, claimed, out, zone.has_ticket_room()),
+        (blocks, claimed, are_out(&zone), zone.has_ticket_room()),
         ([true, false, false], [true, true], [false, false], true)
     );
     Ok(())
