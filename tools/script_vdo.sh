@@ -9,22 +9,22 @@ cp "$top/tools/completion.bash" checkout/tools
 cp "$vdo" checkout/crates/vdo/out/vdo
 caller=$vdo
 vdo=$folder/checkout/vdo
-try 2 usage absent 154 erase
+try 2 usage nowhere 154 erase
 same "$(cat errors)" 'vdo: erase is no command; see vdo --help' 'a word that is no command'
-try 2 usage absent +154 format
-try 2 usage absent max format
+try 2 usage nowhere +154 format
+try 2 usage nowhere max format
 try 2 usage - max format
-try 2 usage absent 154
+try 2 usage nowhere 154
 for command in status audit recover force-rebuild 'grow --logical 2000 --slabs 1' 'crash --after 0 --image 0'; do
     # shellcheck disable=SC2086
-    try 125 '' absent 154 $command
-    same "$(cat errors)" 'vdo: there is no file absent' "$command of no file"
+    try 125 '' nowhere 154 $command
+    same "$(cat errors)" 'vdo: there is no file nowhere' "$command of no file"
 done
-[ ! -e absent ] || say_wrong 'a file was made for words that are refused'
+[ ! -e nowhere ] || say_wrong 'a file was made for words that are refused'
 for command in run workload; do
-    try 4 'bad image: not an image' absent 154 $command
-    same "$(cat errors)" 'vdo: there is no file absent: an empty one is made' "$command of no file"
-    rm absent
+    try 4 'bad image: not an image' nowhere 154 $command
+    same "$(cat errors)" 'vdo: there is no file nowhere: an empty one is made' "$command of no file"
+    rm nowhere
 done
 
 # The largest number of blocks, in a word.
