@@ -4,9 +4,9 @@ _vdo_options() {
     case $1 in
         format) echo --logical --slabs --slab-blocks --journal --index --slab-journal --height --nonce ;;
         grow) echo --logical --slabs ;;
-        run) echo --schedule ;;
-        workload) echo --seed --requests --streams --schedule ;;
-        crash) echo --after --image --schedule ;;
+        run) echo --schedule --depth --logical-zones --physical-zones ;;
+        workload) echo --seed --requests --streams --schedule --depth --logical-zones --physical-zones ;;
+        crash) echo --after --image --schedule --depth --logical-zones --physical-zones ;;
     esac
 }
 

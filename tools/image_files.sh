@@ -714,7 +714,7 @@ else
     leave_out 'python3 or cc is missing, so no call fails, and no allocation is refused'
 fi
 
-# Images and scripts of which none is served, and the stops of two scripts.
+# Images and scripts of which none is served, the stops of two scripts, and runs with zones and depths.
 if [ -n "$python" ]; then
     printed=$($python "$top/tools/refused_runs.py" "$vdo" 2>errors)
     same "$? $printed" '0 refused runs: 215 tries, 0 went wrong' 'runs that were refused'
@@ -722,6 +722,8 @@ if [ -n "$python" ]; then
     same "$? $printed" '0 one stream: 2536 images of 634 stops
 four streams: 3736 images of 934 stops
 stopped scripts: 0 images went wrong' 'scripts that were stopped'
+    printed=$($python "$top/tools/setups.py" "$vdo" --every 41 2>errors)
+    same "$? $printed" '0 0 of 47 pairs of runs went wrong' 'runs with zones and depths'
 fi
 
 # The examples of README and of the manual.

@@ -16,7 +16,7 @@ use Rattle.disk_model.specs.declared.call.Call.{Call}
 use Rattle.disk_model.specs.declared.call.Call.TheVariants.{Flush}
 use Rattle.disk_model.specs.Causes.{Rose}
 use Rattle.disk_model.specs.Log.{Blocks}
-use Rattle.disk_model.specs.Memory.{Memory}
+use Rattle.disk_model.specs.Memory.{Memory, seen_of}
 use Rattle.disk_model.specs.Seen.{Seen}
 use Rattle.image_model.specs.Sound.{Opens, image_of}
 use Rattle.image_model.specs.declared.fault.ImageFault.{ImageFault}
@@ -26,9 +26,9 @@ use Rattle.rebuild.specs.Recoveries.{IsAnswer, IsRecovery, IsResult, IsTold, IsU
 use Rattle.rebuild.specs.declared.forms.Recovered.{Recovered}
 use Rattle.rebuild.specs.declared.forms.Recovered.TheVariants.{Clean, Entries}
 use Rattle.vdo_cli.specs.Closings.{Closes}
-use Rattle.vdo_cli.specs.Commands.{served_in}
+use Rattle.vdo_cli.specs.Commands.{course_of, served_in, setup_of}
 use Rattle.vdo_cli.specs.Complete.{IsComplete}
-use Rattle.vdo_cli.specs.Crashes.{EndsCrash, EndsCrashBy, TellsAudit, shown_text}
+use Rattle.vdo_cli.specs.Crashes.{EndsCrash, EndsCrashBy, RunsFlushed, TellsAudit, of_memory, shown_text}
 use Rattle.vdo_cli.specs.Endings.{PlayFails}
 use Rattle.vdo_cli.specs.Flushes.{BehindFlush, IsFlushed, Settles}
 use Rattle.vdo_cli.specs.Inspections.{EndsAudit, TellsReport, told_as}
@@ -48,7 +48,10 @@ use Rattle.vdo_cli.proofs.FlushLaws.{told_behind}
 use Rattle.vdo_cli.proofs.OnwardLaws.{serves_on}
 use Rattle.vdo_words.specs.Commands.{command_of}
 use Rattle.vdo_words.specs.declared.commands.Command.{Command}
+use Rattle.vdo_model.specs.DeskLog.{IsDeskLog}
+use Rattle.vdo_model.specs.Places.{ArePlaces}
 use Rattle.vdo_model.specs.Scripts.{Script}
+use Rattle.vdo_words.specs.declared.commands.CoreOptions.{CoreOptions}
 use Rattle.vdo_words.specs.declared.commands.CrashOptions.{CrashOptions}
 use Rattle.vdo_words.specs.declared.commands.GrowOptions.{GrowOptions}
 use Rattle.vdo_words.specs.declared.commands.WorkloadOptions.{WorkloadOptions}
@@ -88,27 +91,27 @@ flushed_first s Ends before after outcome on ends none tells =
     (later.0, later.1 ∙ ap (λ (log : List Call). later.0 ++ log) (does.1.logged tells))
 
 -- A script.
-script_sink_rose : (s : Setting) (schedule : ℕ) (before after : Outside) (outcome : Outcome) → RunsScript s schedule before after outcome
+script_sink_rose : (s : Setting) (schedule : ℕ) (core : CoreOptions) (before after : Outside) (outcome : Outcome) → RunsScript s (course_of schedule core) before after outcome
     → outcome.fault ≡ Some fault.Sink → Rose before.sink.faults after.sink.faults
-script_sink_rose s schedule before after outcome ends is =
-    let played : PlayedOut s schedule before after outcome = subst (λ (f : Option Fault). RunsScriptBy f s schedule before after outcome) is ends in
+script_sink_rose s schedule core before after outcome ends is =
+    let played : PlayedOut s (course_of schedule core) before after outcome = subst (λ (f : Option Fault). RunsScriptBy f s (course_of schedule core) before after outcome) is ends in
     (subst (λ (f : Option Fault). Closes s.sink_tells (session_text (recovered_of played.found) outcome.report) outcome.report outcome.status f before.sink after.sink) is played.closes).2
 
-pub sink_rose : (s : Setting) (schedule : ℕ) (before after : Outside) (outcome : Outcome) → EndsFlushed s (RunsScript s schedule) before after outcome
+pub sink_rose : (s : Setting) (schedule : ℕ) (core : CoreOptions) (before after : Outside) (outcome : Outcome) → EndsFlushed s (RunsScript s (course_of schedule core)) before after outcome
     → outcome.fault ≡ Some fault.Sink → Rose before.sink.faults after.sink.faults
-sink_rose s schedule before after outcome ends is =
-    let does = behind s (RunsScript s schedule) before after outcome ends (λ other. let both : Some fault.Sink ≡ Some fault.Device = sym is ∙ other in cc) in
-    script_sink_rose s schedule (record before { device = does.0 }) after outcome does.2 is
+sink_rose s schedule core before after outcome ends is =
+    let does = behind s (RunsScript s (course_of schedule core)) before after outcome ends (λ other. let both : Some fault.Sink ≡ Some fault.Device = sym is ∙ other in cc) in
+    script_sink_rose s schedule core (record before { device = does.0 }) after outcome does.2 is
 
-played_out : (s : Setting) (schedule : ℕ) (before after : Outside) (outcome : Outcome) → RunsScript s schedule before after outcome
-    → outcome.fault ≡ None → PlayedOut s schedule before after outcome
-played_out s schedule before after outcome ends is = subst (λ (f : Option Fault). RunsScriptBy f s schedule before after outcome) is ends
+played_out : (s : Setting) (schedule : ℕ) (core : CoreOptions) (before after : Outside) (outcome : Outcome) → RunsScript s (course_of schedule core) before after outcome
+    → outcome.fault ≡ None → PlayedOut s (course_of schedule core) before after outcome
+played_out s schedule core before after outcome ends is = subst (λ (f : Option Fault). RunsScriptBy f s (course_of schedule core) before after outcome) is ends
 
-pub driven_by : (s : Setting) (schedule : ℕ) (before after : Outside) (outcome : Outcome) → EndsFlushed s (RunsScript s schedule) before after outcome → outcome.fault ≡ None
-    → (start : Opened) × (opened : Seen) × (trace : Trace) × IsDriven s.device schedule (task start outcome.report.requests) trace opened after.device
-driven_by s schedule before after outcome ends none =
-    let does = behind s (RunsScript s schedule) before after outcome ends (no_fault outcome.fault none) in
-    let played = played_out s schedule (record before { device = does.0 }) after outcome does.2 none in
+pub driven_by : (s : Setting) (schedule : ℕ) (core : CoreOptions) (before after : Outside) (outcome : Outcome) → EndsFlushed s (RunsScript s (course_of schedule core)) before after outcome → outcome.fault ≡ None
+    → (start : Opened) × (opened : Seen) × (trace : Trace) × IsDriven s.device schedule (task (setup_of core) start outcome.report.requests) trace opened after.device
+driven_by s schedule core before after outcome ends none =
+    let does = behind s (RunsScript s (course_of schedule core)) before after outcome ends (no_fault outcome.fault none) in
+    let played = played_out s schedule core (record before { device = does.0 }) after outcome does.2 none in
     (played.session.start, played.session.serves.opened, played.session.serves.trace, played.session.serves.driven)
 
 pub none_or_memory : (asked : Script) (outcome : Outcome) → IsComplete asked outcome → (outcome.fault ≡ None) ⊎ (outcome.fault ≡ Some fault.Memory)
@@ -146,14 +149,14 @@ same_image (image.Counter at point) is = absurd cc
 same_image (image.SharedPage at) is = absurd cc
 same_image (image.Counts at stored mapped) is = absurd cc
 
-script_refused : (s : Setting) (schedule : ℕ) (before after : Outside) (outcome : Outcome) (blocks : Blocks) → IsTold s.device before.device blocks → IsUnclean blocks
+script_refused : (s : Setting) (schedule : ℕ) (core : CoreOptions) (before after : Outside) (outcome : Outcome) (blocks : Blocks) → IsTold s.device before.device blocks → IsUnclean blocks
     → ((head : Super) (last : ℕ) (window : List CommittedEntry) → Opens blocks head last window → HasNoFault (image_of head blocks window) → ⊥)
-    → RunsScript s schedule before after outcome → (outcome.fault ≢ None) × (outcome.fault ≢ Some (fault.Image image.Unclean))
-script_refused s schedule before after outcome blocks told unclean faulty ends = (not_served, not_unclean)
+    → RunsScript s (course_of schedule core) before after outcome → (outcome.fault ≢ None) × (outcome.fault ≢ Some (fault.Image image.Unclean))
+script_refused s schedule core before after outcome blocks told unclean faulty ends = (not_served, not_unclean)
   where
     not_served : outcome.fault ≢ None
     not_served is =
-        let played = played_out s schedule before after outcome ends is in
+        let played = played_out s schedule core before after outcome ends is in
         let ready = played.session.serves.ready in
         never_recovered blocks unclean faulty played.found (ready.recovery.says blocks told)
 
@@ -164,15 +167,15 @@ script_refused s schedule before after outcome blocks told unclean faulty ends =
 
     not_unclean : outcome.fault ≢ Some (fault.Image image.Unclean)
     not_unclean is =
-        let begun : NotBegun s before after outcome (fault.Image image.Unclean) = subst (λ (f : Option Fault). RunsScriptBy f s schedule before after outcome) is ends in
+        let begun : NotBegun s before after outcome (fault.Image image.Unclean) = subst (λ (f : Option Fault). RunsScriptBy f s (course_of schedule core) before after outcome) is ends in
         by_cause begun.recovered begun.cause
 
-pub refused_so : (s : Setting) (schedule : ℕ) (before after : Outside) (outcome : Outcome) (blocks : Blocks) → Settles s.device before.device blocks → IsUnclean blocks
+pub refused_so : (s : Setting) (schedule : ℕ) (core : CoreOptions) (before after : Outside) (outcome : Outcome) (blocks : Blocks) → Settles s.device before.device blocks → IsUnclean blocks
     → ((head : Super) (last : ℕ) (window : List CommittedEntry) → Opens blocks head last window → HasNoFault (image_of head blocks window) → ⊥)
-    → EndsFlushed s (RunsScript s schedule) before after outcome → (outcome.fault ≢ None) × (outcome.fault ≢ Some (fault.Image image.Unclean))
-refused_so s schedule before after outcome blocks settles unclean faulty (inl (flushed, is, ends)) =
-    script_refused s schedule (record before { device = flushed }) after outcome blocks (told_behind s.device before.device flushed blocks is settles) unclean faulty ends
-refused_so s schedule before after outcome blocks settles unclean faulty (inr fails) = (
+    → EndsFlushed s (RunsScript s (course_of schedule core)) before after outcome → (outcome.fault ≢ None) × (outcome.fault ≢ Some (fault.Image image.Unclean))
+refused_so s schedule core before after outcome blocks settles unclean faulty (inl (flushed, is, ends)) =
+    script_refused s schedule core (record before { device = flushed }) after outcome blocks (told_behind s.device before.device flushed blocks is settles) unclean faulty ends
+refused_so s schedule core before after outcome blocks settles unclean faulty (inr fails) = (
   λ none. no_fault outcome.fault none fails.fault_is,
   λ other. let both : Some fault.Device ≡ Some (fault.Image image.Unclean) = sym fails.fault_is ∙ other in cc,
 )
@@ -185,6 +188,29 @@ drawn_of s options before after outcome ends is =
     let first : Outside = record before { device = does.0 } in
     let served : WorkloadServed s options first after outcome = subst (λ (f : Option Fault). EndsWorkloadBy f s options first after outcome) is does.2.ends in
     (served.session.start.head.geometry.logical, served.session.requests_are)
+
+-- the depth and the logical zones of a run are those of these options
+abbrev pub IsRunWith : CoreOptions → Outcome → Type 0
+IsRunWith core outcome =
+    (logical : ℕ) × IsDeskLog core.depth outcome.report.requests outcome.report.desk
+    × ArePlaces core.logical_zones logical outcome.report.requests outcome.report.desk outcome.report.places
+
+pub script_runs_with : (s : Setting) (schedule : ℕ) (core : CoreOptions) (before after : Outside) (outcome : Outcome) → EndsFlushed s (RunsScript s (course_of schedule core)) before after outcome → outcome.fault ≡ None
+    → IsRunWith core outcome
+script_runs_with s schedule core before after outcome ends none =
+    let does = behind s (RunsScript s (course_of schedule core)) before after outcome ends (no_fault outcome.fault none) in
+    let played = played_out s schedule core (record before { device = does.0 }) after outcome does.2 none in
+    let right = played.session.serves.reported.run_right in
+    (_, right.desk_log, right.are_places)
+
+pub workload_runs_with : (s : Setting) (options : WorkloadOptions) (before after : Outside) (outcome : Outcome) → EndsFlushed s (EndsWorkload s options) before after outcome
+    → outcome.fault ≡ None → IsRunWith options.core outcome
+workload_runs_with s options before after outcome ends none =
+    let does = behind s (EndsWorkload s options) before after outcome ends (no_fault outcome.fault none) in
+    let first : Outside = record before { device = does.0 } in
+    let served : WorkloadServed s options first after outcome = subst (λ (f : Option Fault). EndsWorkloadBy f s options first after outcome) none does.2.ends in
+    let right = served.session.serves.reported.run_right in
+    (_, right.desk_log, right.are_places)
 
 -- A recovery.
 none_is : (f : Option Fault) (why : Fault) → f ≡ None → f ≡ Some why → ⊥
@@ -245,20 +271,30 @@ shows_it s options before after outcome tells ends is = by_copy outcome.copy end
         let put = subst (λ (f : Option Fault). TellsAudit s.sink_tells (shown_text (stop_of options.after copy.log) told.shown) told.shown.audit outcome.status f before.sink after.sink) is told.told in
         (copy, told.shown, copied, told.shows, put.1.1 tells)
 
+pub crash_runs_with : (s : Setting) (options : CrashOptions) (before after : Outside) (outcome : Outcome) → EndsCrash s options before after outcome → outcome.fault ≡ None
+    → (first : Memory) × (copy : Memory) × (outcome.copy ≡ Some copy) × RunsFlushed of_memory (course_of options.schedule options.core) outcome.report (seen_of first) (seen_of copy)
+crash_runs_with s options before after outcome ends is = by_copy outcome.copy ends.ends refl
+  where
+    by_copy : (copy : Option Memory) → EndsCrashBy copy s options before after outcome → outcome.copy ≡ copy
+        → (first : Memory) × (copy : Memory) × (outcome.copy ≡ Some copy) × RunsFlushed of_memory (course_of options.schedule options.core) outcome.report (seen_of first) (seen_of copy)
+    by_copy None not_run copied = absurd (none_is outcome.fault not_run.why is not_run.fault_is)
+    by_copy (Some copy) (inr refused) copied = absurd (none_is outcome.fault (told_as refused.why) is refused.fault_is)
+    by_copy (Some copy) (inl told) copied = (told.run.first, copy, copied, told.run.tried.runs)
+
 -- The flush before each of the five.
-pub script_flushes : (s : Setting) (schedule : ℕ) (before after : Outside) (outcome : Outcome) → EndsFlushed s (RunsScript s schedule) before after outcome → outcome.fault ≡ None
+pub script_flushes : (s : Setting) (schedule : ℕ) (core : CoreOptions) (before after : Outside) (outcome : Outcome) → EndsFlushed s (RunsScript s (course_of schedule core)) before after outcome → outcome.fault ≡ None
     → IsTrue s.device.tells → FlushesFirst s before after
-script_flushes s schedule before after outcome ends none tells =
-    flushed_first s (RunsScript s schedule) before after outcome (λ first does.
-    let played = played_out s schedule first after outcome does none in
-    (serves_on s.device schedule played.found played.session.start outcome.report first.device after.device played.session.serves).calls tells) ends none tells
+script_flushes s schedule core before after outcome ends none tells =
+    flushed_first s (RunsScript s (course_of schedule core)) before after outcome (λ first does.
+    let played = played_out s schedule core first after outcome does none in
+    (serves_on s.device (course_of schedule core) played.found played.session.start outcome.report first.device after.device played.session.serves).calls tells) ends none tells
 
 pub workload_flushes : (s : Setting) (options : WorkloadOptions) (before after : Outside) (outcome : Outcome) → EndsFlushed s (EndsWorkload s options) before after outcome
     → outcome.fault ≡ None → IsTrue s.device.tells → FlushesFirst s before after
 workload_flushes s options before after outcome ends none tells =
     flushed_first s (EndsWorkload s options) before after outcome (λ first does.
     let served : WorkloadServed s options first after outcome = subst (λ (f : Option Fault). EndsWorkloadBy f s options first after outcome) none does.ends in
-    (serves_on s.device options.schedule served.found served.session.start outcome.report first.device after.device served.session.serves).calls tells) ends none tells
+    (serves_on s.device (course_of options.schedule options.core) served.found served.session.start outcome.report first.device after.device served.session.serves).calls tells) ends none tells
 
 pub recovery_flushes : (s : Setting) (before after : Outside) (outcome : Outcome) → EndsFlushed s (EndsRecovery s) before after outcome → outcome.fault ≡ None
     → IsTrue s.device.tells → FlushesFirst s before after

@@ -15,7 +15,7 @@ ghost use Rattle.disk_model.specs.declared.call.Call.{Call};
 ghost use Rattle.disk_model.specs.declared.call.Call.TheVariants.{Flush};
 ghost use Rattle.disk_model.specs.Causes.{Rose};
 ghost use Rattle.disk_model.specs.Log.{Blocks};
-ghost use Rattle.disk_model.specs.Memory.{Memory};
+ghost use Rattle.disk_model.specs.Memory.{Memory, seen_of};
 ghost use Rattle.disk_model.specs.Seen.{Seen};
 ghost use Rattle.disk_model.specs.Since.{OnlyReads, SinceThen};
 ghost use Rattle.image_model.specs.Sound.{IsSound, Opens, image_of};
@@ -24,14 +24,18 @@ ghost use Rattle.rebuild.specs.Openings.{IsCleanImage};
 ghost use Rattle.rebuild.specs.Recoveries.{IsUnclean};
 ghost use Rattle.stream_text.specs.WholeScript.{whole_script};
 ghost use Rattle.stream_text.specs.Workloads.{workload_of};
+ghost use Rattle.vdo_cli.specs.Commands.{options_of};
 ghost use Rattle.vdo_cli.specs.Complete.{NoneRose};
-ghost use Rattle.vdo_cli.specs.Crashes.{shown_text};
+ghost use Rattle.vdo_cli.specs.Crashes.{RunsFlushed, of_memory, shown_text};
 ghost use Rattle.vdo_cli.specs.Flushes.{Settles};
 ghost use Rattle.vdo_cli.specs.Outsides.{outside};
 ghost use Rattle.vdo_cli.specs.Sessions.{IsDriven, task};
 ghost use Rattle.vdo_cli.specs.declared.fault.Fault.TheVariants as fault;
+ghost use Rattle.vdo_core.specs.declared.cores.Setup.{Setup};
+ghost use Rattle.vdo_model.specs.DeskLog.{IsDeskLog};
+ghost use Rattle.vdo_model.specs.Places.{ArePlaces};
 ghost use Rattle.vdo_model.specs.Scripts.{Script};
-ghost use Rattle.vdo_words.specs.Commands.{command_of, default_core};
+ghost use Rattle.vdo_words.specs.Commands.{command_of};
 ghost use Rattle.vdo_words.specs.declared.commands.Command.TheVariants.{Audit, Crash, ForceRebuild, Grow, Recover, Run, Workload};
 ghost use Rattle.vdo_words.specs.declared.commands.CrashOptions.{CrashOptions};
 ghost use Rattle.vdo_words.specs.declared.commands.Drive.TheVariants.{Schedule};
@@ -51,8 +55,8 @@ fn no_fault_of_the_sink_is_made_up<
     K: Sink,
     G: ZoneGate + Sync,
 >(rt: &R, words: &Words, device: D, script: &mut S, out: &mut K, gate: &G) -> Ended<D>
-    ensures { (schedule : ℕ) → command_of words.now
-        ≡ Some (Run (record { drive = Schedule schedule; core = default_core })) →
+    ensures { (schedule : ℕ) (setup : Setup) → command_of words.now
+        ≡ Some (Run (record { drive = Schedule schedule; core = options_of setup })) →
         (Rose (K.seen out.old).faults (K.seen out.new).faults → ⊥) →
         result.fault ≢ Some fault.Sink }
 {
@@ -68,10 +72,10 @@ fn a_sound_image_is_served<
     K: Sink,
     G: ZoneGate + Sync,
 >(rt: &R, words: &Words, device: D, script: &mut S, out: &mut K, gate: &G) -> Ended<D>
-    ensures { (schedule : ℕ) (asked : Script) (image : Blocks) → IsSound image →
+    ensures { (schedule : ℕ) (setup : Setup) (asked : Script) (image : Blocks) → IsSound image →
         Settles D.trust (D.seen device) image → IsTrue S.tells →
         command_of words.now
-        ≡ Some (Run (record { drive = Schedule schedule; core = default_core })) →
+        ≡ Some (Run (record { drive = Schedule schedule; core = options_of setup })) →
         whole_script (S.seen script.old).left ≡ Ok asked →
         NoneRose (outside (D.seen device) (S.seen script.old) (K.seen out.old))
         (outside (D.seen result.device) (S.seen script.new) (K.seen out.new))
@@ -89,12 +93,12 @@ fn an_unsound_image_is_refused_for_its_fault<
     K: Sink,
     G: ZoneGate + Sync,
 >(rt: &R, words: &Words, device: D, script: &mut S, out: &mut K, gate: &G) -> Ended<D>
-    ensures { (schedule : ℕ) (image : Blocks) → Settles D.trust (D.seen device) image →
+    ensures { (schedule : ℕ) (setup : Setup) (image : Blocks) → Settles D.trust (D.seen device) image →
         IsUnclean image →
         ((head : Super) (last : ℕ) (window : List CommittedEntry) → Opens image head last window →
         HasNoFault (image_of head image window) → ⊥)
         → command_of words.now
-        ≡ Some (Run (record { drive = Schedule schedule; core = default_core })) →
+        ≡ Some (Run (record { drive = Schedule schedule; core = options_of setup })) →
         (result.fault ≢ None) × (result.fault ≢ Some (fault.Image Unclean)) }
 {
     run(rt, words, device, script, out, gate)
@@ -108,11 +112,11 @@ fn a_change_begins_with_a_flush<
     K: Sink,
     G: ZoneGate + Sync,
 >(rt: &R, words: &Words, device: D, script: &mut S, out: &mut K, gate: &G) -> Ended<D>
-    ensures script { (schedule : ℕ) → command_of words.now ≡ Some (Run (record { drive = Schedule schedule; core = default_core })) →
+    ensures script { (schedule : ℕ) (setup : Setup) → command_of words.now ≡ Some (Run (record { drive = Schedule schedule; core = options_of setup })) →
         result.fault ≡ None → IsTrue D.trust.tells
         → (calls : List Call)
         × ((D.seen result.device).log ≡ calls ++ Flush true ∷ (D.seen device).log) }
-    ensures workload { (options : WorkloadOptions) → command_of words.now ≡ Some (Workload (record options { core = default_core })) →
+    ensures workload { (options : WorkloadOptions) (setup : Setup) → command_of words.now ≡ Some (Workload (record options { core = options_of setup })) →
         result.fault ≡ None → IsTrue D.trust.tells
         → (calls : List Call)
         × ((D.seen result.device).log ≡ calls ++ Flush true ∷ (D.seen device).log) }
@@ -132,7 +136,7 @@ fn a_change_begins_with_a_flush<
     run(rt, words, device, script, out, gate)
 }
 
-// The events of a session are those that the number of its schedule chooses.
+// The events of a session are those that the number of its schedule chooses, of a core that is set up as the words say.
 fn the_schedule_of_the_number_drives<
     R: Threads + Wait + Sync,
     D: Disk + Send + Drop,
@@ -140,12 +144,54 @@ fn the_schedule_of_the_number_drives<
     K: Sink,
     G: ZoneGate + Sync,
 >(rt: &R, words: &Words, device: D, script: &mut S, out: &mut K, gate: &G) -> Ended<D>
-    ensures { (schedule : ℕ) → command_of words.now
-        ≡ Some (Run (record { drive = Schedule schedule; core = default_core })) →
+    ensures { (schedule : ℕ) (setup : Setup) → command_of words.now
+        ≡ Some (Run (record { drive = Schedule schedule; core = options_of setup })) →
         result.fault ≡ None
         → (start : Opened) × (opened : Seen) × (trace : Trace)
-        × IsDriven D.trust schedule (task start result.report.requests) trace opened
+        × IsDriven D.trust schedule (task setup start result.report.requests) trace opened
         (D.seen result.device) }
+{
+    run(rt, words, device, script, out, gate)
+}
+
+// Of each stream no more requests are under way than the depth of the words, and the places are those of their logical zones.
+fn the_depth_and_the_zones_of_the_words_are_those_of_the_run<
+    R: Threads + Wait + Sync,
+    D: Disk + Send + Drop,
+    S: Source,
+    K: Sink,
+    G: ZoneGate + Sync,
+>(rt: &R, words: &Words, device: D, script: &mut S, out: &mut K, gate: &G) -> Ended<D>
+    ensures script { (schedule : ℕ) (setup : Setup) → command_of words.now
+        ≡ Some (Run (record { drive = Schedule schedule; core = options_of setup })) →
+        result.fault ≡ None
+        → (logical : ℕ) × IsDeskLog setup.depth result.report.requests result.report.desk
+        × ArePlaces setup.logical_zones logical result.report.requests result.report.desk
+        result.report.places }
+    ensures workload { (options : WorkloadOptions) (setup : Setup) → command_of words.now
+        ≡ Some (Workload (record options { core = options_of setup })) →
+        result.fault ≡ None
+        → (logical : ℕ) × IsDeskLog setup.depth result.report.requests result.report.desk
+        × ArePlaces setup.logical_zones logical result.report.requests result.report.desk
+        result.report.places }
+{
+    run(rt, words, device, script, out, gate)
+}
+
+// A crash serves the script on its copy by a core that is set up as the words say, and by their schedule.
+fn a_crash_has_the_setup_of_the_words<
+    R: Threads + Wait + Sync,
+    D: Disk + Send + Drop,
+    S: Source,
+    K: Sink,
+    G: ZoneGate + Sync,
+>(rt: &R, words: &Words, device: D, script: &mut S, out: &mut K, gate: &G) -> Ended<D>
+    ensures { (options : CrashOptions) (setup : Setup) → command_of words.now
+        ≡ Some (Crash (record options { core = options_of setup })) →
+        result.fault ≡ None
+        → (first : Memory) × (copy : Memory) × (result.copy ≡ Some copy)
+        × RunsFlushed of_memory (record { schedule = options.schedule; setup = setup })
+        result.report (seen_of first) (seen_of copy) }
 {
     run(rt, words, device, script, out, gate)
 }
@@ -158,8 +204,8 @@ fn the_seed_that_is_asked_is_drawn<
     K: Sink,
     G: ZoneGate + Sync,
 >(rt: &R, words: &Words, device: D, script: &mut S, out: &mut K, gate: &G) -> Ended<D>
-    ensures { (options : WorkloadOptions) → command_of words.now
-        ≡ Some (Workload (record options { core = default_core })) →
+    ensures { (options : WorkloadOptions) (setup : Setup) → command_of words.now
+        ≡ Some (Workload (record options { core = options_of setup })) →
         result.fault ≡ None
         → (logical : ℕ)
         × (result.report.requests
@@ -206,8 +252,8 @@ fn a_crash_reads_and_no_more<
     K: Sink,
     G: ZoneGate + Sync,
 >(rt: &R, words: &Words, device: D, script: &mut S, out: &mut K, gate: &G) -> Ended<D>
-    ensures { (options : CrashOptions) → command_of words.now
-        ≡ Some (Crash (record options { core = default_core })) →
+    ensures { (options : CrashOptions) (setup : Setup) → command_of words.now
+        ≡ Some (Crash (record options { core = options_of setup })) →
         IsTrue D.trust.tells
         → SinceThen OnlyReads (D.seen device).log (D.seen result.device).log }
 {
@@ -222,8 +268,8 @@ fn the_image_that_is_asked_is_shown<
     K: Sink,
     G: ZoneGate + Sync,
 >(rt: &R, words: &Words, device: D, script: &mut S, out: &mut K, gate: &G) -> Ended<D>
-    ensures { (options : CrashOptions) → command_of words.now
-        ≡ Some (Crash (record options { core = default_core })) →
+    ensures { (options : CrashOptions) (setup : Setup) → command_of words.now
+        ≡ Some (Crash (record options { core = options_of setup })) →
         IsTrue K.tells → result.fault ≡ None
         → (copy : Memory) × (shown : Shows) × (result.copy ≡ Some copy)
         × IsPickShown copy options.image result.report.requests shown

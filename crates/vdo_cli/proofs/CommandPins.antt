@@ -1,9 +1,11 @@
 -- Rows that pin which words are served, and as what, computed.
-use Rattle.std.proofs.Common.{ℕ, ◌≡◌, true, false, List, [], ◌∷◌, Some, None, codes, refl, arith}
+use Rattle.std.proofs.Common.{ℕ, ◌≡◌, true, false, List, [], ◌∷◌, Some, None, codes, refl, ap, arith}
 use Rattle.blk_base.proofs.Example.{small as default_sizes}
 use Rattle.vdo_words.specs.declared.commands.Command.TheVariants.{Crash as CrashCommand, Run}
 use Rattle.vdo_words.specs.declared.commands.Command.TheVariants.{Workload as WorkloadCommand}
+use Rattle.vdo_words.specs.declared.commands.CoreOptions.{CoreOptions}
 use Rattle.vdo_words.specs.declared.commands.CrashOptions.{CrashOptions}
+use Rattle.vdo_core.specs.declared.cores.Setup.{Setup}
 use Rattle.vdo_words.specs.declared.commands.Command.TheVariants.{Audit as AuditCommand, ForceRebuild as RebuildCommand, Grow as GrowCommand, Recover as RecoverCommand, Status as StatusCommand}
 use Rattle.vdo_words.specs.declared.commands.Command.TheVariants.{Format as FormatCommand}
 use Rattle.vdo_words.specs.declared.commands.FormatOptions.{FormatOptions}
@@ -13,18 +15,55 @@ use Rattle.vdo_words.specs.declared.commands.Drive.TheVariants.{Schedule, Thread
 use Rattle.vdo_words.proofs.CommandRows.{core}
 use Rattle.vdo_cli.specs.declared.words.Change.TheVariants.{ForceRebuild, Grow, Recover, Script, Workload}
 use Rattle.vdo_cli.specs.declared.words.Served.TheVariants.{Audit, Change, Crash, Format, Status}
-use Rattle.vdo_cli.specs.Commands.{IsServedWithin, IsWorkload, are_default, number_of, served_in, served_of, sizes_of}
+use Rattle.vdo_cli.specs.Commands.{IsServedWithin, IsSetup, IsWorkload, are_served, course_of, number_of, options_of, served_in, served_of, setup_of, sizes_of}
 
--- are_default: each option counts
-default_core : are_default core ≡ true
-default_core = refl
+-- are_served: of a core with the default hash zones and leaf pages, whatever its depth and its other zones are
+served_core : (depth logical physical : ℕ) → are_served (record core { depth = depth; logical_zones = logical; physical_zones = physical }) ≡ true
+served_core depth logical physical = refl
 
-other_cores : (are_default (record core { depth = 2 }) ≡ false)
-    × (are_default (record core { logical_zones = 2 }) ≡ false)
-    × (are_default (record core { physical_zones = 2 }) ≡ false)
-    × (are_default (record core { hash_zones = 2 }) ≡ false)
-    × (are_default (record core { cache = 17 }) ≡ false)
-other_cores = (refl, refl, refl, refl, refl)
+other_cores : (are_served (record core { hash_zones = 2 }) ≡ false) × (are_served (record core { cache = 17 }) ≡ false)
+other_cores = (refl, refl)
+
+-- setup_of, options_of, course_of: each option is its part, and each part its option
+abbrev two_by_three : Setup
+two_by_three = record { logical_zones = 2; physical_zones = 3; depth = 5 }
+
+each_part_is_its_option : setup_of (record core { logical_zones = 2; physical_zones = 3; depth = 5 }) ≡ two_by_three
+each_part_is_its_option = refl
+
+each_option_is_its_part : options_of two_by_three ≡ record { depth = 5; logical_zones = 2; physical_zones = 3; hash_zones = 1; cache = 16 }
+each_option_is_its_part = refl
+
+course_of_both : course_of 7 (options_of two_by_three) ≡ record { schedule = 7; setup = two_by_three }
+course_of_both = refl
+
+-- IsSetup: 1 to 4 zones of a kind, 1 to 16 requests of a stream
+abbrev setup : ℕ → ℕ → ℕ → Setup
+setup logical physical depth = record { logical_zones = logical; physical_zones = physical; depth = depth }
+
+pub usual_is_setup : IsSetup (setup 1 1 1)
+usual_is_setup = record { logical = (omega arith, omega arith); physical = (omega arith, omega arith); depth = (omega arith, omega arith) }
+
+greatest_setup : IsSetup (setup 4 4 16)
+greatest_setup = record { logical = (omega arith, omega arith); physical = (omega arith, omega arith); depth = (omega arith, omega arith) }
+
+setup_without_a_logical_zone : IsSetup (setup 0 1 1) → ⊥
+setup_without_a_logical_zone has = omega (arith, has.logical.0)
+
+setup_with_5_logical_zones : IsSetup (setup 5 1 1) → ⊥
+setup_with_5_logical_zones has = omega (arith, has.logical.1)
+
+setup_without_a_physical_zone : IsSetup (setup 1 0 1) → ⊥
+setup_without_a_physical_zone has = omega (arith, has.physical.0)
+
+setup_with_5_physical_zones : IsSetup (setup 1 5 1) → ⊥
+setup_with_5_physical_zones has = omega (arith, has.physical.1)
+
+setup_of_depth_0 : IsSetup (setup 1 1 0) → ⊥
+setup_of_depth_0 has = omega (arith, has.depth.0)
+
+setup_of_depth_17 : IsSetup (setup 1 1 17) → ⊥
+setup_of_depth_17 has = omega (arith, has.depth.1)
 
 -- number_of: that of a schedule, and none of threads
 number_of_schedule : (number : ℕ) → number_of (Schedule number) ≡ Some number
@@ -39,7 +78,7 @@ each_size_is_its_option : sizes_of (record { logical = 1; slabs = 2; slab_blocks
 each_size_is_its_option = refl
 
 -- served_in: `run`, `workload` and `crash` with such a core and a schedule, `format`, `recover`, `force-rebuild`, `grow`, `audit` and `status`
-in_run : (number : ℕ) → served_in (Some (Run (record { drive = Schedule number; core = core }))) ≡ Some (Change (Script number))
+in_run : (number : ℕ) → served_in (Some (Run (record { drive = Schedule number; core = core }))) ≡ Some (Change (Script (course_of number core)))
 in_run number = refl
 
 not_in_threads : served_in (Some (Run (record { drive = Threads; core = core }))) ≡ None
@@ -70,14 +109,14 @@ in_status = refl
 in_workload : (options : WorkloadOptions) → served_in (Some (WorkloadCommand (record options { core = core }))) ≡ Some (Change (Workload (record options { core = core })))
 in_workload options = refl
 
-not_in_workload_with_another_core : (options : WorkloadOptions) → served_in (Some (WorkloadCommand (record options { core = record core { depth = 2 } }))) ≡ None
+not_in_workload_with_another_core : (options : WorkloadOptions) → served_in (Some (WorkloadCommand (record options { core = record core { hash_zones = 2 } }))) ≡ None
 not_in_workload_with_another_core options = refl
 
 -- `crash` with such a core
 in_crash : (options : CrashOptions) → served_in (Some (CrashCommand (record options { core = core }))) ≡ Some (Crash (record options { core = core }))
 in_crash options = refl
 
-not_in_crash_with_another_core : (options : CrashOptions) → served_in (Some (CrashCommand (record options { core = record core { depth = 2 } }))) ≡ None
+not_in_crash_with_another_core : (options : CrashOptions) → served_in (Some (CrashCommand (record options { core = record core { cache = 4 } }))) ≡ None
 not_in_crash_with_another_core options = refl
 
 -- IsWorkload, IsServedWithin: 1 to 65,536 requests of 1 to 16 streams
@@ -85,10 +124,10 @@ abbrev pub draws : ℕ → ℕ → WorkloadOptions
 draws requests streams = record { schedule = 0; core = core; seed = 0; requests = requests; streams = streams }
 
 least_workload : IsServedWithin (Some (Change (Workload (draws 1 1))))
-least_workload = record { some = omega arith; few = omega arith; one = omega arith; streams = omega arith }
+least_workload = record { some = omega arith; few = omega arith; one = omega arith; streams = omega arith; core = usual_is_setup }
 
 greatest_workload : IsWorkload (draws 65536 16)
-greatest_workload = record { some = omega arith; few = omega arith; one = omega arith; streams = omega arith }
+greatest_workload = record { some = omega arith; few = omega arith; one = omega arith; streams = omega arith; core = usual_is_setup }
 
 workload_of_none : IsWorkload (draws 0 1) → ⊥
 workload_of_none within = omega (arith, within.some)
@@ -102,6 +141,15 @@ workload_of_no_stream within = omega (arith, within.one)
 workload_of_17_streams : IsWorkload (draws 1 17) → ⊥
 workload_of_17_streams within = omega (arith, within.streams)
 
+workload_of_depth_17 : (options : WorkloadOptions) → options.core ≡ record core { depth = 17 } → IsWorkload options → ⊥
+workload_of_depth_17 options is within = let deep = ap (λ (o : CoreOptions). o.depth) is in omega (arith, within.core.depth.1, deep)
+
+script_of_no_zone : IsServedWithin (Some (Change (Script (record { schedule = 0; setup = setup 0 1 1 })))) → ⊥
+script_of_no_zone has = omega (arith, has.logical.0)
+
+crash_of_depth_17 : (options : CrashOptions) → options.core ≡ record core { depth = 17 } → IsServedWithin (Some (Crash options)) → ⊥
+crash_of_depth_17 options is has = let deep = ap (λ (o : CoreOptions). o.depth) is in omega (arith, has.depth.1, deep)
+
 not_in_no_command : served_in None ≡ None
 not_in_no_command = refl
 
@@ -109,14 +157,17 @@ not_in_no_command = refl
 abbrev pub run_words : List (List ℕ)
 run_words = codes "run" ∷ []
 
-pub run_by_0 : served_of run_words ≡ Some (Change (Script 0))
+pub run_by_0 : served_of run_words ≡ Some (Change (Script (course_of 0 core)))
 run_by_0 = refl
 
-pub run_by_7 : served_of (codes "run" ∷ codes "--schedule" ∷ codes "7" ∷ []) ≡ Some (Change (Script 7))
+pub run_by_7 : served_of (codes "run" ∷ codes "--schedule" ∷ codes "7" ∷ []) ≡ Some (Change (Script (course_of 7 core)))
 run_by_7 = refl
 
-run_by_8 : served_of (codes "run" ∷ codes "--schedule=8" ∷ codes "--depth" ∷ codes "1" ∷ []) ≡ Some (Change (Script 8))
+run_by_8 : served_of (codes "run" ∷ codes "--schedule=8" ∷ codes "--depth" ∷ codes "1" ∷ []) ≡ Some (Change (Script (course_of 8 core)))
 run_by_8 = refl
+
+run_in_zones : served_of (codes "run" ∷ codes "--logical-zones=2" ∷ codes "--physical-zones" ∷ codes "3" ∷ codes "--depth" ∷ codes "5" ∷ []) ≡ Some (Change (Script (record { schedule = 0; setup = two_by_three })))
+run_in_zones = refl
 
 -- the default sizes where none is given, else those that are
 abbrev pub format_words : List (List ℕ)
@@ -185,8 +236,11 @@ no_word = refl
 threads : served_of (codes "run" ∷ codes "--threads" ∷ []) ≡ None
 threads = refl
 
-deeper : served_of (codes "run" ∷ codes "--depth" ∷ codes "2" ∷ []) ≡ None
-deeper = refl
+too_deep : served_of (codes "run" ∷ codes "--depth" ∷ codes "17" ∷ []) ≡ None
+too_deep = refl
+
+another_cache : served_of (codes "run" ∷ codes "--cache=17" ∷ []) ≡ None
+another_cache = refl
 
 no_number : served_of (codes "run" ∷ codes "--schedule" ∷ codes "seven" ∷ []) ≡ None
 no_number = refl
@@ -208,7 +262,7 @@ workload_of_a_seed = refl
 workload_by_threads : served_of (codes "workload" ∷ codes "--threads" ∷ []) ≡ None
 workload_by_threads = refl
 
-workload_deeper : served_of (codes "workload" ∷ codes "--depth" ∷ codes "2" ∷ []) ≡ None
+workload_deeper : served_of (codes "workload" ∷ codes "--depth" ∷ codes "2" ∷ []) ≡ Some (Change (Workload (record (draws 1000 4) { core = record core { depth = 2 } })))
 workload_deeper = refl
 
 workload_with_an_image : served_of (codes "workload" ∷ codes "--image" ∷ codes "2" ∷ []) ≡ None
@@ -236,7 +290,7 @@ crash_without_calls = refl
 crash_by_threads : served_of (codes "crash" ∷ codes "--after" ∷ codes "5" ∷ codes "--image=7" ∷ codes "--threads" ∷ []) ≡ None
 crash_by_threads = refl
 
-crash_deeper : served_of (codes "crash" ∷ codes "--after" ∷ codes "5" ∷ codes "--image=7" ∷ codes "--depth=2" ∷ []) ≡ None
+crash_deeper : served_of (codes "crash" ∷ codes "--after" ∷ codes "5" ∷ codes "--image=7" ∷ codes "--depth=2" ∷ []) ≡ Some (Crash (record (crash_of 5 7) { core = record core { depth = 2 } }))
 crash_deeper = refl
 
 twice : served_of (codes "run" ∷ codes "run" ∷ []) ≡ None

@@ -30,12 +30,13 @@ use Rattle.vdo_model.specs.Scripts.{Script, request_at, stream_of}
 use Rattle.vdo_model.specs.declared.report.DeskLine.{DeskLine}
 use Rattle.vdo_model.specs.declared.report.DeskLine.TheVariants.{Begin, Answer}
 use Rattle.vdo_model.specs.declared.report.RunReport.{RunReport}
+use Rattle.vdo_cli.specs.declared.words.Course.{Course}
 use Rattle.vdo_cli.specs.declared.fault.Fault.{Fault}
 use Rattle.vdo_cli.specs.declared.fault.Fault.TheVariants as fault
 use Rattle.vdo_cli.specs.declared.words.Change.TheVariants as change
 use Rattle.vdo_cli.specs.declared.words.Served.{Served}
 use Rattle.vdo_cli.specs.declared.words.Served.TheVariants as served
-use Rattle.vdo_cli.specs.Commands.{served_of}
+use Rattle.vdo_cli.specs.Commands.{course_of, served_of}
 use Rattle.vdo_cli.specs.Complete.{IsAllServed, IsComplete, NeedsNoFault, NoneRose}
 use Rattle.vdo_cli.specs.Closings.{Closes, PutsWith}
 use Rattle.vdo_cli.specs.Endings.{FailsUnready, PlayFails, ScriptFails, ServesRequests}
@@ -178,8 +179,8 @@ module _ (s : Setting) (before after : Outside) (outcome : Outcome) (blocks : Bl
   out_of_memory script recovered why is memory refuses = inr (is ∙ ap (λ (f : Fault). Some f) memory, refuses.status_is ∙ ap fault_status memory)
 
   -- one was served
-  module _ (schedule : ℕ) (found : Recovered) (start : Opened) (script : Script) (text : List ℕ)
-      (session : ServesRequests s.device schedule found start outcome.report before.device after.device) (requests_are : outcome.report.requests ≡ script)
+  module _ (course : Course) (found : Recovered) (start : Opened) (script : Script) (text : List ℕ)
+      (session : ServesRequests s.device course found start outcome.report before.device after.device) (requests_are : outcome.report.requests ≡ script)
       (closing : Closes s.sink_tells text outcome.report outcome.status outcome.fault before.sink after.sink) where
     abbrev report : RunReport
     report = outcome.report
@@ -196,7 +197,7 @@ module _ (s : Setting) (before after : Outside) (outcome : Outcome) (blocks : Bl
     no_rise : Rose session.opened.faults after.device.faults → ⊥
     no_rise rose = none.device (rose_from before.device.faults session.opened.faults after.device.faults own_later rose)
 
-    reported : IsReported start report session.trace session.opened after.device
+    reported : IsReported course.setup start report session.trace session.opened after.device
     reported = session.reported
 
     fine : NoneFailed report.requests report.desk
@@ -214,7 +215,7 @@ module _ (s : Setting) (before after : Outside) (outcome : Outcome) (blocks : Bl
     some_answer (Some a) some = (a, refl)
 
     none_struck : struck_status report ≡ None
-    none_struck = struck_by_none report undamaged (none_lost 1 report.requests [] report.desk reported.run_right.desk_log reported.run_right.desk_log fine)
+    none_struck = struck_by_none report undamaged (none_lost course.setup.depth report.requests [] report.desk reported.run_right.desk_log reported.run_right.desk_log fine)
 
     served_all : outcome.fault ≡ None → IsAllServed script outcome
     served_all is = record {
@@ -246,7 +247,7 @@ module _ (s : Setting) (before after : Outside) (outcome : Outcome) (blocks : Bl
     complete_if_sink is = absurd (sink_rose is)
 
   -- Of a script.
-  module _ (schedule : ℕ) (script : Script) (tells : IsTrue s.source_tells) (valid : whole_script before.source.left ≡ Ok script) where
+  module _ (course : Course) (script : Script) (tells : IsTrue s.source_tells) (valid : whole_script before.source.left ≡ Ok script) where
     of_script : (why : Fault) → ScriptFails s.source_tells before.source after.source why → why ≡ fault.Memory
     of_script (fault.Script refusal) fails = let said = fails tells in absurd (cc (said, valid))
     of_script fault.Read fails = absurd (none.source fails)
@@ -263,17 +264,17 @@ module _ (s : Setting) (before after : Outside) (outcome : Outcome) (blocks : Bl
     of_memory recovered why (inl fails) = unready_of_memory recovered why fails.fails
     of_memory recovered why (inr fails) = of_script why fails.cause
 
-    requests_so : (played : PlayedOut s schedule before after outcome) → outcome.report.requests ≡ script
+    requests_so : (played : PlayedOut s course before after outcome) → outcome.report.requests ≡ script
     requests_so played = let said = played.session.script_is tells in cc (said, valid)
 
-    complete_by : (ended : Option Fault) → outcome.fault ≡ ended → RunsScriptBy ended s schedule before after outcome → IsComplete script outcome
+    complete_by : (ended : Option Fault) → outcome.fault ≡ ended → RunsScriptBy ended s course before after outcome → IsComplete script outcome
     complete_by None is played =
-        complete_if_none schedule played.found played.session.start script (session_text (recovered_of played.found) outcome.report) played.session.serves (requests_so played) played.closes is
+        complete_if_none course played.found played.session.start script (session_text (recovered_of played.found) outcome.report) played.session.serves (requests_so played) played.closes is
     complete_by (Some fault.Sink) is played =
-        complete_if_sink schedule played.found played.session.start script (session_text (recovered_of played.found) outcome.report) played.session.serves (requests_so played) played.closes is
+        complete_if_sink course played.found played.session.start script (session_text (recovered_of played.found) outcome.report) played.session.serves (requests_so played) played.closes is
     complete_by (Some other) is begun = out_of_memory script begun.recovered other is (of_memory begun.recovered other begun.cause) begun.refuses
 
-    pub script_complete : RunsScript s schedule before after outcome → IsComplete script outcome
+    pub script_complete : RunsScript s course before after outcome → IsComplete script outcome
     script_complete ends = complete_by outcome.fault refl ends
 
   -- Of a seed.
@@ -299,10 +300,10 @@ module _ (s : Setting) (before after : Outside) (outcome : Outcome) (blocks : Bl
 
     seeded_by : (ended : Option Fault) → outcome.fault ≡ ended → EndsWorkloadBy ended s options before after outcome → IsComplete wanted outcome
     seeded_by None is worked =
-        complete_if_none options.schedule worked.found worked.session.start wanted (summary_text (summary_of (recovered_of worked.found) options outcome.report))
+        complete_if_none (course_of options.schedule options.core) worked.found worked.session.start wanted (summary_text (summary_of (recovered_of worked.found) options outcome.report))
         worked.session.serves (seeded_so worked) worked.closes is
     seeded_by (Some fault.Sink) is worked =
-        complete_if_sink options.schedule worked.found worked.session.start wanted (summary_text (summary_of (recovered_of worked.found) options outcome.report))
+        complete_if_sink (course_of options.schedule options.core) worked.found worked.session.start wanted (summary_text (summary_of (recovered_of worked.found) options outcome.report))
         worked.session.serves (seeded_so worked) worked.closes is
     seeded_by (Some other) is begun = out_of_memory wanted begun.recovered other is (seeded_of_memory begun.recovered other begun.cause) begun.refuses
 
@@ -318,16 +319,16 @@ still_none before after flushed later none = record {
   sink = none.sink;
 }
 
-pub run_complete : (s : Setting) (words : List (List ℕ)) (schedule : ℕ) (script : Script) (before after : Outside) (outcome : Outcome) (blocks : Blocks) → IsSound blocks
-    → Settles s.device before.device blocks → IsTrue s.source_tells → served_of words ≡ Some (served.Change (change.Script schedule)) → whole_script before.source.left ≡ Ok script
+pub run_complete : (s : Setting) (words : List (List ℕ)) (course : Course) (script : Script) (before after : Outside) (outcome : Outcome) (blocks : Blocks) → IsSound blocks
+    → Settles s.device before.device blocks → IsTrue s.source_tells → served_of words ≡ Some (served.Change (change.Script course)) → whole_script before.source.left ≡ Ok script
     → NoneRose before after → EndsSo s words before after outcome → IsComplete script outcome
-run_complete s words schedule script before after outcome blocks sound settles tells asked valid none ends =
+run_complete s words course script before after outcome blocks sound settles tells asked valid none ends =
     by_flush (subst (λ (what : Option Served). EndsAs s what before after outcome) asked ends)
   where
-    by_flush : EndsFlushed s (change.Script schedule) before after outcome → IsComplete script outcome
+    by_flush : EndsFlushed s (change.Script course) before after outcome → IsComplete script outcome
     by_flush (inl (flushed, is, does)) =
         script_complete s (record before { device = flushed }) after outcome blocks sound (told_behind s.device before.device flushed blocks is settles)
-        (still_none before after flushed is.later.faults none) schedule script tells valid does
+        (still_none before after flushed is.later.faults none) course script tells valid does
     by_flush (inr fails) = absurd (none.device fails.device.rose)
 
 pub workload_complete : (s : Setting) (words : List (List ℕ)) (options : WorkloadOptions) (before after : Outside) (outcome : Outcome) (blocks : Blocks) (sound : IsSound blocks)

@@ -29,6 +29,8 @@ use Rattle.recovery_laws.specs.Kept.{image_in}
 use Rattle.vdo_model.specs.Scripts.{Script}
 use Rattle.vdo_model.specs.declared.report.RunReport.{RunReport}
 use Rattle.vdo_words.specs.declared.commands.CrashOptions.{CrashOptions}
+use Rattle.vdo_cli.specs.Commands.{course_of}
+use Rattle.vdo_cli.specs.declared.words.Course.{Course}
 use Rattle.vdo_cli.specs.Crashes.{IsCrashTold, IsNotServed, IsServed, IsServedOrNot, RunsFlushed, RunsOnCopy, ShowsSound, of_memory}
 use Rattle.core_stops.proofs.EarlyLaws.{reads_show}
 use Rattle.core_stops.proofs.LogLaws.{parted, same_front}
@@ -42,9 +44,9 @@ use Rattle.vdo_cli.proofs.OnwardLaws.{not_ready, serves_on}
 use Rattle.vdo_cli.proofs.RecoveredImages.{IsLeft, left_by, still_told, unready_kept}
 
 -- a device goes on over what was tried on it
-tried_goes_on : (schedule : ℕ) (report : RunReport) (before after : Seen) → IsServedOrNot of_memory schedule report before after → GoesOn true before after
-tried_goes_on schedule report before after (inl served) = serves_on of_memory schedule served.found served.start report before after served.serves
-tried_goes_on schedule report before after (inr not) = not_ready of_memory before after not.recovered not.why not.unready
+tried_goes_on : (course : Course) (report : RunReport) (before after : Seen) → IsServedOrNot of_memory course report before after → GoesOn true before after
+tried_goes_on course report before after (inl served) = serves_on of_memory course served.found served.start report before after served.serves
+tried_goes_on course report before after (inr not) = not_ready of_memory before after not.recovered not.why not.unready
 
 -- The image that was picked.
 
@@ -68,8 +70,8 @@ module _ (first copy : Memory) (blocks : Blocks) (sound : IsSound blocks) (told 
     log_then = is_flushed.logged refl ∙ ap (λ (log : List Call). Flush true ∷ log) empty
 
     module _ (newer front : List Call) (parts : copy.log ≡ newer ++ (front ++ flushed.log)) (picked : Blocks) (is : IsImage flushed.opening (front ++ flushed.log) picked) where
-      left_served : (schedule : ℕ) (report : RunReport) → IsServed of_memory schedule report flushed (seen_of copy) → IsOne picked
-      left_served schedule report served =
+      left_served : (course : Course) (report : RunReport) → IsServed of_memory course report flushed (seen_of copy) → IsOne picked
+      left_served course report served =
           let shown = (served.serves.stops blocks told_then sound late newer front parts picked is).1 in (shown.sound, shown.sizes)
 
       left_unserved : (report : RunReport) → IsNotServed of_memory report flushed (seen_of copy) → IsOne picked
@@ -78,17 +80,17 @@ module _ (first copy : Memory) (blocks : Blocks) (sound : IsSound blocks) (told 
           let calls_are : kept.0 ≡ newer ++ front = same_front kept.0 (newer ++ front) flushed.log (sym kept.1 ∙ parts ∙ sym (append_assoc newer front flushed.log)) in
           let shown = (kept.2.0 newer front calls_are picked is).1 in (shown.sound, shown.sizes)
 
-      left_of_run : (schedule : ℕ) (report : RunReport) → IsServedOrNot of_memory schedule report flushed (seen_of copy) → IsOne picked
-      left_of_run schedule report (inl served) = left_served schedule report served
-      left_of_run schedule report (inr not) = left_unserved report not
+      left_of_run : (course : Course) (report : RunReport) → IsServedOrNot of_memory course report flushed (seen_of copy) → IsOne picked
+      left_of_run course report (inl served) = left_served course report served
+      left_of_run course report (inr not) = left_unserved report not
 
   module _ (newer older : List Call) (parts : copy.log ≡ newer ++ older) (picked : Blocks) (is : IsImage first.opening older picked) where
     before_all : older ≡ [] → IsOne picked
     before_all none = as_copied picked (subst (λ (log : List Call). IsImage first.opening log picked) (none ∙ sym empty) is)
 
-    left_behind : (schedule : ℕ) (report : RunReport) (flushed : Seen) → IsFlushed true (seen_of first) flushed → GoesOn true flushed (seen_of copy)
-        → IsServedOrNot of_memory schedule report flushed (seen_of copy) → IsOne picked
-    left_behind schedule report flushed is_flushed on runs =
+    left_behind : (course : Course) (report : RunReport) (flushed : Seen) → IsFlushed true (seen_of first) flushed → GoesOn true flushed (seen_of copy)
+        → IsServedOrNot of_memory course report flushed (seen_of copy) → IsOne picked
+    left_behind course report flushed is_flushed on runs =
         let more = on.calls refl in
         let log_is = log_then flushed is_flushed in
         let all : newer ++ older ≡ more.0 ++ (Flush true ∷ []) = sym parts ∙ more.1 ∙ ap (λ (log : List Call). more.0 ++ log) log_is in
@@ -108,7 +110,7 @@ module _ (first copy : Memory) (blocks : Blocks) (sound : IsSound blocks) (told 
             let here : older ≡ front ++ flushed.log = older_is ∙ ap (λ (log : List Call). front ++ log) (sym log_is) in
             left_of_run flushed is_flushed newer front (parts ∙ ap (λ (log : List Call). newer ++ log) here) picked
             (subst (λ (opening : Blocks). IsImage opening (front ++ flushed.log) picked) (sym is_flushed.stays.opening)
-            (subst (λ (log : List Call). IsImage first.opening log picked) here is)) schedule report runs
+            (subst (λ (log : List Call). IsImage first.opening log picked) here is)) course report runs
 
     -- or it failed
     left_in_vain : IsNotFlushed true (seen_of first) (seen_of copy) → IsOne picked
@@ -129,14 +131,14 @@ module _ (first copy : Memory) (blocks : Blocks) (sound : IsSound blocks) (told 
             as_copied picked (subst (λ (log : List Call). IsImage first.opening log picked) (sym empty) (image_behind_failed first.opening [] picked here))
         one_call (other ∷ front) (call ∷ rest) same own = absurd (let size = ap length same in let sizes = length-append front (call ∷ rest) in omega (arith, size, sizes))
 
-    left_of_tried : (schedule : ℕ) (report : RunReport) → RunsFlushed of_memory schedule report (seen_of first) (seen_of copy) → IsOne picked
-    left_of_tried schedule report (inl behind) =
-        left_behind schedule report behind.0 behind.1 (tried_goes_on schedule report behind.0 (seen_of copy) behind.2) behind.2
-    left_of_tried schedule report (inr fails) = left_in_vain fails.0
+    left_of_tried : (course : Course) (report : RunReport) → RunsFlushed of_memory course report (seen_of first) (seen_of copy) → IsOne picked
+    left_of_tried course report (inl behind) =
+        left_behind course report behind.0 behind.1 (tried_goes_on course report behind.0 (seen_of copy) behind.2) behind.2
+    left_of_tried course report (inr fails) = left_in_vain fails.0
 
-same_opening : (schedule : ℕ) (report : RunReport) (first copy : Memory) → RunsFlushed of_memory schedule report (seen_of first) (seen_of copy) → copy.opening ≡ first.opening
-same_opening schedule report first copy (inl behind) = (tried_goes_on schedule report behind.0 (seen_of copy) behind.2).stays.opening ∙ behind.1.stays.opening
-same_opening schedule report first copy (inr fails) = fails.0.stays.opening
+same_opening : (course : Course) (report : RunReport) (first copy : Memory) → RunsFlushed of_memory course report (seen_of first) (seen_of copy) → copy.opening ≡ first.opening
+same_opening course report first copy (inl behind) = (tried_goes_on course report behind.0 (seen_of copy) behind.2).stays.opening ∙ behind.1.stays.opening
+same_opening course report first copy (inr fails) = fails.0.stays.opening
 
 -- What it shows.
 
@@ -207,8 +209,8 @@ module _ (s : Setting) (options : CrashOptions) (before after : Outside) (outcom
     picked_sound =
         let parts = counted_behind copy.fuse copy.log in
         left_of_tried first copy blocks sound (run.copied.keeps blocks told) late no_calls parts.0 (counted_log copy.fuse copy.log) parts.1 picked
-        (subst (λ (opening : Blocks). IsImage opening (counted_log copy.fuse copy.log) picked) (same_opening options.schedule outcome.report first copy run.tried.runs) may_stand)
-        options.schedule outcome.report run.tried.runs
+        (subst (λ (opening : Blocks). IsImage opening (counted_log copy.fuse copy.log) picked) (same_opening (course_of options.schedule options.core) outcome.report first copy run.tried.runs) may_stand)
+        (course_of options.schedule options.core) outcome.report run.tried.runs
 
   pub shows_sound : (shown : Shown) (shows : IsPickShown copy options.image outcome.report.requests shown) → ShowsSound sound.head.geometry outcome.report.requests copy shows.picked shown
   shows_sound shown shows =

@@ -5,6 +5,7 @@ use Rattle.std.proofs.lemmas.Option.{same_Some}
 use Rattle.std.specs.List.{AllByRecursion}
 use Rattle.blk_base.specs.Limits.{IsGeometry}
 use Rattle.blk_base.specs.declared.geometry.Geometry.{Geometry}
+use Rattle.blk_base.specs.declared.geometry.Super.{Super}
 use Rattle.blk_base.specs.declared.opened.Opened.{Opened}
 use Rattle.blk_base.specs.declared.place.PageId.{PageId}
 use Rattle.blk_base.specs.declared.request.Request.{Request}
@@ -27,31 +28,45 @@ use Rattle.slab_tickets.specs.Tickets.{Desk, empty_desk}
 use Rattle.step_parts.specs.DeviceLog.{HasCalled}
 use Rattle.stream_text.specs.StreamRequests.{no_requests}
 use Rattle.stream_text.specs.WholeScript.{whole_script}
-use Rattle.vdo_core.specs.Cores.{CanBegin}
+use Rattle.vdo_core.specs.Cores.{CanBegin, sizes_of}
+use Rattle.vdo_core.specs.declared.cores.Setup.{Setup}
 use Rattle.vdo_core.specs.Done.{IsDone}
 use Rattle.vdo_core.proofs.SessionLaws as sessions
 use Rattle.vdo_core.specs.Plays.{core_with}
 use Rattle.vdo_model.specs.Scripts.{Script, IsServed}
+use Rattle.vdo_words.specs.Commands.{default_core}
 use Rattle.vdo_model.specs.declared.report.RunReport.{RunReport}
 use Rattle.zone_counts.proofs.FitLaws.{opened_claims}
 use Rattle.zone_counts.proofs.OpenedCounts.{opened_here}
 use Rattle.zone_counts.specs.Openings.{opened_count}
 use Rattle.zone_counts.specs.Zone.{IsOpeningZone, IsZone, Zone as Counters}
+use Rattle.vdo_cli.specs.declared.words.Course.{Course}
+use Rattle.vdo_cli.specs.Commands.{course_of, setup_of}
 use Rattle.vdo_cli.specs.Endings.{RunsSession}
 use Rattle.vdo_cli.specs.Openings.{IsReady}
-use Rattle.vdo_cli.specs.Sessions.{IsDriven, IsOver, IsReported, run_sizes, task}
+use Rattle.vdo_cli.specs.Sessions.{IsDriven, IsOver, IsReported, task}
 use Rattle.vdo_cli.specs.Stops.{Happens}
 use Rattle.vdo_cli.specs.Outsides.{input_setting, inputs}
 use Rattle.vdo_cli.proofs.BareTrees.{bare, bare_is}
 use Rattle.vdo_cli.proofs.ScriptLaws.{can_begin}
 use Rattle.vdo_cli.proofs.SessionLaws.{happens, plays, reported}
 
+-- a core that is set up as without options, and its schedule and its sizes
+abbrev pub usual_setup : Setup
+usual_setup = setup_of default_core
+
+abbrev pub usual : ℕ → Course
+usual schedule = course_of schedule default_core
+
+abbrev pub usual_sizes : Super → Sizes
+usual_sizes head = sizes_of usual_setup head
+
 -- a report of no request, and the one of a session of none over what was opened
 abbrev pub empty_report : RunReport
 empty_report = record { requests = no_requests; desk = []; marks = []; receipts = []; places = []; histories = []; damage = None; used = 0; total = 0 }
 
 abbrev pub still_report : Opened → RunReport
-still_report start = report_of (sessions.bare (run_sizes start.head) no_requests start) []
+still_report start = report_of (sessions.bare (usual_sizes start.head) no_requests start) []
 
 -- the counters with which the physical zone begins
 pub record AreFirst (start : Opened) (counts : Counters) : Type 0 where
@@ -68,11 +83,11 @@ module _ (start : Opened) (script : Script) (counts : Counters) where
       first_zone 0 (at.Desk (record { requests = script; log = []; marks = []; receipts = []; notices = 0; parked = [] }))
       ∷ first_zone 1 (at.Logical (record { zone = 0; notified = false; next = 0; places = []; held = []; waiting = []; retired = []; tree = bare start.head.geometry; making = []; lacking = []; unlinkable = []; settling = []; reported = []; slots = [] }))
       ∷ first_zone 2 (at.Physical (record { notified = false; strays = []; counts = counts }))
-      ∷ first_zone 3 (at.Journal (record { notified = false; busy = false; broken = false; log = first_log (run_sizes start.head); filling = []; waiting = []; entered = []; committed = [] }))
+      ∷ first_zone 3 (at.Journal (record { notified = false; busy = false; broken = false; log = first_log (usual_sizes start.head); filling = []; waiting = []; entered = []; committed = [] }))
       ∷ first_zone 4 (at.Device (record { stopped = false; calls = 0; superblock = AsOpened; damage = None }))
       ∷ []
 
-  module _ (sizes : IsGeometry start.head.geometry) (unlinked : (page : PageId) → opened_page start.pages.items page ≡ None) (first : AreFirst start counts) (s : Session) (over : IsOver (task start script) s) where
+  module _ (sizes : IsGeometry start.head.geometry) (unlinked : (page : PageId) → opened_page start.pages.items page ≡ None) (first : AreFirst start counts) (s : Session) (over : IsOver (task usual_setup start script) s) where
     its_geometry : start.head.geometry ≡ s.sizes.geometry
     its_geometry = ap (λ (sizes : Sizes). sizes.geometry) (sym over.sizes_is)
 
@@ -163,17 +178,17 @@ no_request P = (tt, (tt, (tt, (tt, (tt, (tt, (tt, (tt, (tt, (tt, (tt, (tt, (tt, 
 -- Over an image that is ready and links no page.
 module _ (trust : Trust) (schedule : ℕ) (found : Recovered) (start : Opened) (before opened : Seen) (ready : IsReady trust before opened found start)
     (unlinked : (page : PageId) → opened_page start.pages.items page ≡ None) (counts : Counters) (first : AreFirst start counts) where
-  pub can : CanBegin (run_sizes start.head) no_requests start
-  can = can_begin _ start no_requests ready.opening.head ready.opening.fits (record { rows = refl; few = omega arith; writes = no_request IsServed })
+  pub can : CanBegin (usual_sizes start.head) no_requests start
+  can = can_begin _ usual_setup start no_requests (record { logical = (omega arith, omega arith); physical = (omega arith, omega arith); depth = (omega arith, omega arith) }) ready.opening.head ready.opening.fits (record { rows = refl; few = omega arith; writes = no_request IsServed })
 
   abbrev zones : List Zone
   zones = first_zones start no_requests counts
 
-  begins : (s : Session) → IsOver (task start no_requests) s → IsFirst s (core_with zones [])
+  begins : (s : Session) → IsOver (task usual_setup start no_requests) s → IsFirst s (core_with zones [])
   begins = first_begins start no_requests counts can.geometry unlinked first
 
   -- a core begins and is done, tells a report of no request, and calls no device
-  pub empty_driven : IsDriven trust schedule (task start no_requests) [] opened opened
+  pub empty_driven : IsDriven trust schedule (task usual_setup start no_requests) [] opened opened
   empty_driven = record {
     first = zones;
     last = zones;
@@ -184,23 +199,23 @@ module _ (trust : Trust) (schedule : ℕ) (found : Recovered) (start : Opened) (
     done = first_done start counts;
   }
 
-  pub empty_reported : IsReported start (still_report start) [] opened opened
+  pub empty_reported : IsReported usual_setup start (still_report start) [] opened opened
   empty_reported =
-      reported trust start no_requests zones zones [] opened opened can
+      reported trust usual_setup start no_requests zones zones [] opened opened can
       begins rests (first_done start counts) (not_called trust opened)
 
   module _ (named : start.head.geometry.nonce < 2 ^ 64) where
     pub empty_happens : IsTrue trust.tells → Happens [] (still_report start) before opened opened
     empty_happens =
-        happens trust start no_requests zones zones [] opened opened can
+        happens trust usual_setup start no_requests zones zones [] opened opened can
         begins rests (first_done start counts) (not_called trust opened) before found ready named
 
     pub empty_plays : (source_tells : Bool) (source rest : SourceSeen) → (IsTrue source_tells → whole_script source.left ≡ Ok no_requests) → (IsTrue source_tells → rest.left ≡ [])
-        → RunsSession (input_setting trust source_tells) schedule found (still_report start) (inputs before source) (inputs opened rest)
+        → RunsSession (input_setting trust source_tells) (usual schedule) found (still_report start) (inputs before source) (inputs opened rest)
     empty_plays source_tells source rest script_is whole = record {
       start = start;
       serves =
-          plays trust start no_requests zones zones [] opened opened can
+          plays trust usual_setup start no_requests zones zones [] opened opened can
           begins rests (first_done start counts) (not_called trust opened) before found ready named schedule schedule []
           (record { opening = refl; size = refl }) (refl, refl);
       script_is = script_is;

@@ -9,6 +9,7 @@ use Rattle.image_model.specs.declared.fault.ImageFault.TheVariants as image
 use Rattle.audit.specs.declared.forms.Report.{Report}
 use Rattle.command_text.specs.Audits.{report_text}
 use Rattle.vdo_model.specs.declared.report.RunReport.{RunReport}
+use Rattle.vdo_cli.specs.declared.words.Course.{Course}
 use Rattle.vdo_cli.specs.declared.fault.Fault.{Fault}
 use Rattle.vdo_cli.specs.declared.fault.Fault.TheVariants as fault
 use Rattle.vdo_cli.specs.Endings.{PlayFails}
@@ -20,11 +21,11 @@ use Rattle.vdo_cli.specs.Workloads.{EndsWorkloadBy, WorkloadFails, WorkloadNotBe
 use Rattle.vdo_words.specs.declared.commands.WorkloadOptions.{WorkloadOptions}
 
 -- after a session
-pub served_ends : (s : Setting) (schedule : ℕ) (before after : Outside) (status : ℕ) (report : RunReport) (ended : Option Fault)
-    → PlayedOut s schedule before after (outcome status report ended) → RunsScript s schedule before after (outcome status report ended)
-served_ends s schedule before after status report None served = served
-served_ends s schedule before after status report (Some fault.Sink) served = served
-served_ends s schedule before after status report (Some other) served = absurd served.closes
+pub served_ends : (s : Setting) (course : Course) (before after : Outside) (status : ℕ) (report : RunReport) (ended : Option Fault)
+    → PlayedOut s course before after (outcome status report ended) → RunsScript s course before after (outcome status report ended)
+served_ends s course before after status report None served = served
+served_ends s course before after status report (Some fault.Sink) served = served
+served_ends s course before after status report (Some other) served = absurd served.closes
 
 -- the sink is no cause for that
 not_told : (cause : ImageFault) → fault.Sink ≡ told_as cause → ⊥
@@ -43,10 +44,10 @@ never_sink s before after recovered (inl on_image) = not_told on_image.fails.cau
 never_sink s before after recovered (inr on_script) = absurd on_script.cause
 
 -- where no session was begun
-pub not_begun_ends : (s : Setting) (schedule : ℕ) (before after : Outside) (status : ℕ) (report : RunReport) (why : Fault)
-    → NotBegun s before after (outcome status report (Some why)) why → RunsScript s schedule before after (outcome status report (Some why))
-not_begun_ends s schedule before after status report fault.Sink begun = absurd (never_sink (input_setting_of s) (inputs_of before) (inputs_of after) begun.recovered begun.cause)
-not_begun_ends s schedule before after status report other begun = begun
+pub not_begun_ends : (s : Setting) (course : Course) (before after : Outside) (status : ℕ) (report : RunReport) (why : Fault)
+    → NotBegun s before after (outcome status report (Some why)) why → RunsScript s course before after (outcome status report (Some why))
+not_begun_ends s course before after status report fault.Sink begun = absurd (never_sink (input_setting_of s) (inputs_of before) (inputs_of after) begun.recovered begun.cause)
+not_begun_ends s course before after status report other begun = begun
 
 -- after a session of a workload
 pub workload_served_ends : (s : Setting) (options : WorkloadOptions) (before after : Outside) (status : ℕ) (report : RunReport) (ended : Option Fault)

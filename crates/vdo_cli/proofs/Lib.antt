@@ -11,6 +11,7 @@ pub mod FlushLaws
 pub mod LandedWrites
 pub mod NextRuns
 pub mod CompleteLaws
+pub mod OtherSetups
 pub mod CrashEnds
 pub mod CrashLaws
 pub mod CrashComplete

@@ -20,6 +20,8 @@ use Rattle.recovery_laws.specs.Kept.{image_in}
 use Rattle.core_stops.proofs.EndLaws.{before_flush}
 use Rattle.core_stops.proofs.LogLaws.{parted, same_front}
 use Rattle.core_stops.specs.Sequences.{CanBegin, ShowsValues, next_start}
+use Rattle.vdo_cli.specs.Commands.{course_of}
+use Rattle.vdo_cli.specs.declared.words.Course.{Course}
 use Rattle.vdo_cli.specs.declared.fault.Fault.{Fault}
 use Rattle.vdo_cli.specs.declared.fault.Fault.TheVariants as fault
 use Rattle.vdo_cli.specs.declared.words.Change.{Change}
@@ -122,8 +124,8 @@ module _ (trust : Trust) (left : ℕ) (before : Seen) (begin : MayBegin trust (2
 
     module _ (outcome : Outcome) (enough : 2 ^ 20 ≤ 2 ^ 18 + left) where
       -- where one was served
-      session_goes : (schedule : ℕ) (found : Recovered) (start : Opened) → ServesRequests trust schedule found start outcome.report flushed after → LeavesGood
-      session_goes schedule found start session later prefix parts stop is =
+      session_goes : (course : Course) (found : Recovered) (start : Opened) → ServesRequests trust course found start outcome.report flushed after → LeavesGood
+      session_goes course found start session later prefix parts stop is =
           let late = first.0.late in
           let right = session.stops begin.image told first.0.sound (omega (arith, late, enough)) in
           let shown = right later prefix parts stop is in
@@ -136,17 +138,17 @@ module _ (s : Setting) (left : ℕ) (before after : Outside) (outcome : Outcome)
       → Goes left begin.geometry stop
 
   -- of a script
-  script_goes : (schedule : ℕ) (flushed : Seen) → IsFlushed s.device.tells before.device flushed → (ended : Option Fault)
-      → RunsScriptBy ended s schedule (record before { device = flushed }) after outcome → Good flushed
-  script_goes schedule flushed is None played = session_goes s.device left before.device begin flushed after.device is outcome enough schedule played.found played.session.start played.session.serves
-  script_goes schedule flushed is (Some fault.Sink) played = session_goes s.device left before.device begin flushed after.device is outcome enough schedule played.found played.session.start played.session.serves
-  script_goes schedule flushed is (Some other) begun = kept_goes s.device left before.device begin flushed after.device is begun.early
+  script_goes : (course : Course) (flushed : Seen) → IsFlushed s.device.tells before.device flushed → (ended : Option Fault)
+      → RunsScriptBy ended s course (record before { device = flushed }) after outcome → Good flushed
+  script_goes course flushed is None played = session_goes s.device left before.device begin flushed after.device is outcome enough course played.found played.session.start played.session.serves
+  script_goes course flushed is (Some fault.Sink) played = session_goes s.device left before.device begin flushed after.device is outcome enough course played.found played.session.start played.session.serves
+  script_goes course flushed is (Some other) begun = kept_goes s.device left before.device begin flushed after.device is begun.early
 
   -- of a seed
   workload_goes : (options : WorkloadOptions) (flushed : Seen) → IsFlushed s.device.tells before.device flushed → (ended : Option Fault)
       → EndsWorkloadBy ended s options (record before { device = flushed }) after outcome → Good flushed
-  workload_goes options flushed is None worked = session_goes s.device left before.device begin flushed after.device is outcome enough options.schedule worked.found worked.session.start worked.session.serves
-  workload_goes options flushed is (Some fault.Sink) worked = session_goes s.device left before.device begin flushed after.device is outcome enough options.schedule worked.found worked.session.start worked.session.serves
+  workload_goes options flushed is None worked = session_goes s.device left before.device begin flushed after.device is outcome enough (course_of options.schedule options.core) worked.found worked.session.start worked.session.serves
+  workload_goes options flushed is (Some fault.Sink) worked = session_goes s.device left before.device begin flushed after.device is outcome enough (course_of options.schedule options.core) worked.found worked.session.start worked.session.serves
   workload_goes options flushed is (Some other) begun = kept_goes s.device left before.device begin flushed after.device is begun.early
 
   -- From the moment before the flush on.
@@ -226,8 +228,8 @@ module _ (s : Setting) (left : ℕ) (before after : Outside) (outcome : Outcome)
       behind later prefix parts stop is flushed is_flushed (each flushed is_flushed ends) (change_goes_on s asked (record before { device = flushed }) after outcome ends)
   flushed_goes asked each (inr fails) later prefix parts stop is = fails_goes later prefix parts stop is fails
 
-  pub script_good : (schedule : ℕ) → EndsFlushed s (change.Script schedule) before after outcome → AllGood
-  script_good schedule = flushed_goes (change.Script schedule) (λ flushed is ends. script_goes schedule flushed is outcome.fault ends)
+  pub script_good : (course : Course) → EndsFlushed s (change.Script course) before after outcome → AllGood
+  script_good course = flushed_goes (change.Script course) (λ flushed is ends. script_goes course flushed is outcome.fault ends)
 
   pub workload_good : (options : WorkloadOptions) → EndsFlushed s (change.Workload options) before after outcome → AllGood
   workload_good options = flushed_goes (change.Workload options) (λ flushed is ends. workload_goes options flushed is outcome.fault ends.ends)

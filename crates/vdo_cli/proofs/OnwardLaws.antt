@@ -12,6 +12,7 @@ use Rattle.core_model.specs.Trace.{calls}
 use Rattle.image_model.specs.declared.fault.ImageFault.{ImageFault}
 use Rattle.rebuild.specs.Recoveries.{IsRecovery}
 use Rattle.rebuild.specs.declared.forms.Recovered.{Recovered}
+use Rattle.vdo_cli.specs.declared.words.Course.{Course}
 use Rattle.vdo_cli.specs.declared.fault.Fault.{Fault}
 use Rattle.vdo_cli.specs.declared.fault.Fault.TheVariants as fault
 use Rattle.vdo_cli.specs.Onward.{GoesOn}
@@ -19,7 +20,7 @@ use Rattle.vdo_cli.specs.declared.words.Change.{Change}
 use Rattle.vdo_cli.specs.declared.words.Change.TheVariants as change
 use Rattle.vdo_cli.specs.declared.words.Served.{Served}
 use Rattle.vdo_cli.specs.declared.words.Served.TheVariants as served
-use Rattle.vdo_cli.specs.Commands.{served_of}
+use Rattle.vdo_cli.specs.Commands.{course_of, served_of}
 use Rattle.vdo_cli.specs.NewImages.{MakesImage}
 use Rattle.vdo_cli.specs.Openings.{IsUnready}
 use Rattle.vdo_cli.specs.Outsides.{Outcome, Outside, Setting}
@@ -58,9 +59,9 @@ not_begun s before after ends why fails = elim fails.cause [
   | inr on_script ↦ recovered s.device before.device on_script.ready.middle after.device (Ok on_script.found) on_script.ready.recovery on_script.ready.opening.untouched
 ]
 
-pub serves_on : (trust : Trust) (schedule : ℕ) (found : Recovered) (start : Opened) (report : RunReport) (before after : Seen)
-    → ServesRequests trust schedule found start report before after → GoesOn trust.tells before after
-serves_on trust schedule found start report before after session = record {
+pub serves_on : (trust : Trust) (course : Course) (found : Recovered) (start : Opened) (report : RunReport) (before after : Seen)
+    → ServesRequests trust course found start report before after → GoesOn trust.tells before after
+serves_on trust course found start report before after session = record {
   stays = session.stays;
   calls = λ told.
       let happens = session.happens told in
@@ -70,19 +71,19 @@ serves_on trust schedule found start report before after session = record {
       );
 }
 
-played : (s : Setting) (schedule : ℕ) (before after : Outside) (ends : Outcome)
-    → PlayedOut s schedule before after ends → GoesOn s.device.tells before.device after.device
-played s schedule before after ends out = serves_on s.device schedule out.found out.session.start ends.report before.device after.device out.session.serves
+played : (s : Setting) (course : Course) (before after : Outside) (ends : Outcome)
+    → PlayedOut s course before after ends → GoesOn s.device.tells before.device after.device
+played s course before after ends out = serves_on s.device course out.found out.session.start ends.report before.device after.device out.session.serves
 
-script_goes_on : (ended : Option Fault) (s : Setting) (schedule : ℕ) (before after : Outside) (ends : Outcome)
-    → RunsScriptBy ended s schedule before after ends → GoesOn s.device.tells before.device after.device
-script_goes_on None s schedule before after ends out = played s schedule before after ends out
-script_goes_on (Some fault.Sink) s schedule before after ends out = played s schedule before after ends out
-script_goes_on (Some other) s schedule before after ends fails = not_begun s before after ends other fails
+script_goes_on : (ended : Option Fault) (s : Setting) (course : Course) (before after : Outside) (ends : Outcome)
+    → RunsScriptBy ended s course before after ends → GoesOn s.device.tells before.device after.device
+script_goes_on None s course before after ends out = played s course before after ends out
+script_goes_on (Some fault.Sink) s course before after ends out = played s course before after ends out
+script_goes_on (Some other) s course before after ends fails = not_begun s before after ends other fails
 
 worked : (s : Setting) (options : WorkloadOptions) (before after : Outside) (ends : Outcome)
     → WorkloadServed s options before after ends → GoesOn s.device.tells before.device after.device
-worked s options before after ends out = serves_on s.device options.schedule out.found out.session.start ends.report before.device after.device out.session.serves
+worked s options before after ends out = serves_on s.device (course_of options.schedule options.core) out.found out.session.start ends.report before.device after.device out.session.serves
 
 not_worked : (s : Setting) (before after : Outside) (ends : Outcome) (why : Fault)
     → WorkloadNotBegun s before after ends why → GoesOn s.device.tells before.device after.device
@@ -110,7 +111,7 @@ same_device tells before after same = rw same (record { stays = record { opening
 -- over a change of an image
 pub change_goes_on : (s : Setting) (asked : Change) (before after : Outside) (outcome : Outcome)
     → EndsChange s asked before after outcome → GoesOn s.device.tells before.device after.device
-change_goes_on s (change.Script schedule) before after outcome ends = script_goes_on outcome.fault s schedule before after outcome ends
+change_goes_on s (change.Script course) before after outcome ends = script_goes_on outcome.fault s course before after outcome ends
 change_goes_on s (change.Workload options) before after outcome ends = workload_goes_on outcome.fault s options before after outcome ends.ends
 change_goes_on s change.Recover before after outcome ends = record { stays = ends.works.stays; calls = ends.works.grows }
 change_goes_on s change.ForceRebuild before after outcome ends = record { stays = ends.works.stays; calls = ends.works.grows }

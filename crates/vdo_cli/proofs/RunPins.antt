@@ -23,6 +23,7 @@ use Rattle.vdo_cli.specs.Outsides.{Setting, Outside, no_report, input_setting, i
 use Rattle.vdo_cli.specs.Runs.{EndsChange, EndsSo}
 use Rattle.vdo_cli.specs.Texts.{served_status, session_text, struck_status}
 use Rattle.vdo_cli.specs.Openings.{recovered_of}
+use Rattle.vdo_cli.proofs.EmptyScript.{usual}
 use Rattle.vdo_cli.proofs.PlayPins.{device, source}
 
 -- all of the outside tells
@@ -38,7 +39,7 @@ Changes asked before after status report why = EndsChange telling asked before a
 
 -- a script is run by the schedule 0
 abbrev pub script : Change
-script = change.Script 0
+script = change.Script (usual 0)
 
 -- a device of one block, a source with one byte left, and a sink that holds these bytes
 abbrev pub with : List Call → List ℕ → List ℕ → ℕ → Outside
@@ -125,7 +126,7 @@ abbrev pub status_by : Option ℕ → ℕ → ℕ
 status_by (Some struck) served = struck
 status_by None served = served
 
-served-whole : (found : Recovered) (report : RunReport) (before after : Seen) (left rest : List ℕ) → RunsSession (input_setting (trust_of true false) true) 0 found report (inputs before (source left 0)) (inputs after (source rest 0))
+served-whole : (found : Recovered) (report : RunReport) (before after : Seen) (left rest : List ℕ) → RunsSession (input_setting (trust_of true false) true) (usual 0) found report (inputs before (source left 0)) (inputs after (source rest 0))
     → Changes script (outside before (source left 0) (sink [] 0)) (outside after (source rest 0) (sink (session_text (recovered_of found) report) 0))
     (status_by (struck_status report) (served_status report.desk)) report None
 served-whole found report before after left rest played = record {

@@ -56,6 +56,7 @@ use Rattle.core_stops.specs.Ends.{EndsRight}
 use Rattle.core_stops.specs.Logs.{StopsRight, report_from}
 use Rattle.core_stops.specs.Sequences.{ShowsValues, next_start}
 use Rattle.session_stops.specs.Beginnings.{IsToServe}
+use Rattle.vdo_core.specs.declared.cores.Setup.{Setup}
 use Rattle.vdo_core.specs.Cores.{CanBegin, sizes_of}
 use Rattle.vdo_core.specs.Plays.{core_with}
 use Rattle.vdo_core.specs.Done.{IsDone}
@@ -76,10 +77,10 @@ use Rattle.schedule.specs.Turns.{Drives, driving}
 use Rattle.schedule.proofs.TurnLaws.{driven_leads}
 use Rattle.vdo_core.specs.Starts.{IsOf}
 use Rattle.vdo_core.specs.declared.events.Event.{Event}
-use Rattle.vdo_cli.specs.Commands.{run_setup}
+use Rattle.vdo_cli.specs.declared.words.Course.{Course}
 use Rattle.vdo_cli.specs.Endings.{ServesRequests}
 use Rattle.vdo_cli.specs.Openings.{HasSequencesLeft, IsReady}
-use Rattle.vdo_cli.specs.Sessions.{HasDamage, HasStray, IsExplained, IsOver, IsReported, IsStrayAt, run_sizes, task}
+use Rattle.vdo_cli.specs.Sessions.{HasDamage, HasStray, IsExplained, IsOver, IsReported, IsStrayAt, task}
 use Rattle.vdo_cli.specs.Stops.{Happens}
 use Rattle.vdo_cli.proofs.OpenedSessions.{as_opened, as_opened_values, head_of_sound}
 use Rattle.vdo_cli.proofs.RecoveredImages.{IsLeft, left_by, ready_kept, ready_shows, still_told}
@@ -284,27 +285,27 @@ module _ (trust : Trust) (sizes : Sizes) (state state' : ℕ) (events : List Eve
   turns_call = (driven_leads trust sizes events (driving state first before) (driving state' last after) made drives).1
 
 -- A core that began over what was opened, and came to its end.
-module _ (trust : Trust) (start : Opened) (script : Script) (first last : List Zone) (trace : Trace) (before after : Seen) (can : CanBegin (run_sizes start.head) script start)
-    (begins : (s : Session) → IsOver (task start script) s → IsFirst s (core_with first [])) (leads : Leads (run_sizes start.head) (core_with first []) (core_with last trace)) (done : IsDone last)
+module _ (trust : Trust) (setup : Setup) (start : Opened) (script : Script) (first last : List Zone) (trace : Trace) (before after : Seen) (can : CanBegin (sizes_of setup start.head) script start)
+    (begins : (s : Session) → IsOver (task setup start script) s → IsFirst s (core_with first [])) (leads : Leads (sizes_of setup start.head) (core_with first []) (core_with last trace)) (done : IsDone last)
     (called : HasCalled trust before after trace) where
   -- it is legal, of each session over that
-  legal_over : (s : Session) → IsSession s → IsOver (task start script) s → Legal s (core_with last trace)
+  legal_over : (s : Session) → IsSession s → IsOver (task setup start script) s → Legal s (core_with last trace)
   legal_over s session over =
       legal_leads s (core_with first []) (core_with last trace) session (subst (λ (sizes : Sizes). Leads sizes (core_with first []) (core_with last trace)) (sym over.sizes_is) leads)
       (legal_first s (core_with first []) (begins s over) session)
 
   -- none of its calls writes a block behind the image
   pub session_inside : AreInside start.head.geometry (calls trace)
-  session_inside = events_inside (run_sizes start.head) (let some = can.geometry.journal.0 in omega (arith, some)) (core_with first []) (core_with last trace) leads tt
+  session_inside = events_inside (sizes_of setup start.head) (let some = can.geometry.journal.0 in omega (arith, some)) (core_with first []) (core_with last trace) leads tt
 
   abbrev over : Session
-  over = bare (run_sizes start.head) script start
+  over = bare (sizes_of setup start.head) script start
 
   pub session : IsSession over
-  session = is_session (run_sizes start.head) script start can
+  session = is_session (sizes_of setup start.head) script start can
 
   pub legal : Legal over (core_with last trace)
-  legal = legal_over over session (is_of (run_sizes start.head) script start can)
+  legal = legal_over over session (is_of (sizes_of setup start.head) script start can)
 
   pub answered : AllAnswered script (lines trace)
   answered = answered_when_done over (core_with last trace) legal done
@@ -313,10 +314,10 @@ module _ (trust : Trust) (start : Opened) (script : Script) (first last : List Z
   abbrev pub report : RunReport
   report = report_of over trace
 
-  pub reported : IsReported start report trace before after
+  pub reported : IsReported setup start report trace before after
   reported = record {
     session = over;
-    is_over = is_of (run_sizes start.head) script start can;
+    is_over = is_of (sizes_of setup start.head) script start can;
     report_is = refl;
     run_right = run_right over trace session legal.right answered;
     causes = λ newer older w r a is asked. (right_at over newer older (Says (line.Answer w a)) (subst (RightTrace over) is legal.right)).1 r asked;
@@ -330,7 +331,7 @@ module _ (trust : Trust) (start : Opened) (script : Script) (first last : List Z
   module _ (image : Blocks) (sound : IsSound image) (is : IsTold trust before image) (right : OpensRight image start) (named : start.head.geometry.nonce < 2 ^ 64) where
     abbrev real : Session
     real = record {
-      sizes = run_sizes start.head;
+      sizes = sizes_of setup start.head;
       script = script;
       links = opened_page start.pages.items;
       counters = start.counters.items;
@@ -339,11 +340,11 @@ module _ (trust : Trust) (start : Opened) (script : Script) (first last : List Z
       image = image;
     }
 
-    real_over : IsOver (task start script) real
+    real_over : IsOver (task setup start script) real
     real_over = record { sizes_is = refl; script_is = refl; links_is = refl; counters_are = refl }
 
     real_session : IsSession real
-    real_session = can_serve (run_sizes start.head) script start real can real_over
+    real_session = can_serve (sizes_of setup start.head) script start real can real_over
 
     real_legal : Legal real (core_with last trace)
     real_legal = legal_over real real_session real_over
@@ -507,8 +508,8 @@ module _ (trust : Trust) (start : Opened) (script : Script) (first last : List Z
           (end_of_image left.left left.is_sound left.is_told opens named left.clean (let from = first_starts in omega (arith, late, from)))))))
 
     pub plays : (schedule state : ℕ) (events : List Event) → Stays before after
-        → Drives trust (run_sizes start.head) events (driving schedule first before) (driving state last after) trace
-        → ServesRequests trust schedule found start report entry after
+        → Drives trust (sizes_of setup start.head) events (driving schedule first before) (driving state last after) trace
+        → ServesRequests trust (record { schedule = schedule; setup = setup }) found start report entry after
     plays schedule state events stays drives = record {
       opened = before;
       ready = ready;
@@ -536,25 +537,25 @@ module _ (trust : Trust) (start : Opened) (script : Script) (first last : List Z
     }
 
 -- what a core did that began with what was opened, was driven to its end, and told its report
-pub played : (trust : Trust) (number state : ℕ) (start : Opened) (script : Script) (sizes : Sizes) (first last : List Zone) (entry before after : Seen) (found : Recovered)
-    (report : RunReport) → CanBegin (run_sizes start.head) script start → IsReady trust entry before found start → start.head.geometry.nonce < 2 ^ 64
-    → sizes ≡ sizes_of run_setup start.head
+pub played : (trust : Trust) (course : Course) (state : ℕ) (start : Opened) (script : Script) (sizes : Sizes) (first last : List Zone) (entry before after : Seen) (found : Recovered)
+    (report : RunReport) → CanBegin (sizes_of course.setup start.head) script start → IsReady trust entry before found start → start.head.geometry.nonce < 2 ^ 64
+    → sizes ≡ sizes_of course.setup start.head
     → ((s : Session) → IsOf s sizes script start → IsFirst s (core_with first []))
-    → ((events : List Event) × (made : Trace) × Drives trust sizes events (driving number first before) (driving state last after) made) → IsDone last → Stays before after
+    → ((events : List Event) × (made : Trace) × Drives trust sizes events (driving course.schedule first before) (driving state last after) made) → IsDone last → Stays before after
     → ((s : Session) (t : Trace) → IsSession s → Legal s (core_with last t) → IsDone last → report ≡ report_of s t)
-    → ServesRequests trust number found start report entry after × (report.requests ≡ script)
-played trust number state start script sizes first last entry before after found report can ready named sizes_are begins driven done stays says =
-    let sized : sizes ≡ run_sizes start.head = sizes_are in
-    let begins_so = (λ (s : Session) (over : IsOver (task start script) s). begins s (rw sized over)) in
+    → ServesRequests trust course found start report entry after × (report.requests ≡ script)
+played trust course state start script sizes first last entry before after found report can ready named sizes_are begins driven done stays says =
+    let sized : sizes ≡ sizes_of course.setup start.head = sizes_are in
+    let begins_so = (λ (s : Session) (over : IsOver (task course.setup start script) s). begins s (rw sized over)) in
     let (events, made, drives_so) = driven in
-    let drives : Drives trust (run_sizes start.head) events (driving number first before) (driving state last after) made =
-    subst (λ (z : Sizes). Drives trust z events (driving number first before) (driving state last after) made) sized drives_so in
-    let leads = turns_lead trust (run_sizes start.head) number state events first last before after made drives in
-    let called = turns_call trust (run_sizes start.head) number state events first last before after made drives in
-    let report_is = says (over trust start script first last made before after can begins_so leads done called) made
-    (session trust start script first last made before after can begins_so leads done called)
-    (legal trust start script first last made before after can begins_so leads done called) done in (
-      subst (λ (r : RunReport). ServesRequests trust number found start r entry after) (sym report_is)
-          (plays trust start script first last made before after can begins_so leads done called entry found ready named number state events stays drives),
+    let drives : Drives trust (sizes_of course.setup start.head) events (driving course.schedule first before) (driving state last after) made =
+    subst (λ (z : Sizes). Drives trust z events (driving course.schedule first before) (driving state last after) made) sized drives_so in
+    let leads = turns_lead trust (sizes_of course.setup start.head) course.schedule state events first last before after made drives in
+    let called = turns_call trust (sizes_of course.setup start.head) course.schedule state events first last before after made drives in
+    let report_is = says (over trust course.setup start script first last made before after can begins_so leads done called) made
+    (session trust course.setup start script first last made before after can begins_so leads done called)
+    (legal trust course.setup start script first last made before after can begins_so leads done called) done in (
+      subst (λ (r : RunReport). ServesRequests trust course found start r entry after) (sym report_is)
+          (plays trust course.setup start script first last made before after can begins_so leads done called entry found ready named course.schedule state events stays drives),
       ap (λ (r : RunReport). r.requests) report_is,
     )

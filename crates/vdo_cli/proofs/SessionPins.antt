@@ -20,7 +20,7 @@ use Rattle.vdo_cli.specs.Endings.{RunsSession}
 use Rattle.vdo_cli.specs.Outsides.{outside, input_setting, inputs}
 use Rattle.vdo_cli.specs.Openings.{recovered_of}
 use Rattle.vdo_cli.specs.Texts.{session_text, struck_status}
-use Rattle.vdo_cli.proofs.EmptyScript.{empty_report}
+use Rattle.vdo_cli.proofs.EmptyScript.{empty_report, usual}
 use Rattle.vdo_cli.proofs.PlayPins.{device, source}
 use Rattle.vdo_cli.proofs.RunPins.{Changes, Ends, begins, script, with}
 
@@ -29,7 +29,7 @@ abbrev lost_report : RunReport
 lost_report = record empty_report { desk = Answer (of_a 0) reply.Stopped ∷ [] }
 
 -- Over a session that was served: the sink failed, and holds a first part of the text
-sink-failed : (n : ℕ) (found : Recovered) (report : RunReport) (before after : Seen) (left rest : List ℕ) → RunsSession (input_setting (trust_of true false) true) 0 found report (inputs before (source left 0)) (inputs after (source rest 0)) → struck_status report ≡ None
+sink-failed : (n : ℕ) (found : Recovered) (report : RunReport) (before after : Seen) (left rest : List ℕ) → RunsSession (input_setting (trust_of true false) true) (usual 0) found report (inputs before (source left 0)) (inputs after (source rest 0)) → struck_status report ≡ None
     → Changes script (outside before (source left 0) (sink [] 0)) (outside after (source rest 0) (sink (take n (session_text (recovered_of found) report)) 1)) 7 report (Some fault.Sink)
 sink-failed n found report before after left rest played none = record { found = found; session = played; closes = (refl, none, omega arith, λ told. (n, refl)) }
 

@@ -29,7 +29,7 @@ use Rattle.vdo_cli.specs.Outsides.{Outside, no_report, outside}
 use Rattle.vdo_cli.specs.Texts.{fault_text, served_status, struck_status}
 use Rattle.vdo_cli.specs.Workloads.{ServesWorkload, WorkloadFails, requests_for, summary_of}
 use Rattle.vdo_cli.proofs.CommandPins.{draws}
-use Rattle.vdo_cli.proofs.EmptyScript.{empty_report}
+use Rattle.vdo_cli.proofs.EmptyScript.{empty_report, usual}
 use Rattle.vdo_cli.proofs.PlayPins.{device, source, bare, begins, no_image}
 use Rattle.vdo_cli.proofs.RecoveryPins.{refused}
 use Rattle.vdo_cli.proofs.RunPins.{Changes, some_report, status_by}
@@ -76,7 +76,7 @@ module _ (found : Recovered) (report : RunReport) (before after : Seen) (left : 
 
 -- ServesWorkload: the requests are those of the seed
 module _ (start : Opened) (found : Recovered) (report : RunReport) (before after : Seen) where
-  serves-so : ServesRequests (trust_of true false) 0 found start report before after → report.requests ≡ requests_for (draws 1 4) start.head.geometry.logical
+  serves-so : ServesRequests (trust_of true false) (usual 0) found start report before after → report.requests ≡ requests_for (draws 1 4) start.head.geometry.logical
       → ServesWorkload (trust_of true false) (draws 1 4) found report before after
   serves-so serves requests_are = record { start = start; serves = serves; requests_are = requests_are }
 

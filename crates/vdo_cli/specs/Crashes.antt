@@ -33,8 +33,10 @@ use Rattle.vdo_model.specs.declared.report.RunReport.{RunReport}
 use Rattle.vdo_words.specs.declared.commands.CrashOptions.{CrashOptions}
 use Rattle.vdo_cli.specs.declared.fault.Fault.{Fault}
 use Rattle.vdo_cli.specs.declared.fault.Fault.TheVariants as fault
+use Rattle.vdo_cli.specs.declared.words.Course.{Course}
 use Rattle.vdo_cli.specs.declared.words.Served.{Served}
 use Rattle.vdo_cli.specs.declared.words.Served.TheVariants as served
+use Rattle.vdo_cli.specs.Commands.{course_of}
 use Rattle.vdo_cli.specs.Endings.{ScriptFails, ServesRequests}
 use Rattle.vdo_cli.specs.Flushes.{BehindFlush, IsNotFlushed}
 use Rattle.vdo_cli.specs.Inspections.{told_as}
@@ -64,10 +66,10 @@ CopyFails trust before after other = ⊥
 -- The run on the copy.
 
 -- a session served the requests
-pub record IsServed (trust : Trust) (schedule : ℕ) (report : RunReport) (before after : Seen) : Type 0 where
+pub record IsServed (trust : Trust) (course : Course) (report : RunReport) (before after : Seen) : Type 0 where
   pub found : Recovered
   pub start : Opened
-  pub serves : ServesRequests trust schedule found start report before after
+  pub serves : ServesRequests trust course found start report before after
 
 -- what is reported of requests of which none was begun
 abbrev pub unserved : Script → RunReport
@@ -81,18 +83,18 @@ pub record IsNotServed (trust : Trust) (report : RunReport) (before after : Seen
   pub report_is : report ≡ unserved report.requests
 
 -- they were served, or none was begun
-abbrev pub IsServedOrNot : Trust → ℕ → RunReport → Seen → Seen → Type 0
-IsServedOrNot trust schedule report before after = IsServed trust schedule report before after ⊎ IsNotServed trust report before after
+abbrev pub IsServedOrNot : Trust → Course → RunReport → Seen → Seen → Type 0
+IsServedOrNot trust course report before after = IsServed trust course report before after ⊎ IsNotServed trust report before after
 
 -- the copy was flushed, and then as above; or the flush failed, and none was begun
-abbrev pub RunsFlushed : Trust → ℕ → RunReport → Seen → Seen → Type 0
-RunsFlushed trust schedule report before after =
-    BehindFlush trust.tells before (λ (flushed : Seen). IsServedOrNot trust schedule report flushed after)
+abbrev pub RunsFlushed : Trust → Course → RunReport → Seen → Seen → Type 0
+RunsFlushed trust course report before after =
+    BehindFlush trust.tells before (λ (flushed : Seen). IsServedOrNot trust course report flushed after)
     ⊎ (IsNotFlushed trust.tells before after × (report ≡ unserved report.requests))
 
 -- so the requests were run on a copy, of which all calls behind the first so many failed
 pub record IsTried (options : CrashOptions) (report : RunReport) (first copy : Memory) : Type 0 where
-  pub runs : RunsFlushed of_memory options.schedule report (seen_of first) (seen_of copy)
+  pub runs : RunsFlushed of_memory (course_of options.schedule options.core) report (seen_of first) (seen_of copy)
   pub cut : IsCutOff options.after copy
 
 -- the device was copied, and the script was read to its end and run on the copy

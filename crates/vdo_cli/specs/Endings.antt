@@ -22,6 +22,7 @@ use Rattle.vdo_model.specs.QuietWrites.{QuietRight}
 use Rattle.vdo_model.specs.RightReads.{ReadsRight}
 use Rattle.vdo_cli.specs.declared.fault.Fault.{Fault}
 use Rattle.vdo_cli.specs.declared.fault.Fault.TheVariants as fault
+use Rattle.vdo_cli.specs.declared.words.Course.{Course}
 use Rattle.vdo_cli.specs.Inspections.{told_as}
 use Rattle.vdo_cli.specs.Openings.{HasSequencesLeft, IsReady, IsUnready, OfSound, recovered_of}
 use Rattle.vdo_cli.specs.Outsides.{InputSetting, Inputs}
@@ -36,14 +37,14 @@ KeepsImage trust before now = OfSound trust before (λ image sound.
     (value_of (image_in image sound)) calls × AreInside sound.head.geometry calls) before.log now.log)
 
 -- what a session did, from the recovery on, of which this was found, and which started with this
-pub record ServesRequests (trust : Trust) (schedule : ℕ) (found : Recovered) (start : Opened) (report : RunReport) (before after : Seen) : Type 0 where
+pub record ServesRequests (trust : Trust) (course : Course) (found : Recovered) (start : Opened) (report : RunReport) (before after : Seen) : Type 0 where
   -- what the device was when the session started
   pub opened : Seen
   pub ready : IsReady trust before opened found start
   -- a core served the requests by the schedule from then on
   pub trace : Trace
-  pub driven : IsDriven trust schedule (task start report.requests) trace opened after
-  pub reported : IsReported start report trace opened after
+  pub driven : IsDriven trust course.schedule (task course.setup start report.requests) trace opened after
+  pub reported : IsReported course.setup start report trace opened after
   pub stays : Stays before after
   -- before the first write of an address in the session, a read of it gives its value in the image that there was
   pub reads_right : OfSound trust before
@@ -73,9 +74,9 @@ pub record ServesRequests (trust : Trust) (schedule : ℕ) (found : Recovered) (
       (value_of (image_in image sound)) report)
 
 -- so of a script, which was read to its end
-pub record RunsSession (s : InputSetting) (schedule : ℕ) (found : Recovered) (report : RunReport) (before after : Inputs) : Type 0 where
+pub record RunsSession (s : InputSetting) (course : Course) (found : Recovered) (report : RunReport) (before after : Inputs) : Type 0 where
   pub start : Opened
-  pub serves : ServesRequests s.device schedule found start report before.device after.device
+  pub serves : ServesRequests s.device course found start report before.device after.device
   -- the requests are those of the script
   pub script_is : IsTrue s.source_tells → whole_script before.source.left ≡ Ok report.requests
   pub to_its_end : IsTrue s.source_tells → after.source.left ≡ []

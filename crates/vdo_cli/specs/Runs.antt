@@ -4,6 +4,7 @@ use Rattle.rebuild.specs.declared.forms.Recovered.{Recovered}
 use Rattle.vdo_cli.specs.declared.fault.Fault.{Fault}
 use Rattle.vdo_cli.specs.declared.fault.Fault.TheVariants as fault
 use Rattle.disk_model.specs.Seen.{Seen}
+use Rattle.vdo_cli.specs.declared.words.Course.{Course}
 use Rattle.vdo_cli.specs.declared.words.Change.{Change}
 use Rattle.vdo_cli.specs.declared.words.Change.TheVariants as change
 use Rattle.vdo_cli.specs.declared.words.Served.{Served}
@@ -31,21 +32,21 @@ pub record NotBegun (s : Setting) (before after : Outside) (outcome : Outcome) (
   pub early : KeepsImage s.device before.device after.device
   pub refuses : RefusesAfter s.sink_tells recovered why outcome.status outcome.report before.sink after.sink
 
--- a session was served to its end by the schedule of this number, and its answers were put
-pub record PlayedOut (s : Setting) (schedule : ℕ) (before after : Outside) (outcome : Outcome) : Type 0 where
+-- a session was served to its end so, and its answers were put
+pub record PlayedOut (s : Setting) (course : Course) (before after : Outside) (outcome : Outcome) : Type 0 where
   pub found : Recovered
-  pub session : RunsSession (input_setting_of s) schedule found outcome.report (inputs_of before) (inputs_of after)
+  pub session : RunsSession (input_setting_of s) course found outcome.report (inputs_of before) (inputs_of after)
   pub closes : Closes s.sink_tells (session_text (recovered_of found) outcome.report) outcome.report outcome.status outcome.fault before.sink after.sink
 
 -- how the run of a script ends that has this fault, or none
-abbrev pub RunsScriptBy : Option Fault → Setting → ℕ → Outside → Outside → Outcome → Type 0
-RunsScriptBy None s schedule before after outcome = PlayedOut s schedule before after outcome
-RunsScriptBy (Some fault.Sink) s schedule before after outcome = PlayedOut s schedule before after outcome
-RunsScriptBy (Some why) s schedule before after outcome = NotBegun s before after outcome why
+abbrev pub RunsScriptBy : Option Fault → Setting → Course → Outside → Outside → Outcome → Type 0
+RunsScriptBy None s course before after outcome = PlayedOut s course before after outcome
+RunsScriptBy (Some fault.Sink) s course before after outcome = PlayedOut s course before after outcome
+RunsScriptBy (Some why) s course before after outcome = NotBegun s before after outcome why
 
 -- how the run of a script ends
-abbrev pub RunsScript : Setting → ℕ → Outside → Outside → Outcome → Type 0
-RunsScript s schedule before after outcome = RunsScriptBy outcome.fault s schedule before after outcome
+abbrev pub RunsScript : Setting → Course → Outside → Outside → Outcome → Type 0
+RunsScript s course before after outcome = RunsScriptBy outcome.fault s course before after outcome
 
 -- the words are no command that is served: nothing else was looked at
 pub record IsUsage (s : Setting) (before after : Outside) (outcome : Outcome) : Type 0 where
@@ -56,7 +57,7 @@ pub record IsUsage (s : Setting) (before after : Outside) (outcome : Outcome) : 
 
 -- how a change of an image ends, of a device that was flushed before
 abbrev pub EndsChange : Setting → Change → Outside → Outside → Outcome → Type 0
-EndsChange s (change.Script schedule) before after outcome = RunsScript s schedule before after outcome
+EndsChange s (change.Script course) before after outcome = RunsScript s course before after outcome
 EndsChange s (change.Workload options) before after outcome = EndsWorkload s options before after outcome
 EndsChange s change.Recover before after outcome = EndsRecovery s before after outcome
 EndsChange s change.ForceRebuild before after outcome = EndsRebuild s before after outcome

@@ -1,6 +1,5 @@
 -- What a session did: a core began over the image that was opened, and a schedule led it to its end.
 use Rattle.std.specs.Prelude.{ℕ, ◌≡◌, ◌⊎◌, ◌++◌, ◌∷◌, [], List, Some, IsSome}
-use Rattle.blk_base.specs.declared.geometry.Super.{Super}
 use Rattle.blk_base.specs.declared.opened.Opened.{Opened}
 use Rattle.blk_base.specs.declared.request.Answer.{Answer as Reply}
 use Rattle.blk_base.specs.declared.request.Answer.TheVariants as reply
@@ -23,6 +22,7 @@ use Rattle.vdo_core.specs.Cores.{sizes_of}
 use Rattle.vdo_core.specs.Done.{IsDone}
 use Rattle.vdo_core.specs.Plays.{core_with}
 use Rattle.vdo_core.specs.Starts.{IsOf}
+use Rattle.vdo_core.specs.declared.cores.Setup.{Setup}
 use Rattle.vdo_core.specs.declared.events.Event.{Event}
 use Rattle.schedule.specs.Turns.{Drives, driving}
 use Rattle.vdo_model.specs.DeskLog.{answer_of}
@@ -32,23 +32,23 @@ use Rattle.page_codec.specs.declared.fault.PageFault.{PageFault}
 use Rattle.vdo_model.specs.declared.report.Damage.TheVariants.{Page, Stray}
 use Rattle.vdo_model.specs.declared.report.DeskLine.TheVariants as line
 use Rattle.vdo_model.specs.declared.report.RunReport.{RunReport}
-use Rattle.vdo_cli.specs.Commands.{run_setup}
 
--- the sizes of a session over an image with this superblock
-abbrev pub run_sizes : Super → Sizes
-run_sizes head = sizes_of run_setup head
-
--- what is asked of a session: the requests, over an image that was opened
+-- what is asked of a session: the requests, over an image that was opened, of a core that is set up so
 pub record Task : Type 0 where
+  pub setup : Setup
   pub start : Opened
   pub script : Script
 
-abbrev pub task : Opened → Script → Task
-task start script = record { start = start; script = script }
+abbrev pub task : Setup → Opened → Script → Task
+task setup start script = record { setup = setup; start = start; script = script }
+
+-- the sizes of its session: its zones and its depth are those of the setup
+abbrev pub task_sizes : Task → Sizes
+task_sizes task = sizes_of task.setup task.start.head
 
 -- a session over that image, with this script: the counters of its data blocks are those of the image
 abbrev pub IsOver : Task → Session → Type 0
-IsOver task s = IsOf s (run_sizes task.start.head) task.script task.start
+IsOver task s = IsOf s (task_sizes task) task.script task.start
 
 -- A core began with the script over the image, the turns of a schedule led it to its end, and this is what happened by
 -- them, with what was seen of the device before and after.
@@ -58,7 +58,7 @@ pub record IsDriven (trust : Trust) (schedule : ℕ) (task : Task) (trace : Trac
   pub begins : (s : Session) → IsOver task s → IsFirst s (core_with first [])
   pub events : List Event
   pub state : ℕ
-  pub drives : Drives trust (run_sizes task.start.head) events (driving schedule first before) (driving state last after) trace
+  pub drives : Drives trust (task_sizes task) events (driving schedule first before) (driving state last after) trace
   pub done : IsDone last
 
 -- An answer that says that the device failed, or that the session was stopped, is explained: the device's count of faults rose, or
@@ -94,11 +94,11 @@ pub record HasStray (s : Session) (t : Trace) (at : Pbn) (count : ℕ) : Type 0 
 
 -- Of what happened the report tells, and it is right: every request is answered, by the desk log, the places and the
 -- histories that belong to it, each answer has its cause in what happened before, and so has the damage.
-pub record IsReported (start : Opened) (report : RunReport) (trace : Trace) (before after : Seen) : Type 0 where
+pub record IsReported (setup : Setup) (start : Opened) (report : RunReport) (trace : Trace) (before after : Seen) : Type 0 where
   pub session : Session
-  pub is_over : IsOver (task start report.requests) session
+  pub is_over : IsOver (task setup start report.requests) session
   pub report_is : report ≡ report_of session trace
-  pub run_right : RunRight 1 1 start.head.geometry.logical (progress_of trace) report.requests report.desk report.places report.histories
+  pub run_right : RunRight setup.logical_zones setup.depth start.head.geometry.logical (progress_of trace) report.requests report.desk report.places report.histories
   pub causes : (newer older : Trace) (w : Writer) (r : Request) (a : Reply) → trace ≡ newer ++ Says (line.Answer w a) ∷ older
       → request_at report.requests w ≡ Some r → MayAnswer session older w r a
   pub faults : (w : Writer) (r : Request) (a : Reply) → request_at report.requests w ≡ Some r

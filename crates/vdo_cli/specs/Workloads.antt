@@ -14,6 +14,7 @@ use Rattle.vdo_words.specs.declared.commands.WorkloadOptions.{WorkloadOptions}
 use Rattle.vdo_cli.specs.declared.fault.Fault.{Fault}
 use Rattle.vdo_cli.specs.declared.fault.Fault.TheVariants as fault
 use Rattle.vdo_cli.specs.Closings.{Closes}
+use Rattle.vdo_cli.specs.Commands.{course_of}
 use Rattle.vdo_cli.specs.Endings.{FailsUnready, KeepsImage, ServesRequests}
 use Rattle.vdo_cli.specs.Openings.{IsReady, recovered_of}
 use Rattle.vdo_cli.specs.Outsides.{Outcome, Outside, RefusesAfter, Setting}
@@ -34,7 +35,7 @@ summary_of recovered options report = record {
 -- a session served the requests of the seed, at the addresses of the image that was opened
 pub record ServesWorkload (trust : Trust) (options : WorkloadOptions) (found : Recovered) (report : RunReport) (before after : Seen) : Type 0 where
   pub start : Opened
-  pub serves : ServesRequests trust options.schedule found start report before after
+  pub serves : ServesRequests trust (course_of options.schedule options.core) found start report before after
   pub requests_are : report.requests ≡ requests_for options start.head.geometry.logical
 
 -- the image was opened, and memory ran out before the first request was served

@@ -4,6 +4,8 @@ ghost use Rattle.disk_model.specs.Memory.{fresh};
 ghost use Rattle.disk_model.specs.Since.{IsUntouched};
 ghost use Rattle.crash_images.specs.Shows.{IsPickShown, PickFails};
 ghost use Rattle.stream_text.specs.ReadingBytes.{IsWholeScript};
+ghost use Rattle.vdo_cli.specs.Commands as commands;
+ghost use Rattle.vdo_cli.specs.Commands.{IsSetup};
 ghost use Rattle.vdo_cli.specs.Crashes as crashes;
 ghost use Rattle.vdo_cli.specs.Crashes.{CopyFails, CrashFails, IsServedOrNot, IsTried, IsWholeCopy, RunsFlushed, RunsOnCopy};
 ghost use Rattle.vdo_cli.specs.Outsides.{input_setting, inputs};
@@ -11,6 +13,7 @@ ghost use Rattle.vdo_cli.specs.Outsides.{input_setting, inputs};
 use crate::Fault;
 use crate::ready::{OpeningFault, get_ready};
 use crate::session::{read_requests, serve};
+use crate::words::{Course, course_of};
 use crash_images::{CutDisk, Shown, copy_of, show_pick};
 use disk_model::{BlocksFault, Disk, MemDisk, Source};
 use image_layout::LayoutFault;
@@ -78,17 +81,18 @@ fn unserved(alloc: Global, requests: Requests) -> RunReport
 fn serve_flushed<R: Wait, D: Disk>(
     rt: &R,
     alloc: Global,
-    schedule: u64,
+    course: Course,
     requests: Requests,
     device: &mut D,
 ) -> Result<RunReport, AllocError>
-    requires { IsWholeScript requests }
+    requires whole { IsWholeScript requests }
+    requires setup { IsSetup course.setup }
     ensures runs { IfOk result (λ report. IsServedOrNot D.trust
-        schedule report (D.seen device.old) (D.seen device.new)) }
+        course report (D.seen device.old) (D.seen device.new)) }
     ensures requests { IfOk result (λ report. report.requests ≡ requests) }
 {
     match get_ready(alloc, device) {
-        Ok(ready) => serve(rt, alloc, schedule, &ready, requests, device),
+        Ok(ready) => serve(rt, alloc, course, &ready, requests, device),
         Err(
             OpeningFault {
                 why: ImageFault::Memory,
@@ -104,17 +108,18 @@ fn serve_flushed<R: Wait, D: Disk>(
 fn serve_on<R: Wait, D: Disk>(
     rt: &R,
     alloc: Global,
-    schedule: u64,
+    course: Course,
     requests: Requests,
     device: &mut D,
 ) -> Result<RunReport, AllocError>
-    requires { IsWholeScript requests }
+    requires whole { IsWholeScript requests }
+    requires setup { IsSetup course.setup }
     ensures runs { IfOk result (λ report. RunsFlushed D.trust
-        schedule report (D.seen device.old) (D.seen device.new)) }
+        course report (D.seen device.old) (D.seen device.new)) }
     ensures requests { IfOk result (λ report. report.requests ≡ requests) }
 {
     match device.flush() {
-        Ok(()) => serve_flushed(rt, alloc, schedule, requests, device),
+        Ok(()) => serve_flushed(rt, alloc, course, requests, device),
         Err(_) => Ok(unserved(alloc, requests)),
     }
 }
@@ -128,12 +133,14 @@ fn run_on_copy<R: Wait>(
     copy: MemDisk,
 ) -> Result<Tried, AllocError>
     requires whole { IsWholeScript requests }
+    requires setup { IsSetup (commands.setup_of options.now.core) }
     requires fresh { (blocks : Blocks) × (copy ≡ fresh blocks) }
     ensures tried { IfOk result (λ tried. IsTried options.now tried.report copy tried.copy) }
     ensures requests { IfOk result (λ tried. tried.report.requests ≡ requests) }
 {
     let mut cut = CutDisk::over(copy, options.after);
-    let report = serve_on(rt, alloc, options.schedule, requests, &mut cut)?;
+    let course = course_of(options.schedule, &options.core);
+    let report = serve_on(rt, alloc, course, requests, &mut cut)?;
     // Asked for the proof alone: the copy wasn't put in place by another one.
     if cut.passes() != options.after {
         return Err(AllocError);
@@ -155,6 +162,7 @@ pub(crate) fn crash<R: Wait, D: Disk, S: Source>(
     device: &mut D,
     script: &mut S,
 ) -> Result<Crashed, Fault>
+    requires setup { IsSetup (commands.setup_of options.now.core) }
     ensures run { IfOk result (λ crashed. RunsOnCopy (input_setting D.trust S.tells)
         options.now crashed.tried.report
         (inputs (D.seen device.old) (S.seen script.old))

@@ -1,6 +1,7 @@
 ghost use Rattle.std.specs.Prelude.{◌≡◌, ◌<◌, ◌^◌, Some, length, reverse};
 ghost use Rattle.crash_images.specs.Cuts as cuts;
 ghost use Rattle.disk_model.specs.Streams.{Puts};
+ghost use Rattle.vdo_cli.specs.Commands.{IsSetup, setup_of};
 ghost use Rattle.vdo_cli.specs.Crashes.{EndsCrash, TellsAudit, not_shown_text, shown_text};
 ghost use Rattle.vdo_cli.specs.Inspections.{told_as};
 ghost use Rattle.vdo_cli.specs.Outsides.{PutsOrFails, outcome_with, outside, setting};
@@ -133,6 +134,7 @@ pub(crate) fn run_crash<R: Wait, D: Disk, S: Source, K: Sink>(
     script: &mut S,
     out: &mut K,
 ) -> Ended<D>
+    requires { IsSetup (setup_of options.now.core) }
     ensures { EndsCrash (setting D.trust S.tells K.tells) options.now
         (outside (D.seen device) (S.seen script.old) (K.seen out.old))
         (outside (D.seen result.device) (S.seen script.new) (K.seen out.new))

@@ -3,7 +3,7 @@ ghost use Rattle.command_text.specs.Workloads.{summary_text};
 ghost use Rattle.disk_model.specs.Streams.{Puts, SinkSeen};
 ghost use Rattle.stream_text.specs.AnswerRooms.{HasRoomFor};
 ghost use Rattle.vdo_cli.specs.Closings.{Closes};
-ghost use Rattle.vdo_cli.specs.Commands.{IsChangeWithin, IsServedWithin, IsWorkload, served_of};
+ghost use Rattle.vdo_cli.specs.Commands.{IsChangeWithin, IsServedWithin, IsSetup, IsWorkload, served_of};
 ghost use Rattle.vdo_cli.specs.Crashes.{HasCopyOf, IsOnDevice};
 ghost use Rattle.vdo_cli.specs.Inspections.{TellsReport, told_as};
 ghost use Rattle.vdo_cli.specs.NewImages.{MakesImage};
@@ -23,7 +23,7 @@ use crate::new_image::make_image;
 use crate::ready::recovered_of;
 use crate::seeded::{Worked, summary_of, work};
 use crate::session::{Played, SessionFault, play};
-use crate::words::{Change, Served};
+use crate::words::{Change, Course, Served};
 use crate::{Fault, Words};
 use audit::{Report, audit};
 use blk_base::Geometry;
@@ -277,22 +277,23 @@ fn end_audit<D: Disk, K: Sink>(
     }
 }
 
-// Serves a script by the schedule of this number.
+// Serves a script so.
 fn run_script<R: Wait, D: Disk, S: Source, K: Sink>(
     rt: &R,
     alloc: Global,
-    schedule: u64,
+    course: Course,
     device: D,
     script: &mut S,
     out: &mut K,
 ) -> Finished<D>
-    ensures { RunsScript (setting D.trust S.tells K.tells) schedule
+    requires { IsSetup course.setup }
+    ensures { RunsScript (setting D.trust S.tells K.tells) course
         (outside (D.seen device) (S.seen script.old) (K.seen out.old))
         (outside (D.seen result.device) (S.seen script.new) (K.seen out.new))
         (outcome result.status result.report result.fault) }
 {
     let mut device = device;
-    match play(rt, alloc, schedule, &mut device, script) {
+    match play(rt, alloc, course, &mut device, script) {
         Ok(played) => close(played, device, out),
         Err(not) => refuse_after(alloc, not, device, out),
     }
@@ -357,7 +358,7 @@ fn change<R: Wait, D: Disk, S: Source, K: Sink>(
 {
     let mut device = device;
     match asked {
-        Change::Script(schedule) => run_script(rt, alloc, schedule, device, script, out),
+        Change::Script(course) => run_script(rt, alloc, course, device, script, out),
         Change::Workload(options) => run_workload(rt, alloc, &options, device, script, out),
         Change::Recover => end(alloc, recover(alloc, &mut device), device, out),
         Change::ForceRebuild => end(alloc, force(alloc, &mut device), device, out),
@@ -421,8 +422,10 @@ fn serve_on_device<R: Wait, D: Disk, S: Source, K: Sink>(
 
 /// Does what the words say. `run`, or `run --schedule N`: the requests of the script, each stream's in its order, are
 /// served on the device's image by the zones of a core, whose steps and moves come in the order of the schedule N (0
-/// where none is given). An image whose last session wasn't closed is recovered first, and how many entries of its journal were
-/// used is put. Then come the answers, one line for each, and the damage, if a leaf was found that doesn't decode. What earlier
+/// where none is given). `--depth` says how many requests of a stream are under way at most (1 to 16), `--logical-zones` and
+/// `--physical-zones` into how many zones the core is divided (1 to 4 each); 1 where none is given, and none of them is on the
+/// image. An image whose last session wasn't closed is recovered first, and how many entries of its journal were used is put.
+/// Then come the answers, one line for each, and the damage, if a leaf was found that doesn't decode. What earlier
 /// runs wrote is there again. `workload`: the requests of a seed are served so in place of a script's, which isn't looked at, and how
 /// many were answered how is put. `crash`, with `--after` and `--image`: the script is run on a copy of the device in memory, of which
 /// so many calls go on and each later one fails, and the image of this number is looked at that a stop may leave there: whether a call

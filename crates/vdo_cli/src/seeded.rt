@@ -1,5 +1,6 @@
 ghost use Rattle.std.specs.Prelude.{◌≡◌, ◌<◌, ◌^◌, IfOk, IfErr};
 ghost use Rattle.disk_model.specs.Seen.{Seen};
+ghost use Rattle.vdo_cli.specs.Commands as commands;
 ghost use Rattle.vdo_cli.specs.Commands.{IsWorkload};
 ghost use Rattle.vdo_cli.specs.Endings.{KeepsImage, ServesRequests};
 ghost use Rattle.vdo_cli.specs.Openings.{IsReady, IsReadyNow};
@@ -10,6 +11,7 @@ use crate::Fault;
 use crate::endings::fault_of;
 use crate::ready::{Ready, get_ready, recovered_of};
 use crate::session::{SessionFault, serve};
+use crate::words::course_of;
 use command_text::{Space, Summary, Tally};
 use disk_model::Disk;
 use rebuild::Recovered;
@@ -61,13 +63,14 @@ fn serve_drawn<R: Wait, D: Disk>(
     ensures serves { IfOk result (λ report. (before : Seen)
         → IsReady D.trust before (D.seen device.old) ready.now.found ready.now.start
         → ServesRequests D.trust
-        options.now.schedule ready.now.found ready.now.start report before (D.seen device.new)) }
+        (commands.course_of options.now.schedule options.now.core) ready.now.found ready.now.start report before (D.seen device.new)) }
     ensures requests { IfOk result (λ report.
         report.requests ≡ requests_for options.now ready.now.start.head.geometry.logical) }
     ensures unserved { IfErr result (λ e. D.seen device.new ≡ D.seen device.old) }
 {
     let requests = draw_requests(alloc, options, ready.start.head.geometry.logical)?;
-    serve(rt, alloc, options.schedule, ready, requests, device)
+    let course = course_of(options.schedule, &options.core);
+    serve(rt, alloc, course, ready, requests, device)
 }
 
 /// Recovers the image where its last session wasn't closed, opens it, and serves the requests of a seed. Before the session nothing

@@ -3,6 +3,7 @@ ghost use Rattle.disk_model.specs.Seen.{Seen};
 ghost use Rattle.stream_text.specs.AnswerRooms.{HasRoomFor};
 ghost use Rattle.stream_text.specs.ReadingBytes.{IsWholeScript};
 ghost use Rattle.stream_text.specs.WholeScript.{whole_script};
+ghost use Rattle.vdo_cli.specs.Commands.{IsSetup};
 ghost use Rattle.vdo_cli.specs.Endings.{KeepsImage, RunsSession, ServesRequests, PlayFails, ScriptFails};
 ghost use Rattle.vdo_cli.specs.Openings.{IsReady, IsReadyNow};
 ghost use Rattle.vdo_cli.specs.Outsides.{input_setting, inputs};
@@ -10,22 +11,15 @@ ghost use Rattle.vdo_cli.specs.Outsides.{input_setting, inputs};
 use crate::Fault;
 use crate::endings::fault_of;
 use crate::ready::{Ready, get_ready, recovered_of};
+use crate::words::Course;
 use disk_model::{Disk, Source};
 use rebuild::Recovered;
 use schedule::{Schedule, drive};
 use std::alloc::{AllocError, Global};
 use std::sync::Wait;
 use stream_text::{AnswerRoom, ReadScript, read_script};
-use vdo_core::{Core, Setup};
+use vdo_core::Core;
 use vdo_model::{Requests, RunReport};
-use vdo_words::DEFAULT_CORE;
-
-/// A core of the program is set up as without options.
-const SETUP: Setup = Setup {
-    logical_zones: DEFAULT_CORE.logical_zones as u8,
-    physical_zones: DEFAULT_CORE.physical_zones as u8,
-    depth: DEFAULT_CORE.depth,
-};
 
 /// What a session left: what was recovered before, its report, and room to put its answers.
 #[derive(Drop)]
@@ -60,12 +54,12 @@ pub(crate) fn read_requests<S: Source>(alloc: Global, script: &mut S) -> Result<
 }
 
 // Long to prove: what a core did is told again of the whole call.
-/// Serves requests by the schedule of this number on an image that is ready, and tells what became of them. It fails where no
+/// Serves requests so on an image that is ready, and tells what became of them. It fails where no
 /// memory is found to begin, and then nothing was done.
 pub(crate) fn serve<R: Wait, D: Disk>(
     rt: &R,
     alloc: Global,
-    number: u64,
+    course: Course,
     ready: &Ready,
     requests: Requests,
     device: &mut D,
@@ -74,30 +68,37 @@ pub(crate) fn serve<R: Wait, D: Disk>(
         ready.now.found ready.now.start }
     requires named { ready.now.start.head.geometry.nonce < 2 ^ 64 }
     requires whole { IsWholeScript requests }
+    requires setup { IsSetup course.setup }
     ensures serves { IfOk result (λ report. (before : Seen)
         → IsReady D.trust before (D.seen device.old) ready.now.found ready.now.start
         → ServesRequests D.trust
-        number ready.now.found ready.now.start report before (D.seen device.new)) }
+        course ready.now.found ready.now.start report before (D.seen device.new)) }
     ensures requests { IfOk result (λ report. report.requests ≡ requests) }
     ensures unserved { IfErr result (λ e. D.seen device.new ≡ D.seen device.old) }
 {
-    let mut core = Core::begin(alloc, &SETUP, &ready.start, requests)?;
-    drive(rt, &mut core, &mut Schedule::from_number(number), device);
+    let mut core = Core::begin(alloc, &course.setup, &ready.start, requests)?;
+    drive(
+        rt,
+        &mut core,
+        &mut Schedule::from_number(course.schedule),
+        device,
+    );
     Ok(core.report())
 }
 
 // Long to prove: each clause is shown on each way out.
-/// Recovers the image where its last session wasn't closed, opens it, reads the script, and serves its requests by the schedule
-/// of this number. Before the session nothing is written but by the recovery.
+/// Recovers the image where its last session wasn't closed, opens it, reads the script, and serves its requests so. Before the
+/// session nothing is written but by the recovery.
 pub(crate) fn play<R: Wait, D: Disk, S: Source>(
     rt: &R,
     alloc: Global,
-    number: u64,
+    course: Course,
     device: &mut D,
     script: &mut S,
 ) -> Result<Played, SessionFault>
+    requires setup { IsSetup course.setup }
     ensures session { IfOk result (λ played. RunsSession (input_setting D.trust S.tells)
-        number played.found played.report
+        course played.found played.report
         (inputs (D.seen device.old) (S.seen script.old))
         (inputs (D.seen device.new) (S.seen script.new))) }
     ensures room { IfOk result (λ played. HasRoomFor played.room played.report.requests) }
@@ -128,7 +129,7 @@ pub(crate) fn play<R: Wait, D: Disk, S: Source>(
             fault: Fault::Memory,
         });
     };
-    let Ok(report) = serve(rt, alloc, number, &ready, requests, device) else {
+    let Ok(report) = serve(rt, alloc, course, &ready, requests, device) else {
         return Err(SessionFault {
             recovered,
             fault: Fault::Memory,

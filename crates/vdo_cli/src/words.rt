@@ -1,33 +1,53 @@
 ghost use Rattle.std.specs.Prelude.{◌≡◌, ◌++◌, ◌∷◌, [], OnOk, OnErr, IfSome};
 ghost use Rattle.vdo_words.specs.Ranges.{IsCommandWithin};
 ghost use Rattle.vdo_cli.specs.Commands as commands;
-ghost use Rattle.vdo_cli.specs.Commands.{IsServedWithin, served_of};
+ghost use Rattle.vdo_cli.specs.Commands.{IsServedWithin, IsSetup, served_of};
 
 use blk_base::Geometry;
 use std::alloc::{AllocError, Global};
 use std::marker::Model;
+use vdo_core::Setup;
 use vdo_words::{
     Command, CoreOptions, CrashOptions, DEFAULT_CORE, Drive, FormatOptions, GrowOptions,
     WorkloadOptions, read_command,
 };
 
-// Whether the options of a core are those that it has without any.
-// Long to prove: five options are compared at once.
-fn are_default(options: &CoreOptions) -> bool
-    ensures { result ≡ commands.are_default options.now }
+// Whether the options of a core are served: its hash zones and leaf pages are those that it has without any.
+fn are_served(options: &CoreOptions) -> bool
+    ensures { result ≡ commands.are_served options.now }
 {
-    options.depth == DEFAULT_CORE.depth
-        && options.logical_zones == DEFAULT_CORE.logical_zones
-        && options.physical_zones == DEFAULT_CORE.physical_zones
-        && options.hash_zones == DEFAULT_CORE.hash_zones
-        && options.cache == DEFAULT_CORE.cache
+    options.hash_zones == DEFAULT_CORE.hash_zones && options.cache == DEFAULT_CORE.cache
+}
+
+/// How requests are served.
+#[derive(Clone, Copy)]
+pub(crate) struct Course {
+    /// The number of the schedule.
+    pub(crate) schedule: u64,
+    /// How the core is set up.
+    pub(crate) setup: Setup,
+}
+
+/// The schedule of this number, and a core that is set up as its options say.
+pub(crate) fn course_of(schedule: u64, options: &CoreOptions) -> Course
+    requires { IsSetup (commands.setup_of options.now) }
+    ensures { result ≡ commands.course_of schedule options.now }
+{
+    Course {
+        schedule,
+        setup: Setup {
+            logical_zones: options.logical_zones as u8,
+            physical_zones: options.physical_zones as u8,
+            depth: options.depth,
+        },
+    }
 }
 
 /// What is done to an image that is there, and may write it. The device is flushed before.
 #[derive(Clone, Copy)]
 pub(crate) enum Change {
-    /// A script is run by the schedule of this number.
-    Script(u64),
+    /// A script is run so.
+    Script(Course),
     /// The requests of a seed are served.
     Workload(WorkloadOptions),
     /// An image whose last session wasn't closed is closed.
@@ -76,14 +96,17 @@ fn served_in(command: Option<Command>) -> Option<Served>
     ensures within { IsServedWithin result }
 {
     match command {
-        Some(Command::Run(options)) if are_default(&options.core) => match options.drive {
-            Drive::Schedule(number) => Some(Served::Change(Change::Script(number))),
+        Some(Command::Run(options)) if are_served(&options.core) => match options.drive {
+            Drive::Schedule(number) => {
+                let course = course_of(number, &options.core);
+                Some(Served::Change(Change::Script(course)))
+            }
             Drive::Threads => None,
         },
-        Some(Command::Workload(options)) if are_default(&options.core) => {
+        Some(Command::Workload(options)) if are_served(&options.core) => {
             Some(Served::Change(Change::Workload(options)))
         }
-        Some(Command::Crash(options)) if are_default(&options.core) => Some(Served::Crash(options)),
+        Some(Command::Crash(options)) if are_served(&options.core) => Some(Served::Crash(options)),
         Some(Command::Format(options)) => Some(Served::Format(sizes_of(&options))),
         Some(Command::Recover) => Some(Served::Change(Change::Recover)),
         Some(Command::ForceRebuild) => Some(Served::Change(Change::ForceRebuild)),

@@ -3,7 +3,7 @@ use Rattle.core_guards.proofs.RunLaws.{ends_as}
 use Rattle.core_guards.proofs.runs.a_crash_reads_and_no_more.Goals as goal
 
 pub returns : goal.returns
-returns g c = λ options asked tells.
+returns g c = λ options setup asked tells.
     let s : Setting = setting g.D.Disk.trust g.S.Source.tells g.K.Sink.tells in
     let before : Outside = outside (g.D.Disk.seen c.args.device) (g.S.Source.seen c.args.script.now) (g.K.Sink.seen c.args.out.now) in
     let after : Outside = outside (g.D.Disk.seen c.run.result.device) (g.S.Source.seen c.run.new.script) (g.K.Sink.seen c.run.new.out) in

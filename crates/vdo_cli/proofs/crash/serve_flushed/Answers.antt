@@ -17,6 +17,6 @@ returns-in-Ok-clause-runs g c =
     let now : Seen = disk.seen c.serve.new.device in
     let found = c.in-Ok.ready.found in
     let start = c.in-Ok.ready.start in
-    IfOk-weaker c.serve.result (λ (report : RunReport). (before : Seen) → IsReady of before ready found start → ServesRequests of c.args.schedule found start report before now)
-    (λ (report : RunReport). IsServedOrNot of c.args.schedule report first now)
+    IfOk-weaker c.serve.result (λ (report : RunReport). (before : Seen) → IsReady of before ready found start → ServesRequests of c.args.course found start report before now)
+    (λ (report : RunReport). IsServedOrNot of c.args.course report first now)
     (λ report serves. inl (record { found = found; start = start; serves = serves first c.in-Ok.ensures.ready })) c.serve.ensures.serves

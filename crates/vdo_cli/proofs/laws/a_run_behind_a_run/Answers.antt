@@ -3,8 +3,8 @@ use Rattle.vdo_cli.proofs.laws.a_run_behind_a_run.Goals as goal
 
 pub returns : goal.returns
 returns c = record {
-  script = λ s schedule left before after outcome begin enough ends.
-      good_ready s left before after outcome begin enough (script_good s left before after outcome begin enough schedule ends);
+  script = λ s course left before after outcome begin enough ends.
+      good_ready s left before after outcome begin enough (script_good s left before after outcome begin enough course ends);
   workload = λ s options left before after outcome begin enough ends.
       good_ready s left before after outcome begin enough (workload_good s left before after outcome begin enough options ends);
   begins = begins_told;
