@@ -392,6 +392,73 @@ pub(crate) static WITHOUT_SPACE: [&[Run]; 1] = [&[Run {
     ..RUN
 }]];
 
+const FOUR_WRITES: &[u8] =
+    b"0 write 0 4096*61\n0 write 1 4096*62\n0 write 812 4096*63\n0 write 813 4096*64\n";
+
+const FOUR_READS: &[u8] = b"0 read 0\n0 read 1\n1 read 812\n1 read 813\n";
+
+/// Runs of other depths and zones. At depth 1 each of a stream's writes has its own blocks of the journal and its own flushes;
+/// at depth 4 they share them; and with two zones of each kind too, where the next run has others. A write of the superblock that
+/// fails stops the requests of both zones.
+pub(crate) static SETUPS: [&[Run]; 4] = [
+    &[Run {
+        words: &["run", "--depth", "1"],
+        script: FOUR_WRITES,
+        text: b"0 0 write 0 ok z0:0\n0 1 write 1 ok z0:1\n0 2 write 812 ok z0:2\n0 3 write 813 ok z0:3\nused 6 of 64\n",
+        calls: Calls::Count(OPENING + 30),
+        ..RUN
+    }],
+    &[Run {
+        words: &["run", "--depth", "4"],
+        script: FOUR_WRITES,
+        text: b"0 0 write 0 ok z0:0\n0 1 write 1 ok z0:1\n0 2 write 812 ok z0:2\n0 3 write 813 ok z0:3\nused 6 of 64\n",
+        calls: Calls::Count(OPENING + 21),
+        ..RUN
+    }],
+    &[
+        Run {
+            words: &[
+                "run",
+                "--depth=4",
+                "--logical-zones=2",
+                "--physical-zones=2",
+            ],
+            script: FOUR_WRITES,
+            image: 1,
+            text: b"0 0 write 0 ok z0:0\n0 1 write 1 ok z0:1\n0 2 write 812 ok z1:0\n0 3 write 813 ok z1:1\nused 6 of 64\n",
+            calls: Calls::Count(OPENING + 21),
+            ..RUN
+        },
+        Run {
+            words: &[
+                "run",
+                "--depth=16",
+                "--logical-zones=4",
+                "--physical-zones=1",
+            ],
+            script: FOUR_READS,
+            text: b"recovered 6 entries\n0 0 read 0 4096*61 z0:0\n0 1 read 1 4096*62 z0:1\n1 0 read 812 4096*63 z1:0\n1 1 read 813 4096*64 z1:1\nused 6 of 64\n",
+            ..RUN
+        },
+    ],
+    &[
+        Run {
+            words: &[
+                "run",
+                "--depth=4",
+                "--logical-zones=2",
+                "--physical-zones=2",
+            ],
+            script: b"0 write 5 4096*61\n1 write 812 4096*62\n0 read 5\n1 read 812\n",
+            faults: &[WRITE],
+            text: b"0 0 write 5 stopped z0:0\n0 1 read 5 4096*00 z0:1\n1 0 write 812 stopped z1:0\n1 1 read 812 4096*00 z1:1\nused 0 of 64\n",
+            status: 3,
+            ..RUN
+        },
+        USED_0,
+    ],
+];
+
 /// Faults, and what each displays.
 pub(crate) static FAULT_LINES: [(Fault, &str); 14] = [
     (Fault::Usage, "usage"),

@@ -1,6 +1,6 @@
 ghost use Rattle.blk_base.specs.Limits.{IsGeometry};
 
-use crate::rows::{BENT, FAULT_LINES, FAULTS, OUTSIDE, PLAIN, SMALL, WITHOUT_SPACE};
+use crate::rows::{BENT, FAULT_LINES, FAULTS, OUTSIDE, PLAIN, SETUPS, SMALL, WITHOUT_SPACE};
 use blk_base::Geometry;
 use disk_model::{BendAt, BentDisk, Call, FaultAt, MemDisk, MemSink, MemSource, OpenGate};
 use std::alloc::{AllocError, Global};
@@ -203,6 +203,11 @@ fn the_outside_fails(rt: HostRuntime) -> Result<(), Fail> {
 #[test]
 fn blocks_that_read_otherwise(rt: HostRuntime) -> Result<(), Fail> {
     each_is_right(&rt, rt.alloc(), &Geometry::DEFAULT, &BENT)
+}
+
+#[test]
+fn runs_of_other_setups(rt: HostRuntime) -> Result<(), Fail> {
+    each_is_right(&rt, rt.alloc(), &Geometry::DEFAULT, &SETUPS)
 }
 
 #[test]
