@@ -5,7 +5,7 @@
 //!
 //! Only tested: what the program says of command lines, and of those that are refused (`cases/usage.case`).
 //!
-//! Not there: a program that serves `run --threads`, or a core with other options than it has without any.
+//! Not there: a program that serves `run --threads`, or `--hash-zones` and `--cache` with other numbers than their defaults.
 #![tactic(auto)]
 
 mod clap_matches;
