@@ -722,8 +722,8 @@ if [ -n "$python" ]; then
     same "$? $printed" '0 one stream: 2536 images of 634 stops
 four streams: 3736 images of 934 stops
 stopped scripts: 0 images went wrong' 'scripts that were stopped'
-    printed=$($python "$top/tools/setups.py" "$vdo" --every 41 2>errors)
-    same "$? $printed" '0 0 of 47 pairs of runs went wrong' 'runs with zones and depths'
+    printed=$($python "$top/tools/zoned_runs.py" "$vdo" --schedules 1 2>errors)
+    same "$? $printed" '0 zoned runs: 144 setups, 960 images, 0 went wrong' 'runs with zones and depths'
 fi
 
 # The examples of README and of the manual.
