@@ -1,5 +1,5 @@
 -- What a flush leaves of a device.
-use Rattle.std.proofs.Common.{ℕ, ◌≡◌, true, false, List, ◌∷◌, sym, subst}
+use Rattle.std.proofs.Common.{ℕ, ◌≡◌, false, List, ◌∷◌, sym, subst}
 use Rattle.disk_model.specs.declared.call.Call.{Call}
 use Rattle.disk_model.specs.declared.call.Call.TheVariants.{Flush}
 use Rattle.disk_model.specs.Images.{IsImage}

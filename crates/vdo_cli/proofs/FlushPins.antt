@@ -1,6 +1,6 @@
 -- Rows that pin the flush with which a change of an image begins (`IsFlushed`, `IsNotFlushed`, `FlushFails`, `EndsFlushed`, `Settles`):
 -- for each part some that it accepts, and some that break this part alone.
-use Rattle.std.proofs.Common.{ℕ, ◌≡◌, ◌<◌, ◌++◌, true, false, List, [], ◌∷◌, length, Option, Some, None, codes, refl, ap, inl, inr, arith}
+use Rattle.std.proofs.Common.{ℕ, ◌≡◌, true, false, List, [], ◌∷◌, length, Option, Some, codes, refl, ap, inl, inr, arith}
 use Rattle.blk_base.specs.Forms.{pbn as at}
 use Rattle.disk_model.specs.declared.call.Call.{Call}
 use Rattle.disk_model.specs.declared.call.Call.TheVariants.{Read, Write, Flush}

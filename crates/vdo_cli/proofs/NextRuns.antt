@@ -1,5 +1,5 @@
 -- What a run leaves to the next call: whatever a stop may have left, and a device on which nothing of it is settled.
-use Rattle.std.proofs.Common.{ℕ, ◌≡◌, ◌+◌, ◌≤◌, ◌<◌, ◌^◌, ◌++◌, Bool, true, false, ◌⊎◌, IsTrue, List, [], ◌∷◌, length, Option, Some, None, refl, sym, ◌∙◌, ap, subst, append_assoc, length-append, inl, inr, arith}
+use Rattle.std.proofs.Common.{ℕ, ◌≡◌, ◌+◌, ◌≤◌, ◌<◌, ◌^◌, ◌++◌, true, false, ◌⊎◌, IsTrue, List, [], ◌∷◌, length, Option, Some, None, refl, sym, ◌∙◌, ap, subst, append_assoc, length-append, inl, inr, arith}
 use Rattle.std.specs.List.{AllByRecursion}
 use Rattle.blk_base.specs.declared.geometry.Geometry.{Geometry}
 use Rattle.blk_base.specs.declared.opened.Opened.{Opened}
@@ -13,10 +13,8 @@ use Rattle.disk_model.proofs.LookedLaws.{one_in-all}
 use Rattle.disk_model.proofs.OneImageLaws.{one_image-is_image, one_image-opening, one_image-unique}
 use Rattle.image_model.proofs.LookedLaws.{looked_by}
 use Rattle.image_model.specs.Looked.{HasOneImageButIndex, is_looked_at, looked_in}
-use Rattle.image_model.specs.Maps.{value_of}
 use Rattle.rebuild.specs.Recoveries.{IsTold}
 use Rattle.rebuild.specs.declared.forms.Recovered.{Recovered}
-use Rattle.recovery_laws.specs.Kept.{image_in}
 use Rattle.core_stops.proofs.EndLaws.{before_flush}
 use Rattle.core_stops.proofs.LogLaws.{parted, same_front}
 use Rattle.core_stops.specs.Sequences.{CanBegin, ShowsValues, next_start}
@@ -27,11 +25,11 @@ use Rattle.vdo_cli.specs.declared.fault.Fault.TheVariants as fault
 use Rattle.vdo_cli.specs.declared.words.Change.{Change}
 use Rattle.vdo_cli.specs.declared.words.Change.TheVariants as change
 use Rattle.vdo_cli.specs.Endings.{KeepsImage, ServesRequests}
-use Rattle.vdo_cli.specs.Flushes.{IsFlushed, IsNotFlushed, Settles}
-use Rattle.vdo_cli.specs.Onward.{GoesOn, HasLanded, IsJustMade, LeavesReady, LeavesRunnable, MayBegin}
+use Rattle.vdo_cli.specs.Flushes.{IsFlushed}
+use Rattle.vdo_cli.specs.Onward.{GoesOn, IsJustMade, LeavesReady, LeavesRunnable, MayBegin}
 use Rattle.vdo_cli.specs.Outsides.{Outcome, Outside, Setting}
-use Rattle.vdo_cli.specs.Runs.{EndsChange, EndsFlushed, FlushFails, RunsScript, RunsScriptBy}
-use Rattle.vdo_cli.specs.Workloads.{EndsWorkload, EndsWorkloadBy}
+use Rattle.vdo_cli.specs.Runs.{EndsChange, EndsFlushed, FlushFails, RunsScriptBy}
+use Rattle.vdo_cli.specs.Workloads.{EndsWorkloadBy}
 use Rattle.vdo_words.specs.declared.commands.WorkloadOptions.{WorkloadOptions}
 use Rattle.vdo_cli.proofs.FlushLaws.{image_behind_failed, told_behind, told_settles}
 use Rattle.vdo_cli.proofs.LandedWrites.{written_block, written_by, written_image}

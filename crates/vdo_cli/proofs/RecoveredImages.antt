@@ -1,5 +1,5 @@
 -- What a recovery leaves of a sound image, and what stops leave of it until a session begins.
-use Rattle.std.proofs.Common.{ℕ, ◌≡◌, ◌++◌, ◌≤◌, Bool, true, false, Option, List, [], Ok, refl, sym, ◌∙◌, ap, append_assoc, inl, inr, arith}
+use Rattle.std.proofs.Common.{ℕ, ◌≡◌, ◌++◌, ◌≤◌, true, false, Option, List, [], Ok, refl, sym, ◌∙◌, ap, append_assoc, inl, inr, arith}
 use Rattle.blk_base.specs.Regions.{needed_blocks}
 use Rattle.blk_base.specs.declared.geometry.Super.{Super}
 use Rattle.blk_base.specs.declared.opened.Opened.{Opened}
